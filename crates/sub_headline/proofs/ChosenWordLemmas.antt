@@ -1,12 +1,12 @@
 -- For `law_of_chosen_words`: what the rows say behind `check STL PES` and choices, `rows_say`; so
 -- what is asked for, `check_is`.
 use Rattle.std.proofs.Common.{◌≡◌, ◌∙◌, Bool, true, false, List, [], ◌∷◌, ◌++◌, Option, Some}
-use Rattle.std.proofs.Common.{None, Ok, Err, refl, sym, ap, arith, codes, drop, ◌^◌, ◌-◌}
+use Rattle.std.proofs.Common.{ℕ, None, Ok, Err, refl, sym, ap, arith, codes, drop, ◌^◌, ◌-◌}
 use Rattle.std.proofs.Common.{inl, inr, subst, append_assoc, append-nil}
 use Rattle.std.proofs.lemmas.Bool.Decides.{nat_tests}
-use Rattle.std.specs.Prelude.{if◌then◌else◌, option_map, fold, unwrap_or, ◌&&◌}
+use Rattle.std.specs.Prelude.{if◌then◌else◌, option_map, fold, unwrap_or, ◌&&◌, ◌||◌}
 use Rattle.std.specs.Prelude.{nat_le, ⊤, ◌<◌, IsFalse}
-use Rattle.std.specs.List.{flat_map}
+use Rattle.std.specs.List.{AllByRecursion, flat_map}
 use Rattle.std.specs.Str.{bytes_eq}
 use Rattle.clap.specs.Walk.{Held, Row, Rule, Walk, arg_by_index, finished, first_of, nothing_held}
 use Rattle.clap.specs.Simple.{App, built, entered, names_of}
@@ -15,20 +15,21 @@ use Rattle.clap.specs.Words.{Text}
 use Rattle.clap.proofs.OnLiterals.{clap_on_literals}
 use Rattle.ttx_packet.specs.PageId.{page_of_text}
 use Rattle.stl_file.specs.Scope.{whole}
+use Rattle.stl_file.specs.declared.scope.Scope.{Scope}
 use Rattle.stl_file.specs.TimeCode.{day}
 use Rattle.stl_rows.specs.Layout.{default_layout}
 use Rattle.stl_rows.specs.SubSets.{option_named, sub_set}
 use Rattle.stl_rows.specs.declared.national.National.TheVariants.{English}
 use Rattle.sub_plan.specs.Options.{OptionsValue}
 use Rattle.sub_request.specs.declared.request.UsageFault.TheVariants as fault
-use Rattle.sub_words.specs.Arguments.{pes_packets_of}
+use Rattle.sub_words.specs.Arguments.{between, pacing_of, pes_packets_of, scope_of}
 use Rattle.sub_words.specs.Commands.{command_in, subttx_app}
 use Rattle.sub_words.specs.Help.{asks_help}
 use Rattle.std.specs.Option.{option_map_or}
 use Rattle.std.specs.Prelude.{map}
 use Rattle.sub_words.specs.PesTexts.{packet_size_of_text, pid_of_text, range_of_text}
 use Rattle.sub_words.specs.Requests.{Asked, AsksFor, asked_by, asked_for, asked_in, check_asked}
-use Rattle.sub_words.specs.Texts.{number_of_text}
+use Rattle.sub_words.specs.Texts.{frame_of_text, number_of_text}
 use Rattle.sub_headline.specs.PlainOptions.{Choice, LawOfChosenWords, with_choice, choice_words}
 use Rattle.sub_headline.specs.RecordingOptions.{LawOfPartWords, Portion, Reading, read_by}
 use Rattle.sub_headline.specs.RecordingOptions.{reading_of}
@@ -37,8 +38,10 @@ use Rattle.sub_headline.specs.DrawnOptions.{words_for}
 use Rattle.sub_headline.specs.DrawnOptions.Look.{Letters, Lines, Of}
 use Rattle.stl_rows.specs.LayoutText.{layout_of_text}
 use Rattle.sub_headline.specs.RecordingOptions.{recording_asked, words_in}
-use Rattle.sub_headline.specs.RecordingOptions.Portion.{Pid, Size, Numbers, Any}
-use Rattle.sub_headline.specs.PlainOptions.Choice.{Page, Every, Origin, Complete, EveryFault}
+use Rattle.sub_headline.specs.RecordingOptions.Portion.{Pid, Size, Numbers, From, To, OpenToo}
+use Rattle.sub_headline.specs.RecordingOptions.Portion.{Any}
+use Rattle.sub_headline.specs.PlainOptions.Choice.{Page, Every, Origin, Pace, Complete}
+use Rattle.sub_headline.specs.PlainOptions.Choice.{EveryFault}
 use Rattle.sub_headline.specs.PlainWords.{IsName}
 use Rattle.sub_headline.proofs.OptionWordLemmas.{held_by, key, next, rows_held, rules, then_held}
 use Rattle.sub_headline.proofs.OptionWordLemmas.{vals}
@@ -57,41 +60,54 @@ given_by id vs parts = fold (then_held id) vs parts
 abbrev text_in : Text → List (List Text) → Text
 text_in default vs = unwrap_or (first_text (or_default vs (default ∷ []))) []
 
--- An argument that no part gives.
-key_apart :
-    (id : Text)
-    → bytes_eq (codes "page") id ≡ false
-    → bytes_eq (codes "every") id ≡ false
-    → bytes_eq (codes "origin") id ≡ false
-    → bytes_eq (codes "complete") id ≡ false
-    → bytes_eq (codes "all") id ≡ false
-    → bytes_eq (codes "pid") id ≡ false
-    → bytes_eq (codes "packet-size") id ≡ false
-    → bytes_eq (codes "pes") id ≡ false
-    → bytes_eq (codes "option") id ≡ false
-    → bytes_eq (codes "layout") id ≡ false
-    → (part : Look)
-    → bytes_eq (key part) id ≡ false
-key_apart id page every origin complete all pid size pes letters lines
-    (Of (Any (Page text n is))) = page
-key_apart id page every origin complete all pid size pes letters lines
-    (Of (Any (Every text n is))) = every
-key_apart id page every origin complete all pid size pes letters lines
-    (Of (Any (Origin text n is))) = origin
-key_apart id page every origin complete all pid size pes letters lines
-    (Of (Any Complete)) = complete
-key_apart id page every origin complete all pid size pes letters lines
-    (Of (Any EveryFault)) = all
-key_apart id page every origin complete all pid size pes letters lines
-    (Of (Pid text n is)) = pid
-key_apart id page every origin complete all pid size pes letters lines
-    (Of (Size text n is)) = size
-key_apart id page every origin complete all pid size pes letters lines
-    (Of (Numbers text n is)) = pes
-key_apart id page every origin complete all pid size pes letters lines
-    (Letters text n name is) = letters
-key_apart id page every origin complete all pid size pes letters lines
-    (Lines text n name is) = lines
+-- The arguments that parts may give.
+abbrev keys : List Text
+keys =
+    codes "page" ∷
+    codes "every" ∷
+    codes "origin" ∷
+    codes "pace" ∷
+    codes "complete" ∷
+    codes "all" ∷
+    codes "pid" ∷
+    codes "packet-size" ∷
+    codes "pes" ∷
+    codes "from" ∷
+    codes "to" ∷
+    codes "open" ∷
+    codes "option" ∷
+    codes "layout" ∷ []
+
+abbrev is_any : Text → List Text → Bool
+is_any id [] = false
+is_any id (one ∷ others) = bytes_eq one id || is_any id others
+
+neither : (a b : Bool) → (a || b) ≡ false → (a ≡ false) × (b ≡ false)
+neither a b none = grind (arith, nat_tests)
+
+all_apart : (id : Text) (ids : List Text)
+    → is_any id ids ≡ false
+    → AllByRecursion (λ one. bytes_eq one id ≡ false) ids
+all_apart id [] none = tt
+all_apart id (one ∷ others) none =
+    let by = neither (bytes_eq one id) (is_any id others) none in
+    (by.0, all_apart id others by.1)
+
+key_apart : (id : Text) → is_any id keys ≡ false → (part : Look) → bytes_eq (key part) id ≡ false
+key_apart id none (Of (Any (Page text n is))) = (all_apart id keys none).0
+key_apart id none (Of (Any (Every text n is))) = (all_apart id keys none).1.0
+key_apart id none (Of (Any (Origin text n is))) = (all_apart id keys none).1.1.0
+key_apart id none (Of (Any (Pace text n is))) = (all_apart id keys none).1.1.1.0
+key_apart id none (Of (Any Complete)) = (all_apart id keys none).1.1.1.1.0
+key_apart id none (Of (Any EveryFault)) = (all_apart id keys none).1.1.1.1.1.0
+key_apart id none (Of (Pid text n is)) = (all_apart id keys none).1.1.1.1.1.1.0
+key_apart id none (Of (Size text n is)) = (all_apart id keys none).1.1.1.1.1.1.1.0
+key_apart id none (Of (Numbers text n is)) = (all_apart id keys none).1.1.1.1.1.1.1.1.0
+key_apart id none (Of (From text n name is)) = (all_apart id keys none).1.1.1.1.1.1.1.1.1.0
+key_apart id none (Of (To text n name is)) = (all_apart id keys none).1.1.1.1.1.1.1.1.1.1.0
+key_apart id none (Of OpenToo) = (all_apart id keys none).1.1.1.1.1.1.1.1.1.1.1.0
+key_apart id none (Letters text n name is) = (all_apart id keys none).1.1.1.1.1.1.1.1.1.1.1.1.0
+key_apart id none (Lines text n name is) = (all_apart id keys none).1.1.1.1.1.1.1.1.1.1.1.1.1.0
 
 not_given :
     (id : Text) (apart : (part : Look) → bytes_eq (key part) id ≡ false)
@@ -110,229 +126,112 @@ not_given id apart vs (part ∷ parts) =
 abbrev said_by : {A : Type 0} → (Text → Option A) → Option Text → Option (Option A)
 said_by said text = option_map_or (λ text. option_map Some (said text)) text (Some None)
 
--- What parts say is how they read and draw.
-record Meant
-    (page every origin complete pid size pes letters lines : List (List Text)) (l : Looking)
-    : Type 0 where
-  pub page_is : page_of_text (text_in (codes "888") page) ≡ Some l.reading.options.page
-  pub every_is : number_of_text (text_in (codes "250") every) ≡ Some l.reading.options.every
-  pub origin_is : number_of_text (text_in (codes "0") origin) ≡ Some l.reading.options.origin
+-- What a text of `--pace` says.
+abbrev pace_of_text : Text → Option ℕ
+pace_of_text text = between 1 day (number_of_text text)
+
+-- What is held for arguments says how they are read and drawn.
+record Meant (held : Text → List (List Text)) (l : Looking) : Type 0 where
+  pub page_is :
+      page_of_text (text_in (codes "888") (held (codes "page"))) ≡ Some l.reading.options.page
+  pub every_is :
+      number_of_text (text_in (codes "250") (held (codes "every"))) ≡ Some l.reading.options.every
+  pub origin_is :
+      number_of_text (text_in (codes "0") (held (codes "origin"))) ≡ Some l.reading.options.origin
+  pub pace_is :
+      said_by pace_of_text (first_text (held (codes "pace"))) ≡ Some l.reading.options.pace
   pub complete_is :
-      bytes_eq (text_in (codes "false") complete) (codes "true") ≡ l.reading.options.asks_complete
+      bytes_eq (text_in (codes "false") (held (codes "complete"))) (codes "true")
+      ≡ l.reading.options.asks_complete
   pub within_is : l.reading.options.within ≡ 0
-  pub pace_is : l.reading.options.pace ≡ None
   pub keeps_is : l.reading.options.keeps ≡ false
-  pub pid_is : said_by pid_of_text (first_text pid) ≡ Some l.reading.pid
-  pub size_is : packet_size_of_text (text_in (codes "188") size) ≡ Some l.reading.size
-  pub range_is : said_by range_of_text (first_text pes) ≡ Some l.reading.range
-  pub option_is : option_named (text_in (codes "english") letters) ≡ Some l.national
+  pub pid_is : said_by pid_of_text (first_text (held (codes "pid"))) ≡ Some l.reading.pid
+  pub size_is :
+      packet_size_of_text (text_in (codes "188") (held (codes "packet-size")))
+      ≡ Some l.reading.size
+  pub range_is : said_by range_of_text (first_text (held (codes "pes"))) ≡ Some l.reading.range
+  pub from_is :
+      option_map_or frame_of_text (first_text (held (codes "from"))) (Some 0)
+      ≡ Some l.reading.scope.from
+  pub to_is :
+      option_map_or frame_of_text (first_text (held (codes "to"))) (Some day)
+      ≡ Some l.reading.scope.to
+  pub open_is :
+      bytes_eq (text_in (codes "false") (held (codes "open"))) (codes "true")
+      ≡ l.reading.scope.takes_open
+  pub option_is :
+      option_named (text_in (codes "english") (held (codes "option"))) ≡ Some l.national
   pub layout_is :
-      option_map_or layout_of_text (first_text lines) (Some default_layout) ≡ Some l.layout
+      option_map_or layout_of_text (first_text (held (codes "layout"))) (Some default_layout)
+      ≡ Some l.layout
 
 -- With other options.
 abbrev with_options : Reading → OptionsValue → Reading
 with_options r o = record r { options = o }
 
--- With another reading, and with other options.
+-- With another reading.
 abbrev with_reading : Looking → Reading → Looking
 with_reading l r = record l { reading = r }
 
-abbrev looking_with : Looking → OptionsValue → Looking
-looking_with l o = with_reading l (with_options l.reading o)
+-- What is held behind one more part.
+abbrev then_all : (Text → List (List Text)) → Look → Text → List (List Text)
+then_all held part id = then_held id (held id) part
 
-meant_by :
-    (page every origin complete pid size pes letters lines : List (List Text)) (l : Looking)
-    (parts : List Look)
-    → Meant page every origin complete pid size pes letters lines l
-    → Meant (given_by (codes "page") page parts) (given_by (codes "every") every parts)
-    (given_by (codes "origin") origin parts) (given_by (codes "complete") complete parts)
-    (given_by (codes "pid") pid parts) (given_by (codes "packet-size") size parts)
-    (given_by (codes "pes") pes parts) (given_by (codes "option") letters parts)
-    (given_by (codes "layout") lines parts) (fold looked_by l parts)
-meant_by page every origin complete pid size pes letters lines l [] m = m
-meant_by page every origin complete pid size pes letters lines l
-    (Of (Any (Page text n is)) ∷ parts) m =
-    meant_by ((text ∷ []) ∷ []) every origin complete pid size pes letters lines
-    (looking_with l (record l.reading.options { page = n })) parts
-    (record {
-      page_is = is;
-      every_is = m.every_is;
-      origin_is = m.origin_is;
-      complete_is = m.complete_is;
-      within_is = m.within_is;
-      pace_is = m.pace_is;
-      keeps_is = m.keeps_is;
-      pid_is = m.pid_is;
-      size_is = m.size_is;
-      range_is = m.range_is;
-      option_is = m.option_is;
-      layout_is = m.layout_is;
-    })
-meant_by page every origin complete pid size pes letters lines l
-    (Of (Any (Every text n is)) ∷ parts) m =
-    meant_by page ((text ∷ []) ∷ []) origin complete pid size pes letters lines
-    (looking_with l (record l.reading.options { every = n })) parts
-    (record {
-      page_is = m.page_is;
-      every_is = is;
-      origin_is = m.origin_is;
-      complete_is = m.complete_is;
-      within_is = m.within_is;
-      pace_is = m.pace_is;
-      keeps_is = m.keeps_is;
-      pid_is = m.pid_is;
-      size_is = m.size_is;
-      range_is = m.range_is;
-      option_is = m.option_is;
-      layout_is = m.layout_is;
-    })
-meant_by page every origin complete pid size pes letters lines l
-    (Of (Any (Origin text n is)) ∷ parts) m =
-    meant_by page every ((text ∷ []) ∷ []) complete pid size pes letters lines
-    (looking_with l (record l.reading.options { origin = n })) parts
-    (record {
-      page_is = m.page_is;
-      every_is = m.every_is;
-      origin_is = is;
-      complete_is = m.complete_is;
-      within_is = m.within_is;
-      pace_is = m.pace_is;
-      keeps_is = m.keeps_is;
-      pid_is = m.pid_is;
-      size_is = m.size_is;
-      range_is = m.range_is;
-      option_is = m.option_is;
-      layout_is = m.layout_is;
-    })
-meant_by page every origin complete pid size pes letters lines l
-    (Of (Any Complete) ∷ parts) m =
-    meant_by page every origin ((codes "true" ∷ []) ∷ []) pid size pes letters lines
-    (looking_with l (record l.reading.options { asks_complete = true })) parts
-    (record {
-      page_is = m.page_is;
-      every_is = m.every_is;
-      origin_is = m.origin_is;
-      complete_is = refl;
-      within_is = m.within_is;
-      pace_is = m.pace_is;
-      keeps_is = m.keeps_is;
-      pid_is = m.pid_is;
-      size_is = m.size_is;
-      range_is = m.range_is;
-      option_is = m.option_is;
-      layout_is = m.layout_is;
-    })
-meant_by page every origin complete pid size pes letters lines l
-    (Of (Any EveryFault) ∷ parts) m =
-    meant_by page every origin complete pid size pes letters lines l parts m
-meant_by page every origin complete pid size pes letters lines l
-    (Of (Pid text n is) ∷ parts) m =
-    meant_by page every origin complete ((text ∷ []) ∷ []) size pes letters lines
-    (with_reading l (record l.reading { pid = Some n })) parts
-    (record {
-      page_is = m.page_is;
-      every_is = m.every_is;
-      origin_is = m.origin_is;
-      complete_is = m.complete_is;
-      within_is = m.within_is;
-      pace_is = m.pace_is;
-      keeps_is = m.keeps_is;
-      pid_is = ap (option_map Some) is;
-      size_is = m.size_is;
-      range_is = m.range_is;
-      option_is = m.option_is;
-      layout_is = m.layout_is;
-    })
-meant_by page every origin complete pid size pes letters lines l
-    (Of (Size text n is) ∷ parts) m =
-    meant_by page every origin complete pid ((text ∷ []) ∷ []) pes letters lines
-    (with_reading l (record l.reading { size = n })) parts
-    (record {
-      page_is = m.page_is;
-      every_is = m.every_is;
-      origin_is = m.origin_is;
-      complete_is = m.complete_is;
-      within_is = m.within_is;
-      pace_is = m.pace_is;
-      keeps_is = m.keeps_is;
-      pid_is = m.pid_is;
-      size_is = is;
-      range_is = m.range_is;
-      option_is = m.option_is;
-      layout_is = m.layout_is;
-    })
-meant_by page every origin complete pid size pes letters lines l
-    (Of (Numbers text n is) ∷ parts) m =
-    meant_by page every origin complete pid size ((text ∷ []) ∷ []) letters lines
-    (with_reading l (record l.reading { range = Some n })) parts
-    (record {
-      page_is = m.page_is;
-      every_is = m.every_is;
-      origin_is = m.origin_is;
-      complete_is = m.complete_is;
-      within_is = m.within_is;
-      pace_is = m.pace_is;
-      keeps_is = m.keeps_is;
-      pid_is = m.pid_is;
-      size_is = m.size_is;
-      range_is = ap (option_map Some) is;
-      option_is = m.option_is;
-      layout_is = m.layout_is;
-    })
-meant_by page every origin complete pid size pes letters lines l
-    (Letters text n name is ∷ parts) m =
-    meant_by page every origin complete pid size pes ((text ∷ []) ∷ []) lines
-    (record l { national = n }) parts
-    (record {
-      page_is = m.page_is;
-      every_is = m.every_is;
-      origin_is = m.origin_is;
-      complete_is = m.complete_is;
-      within_is = m.within_is;
-      pace_is = m.pace_is;
-      keeps_is = m.keeps_is;
-      pid_is = m.pid_is;
-      size_is = m.size_is;
-      range_is = m.range_is;
-      option_is = is;
-      layout_is = m.layout_is;
-    })
-meant_by page every origin complete pid size pes letters lines l
-    (Lines text n name is ∷ parts) m =
-    meant_by page every origin complete pid size pes letters ((text ∷ []) ∷ [])
-    (record l { layout = n }) parts
-    (record {
-      page_is = m.page_is;
-      every_is = m.every_is;
-      origin_is = m.origin_is;
-      complete_is = m.complete_is;
-      within_is = m.within_is;
-      pace_is = m.pace_is;
-      keeps_is = m.keeps_is;
-      pid_is = m.pid_is;
-      size_is = m.size_is;
-      range_is = m.range_is;
-      option_is = m.option_is;
-      layout_is = is;
-    })
+meant_then : (held : Text → List (List Text)) (l : Looking) (part : Look)
+    → Meant held l
+    → Meant (then_all held part) (looked_by l part)
+meant_then held l (Of (Any (Page text n is))) m = assumption (is, m)
+meant_then held l (Of (Any (Every text n is))) m = assumption (is, m)
+meant_then held l (Of (Any (Origin text n is))) m = assumption (is, m)
+meant_then held l (Of (Any (Pace text n is))) m = assumption (ap (option_map Some) is, m)
+meant_then held l (Of (Any Complete)) m =
+    let is : bytes_eq (codes "true") (codes "true") ≡ true = refl in assumption (is, m)
+meant_then held l (Of (Any EveryFault)) m = assumption m
+meant_then held l (Of (Pid text n is)) m = assumption (ap (option_map Some) is, m)
+meant_then held l (Of (Size text n is)) m = assumption (is, m)
+meant_then held l (Of (Numbers text n is)) m = assumption (ap (option_map Some) is, m)
+meant_then held l (Of (From text n name is)) m = assumption (is, m)
+meant_then held l (Of (To text n name is)) m = assumption (is, m)
+meant_then held l (Of OpenToo) m =
+    let is : bytes_eq (codes "true") (codes "true") ≡ true = refl in assumption (is, m)
+meant_then held l (Letters text n name is) m = assumption (is, m)
+meant_then held l (Lines text n name is) m = assumption (is, m)
+
+-- By parts, where this is held before them.
+abbrev held_behind : (Text → List (List Text)) → List Look → Text → List (List Text)
+held_behind held parts id = given_by id (held id) parts
+
+meant_by : (held : Text → List (List Text)) (l : Looking) (parts : List Look)
+    → Meant held l
+    → Meant (held_behind held parts) (fold looked_by l parts)
+meant_by held l [] m = m
+meant_by held l (part ∷ parts) m =
+    meant_by (then_all held part) (looked_by l part) parts (meant_then held l part m)
 
 english_named : option_named (codes "english") ≡ Some English
 unfolding option_named sub_set
 english_named = refl
 
-meant_at_first : Meant [] [] [] [] [] [] [] [] [] (looking_of [])
+-- Nothing is held at first.
+abbrev nothing : Text → List (List Text)
+nothing id = []
+
+meant_at_first : Meant nothing (looking_of [])
 unfolding page_of_text number_of_text packet_size_of_text
 meant_at_first = record {
   page_is = refl;
   every_is = refl;
   origin_is = refl;
+  pace_is = refl;
   complete_is = refl;
   within_is = refl;
-  pace_is = refl;
   keeps_is = refl;
   pid_is = refl;
   size_is = refl;
   range_is = refl;
+  from_is = refl;
+  to_is = refl;
+  open_is = refl;
   option_is = english_named;
   layout_is = refl;
 }
@@ -347,11 +246,15 @@ has_text : (part : Look) → HasText (vals part ∷ [])
 has_text (Of (Any (Page text n is))) = tt
 has_text (Of (Any (Every text n is))) = tt
 has_text (Of (Any (Origin text n is))) = tt
+has_text (Of (Any (Pace text n is))) = tt
 has_text (Of (Any Complete)) = tt
 has_text (Of (Any EveryFault)) = tt
 has_text (Of (Pid text n is)) = tt
 has_text (Of (Size text n is)) = tt
 has_text (Of (Numbers text n is)) = tt
+has_text (Of (From text n name is)) = tt
+has_text (Of (To text n name is)) = tt
+has_text (Of OpenToo) = tt
 has_text (Letters text n name is) = tt
 has_text (Lines text n name is) = tt
 
@@ -382,28 +285,33 @@ no_default (v ∷ vs) = refl
 
 -- ---- the rows
 
--- What they say, argument by argument.
-record RowsSay
-    (rows : List Row) (stl recording page every origin complete all size letters : Text)
-    (pid pes lines : Option Text)
+-- What they say, argument by argument, where this is given for options.
+record RowsSay (rows : List Row) (stl recording : Text) (held : Text → List (List Text))
     : Type 0 where
   pub stl_is : first_of (codes "stl") rows ≡ Some stl
   pub recording_is : first_of (codes "recording") rows ≡ Some recording
-  pub page_is : first_of (codes "page") rows ≡ Some page
-  pub every_is : first_of (codes "every") rows ≡ Some every
-  pub origin_is : first_of (codes "origin") rows ≡ Some origin
-  pub complete_is : first_of (codes "complete") rows ≡ Some complete
-  pub all_is : first_of (codes "all") rows ≡ Some all
-  pub option_is : first_of (codes "option") rows ≡ Some letters
-  pub layout_is : first_of (codes "layout") rows ≡ lines
-  pub from_is : first_of (codes "from") rows ≡ None
-  pub to_is : first_of (codes "to") rows ≡ None
-  pub open_is : first_of (codes "open") rows ≡ Some (codes "false")
+  pub page_is : first_of (codes "page") rows ≡ Some (text_in (codes "888") (held (codes "page")))
+  pub every_is :
+      first_of (codes "every") rows ≡ Some (text_in (codes "250") (held (codes "every")))
+  pub origin_is :
+      first_of (codes "origin") rows ≡ Some (text_in (codes "0") (held (codes "origin")))
+  pub complete_is :
+      first_of (codes "complete") rows ≡ Some (text_in (codes "false") (held (codes "complete")))
+  pub all_is : first_of (codes "all") rows ≡ Some (text_in (codes "false") (held (codes "all")))
+  pub option_is :
+      first_of (codes "option") rows ≡ Some (text_in (codes "english") (held (codes "option")))
+  pub layout_is : first_of (codes "layout") rows ≡ first_text (held (codes "layout"))
+  pub from_is : first_of (codes "from") rows ≡ first_text (held (codes "from"))
+  pub to_is : first_of (codes "to") rows ≡ first_text (held (codes "to"))
+  pub open_is :
+      first_of (codes "open") rows ≡ Some (text_in (codes "false") (held (codes "open")))
   pub within_is : first_of (codes "within") rows ≡ Some (codes "0")
-  pub pid_is : first_of (codes "pid") rows ≡ pid
-  pub packet_size_is : first_of (codes "packet-size") rows ≡ Some size
-  pub pes_is : first_of (codes "pes") rows ≡ pes
-  pub pace_is : first_of (codes "pace") rows ≡ None
+  pub pid_is : first_of (codes "pid") rows ≡ first_text (held (codes "pid"))
+  pub packet_size_is :
+      first_of (codes "packet-size") rows
+      ≡ Some (text_in (codes "188") (held (codes "packet-size")))
+  pub pes_is : first_of (codes "pes") rows ≡ first_text (held (codes "pes"))
+  pub pace_is : first_of (codes "pace") rows ≡ first_text (held (codes "pace"))
   pub keeping_is : first_of (codes "keeping") rows ≡ Some (codes "false")
 
 module _ (stl pes : Text) (parts : List Look) where
@@ -437,26 +345,15 @@ module _ (stl pes : Text) (parts : List Look) where
       ∙ ap (λ (us : List (List Text)). first_text (fold (default_at id) us rules))
       (not_given id apart vs parts)
 
-  rows_say :
-      RowsSay (finished rules all_held) stl pes
-      (text_in (codes "888") (given_by (codes "page") [] parts))
-      (text_in (codes "250") (given_by (codes "every") [] parts))
-      (text_in (codes "0") (given_by (codes "origin") [] parts))
-      (text_in (codes "false") (given_by (codes "complete") [] parts))
-      (text_in (codes "false") (given_by (codes "all") [] parts))
-      (text_in (codes "188") (given_by (codes "packet-size") [] parts))
-      (text_in (codes "english") (given_by (codes "option") [] parts))
-      (first_text (given_by (codes "pid") [] parts))
-      (first_text (given_by (codes "pes") [] parts))
-      (first_text (given_by (codes "layout") [] parts))
+  rows_say : RowsSay (finished rules all_held) stl pes (held_behind nothing parts)
   unfolding subttx_app
   rows_say = record {
     stl_is =
         first_not_given (codes "stl") ((stl ∷ []) ∷ []) refl refl refl
-        (key_apart (codes "stl") refl refl refl refl refl refl refl refl refl refl);
+        (key_apart (codes "stl") refl);
     recording_is =
         first_not_given (codes "recording") ((pes ∷ []) ∷ []) refl refl refl
-        (key_apart (codes "recording") refl refl refl refl refl refl refl refl refl refl);
+        (key_apart (codes "recording") refl);
     page_is =
         first_by (codes "page") [] refl refl refl
         ∙ some_text (codes "888") (given_by (codes "page") [] parts)
@@ -485,17 +382,18 @@ module _ (stl pes : Text) (parts : List Look) where
         first_by (codes "layout") [] refl refl refl
         ∙ no_default (given_by (codes "layout") [] parts);
     from_is =
-        first_not_given (codes "from") [] refl refl refl
-        (key_apart (codes "from") refl refl refl refl refl refl refl refl refl refl);
+        first_by (codes "from") [] refl refl refl
+        ∙ no_default (given_by (codes "from") [] parts);
     to_is =
-        first_not_given (codes "to") [] refl refl refl
-        (key_apart (codes "to") refl refl refl refl refl refl refl refl refl refl);
+        first_by (codes "to") [] refl refl refl
+        ∙ no_default (given_by (codes "to") [] parts);
     open_is =
-        first_not_given (codes "open") [] refl refl refl
-        (key_apart (codes "open") refl refl refl refl refl refl refl refl refl refl);
+        first_by (codes "open") [] refl refl refl
+        ∙ some_text (codes "false") (given_by (codes "open") [] parts)
+        (texts_given (codes "open") parts [] tt);
     within_is =
         first_not_given (codes "within") [] refl refl refl
-        (key_apart (codes "within") refl refl refl refl refl refl refl refl refl refl);
+        (key_apart (codes "within") refl);
     pid_is =
         first_by (codes "pid") [] refl refl refl
         ∙ no_default (given_by (codes "pid") [] parts);
@@ -507,11 +405,11 @@ module _ (stl pes : Text) (parts : List Look) where
         first_by (codes "pes") [] refl refl refl
         ∙ no_default (given_by (codes "pes") [] parts);
     pace_is =
-        first_not_given (codes "pace") [] refl refl refl
-        (key_apart (codes "pace") refl refl refl refl refl refl refl refl refl refl);
+        first_by (codes "pace") [] refl refl refl
+        ∙ no_default (given_by (codes "pace") [] parts);
     keeping_is =
         first_not_given (codes "keeping") [] refl refl refl
-        (key_apart (codes "keeping") refl refl refl refl refl refl refl refl refl refl);
+        (key_apart (codes "keeping") refl);
   }
 
 -- ---- what is asked
@@ -541,18 +439,56 @@ options_in o = record {
   origin = o.origin;
   asks_complete = o.asks_complete;
   within = 0;
-  pace = None;
+  pace = o.pace;
   keeps = false;
 }
 
-module _ (rows : List Row) (stl recording : Text)
-    (page every origin complete pid size pes letters lines : List (List Text)) (all : Text)
-    (l : Looking)
-    (say : RowsSay rows stl recording (text_in (codes "888") page) (text_in (codes "250") every)
-    (text_in (codes "0") origin) (text_in (codes "false") complete) all
-    (text_in (codes "188") size) (text_in (codes "english") letters) (first_text pid)
-    (first_text pes) (first_text lines))
-    (m : Meant page every origin complete pid size pes letters lines l) where
+pacing_is : (options : OptionsValue) (rows : List Row) (pace : Option Text) (frames : Option ℕ)
+    → options.pace ≡ None
+    → first_of (codes "pace") rows ≡ pace
+    → said_by pace_of_text pace ≡ Some frames
+    → pacing_of options rows ≡ Ok (record options { pace = frames })
+pacing_is options rows None frames none first says = grind (arith, nat_tests)
+pacing_is options rows (Some text) frames none first says = grind (arith, nat_tests)
+
+-- A time where one is given, else this.
+time_by : (text : Option Text) (default frame : ℕ)
+    → option_map_or frame_of_text text (Some default) ≡ Some frame
+    → (o : Option ℕ)
+    × (option_map_or (λ text. option_map Some (frame_of_text text)) text (Some None) ≡ Some o)
+    × (unwrap_or o default ≡ frame)
+time_by None default frame is =
+    let e : default ≡ frame = cc in (None, refl, e)
+time_by (Some text) default frame is = (Some frame, ap (option_map Some) is, refl)
+
+scope_is : (rows : List Row) (from to : Option Text) (also : Text) (scope : Scope)
+    → first_of (codes "from") rows ≡ from
+    → first_of (codes "to") rows ≡ to
+    → first_of (codes "open") rows ≡ Some also
+    → option_map_or frame_of_text from (Some 0) ≡ Some scope.from
+    → option_map_or frame_of_text to (Some day) ≡ Some scope.to
+    → bytes_eq also (codes "true") ≡ scope.takes_open
+    → scope_of rows ≡ Ok scope
+scope_is rows from to also scope from_is to_is open_is from_says to_says open_says =
+    let first = time_by from 0 scope.from from_says in
+    let last = time_by to day scope.to to_says in
+    rw (
+      from_is,
+      to_is,
+      open_is,
+      first.1,
+      last.1,
+      first.2,
+      last.2,
+      open_says,
+    ) refl
+
+-- All that is broken is listed.
+abbrev lists_all : (Text → List (List Text)) → Bool
+lists_all held = bytes_eq (text_in (codes "false") (held (codes "all"))) (codes "true")
+
+module _ (rows : List Row) (stl recording : Text) (held : Text → List (List Text)) (l : Looking)
+    (say : RowsSay rows stl recording held) (m : Meant held l) where
   too_far :
       nat_le 1 l.reading.options.every && nat_le l.reading.options.every day ≡ false
       → check_asked rows ≡ Err fault.Every
@@ -571,7 +507,7 @@ module _ (rows : List Row) (stl recording : Text)
       → nat_le 0 l.reading.options.origin && nat_le l.reading.options.origin (2 ^ 33 - 1) ≡ true
       → check_asked rows
       ≡ Ok (Asked.Check stl (recording_asked recording l.reading) (options_in l.reading.options)
-      l.national l.layout whole (bytes_eq all (codes "true")))
+      l.national l.layout l.reading.scope (lists_all held))
   check_is near time =
       rw (
         say.page_is,
@@ -588,15 +524,14 @@ module _ (rows : List Row) (stl recording : Text)
         m.option_is,
         say.within_is,
         within_number,
-        pes_packets_are rows recording (text_in (codes "188") size) (first_text pid)
-            (first_text pes) l.reading say.recording_is say.pid_is say.packet_size_is say.pes_is
-            m.pid_is m.size_is m.range_is,
+        pes_packets_are rows recording _ _ _ l.reading say.recording_is say.pid_is
+            say.packet_size_is say.pes_is m.pid_is m.size_is m.range_is,
         say.layout_is,
         m.layout_is,
-        say.pace_is,
-        say.from_is,
-        say.to_is,
-        say.open_is,
+        pacing_is (options_in (record l.reading.options { pace = None })) rows _
+            l.reading.options.pace refl say.pace_is m.pace_is,
+        scope_is rows _ _ _ l.reading.scope say.from_is say.to_is say.open_is m.from_is m.to_is
+            m.open_is,
         say.keeping_is,
         say.all_is,
         say.stl_is,
@@ -610,7 +545,7 @@ module _ (rows : List Row) (stl recording : Text)
       → check_asked rows ≡ Ok asked
       → (asked
       ≡ Asked.Check stl (recording_asked recording l.reading) (options_in l.reading.options)
-      l.national l.layout whole (bytes_eq all (codes "true")))
+      l.national l.layout l.reading.scope (lists_all held))
       × (l.reading.options.origin < 2 ^ 33)
   in_range false time asked near_is time_is is = let e = sym (too_far near_is) ∙ is in cc
   in_range true false asked near_is time_is is = let e = sym (no_time near_is time_is) ∙ is in cc
@@ -619,17 +554,16 @@ module _ (rows : List Row) (stl recording : Text)
 
 options_are : (o : OptionsValue)
     → o.within ≡ 0
-    → o.pace ≡ None
     → o.keeps ≡ false
     → options_in o ≡ o
-options_are o within pace keeps = grind (arith, nat_tests)
+options_are o within keeps = grind (arith, nat_tests)
 
 -- Such options allow no frames, and no repeat that keeps the page.
 pub plain_by : (parts : List Look)
     → ((looking_of parts).reading.options.within ≡ 0)
     × IsFalse (looking_of parts).reading.options.keeps
 plain_by parts =
-    let m = meant_by [] [] [] [] [] [] [] [] [] (looking_of []) parts meant_at_first in
+    let m = meant_by nothing (looking_of []) parts meant_at_first in
     (m.within_is, m.keeps_is)
 
 -- ---- the words
@@ -694,22 +628,22 @@ look_rows : (stl recording : Text) (parts : List Look) (asked : Asked)
     → (all : Bool)
     × (asked
     ≡ Asked.Check stl (recording_asked recording (looking_of parts).reading)
-    (looking_of parts).reading.options (looking_of parts).national (looking_of parts).layout whole
-    all)
+    (looking_of parts).reading.options (looking_of parts).national (looking_of parts).layout
+    (looking_of parts).reading.scope all)
     × ((looking_of parts).reading.options.origin < 2 ^ 33)
 look_rows stl recording parts asked is =
-    let m = meant_by [] [] [] [] [] [] [] [] [] (looking_of []) parts meant_at_first in
+    let m = meant_by nothing (looking_of []) parts meant_at_first in
     let l = looking_of parts in
     let so =
-    in_range (finished rules (all_held stl recording parts)) stl recording _ _ _ _ _ _ _ _ _ _ l
+    in_range (finished rules (all_held stl recording parts)) stl recording _ l
     (rows_say stl recording parts) m _ _ asked refl refl is in (
-      bytes_eq (text_in (codes "false") (given_by (codes "all") [] parts)) (codes "true"),
+      lists_all (held_behind nothing parts),
       so.0
           ∙ ap
           (λ (options : OptionsValue).
-          Asked.Check stl (recording_asked recording l.reading) options l.national l.layout whole
-          (bytes_eq (text_in (codes "false") (given_by (codes "all") [] parts)) (codes "true")))
-          (options_are l.reading.options m.within_is m.pace_is m.keeps_is),
+          Asked.Check stl (recording_asked recording l.reading) options l.national l.layout
+          l.reading.scope (lists_all (held_behind nothing parts)))
+          (options_are l.reading.options m.within_is m.keeps_is),
       so.1,
     )
 
@@ -748,7 +682,7 @@ law_of_part_words program stl pes parts request is_stl is_pes asks =
           ∙ ap
           (λ (l : Looking).
           Asked.Check stl (recording_asked pes l.reading) l.reading.options l.national l.layout
-          whole so.0)
+          l.reading.scope so.0)
           at,
       subst (λ (l : Looking). l.reading.options.origin < 2 ^ 33) at so.2,
     )
@@ -778,7 +712,7 @@ law_of_chosen_words program stl pes choices request is_stl is_pes asks =
       so.1
           ∙ ap
           (λ (r : Reading).
-          Asked.Check stl (recording_asked pes r) r.options English default_layout whole so.0)
+          Asked.Check stl (recording_asked pes r) r.options English default_layout r.scope so.0)
           at,
       subst (λ (r : Reading). r.options.origin < 2 ^ 33) at so.2,
     )

@@ -1,8 +1,8 @@
--- For `law_of_english_acceptance`: the files that mean subtitles and a transmission by the default
--- options are theirs, `files_of` and `mean_of`; and what is good for these is good by English's own
+-- For `law_of_english_acceptance`: the files that mean subtitles and a transmission are theirs,
+-- `files_of` and `mean_of`; and what is good for these is good by English's own
 -- page and rules, `english_of` and `good_of`.
-use Rattle.std.proofs.Common.{◌≡◌, ◌∙◌, ℕ, Bool, false, List, None, ap, sym}
-use Rattle.std.specs.Prelude.{All, IsFalse, IsTrue}
+use Rattle.std.proofs.Common.{◌≡◌, ◌∙◌, ℕ, Bool, false, List, Result, ap, subst, sym}
+use Rattle.std.specs.Prelude.{All, IsFalse, IsOk, IsTrue}
 use Rattle.ttx_packet.specs.declared.header.Header.{Header}
 use Rattle.ttx_packet.specs.PageHeader.{c12, c13, c14}
 use Rattle.ttx_page.specs.Page.{Rows, cell}
@@ -12,7 +12,8 @@ use Rattle.stl_rows.specs.declared.national.NationalBits.{NationalBits}
 use Rattle.stl_rows.specs.SubSets.{sub_set}
 use Rattle.sub_plan.specs.Options.{OptionsValue}
 use Rattle.sub_plan.specs.Sending.{national_bits}
-use Rattle.sub_rules.specs.Good.{Good, IsSubtitleHeader, KeepsPace}
+use Rattle.sub_laws.specs.OnScreen.{Complete}
+use Rattle.sub_rules.specs.Good.{Good, IsSubtitleHeader}
 use Rattle.sub_rules.specs.Transmission.{Transmission}
 use Rattle.sub_check.specs.CheckedFiles.{IsAccepted, Mean}
 use Rattle.sub_headline.specs.Acceptance.{LawOfEnglishAcceptance, default_drawing}
@@ -20,7 +21,11 @@ use Rattle.sub_headline.specs.PlainAcceptance.{IsEnglishGood, IsEnglishHeader, I
 use Rattle.sub_headline.specs.PlainFiles.{AreFilesOf}
 use Rattle.sub_headline.specs.PlainWords.{default_options}
 use Rattle.sub_headline.proofs.AcceptanceLemmas.{all_subtitles, programme_of}
-use Rattle.sub_headline.proofs.EnglishLemmas.{IsDrawn, all_drawn, due_is, ok_of_whole}
+use Rattle.sub_headline.proofs.EnglishLemmas.{IsDrawn, all_drawn, due_is, english_within}
+use Rattle.sub_headline.proofs.EnglishLemmas.{ok_of_whole, same_drawn}
+use Rattle.stl_file.specs.Scope.{whole}
+use Rattle.stl_file.specs.declared.scope.Scope.{Scope}
+use Rattle.stl_rows.specs.declared.fault.RowFault.{RowFault}
 
 -- ---- a header
 
@@ -61,22 +66,15 @@ subtitle_header h is = record {
   option = option_is h is.first_option is.second_option is.third_option;
 }
 
--- ---- what is not asked for
-
-no_pace : (transmission : Transmission) → KeepsPace None transmission
-no_pace transmission frames f some from to = cc
-
-not_asked : {A : Type 0} → IsTrue false → A
-not_asked asked = cc
-
 -- ---- a transmission
 
-module _ (subtitles : List SubtitleValue) (transmission : Transmission)
+module _ (options : OptionsValue) (subtitles : List SubtitleValue) (transmission : Transmission)
     (drawn : All IsDrawn subtitles) where
   english_of :
-      Good (record { drawing = default_drawing; records = subtitles }) transmission default_options
-      → IsEnglishGood subtitles transmission
-  english_of good = record {
+      Good (record { drawing = default_drawing; records = subtitles }) transmission options
+      → (IsTrue options.asks_complete → Complete transmission options)
+      → IsEnglishGood options subtitles transmission
+  english_of good complete = record {
     not_empty = good.rules.not_empty;
     rising = good.rules.rising;
     whole = good.rules.whole;
@@ -92,12 +90,13 @@ module _ (subtitles : List SubtitleValue) (transmission : Transmission)
     content = λ f row column from to is_cell.
         good.content f row column from to is_cell
         ∙ ap (λ (due : Rows). cell due row column) (due_is subtitles f drawn);
+    paced = good.rules.paced;
+    complete = complete;
   }
 
   good_of :
-      IsEnglishGood subtitles transmission
-      → Good (record { drawing = default_drawing; records = subtitles }) transmission
-      default_options
+      IsEnglishGood options subtitles transmission
+      → Good (record { drawing = default_drawing; records = subtitles }) transmission options
   good_of good = record {
     rules = record {
       not_empty = good.not_empty;
@@ -112,7 +111,7 @@ module _ (subtitles : List SubtitleValue) (transmission : Transmission)
       spans = good.spans;
       opens = good.opens;
       repeats = good.repeats;
-      paced = no_pace transmission;
+      paced = good.paced;
     };
     content = λ f row column from to is_cell.
         good.content f row column from to is_cell
@@ -125,19 +124,22 @@ module _ (subtitles : List SubtitleValue) (transmission : Transmission)
 abbrev from_origin : ℕ → OptionsValue
 from_origin origin = record default_options { origin = origin }
 
-module _ (origin : ℕ) (stl pes : List ℕ) (subtitles : List SubtitleValue)
+module _ (scope : Scope) (origin : ℕ) (stl pes : List ℕ) (subtitles : List SubtitleValue)
     (transmission : Transmission) where
   pub drawn_of :
-      Mean default_drawing origin stl pes subtitles transmission
+      Mean (english_within scope) origin stl pes subtitles transmission
       → All IsDrawn subtitles
   drawn_of mean =
       let of =
-      programme_of default_drawing (from_origin origin) stl pes subtitles transmission mean in
-      all_drawn subtitles of.each of.drawable
+      programme_of (english_within scope) (from_origin origin) stl pes subtitles transmission mean
+      in
+      all_drawn subtitles of.each
+      (λ k d below.
+      subst (λ (r : Result Rows RowFault). IsOk r) (same_drawn scope _) (of.drawable k d below))
 
   pub files_of :
-      Mean default_drawing origin stl pes subtitles transmission
-      → AreFilesOf origin stl pes subtitles transmission
+      Mean (english_within scope) origin stl pes subtitles transmission
+      → AreFilesOf scope origin stl pes subtitles transmission
   files_of mean = record {
     gsi = mean.gsi;
     subtitle_file = mean.subtitle_file;
@@ -146,8 +148,10 @@ module _ (origin : ℕ) (stl pes : List ℕ) (subtitles : List SubtitleValue)
     carries = mean.carries;
   }
 
+module _ (origin : ℕ) (stl pes : List ℕ) (subtitles : List SubtitleValue)
+    (transmission : Transmission) where
   mean_of :
-      AreFilesOf origin stl pes subtitles transmission
+      AreFilesOf whole origin stl pes subtitles transmission
       → Mean default_drawing origin stl pes subtitles transmission
   mean_of files =
       let each : All IsSubtitle subtitles =
@@ -160,32 +164,33 @@ module _ (origin : ℕ) (stl pes : List ℕ) (subtitles : List SubtitleValue)
         carries = files.carries;
       }
 
-there : (stl pes : List ℕ)
-    → IsAccepted default_drawing default_options stl pes
-    → IsPlainlyAccepted stl pes
-there stl pes is = record {
+there : (options : OptionsValue) (stl pes : List ℕ)
+    → IsAccepted default_drawing options stl pes
+    → IsPlainlyAccepted options stl pes
+there options stl pes is = record {
   subtitles = is.subtitles;
   transmission = is.transmission;
-  files = files_of 0 stl pes is.subtitles is.transmission is.mean;
+  files = files_of whole options.origin stl pes is.subtitles is.transmission is.mean;
   good =
-      english_of is.subtitles is.transmission
-      (drawn_of 0 stl pes is.subtitles is.transmission is.mean) is.good;
+      english_of options is.subtitles is.transmission
+      (drawn_of whole options.origin stl pes is.subtitles is.transmission is.mean) is.good
+      is.complete;
 }
 
-back : (stl pes : List ℕ)
-    → IsPlainlyAccepted stl pes
-    → IsAccepted default_drawing default_options stl pes
-back stl pes is =
-    let mean = mean_of 0 stl pes is.subtitles is.transmission is.files in
+back : (options : OptionsValue) (stl pes : List ℕ)
+    → IsPlainlyAccepted options stl pes
+    → IsAccepted default_drawing options stl pes
+back options stl pes is =
+    let mean = mean_of options.origin stl pes is.subtitles is.transmission is.files in
     record {
       subtitles = is.subtitles;
       transmission = is.transmission;
       mean = mean;
       good =
-          good_of is.subtitles is.transmission
-          (drawn_of 0 stl pes is.subtitles is.transmission mean) is.good;
-      complete = not_asked;
+          good_of options is.subtitles is.transmission
+          (drawn_of whole options.origin stl pes is.subtitles is.transmission mean) is.good;
+      complete = is.good.complete;
     }
 
 pub law_of_english_acceptance : LawOfEnglishAcceptance
-law_of_english_acceptance stl pes = (there stl pes, back stl pes)
+law_of_english_acceptance options stl pes = (there options stl pes, back options stl pes)

@@ -8,7 +8,8 @@ use Rattle.std.proofs.Common.{◌++◌, Option, Some, None, Result, Ok, refl, sy
 use Rattle.std.proofs.Common.{map, subst}
 use Rattle.std.specs.Prelude.{◌==◌, ◌&&◌, nat_lt, length, All, IsOk, IsTrue, if◌then◌else◌}
 use Rattle.std.specs.List.{cons_option, find}
-use Rattle.ttx_page.specs.Page.{Rows}
+use Rattle.std.specs.Result.{result_unwrap_or}
+use Rattle.ttx_page.specs.Page.{Rows, blank}
 use Rattle.stl_file.specs.Subtitle.{IsSubtitle, SubtitleValue}
 use Rattle.stl_rows.specs.declared.fault.RowFault.{RowFault}
 use Rattle.stl_rows.specs.declared.fault.RowFaultKind.{RowFaultKind}
@@ -26,6 +27,9 @@ use Rattle.stl_rows.specs.TextCode.{fault_of, first_of, is_common, is_diacritica
 use Rattle.stl_rows.specs.TextCode.{is_within, lines_of_codes, new_line, refused_code}
 use Rattle.stl_rows.specs.TextCode.{refused_codes, text_code, with_code}
 use Rattle.stl_rows.proofs.DefaultLayoutLemmas.{default_is_plain}
+use Rattle.stl_file.specs.declared.scope.Scope.{Scope}
+use Rattle.stl_rows.specs.Layout.{default_layout, drawing_within}
+use Rattle.stl_rows.specs.declared.layout.Drawing.{Drawing}
 use Rattle.sub_headline.specs.Acceptance.{default_drawing}
 use Rattle.sub_headline.specs.EnglishPage.{Fit, IsFit, IsRead, IsWhole, english_cell, english_due}
 use Rattle.sub_headline.specs.EnglishPage.{english_lines, english_page, page_or_blank, put}
@@ -283,6 +287,29 @@ pub due_is : (ts : List SubtitleValue) (f : ℕ)
     → due default_drawing ts f ≡ english_due ts f
 unfolding due
 due_is ts f each = found_is ts f each
+
+-- ---- a part of the file
+
+-- What is drawn of a subtitle, and due, does not go by which of them are taken.
+abbrev pub english_within : Scope → Drawing
+english_within scope = drawing_within English default_layout scope
+
+pub same_drawn : (scope : Scope) (t : SubtitleValue)
+    → drawn (english_within scope) t ≡ drawn default_drawing t
+unfolding drawn
+same_drawn scope t = refl
+
+same_page : (scope : Scope) (o : Option SubtitleValue)
+    → drawn_or_blank (english_within scope) o ≡ drawn_or_blank default_drawing o
+same_page scope None = refl
+same_page scope (Some t) =
+    ap (λ (r : Result Rows RowFault). result_unwrap_or r blank) (same_drawn scope t)
+
+pub due_within : (scope : Scope) (ts : List SubtitleValue) (f : ℕ)
+    → All IsDrawn ts
+    → due (english_within scope) ts f ≡ english_due ts f
+unfolding due
+due_within scope ts f each = same_page scope (find (is_due f) ts) ∙ due_is ts f each
 
 -- ---- a subtitle of which nothing is left out
 

@@ -5,7 +5,7 @@ use Rattle.std.proofs.Common.{Result}
 use Rattle.std.proofs.Common.{Bool, ap, arith, codes, refl, subst, sym}
 use Rattle.std.proofs.lemmas.Bool.Decides.{nat_tests}
 use Rattle.std.specs.Prelude.{◌<◌, ◌^◌, IsFalse, IsTrue, map, option_map}
-use Rattle.std.specs.List.{flat_map}
+use Rattle.std.specs.List.{find, flat_map}
 use Rattle.clap.specs.Words.{Text}
 use Rattle.ttx_page.specs.Page.{Rows, cell, space}
 use Rattle.ttx_page.specs.DroppedRows.{ExcusedBy}
@@ -16,7 +16,8 @@ use Rattle.mpeg_ts.specs.declared.packet_size.PacketSize.{PacketSize}
 use Rattle.stl_file.specs.Scope.{whole}
 use Rattle.stl_file.specs.Subtitle.{SubtitleValue}
 use Rattle.stl_rows.specs.Programme.{ProgrammeValue}
-use Rattle.stl_rows.specs.DuePage.{due}
+use Rattle.stl_rows.specs.DrawnPage.{drawn}
+use Rattle.stl_rows.specs.DuePage.{drawn_or_blank, due, is_due}
 use Rattle.stl_rows.specs.Layout.{default_layout, drawing_by, drawing_within}
 use Rattle.stl_file.specs.declared.scope.Scope.{Scope}
 use Rattle.stl_rows.specs.declared.layout.Drawing.{Drawing}
@@ -59,7 +60,7 @@ use Rattle.sub_headline.specs.RecordingOptions.Portion.{Any}
 use Rattle.sub_headline.specs.PlainOptions.{Choice, options_by, choice_words}
 use Rattle.sub_headline.specs.PlainFiles.{AreFilesOf}
 use Rattle.sub_headline.specs.PlainHeadline.{Headline}
-use Rattle.sub_headline.specs.PlainReading.{frames_by_place, subtitles_by_place}
+use Rattle.sub_headline.specs.PlainReading.{frames_by_place, subtitles_by_place, subtitles_within}
 use Rattle.sub_headline.specs.PlainWords.{IsName}
 use Rattle.sub_headline.specs.Run.{RunsProgram}
 use Rattle.sub_headline.proofs.ChosenWordLemmas.{law_of_chosen_words, law_of_look_words}
@@ -68,26 +69,26 @@ use Rattle.sub_headline.proofs.ChosenWordLemmas.{read_any}
 use Rattle.sub_headline.proofs.AcceptanceLemmas.{law_of_plain_acceptance, programme_of}
 use Rattle.sub_headline.proofs.EnglishAcceptanceLemmas.{drawn_of, files_of}
 use Rattle.sub_headline.proofs.EnglishAcceptanceLemmas.{law_of_english_acceptance}
-use Rattle.sub_headline.proofs.EnglishLemmas.{due_is}
+use Rattle.sub_headline.proofs.EnglishLemmas.{due_within, english_within}
 use Rattle.sub_headline.proofs.FrameReadingLemmas.{frames_are}
 use Rattle.sub_headline.proofs.RunLemmas.{HasAnswered, answered, done_by_code, no_fault}
 use Rattle.sub_headline.proofs.ScreenLemmas.{screens_of}
-use Rattle.sub_headline.proofs.SubtitleReadingLemmas.{subtitles_are}
+use Rattle.sub_headline.proofs.SubtitleReadingLemmas.{subtitles_are, taken_subtitles_are}
 
 -- What is asked of two files by options.
 abbrev check_by :
     (stl pes : Text) → Option TransportStream → Option PieceRangeValue → OptionsValue → National
-    → Layout → Bool → Asked
-check_by stl pes stream range options national layout all =
+    → Layout → Scope → Bool → Asked
+check_by stl pes stream range options national layout scope all =
     Asked.Check stl (record { name = pes; stream = stream; range = range }) options national layout
-    whole all
+    scope all
 
 -- What it names and asks for is that.
 record IsCheckBy
     (stl0 name : Text) (stream0 : Option TransportStream) (range0 : Option PieceRangeValue)
-    (options0 : OptionsValue) (national0 : National) (layout0 : Layout) (scope : Scope)
+    (options0 : OptionsValue) (national0 : National) (layout0 : Layout) (scope0 : Scope)
     (stl pes : Text) (stream : Option TransportStream) (range : Option PieceRangeValue)
-    (options : OptionsValue) (national : National) (layout : Layout)
+    (options : OptionsValue) (national : National) (layout : Layout) (scope : Scope)
     : Type 0 where
   pub stl_is : stl0 ≡ stl
   pub name_is : name ≡ pes
@@ -96,73 +97,74 @@ record IsCheckBy
   pub options_are : options0 ≡ options
   pub national_is : national0 ≡ national
   pub layout_is : layout0 ≡ layout
-  pub scope_is : scope ≡ whole
+  pub scope_is : scope0 ≡ scope
 
 is_check_by :
     (stl0 name : Text) (stream0 : Option TransportStream) (range0 : Option PieceRangeValue)
-    (options0 : OptionsValue) (national0 : National) (layout0 : Layout) (scope : Scope)
+    (options0 : OptionsValue) (national0 : National) (layout0 : Layout) (scope0 : Scope)
     (all0 : Bool) (stl pes : Text) (stream : Option TransportStream)
     (range : Option PieceRangeValue) (options : OptionsValue) (national : National)
-    (layout : Layout) (all : Bool)
+    (layout : Layout) (scope : Scope) (all : Bool)
     → Asked.Check stl0 (record { name = name; stream = stream0; range = range0 }) options0 national0
-    layout0 scope all0
-    ≡ check_by stl pes stream range options national layout all
-    → IsCheckBy stl0 name stream0 range0 options0 national0 layout0 scope stl pes stream range
-    options national layout
-is_check_by stl0 name stream0 range0 options0 national0 layout0 scope all0 stl pes stream range
-    options national layout all e = grind (arith, nat_tests)
+    layout0 scope0 all0
+    ≡ check_by stl pes stream range options national layout scope all
+    → IsCheckBy stl0 name stream0 range0 options0 national0 layout0 scope0 stl pes stream range
+    options national layout scope
+is_check_by stl0 name stream0 range0 options0 national0 layout0 scope0 all0 stl pes stream range
+    options national layout scope all e = grind (arith, nat_tests)
 
 -- What the status of such a check tells.
 tells :
     (request : Request) (stl pes : Text) (stream : Option TransportStream)
     (range : Option PieceRangeValue) (options : OptionsValue) (national : National)
-    (layout : Layout) (all : Bool) (file bytes read : List ℕ) (files : MemFilesValue)
-    (status : Status)
-    → asked_by request ≡ check_by stl pes stream range options national layout all
+    (layout : Layout) (scope : Scope) (all : Bool) (file bytes read : List ℕ)
+    (files : MemFilesValue) (status : Status)
+    → asked_by request ≡ check_by stl pes stream range options national layout scope all
     → bytes_at stl files ≡ Some file
     → bytes_at pes files ≡ Some bytes
     → through_range range (through_stream stream (Some bytes)) ≡ Some read
     → TellsAccepted request files status
-    → (status ≡ Done) ↔ IsAcceptedBy (drawing_by national layout) options file read
+    → (status ≡ Done) ↔ IsAcceptedBy (drawing_within national layout scope) options file read
 tells
-    (ask.Check stl0 pes0 options0 national0 layout0 scope all0) stl pes stream range options
-    national layout all file bytes read files status asked stl_is pes_is read_is told =
+    (ask.Check stl0 pes0 options0 national0 layout0 scope0 all0) stl pes stream range options
+    national layout scope all file bytes read files status asked stl_is pes_is read_is told =
     let is =
-    is_check_by stl0.now pes0.name.now pes0.stream pes0.range options0 national0 layout0 scope all0
-    stl pes stream range options national layout all asked in
+    is_check_by stl0.now pes0.name.now pes0.stream pes0.range options0 national0 layout0 scope0
+    all0 stl pes stream range options national layout scope all asked in
     let drawing_is =
-    ap (λ n. drawing_within n layout0 scope) is.national_is
-    ∙ ap (λ l. drawing_within national l scope) is.layout_is
+    ap (λ n. drawing_within n layout0 scope0) is.national_is
+    ∙ ap (λ l. drawing_within national l scope0) is.layout_is
     ∙ ap (λ s. drawing_within national layout s) is.scope_is in
     subst (λ (d : Drawing). (status ≡ Done) ↔ IsAcceptedBy d options file read) drawing_is
     (subst
     (λ (o : OptionsValue).
-    (status ≡ Done) ↔ IsAcceptedBy (drawing_within national0 layout0 scope) o file read)
+    (status ≡ Done) ↔ IsAcceptedBy (drawing_within national0 layout0 scope0) o file read)
     is.options_are
     (told file bytes read (ap (λ n. bytes_at n files) is.stl_is ∙ stl_is)
     (ap (λ n. bytes_at n files) is.name_is ∙ pes_is)
     (ap (λ r. through_range r (through_stream pes0.stream (Some bytes))) is.range_is
     ∙ ap (λ s. through_range range (through_stream s (Some bytes))) is.stream_is
     ∙ read_is)))
-tells ask.Help stl pes st ra o n y all file bytes read files s e at_stl at_pes r told = cc
-tells (ask.Packet p) stl pes st ra o n y all file bytes read files s e at_stl at_pes r told =
+tells ask.Help stl pes st ra o n y c all file bytes read files s e at_stl at_pes r told = cc
+tells (ask.Packet p) stl pes st ra o n y c all file bytes read files s e at_stl at_pes r told =
     cc
-tells (ask.Packets p) stl pes st ra o n y all file bytes read files s e at_stl at_pes r told =
+tells (ask.Packets p) stl pes st ra o n y c all file bytes read files s e at_stl at_pes r told =
     cc
-tells (ask.Show p) stl pes st ra o n y all file bytes read files s e at_stl at_pes r told = cc
+tells (ask.Show p) stl pes st ra o n y c all file bytes read files s e at_stl at_pes r told = cc
 tells
-    (ask.Normal a b) stl pes st ra o n y all file bytes read files s e at_stl at_pes r told =
-    cc
-tells
-    (ask.Schedule a b c serial national layout scope) stl pes st ra o n y all file bytes read files
-    s e at_stl at_pes r told = cc
-tells
-    (ask.Listen p l) stl pes st ra o n y all file bytes read files s e at_stl at_pes r told =
+    (ask.Normal a b) stl pes st ra o n y c all file bytes read files s e at_stl at_pes r told =
     cc
 tells
-    (ask.Extract a b c) stl pes st ra o n y all file bytes read files s e at_stl at_pes r told = cc
+    (ask.Schedule a b d serial national layout scope) stl pes st ra o n y c all file bytes read
+    files s e at_stl at_pes r told = cc
 tells
-    (ask.Survey a c) stl pes st ra o n y all file bytes read files s e at_stl at_pes r told =
+    (ask.Listen p l) stl pes st ra o n y c all file bytes read files s e at_stl at_pes r told =
+    cc
+tells
+    (ask.Extract a b d) stl pes st ra o n y c all file bytes read files s e at_stl at_pes r told =
+    cc
+tells
+    (ask.Survey a b) stl pes st ra o n y c all file bytes read files s e at_stl at_pes r told =
     cc
 
 -- The words that were given are those that were answered.
@@ -171,17 +173,17 @@ given_words :
 given_words given a b one other = let e = sym one ∙ other in cc
 
 -- What both files mean, where the transmission is good.
-module _ (options : OptionsValue) (stl pes : List ℕ)
-    (is : IsAccepted default_drawing options stl pes) where
-  files : AreFilesOf options.origin stl pes is.subtitles is.transmission
-  files = files_of options.origin stl pes is.subtitles is.transmission is.mean
+module _ (scope : Scope) (options : OptionsValue) (stl pes : List ℕ)
+    (is : IsAccepted (english_within scope) options stl pes) where
+  files : AreFilesOf scope options.origin stl pes is.subtitles is.transmission
+  files = files_of scope options.origin stl pes is.subtitles is.transmission is.mean
 
   -- It keeps the headline.
   each : (class : ReceiverClass)
       → EachOfClassGets class options.page options.every is.subtitles is.transmission
   each class = λ g j f arrived got old new is_got hears.
       let programme : ProgrammeValue =
-      record { drawing = default_drawing; records = is.subtitles } in
+      record { drawing = english_within scope; records = is.subtitles } in
       let good = law_of_good programme is.transmission options is.good in
       let served = good.trusted.recovers class g j f arrived got old new is_got hears in
       record {
@@ -195,8 +197,8 @@ module _ (options : OptionsValue) (stl pes : List ℕ)
             × ExcusedBy class
             (IsHitOrLost options.page (on_air is.transmission g j f) (arrivals_of arrived got))
             row column))
-            (due_is is.subtitles f
-            (drawn_of options.origin stl pes is.subtitles is.transmission is.mean))
+            (due_within scope is.subtitles f
+            (drawn_of scope options.origin stl pes is.subtitles is.transmission is.mean))
             (served.cells header row column is_cell);
       }
 
@@ -205,7 +207,7 @@ module _ (options : OptionsValue) (stl pes : List ℕ)
       → EachDisplayShows options.page is.subtitles is.transmission
   complete asks = λ class g j f arrived got old new is_got shows header.
       let programme : ProgrammeValue =
-      record { drawing = default_drawing; records = is.subtitles } in
+      record { drawing = english_within scope; records = is.subtitles } in
       let good = law_of_good programme is.transmission options is.good in
       let (page, screen, holds) =
       good.trusted.shown (is.complete asks) class g j f arrived got old new is_got shows header in (
@@ -219,17 +221,17 @@ module _ (options : OptionsValue) (stl pes : List ℕ)
             × ExcusedBy class
             (IsHitOrLost options.page (on_air is.transmission g j f) (arrivals_of arrived got))
             row column))
-            (due_is is.subtitles f
-            (drawn_of options.origin stl pes is.subtitles is.transmission is.mean))
+            (due_within scope is.subtitles f
+            (drawn_of scope options.origin stl pes is.subtitles is.transmission is.mean))
             (holds row column is_cell),
       )
 
   headline : Headline options.page options.every english_due is.subtitles is.transmission
   headline =
       let programme : ProgrammeValue =
-      record { drawing = default_drawing; records = is.subtitles } in
+      record { drawing = english_within scope; records = is.subtitles } in
       let of =
-      programme_of default_drawing options stl pes is.subtitles is.transmission is.mean in
+      programme_of (english_within scope) options stl pes is.subtitles is.transmission is.mean in
       let rules = is.good.rules in
       record {
         covers = λ k d below. (
@@ -243,15 +245,16 @@ module _ (options : OptionsValue) (stl pes : List ℕ)
   read : options.origin < 2 ^ 33
       → (IsSo : List SubtitleValue → Transmission → Type 0)
       → IsSo is.subtitles is.transmission
-      → IsSo (subtitles_by_place stl) (frames_by_place options.origin pes)
+      → IsSo (subtitles_within scope stl) (frames_by_place options.origin pes)
   read fits IsSo so =
       subst (λ (ts : List SubtitleValue). IsSo ts (frames_by_place options.origin pes))
-      (sym (subtitles_are stl files.gsi is.subtitles files.subtitle_file))
+      (sym (taken_subtitles_are scope stl files.gsi is.subtitles files.subtitle_file))
       (subst (λ (t : Transmission). IsSo is.subtitles t)
       (sym (frames_are options.origin pes is.transmission fits files.carries)) so)
 
   -- Other receivers and screens, of what is read by place.
-  kept : options.origin < 2 ^ 33 → ServesOthers options stl pes
+  kept : options.origin < 2 ^ 33
+      → ServesOthers options (subtitles_within scope stl) (frames_by_place options.origin pes)
   kept fits = record {
     dropping =
         read fits (EachOfClassGets Dropping options.page options.every) (each Dropping);
@@ -261,19 +264,50 @@ module _ (options : OptionsValue) (stl pes : List ℕ)
     complete = λ asks. read fits (EachDisplayShows options.page) (complete asks);
   }
 
--- The headline by any national option and layout.
-module _ (national : National) (layout : Layout) (options : OptionsValue) (stl pes : List ℕ)
-    (is : IsAccepted (drawing_by national layout) options stl pes) where
+-- Of the whole subtitle file.
+read_whole : (options : OptionsValue) (stl pes : List ℕ)
+    (is : IsAccepted default_drawing options stl pes)
+    → options.origin < 2 ^ 33
+    → (IsSo : List SubtitleValue → Transmission → Type 0)
+    → IsSo is.subtitles is.transmission
+    → IsSo (subtitles_by_place stl) (frames_by_place options.origin pes)
+read_whole options stl pes is fits IsSo so =
+    let of = files whole options stl pes is in
+    subst (λ (ts : List SubtitleValue). IsSo ts (frames_by_place options.origin pes))
+    (sym (subtitles_are stl of.gsi is.subtitles of.subtitle_file))
+    (subst (λ (t : Transmission). IsSo is.subtitles t)
+    (sym (frames_are options.origin pes is.transmission fits of.carries)) so)
+
+-- ---- the headline by any national option and layout
+
+-- What is due of subtitles does not go by which of them are taken.
+drawn_within : (national : National) (layout : Layout) (scope : Scope) (o : Option SubtitleValue)
+    → drawn_or_blank (drawing_within national layout scope) o
+    ≡ drawn_or_blank (drawing_by national layout) o
+unfolding drawn
+drawn_within national layout scope None = refl
+drawn_within national layout scope (Some t) = refl
+
+due_drawn_within : (national : National) (layout : Layout) (scope : Scope)
+    (ts : List SubtitleValue) (f : ℕ)
+    → due (drawing_within national layout scope) ts f ≡ due (drawing_by national layout) ts f
+unfolding due
+due_drawn_within national layout scope ts f =
+    drawn_within national layout scope (find (is_due f) ts)
+
+module _ (national : National) (layout : Layout) (scope : Scope) (options : OptionsValue)
+    (stl pes : List ℕ)
+    (is : IsAccepted (drawing_within national layout scope) options stl pes) where
   drawn_headline :
       Headline options.page options.every (due (drawing_by national layout)) is.subtitles
       is.transmission
   drawn_headline =
       let programme : ProgrammeValue =
-      record { drawing = drawing_by national layout; records = is.subtitles } in
+      record { drawing = drawing_within national layout scope; records = is.subtitles } in
       let good = law_of_good programme is.transmission options is.good in
       let of =
-      programme_of (drawing_by national layout) options stl pes is.subtitles is.transmission
-      is.mean in
+      programme_of (drawing_within national layout scope) options stl pes is.subtitles
+      is.transmission is.mean in
       let rules = is.good.rules in
       record {
         covers = λ k d below. (
@@ -285,18 +319,26 @@ module _ (national : National) (layout : Layout) (options : OptionsValue) (stl p
             record {
               in_time = served.in_time;
               heard = served.heard;
-              cells = λ header row column is_cell. served.cells header row column is_cell;
+              cells = λ header row column is_cell.
+                  subst
+                  (λ (due : Rows).
+                  (cell new.page row column ≡ cell due row column)
+                  ⊎ ((cell new.page row column ≡ space)
+                  × IsHitOrLost options.page (on_air is.transmission g j f)
+                  (arrivals_of arrived got) row column))
+                  (due_drawn_within national layout scope is.subtitles f)
+                  (served.cells header row column is_cell);
             };
       }
 
   drawn_read :
       options.origin < 2 ^ 33
       → Headline options.page options.every (due (drawing_by national layout))
-      (subtitles_by_place stl) (frames_by_place options.origin pes)
+      (subtitles_within scope stl) (frames_by_place options.origin pes)
   drawn_read fits =
       let IsSo = Headline options.page options.every (due (drawing_by national layout)) in
       subst (λ (ts : List SubtitleValue). IsSo ts (frames_by_place options.origin pes))
-      (sym (subtitles_are stl is.mean.gsi is.subtitles is.mean.subtitle_file))
+      (sym (taken_subtitles_are scope stl is.mean.gsi is.subtitles is.mean.subtitle_file))
       (subst (λ (t : Transmission). IsSo is.subtitles t)
       (sym (frames_are options.origin pes is.transmission fits is.mean.carries)) drawn_headline)
 
@@ -325,13 +367,13 @@ read_so (Some pid) size range bytes = range_so range (carried_by (Some pid) size
 record AskForCheck
     (words : List Text) (stl pes : Text) (stream : Option TransportStream)
     (range : Option PieceRangeValue) (options : OptionsValue) (national : National)
-    (layout : Layout)
+    (layout : Layout) (scope : Scope)
     : Type 0 where
   pub asked :
       (request : Request)
       → AsksFor words request
       → (all : Bool)
-      × (asked_by request ≡ check_by stl pes stream range options national layout all)
+      × (asked_by request ≡ check_by stl pes stream range options national layout scope all)
       × (options.origin < 2 ^ 33)
   pub none : options.within ≡ 0
   pub off : IsFalse options.keeps
@@ -350,8 +392,8 @@ module _ {K : Type 0} (contents : K → Option (List ℕ)) (failure_count : K �
     given contents failure_count IsPush output left code) where
   module _ (words : List Text) (stl pes : Text) (stream : Option TransportStream)
       (range : Option PieceRangeValue) (options : OptionsValue) (national : National)
-      (layout : Layout) (file bytes read : List ℕ)
-      (ask_for : AskForCheck words stl pes stream range options national layout)
+      (layout : Layout) (scope : Scope) (file bytes read : List ℕ)
+      (ask_for : AskForCheck words stl pes stream range options national layout scope)
       (given_is : given ≡ Ok words)
       (stl_is : bytes_at stl before ≡ Some file) (pes_is : bytes_at pes before ≡ Some bytes)
       (read_is : through_range range (through_stream stream (Some bytes)) ≡ Some read)
@@ -360,7 +402,7 @@ module _ {K : Type 0} (contents : K → Option (List ℕ)) (failure_count : K �
         (λ was is. is ≡ was) given (BufferHoldsLineAlone contents failure_count IsPush) code
     ran = answered _ _ _ _ contents failure_count IsPush output left code runs not_two
 
-    code_tells : TellsBytes (drawing_by national layout) options file read code
+    code_tells : TellsBytes (drawing_within national layout scope) options file read code
     code_tells =
         let of = ran.answered in
         let (all, asked, fits) =
@@ -371,11 +413,10 @@ module _ {K : Type 0} (contents : K → Option (List ℕ)) (failure_count : K �
         law_of_files_in_memory _ of.request before after ran.old ran.new ran.status of.ends
         (no_fault ran.status (λ e. not_two (ran.code_is ∙ e))) in
         let by =
-        tells of.request stl pes stream range options national layout all file bytes read before
-        ran.status asked
-        stl_is pes_is read_is told in
+        tells of.request stl pes stream range options national layout scope all file bytes read
+        before ran.status asked stl_is pes_is read_is told in
         let same =
-        law_of_plain_acceptance (drawing_by national layout) options file read ask_for.off
+        law_of_plain_acceptance (drawing_within national layout scope) options file read ask_for.off
         ask_for.none in
         record {
           fits = fits;
@@ -392,7 +433,7 @@ module _ {K : Type 0} (contents : K → Option (List ℕ)) (failure_count : K �
       → IsName pes
       → AskForCheck (program ∷ codes "check" ∷ stl ∷ pes ∷ flat_map words_in parts) stl pes
       (stream_of (reading_of parts)) (reading_of parts).range (reading_of parts).options English
-      default_layout
+      default_layout (reading_of parts).scope
   ask_for_parts program stl pes parts is_stl is_pes =
       let by = plain_by (map Of parts) in
       let at = ap (λ (l : Looking). l.reading.options) (look_of_parts (looking_of []) parts) in
@@ -404,10 +445,10 @@ module _ {K : Type 0} (contents : K → Option (List ℕ)) (failure_count : K �
 
   part_tells : OfRecording given before
       (λ r file bytes.
-      code ≢ 2 → TellsBytes default_drawing r.options file (bytes_read r bytes) code)
+      code ≢ 2 → TellsBytes (english_within r.scope) r.options file (bytes_read r bytes) code)
   part_tells = λ program stl pes parts file bytes is_stl is_pes given_is stl_is pes_is not_two.
       let r = reading_of parts in
-      code_tells _ stl pes (stream_of r) r.range r.options English default_layout file bytes
+      code_tells _ stl pes (stream_of r) r.range r.options English default_layout r.scope file bytes
       (bytes_read r bytes)
       (ask_for_parts program stl pes parts is_stl is_pes) given_is stl_is pes_is
       (read_so r.pid r.size r.range bytes) not_two
@@ -416,14 +457,14 @@ module _ {K : Type 0} (contents : K → Option (List ℕ)) (failure_count : K �
   look_tells : OfLook given before
       (λ l file bytes.
       code ≢ 2
-      → TellsBytes (drawing_by l.national l.layout) l.reading.options file
+      → TellsBytes (drawing_within l.national l.layout l.reading.scope) l.reading.options file
       (bytes_read l.reading bytes) code)
   look_tells = λ program stl pes looks file bytes is_stl is_pes given_is stl_is pes_is not_two.
       let l = looking_of looks in
       let r = l.reading in
       let by = plain_by looks in
       code_tells (program ∷ codes "check" ∷ stl ∷ pes ∷ flat_map words_for looks) stl pes
-      (stream_of r) r.range r.options l.national l.layout file bytes (bytes_read r bytes)
+      (stream_of r) r.range r.options l.national l.layout r.scope file bytes (bytes_read r bytes)
       (record {
         asked = λ request. law_of_look_words program stl pes looks request is_stl is_pes;
         none = by.0;
@@ -436,7 +477,7 @@ module _ {K : Type 0} (contents : K → Option (List ℕ)) (failure_count : K �
       → IsName stl
       → IsName pes
       → AskForCheck (program ∷ codes "check" ∷ stl ∷ pes ∷ flat_map choice_words choices) stl pes
-      None None (options_by choices) English default_layout
+      None None (options_by choices) English default_layout whole
   ask_for_chosen program stl pes choices is_stl is_pes =
       let by = plain_by (map Of (map Any choices)) in
       let at =
@@ -452,7 +493,8 @@ module _ {K : Type 0} (contents : K → Option (List ℕ)) (failure_count : K �
   chosen_tells : OfChosen given before
       (λ o file bytes. code ≢ 2 → TellsBytes default_drawing o file bytes code)
   chosen_tells = λ program stl pes choices file bytes is_stl is_pes given_is stl_is pes_is not_two.
-      code_tells _ stl pes None None (options_by choices) English default_layout file bytes bytes
+      code_tells _ stl pes None None (options_by choices) English default_layout whole file bytes
+      bytes
       (ask_for_chosen program stl pes choices is_stl is_pes) given_is stl_is pes_is refl not_two
 
   -- Where the code is 0, what is so of all that is accepted is so of what is read by place.
@@ -471,7 +513,7 @@ module _ {K : Type 0} (contents : K → Option (List ℕ)) (failure_count : K �
       (λ two. absurd (omega (arith, none, two))) in
       let o = options_by choices in
       let is = told.tells.0 none in
-      read o file bytes is told.fits (IsSo o file bytes) (so o file bytes is)
+      read_whole o file bytes is told.fits (IsSo o file bytes) (so o file bytes is)
 
 pub law_of_headline : {K : Type 0} (contents : K → Option (List ℕ)) (failure_count : K → ℕ)
     (IsPush : K → List ℕ → Option ℕ → K → Type 0)
@@ -481,58 +523,59 @@ law_of_headline contents failure_count IsPush given before after output left cod
     of_accepted contents failure_count IsPush output left before after given code runs in
     let chosen : TellsChosen given before code =
     by (λ o file bytes. Headline o.page o.every english_due)
-    (λ o file bytes is. headline o file bytes is) in
+    (λ o file bytes is. headline whole o file bytes is) in
     let tells =
     part_tells contents failure_count IsPush output left before after given code runs in
     let not_two = λ (none : code ≡ 0) (two : code ≡ 2). absurd (omega (arith, none, two)) in (
       λ program stl pes. chosen program stl pes [],
       chosen,
       by (λ o file bytes. EachOfClassGets Dropping o.page o.every)
-          (λ o file bytes is. each o file bytes is Dropping),
+          (λ o file bytes is. each whole o file bytes is Dropping),
       by (λ o file bytes. EachScreenShows o.page)
           (λ o file bytes is.
-          screens_of o.page o.every is.subtitles is.transmission (each o file bytes is)),
-      by (λ o file bytes. AreFilesOf o.origin file bytes)
-          (λ o file bytes is. files o file bytes is),
+          screens_of o.page o.every is.subtitles is.transmission (each whole o file bytes is)),
+      by (λ o file bytes. AreFilesOf whole o.origin file bytes)
+          (λ o file bytes is. files whole o file bytes is),
       by
           (λ o file bytes subtitles transmission.
           IsTrue o.asks_complete → EachDisplayShows o.page subtitles transmission)
-          (λ o file bytes is. complete o file bytes is),
+          (λ o file bytes is. complete whole o file bytes is),
       λ program stl pes parts file bytes is_stl is_pes given_is stl_is pes_is none.
           let r = reading_of parts in
           let told =
           tells program stl pes parts file bytes is_stl is_pes given_is stl_is pes_is
           (not_two none) in
           let is = told.tells.0 none in
-          read r.options file (bytes_read r bytes) is told.fits
+          read r.scope r.options file (bytes_read r bytes) is told.fits
           (Headline r.options.page r.options.every english_due)
-          (headline r.options file (bytes_read r bytes) is),
+          (headline r.scope r.options file (bytes_read r bytes) is),
       λ program stl pes parts file bytes is_stl is_pes given_is stl_is pes_is none.
           let r = reading_of parts in
           let told =
           tells program stl pes parts file bytes is_stl is_pes given_is stl_is pes_is
           (not_two none) in
-          kept r.options file (bytes_read r bytes) (told.tells.0 none) told.fits,
+          kept r.scope r.options file (bytes_read r bytes) (told.tells.0 none) told.fits,
       λ program stl pes parts file bytes is_stl is_pes given_is stl_is pes_is none.
           let r = reading_of parts in
           let told =
           tells program stl pes parts file bytes is_stl is_pes given_is stl_is pes_is
           (not_two none) in
           let is = told.tells.0 none in
-          read r.options file (bytes_read r bytes) is told.fits
-          (AreFilesOf r.options.origin file (bytes_read r bytes))
-          (files r.options file (bytes_read r bytes) is),
+          read r.scope r.options file (bytes_read r bytes) is told.fits
+          (AreFilesOf r.scope r.options.origin file (bytes_read r bytes))
+          (files r.scope r.options file (bytes_read r bytes) is),
       λ program stl pes looks file bytes is_stl is_pes given_is stl_is pes_is none.
           let l = looking_of looks in
           let told =
           look_tells contents failure_count IsPush output left before after given code runs program
           stl pes looks file bytes is_stl is_pes given_is stl_is pes_is (not_two none) in
-          drawn_read l.national l.layout l.reading.options file (bytes_read l.reading bytes)
+          drawn_read l.national l.layout l.reading.scope l.reading.options file
+          (bytes_read l.reading bytes)
           (told.tells.0 none) told.fits,
-      λ program stl pes file bytes is_stl is_pes given_is stl_is pes_is not_two.
+      λ program stl pes choices file bytes is_stl is_pes given_is stl_is pes_is not_two.
           let told =
           chosen_tells contents failure_count IsPush output left before after given code runs
-          program stl pes [] file bytes is_stl is_pes given_is stl_is pes_is not_two in
-          let same = law_of_english_acceptance file bytes in
+          program stl pes choices file bytes is_stl is_pes given_is stl_is pes_is not_two in
+          let same = law_of_english_acceptance (options_by choices) file bytes in
           (λ none. same.0 (told.tells.0 none), λ is. told.tells.1 (same.1 is)),
     )

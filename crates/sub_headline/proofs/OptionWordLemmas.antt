@@ -27,10 +27,14 @@ use Rattle.mpeg_ts.specs.declared.packet_size.PacketSize.{PacketSize}
 use Rattle.ttx_pes.specs.PieceRange.{PieceRangeValue}
 use Rattle.sub_words.specs.PesTexts.{packet_size_of_text, pid_of_text}
 use Rattle.sub_words.specs.PesTexts.{is_dash, range_of_numbers, range_of_text}
-use Rattle.sub_headline.specs.PlainOptions.Choice.{Page, Every, Origin, Complete, EveryFault}
+use Rattle.stl_file.specs.TimeCode.{day}
+use Rattle.sub_words.specs.Arguments.{between}
+use Rattle.sub_headline.specs.PlainOptions.Choice.{Page, Every, Origin, Pace, Complete}
+use Rattle.sub_headline.specs.PlainOptions.Choice.{EveryFault}
 use Rattle.sub_headline.specs.DrawnOptions.{Look, words_for}
 use Rattle.sub_headline.specs.DrawnOptions.Look.{Letters, Lines, Of}
-use Rattle.sub_headline.specs.RecordingOptions.Portion.{Pid, Size, Numbers, Any}
+use Rattle.sub_headline.specs.RecordingOptions.Portion.{Pid, Size, Numbers, From, To, OpenToo}
+use Rattle.sub_headline.specs.RecordingOptions.Portion.{Any}
 use Rattle.sub_headline.specs.PlainWords.{IsName}
 use Rattle.sub_headline.proofs.PlainWordLemmas.{at_rest, check_shape, no_dashes, no_long, no_short}
 use Rattle.sub_headline.proofs.RowLemmas.{held_at, same_id, set_other, set_row, set_same}
@@ -49,6 +53,17 @@ number_is_name : (text : Text) (n : ℕ) → number_of_text text ≡ Some n → 
 unfolding number_of_text
 number_is_name [] n is = λ e. cc
 number_is_name (x ∷ xs) n is = grind (arith, nat_tests)
+
+pace_number : (o : Option ℕ) (frames : ℕ) → between 1 day o ≡ Some frames → (n : ℕ) × (o ≡ Some n)
+pace_number None frames is = cc
+pace_number (Some n) frames is = (n, refl)
+
+pace_is_name : (text : Text) (frames : ℕ)
+    → between 1 day (number_of_text text) ≡ Some frames
+    → IsName text
+pace_is_name text frames is =
+    let number = pace_number (number_of_text text) frames is in
+    number_is_name text number.0 number.1
 
 no_pid : (xs : Text) (pid : ℕ) → pid_of_text (0x2D ∷ xs) ≡ Some pid → ⊥
 unfolding pid_of_text number_of_text
@@ -145,11 +160,15 @@ abbrev pub key : Look → Text
 key (Of (Any (Page text page is))) = codes "page"
 key (Of (Any (Every text frames is))) = codes "every"
 key (Of (Any (Origin text pts is))) = codes "origin"
+key (Of (Any (Pace text frames is))) = codes "pace"
 key (Of (Any Complete)) = codes "complete"
 key (Of (Any EveryFault)) = codes "all"
 key (Of (Pid text pid is)) = codes "pid"
 key (Of (Size text size is)) = codes "packet-size"
 key (Of (Numbers text range is)) = codes "pes"
+key (Of (From text frame name is)) = codes "from"
+key (Of (To text frame name is)) = codes "to"
+key (Of OpenToo) = codes "open"
 key (Letters text national name is) = codes "option"
 key (Lines text layout name is) = codes "layout"
 
@@ -157,11 +176,15 @@ abbrev pub vals : Look → List Text
 vals (Of (Any (Page text page is))) = text ∷ []
 vals (Of (Any (Every text frames is))) = text ∷ []
 vals (Of (Any (Origin text pts is))) = text ∷ []
+vals (Of (Any (Pace text frames is))) = text ∷ []
 vals (Of (Any Complete)) = codes "true" ∷ []
 vals (Of (Any EveryFault)) = codes "true" ∷ []
 vals (Of (Pid text pid is)) = text ∷ []
 vals (Of (Size text size is)) = text ∷ []
 vals (Of (Numbers text range is)) = text ∷ []
+vals (Of (From text frame name is)) = text ∷ []
+vals (Of (To text frame name is)) = text ∷ []
+vals (Of OpenToo) = codes "true" ∷ []
 vals (Letters text national name is) = text ∷ []
 vals (Lines text layout name is) = text ∷ []
 
@@ -179,11 +202,15 @@ abbrev pub next : Held → Look → Held
 next h (Of (Any (Page text page is))) = valued_held (codes "page") text h
 next h (Of (Any (Every text frames is))) = valued_held (codes "every") text h
 next h (Of (Any (Origin text pts is))) = valued_held (codes "origin") text h
+next h (Of (Any (Pace text frames is))) = valued_held (codes "pace") text h
 next h (Of (Any Complete)) = reacted rules (rule_at (codes "complete")) [] h
 next h (Of (Any EveryFault)) = reacted rules (rule_at (codes "all")) [] h
 next h (Of (Pid text pid is)) = valued_held (codes "pid") text h
 next h (Of (Size text size is)) = valued_held (codes "packet-size") text h
 next h (Of (Numbers text range is)) = valued_held (codes "pes") text h
+next h (Of (From text frame name is)) = valued_held (codes "from") text h
+next h (Of (To text frame name is)) = valued_held (codes "to") text h
+next h (Of OpenToo) = reacted rules (rule_at (codes "open")) [] h
 next h (Letters text national name is) = valued_held (codes "option") text h
 next h (Lines text layout name is) = valued_held (codes "layout") text h
 
@@ -204,6 +231,20 @@ origin_word : (h : Held)
     ≡ at_option (codes "origin") (waiting_held (codes "origin") h)
 unfolding subttx_app clap_on_literals
 origin_word h = refl
+
+pace_word : (h : Held)
+    → walked rules [] (at_rest h 3) (codes "--pace")
+    ≡ at_option (codes "pace") (waiting_held (codes "pace") h)
+unfolding subttx_app clap_on_literals
+pace_word h = refl
+
+pace_value : (h : Held) (text : Text)
+    → IsName text
+    → walked rules [] (at_option (codes "pace") (waiting_held (codes "pace") h)) text
+    ≡ at_rest (valued_held (codes "pace") text h) 3
+unfolding subttx_app
+pace_value h text name =
+    value_walked rules (codes "pace") (waiting_held (codes "pace") h) text name ∙ refl
 
 complete_word : (h : Held)
     → walked rules [] (at_rest h 3) (codes "--complete") ≡ at_rest (next h (Of (Any Complete))) 3
@@ -309,6 +350,39 @@ unfolding subttx_app
 origin_value h text name =
     value_walked rules (codes "origin") (waiting_held (codes "origin") h) text name ∙ refl
 
+from_word : (h : Held)
+    → walked rules [] (at_rest h 3) (codes "--from")
+    ≡ at_option (codes "from") (waiting_held (codes "from") h)
+unfolding subttx_app clap_on_literals
+from_word h = refl
+
+from_value : (h : Held) (text : Text)
+    → IsName text
+    → walked rules [] (at_option (codes "from") (waiting_held (codes "from") h)) text
+    ≡ at_rest (valued_held (codes "from") text h) 3
+unfolding subttx_app
+from_value h text name =
+    value_walked rules (codes "from") (waiting_held (codes "from") h) text name ∙ refl
+
+to_word : (h : Held)
+    → walked rules [] (at_rest h 3) (codes "--to")
+    ≡ at_option (codes "to") (waiting_held (codes "to") h)
+unfolding subttx_app clap_on_literals
+to_word h = refl
+
+to_value : (h : Held) (text : Text)
+    → IsName text
+    → walked rules [] (at_option (codes "to") (waiting_held (codes "to") h)) text
+    ≡ at_rest (valued_held (codes "to") text h) 3
+unfolding subttx_app
+to_value h text name =
+    value_walked rules (codes "to") (waiting_held (codes "to") h) text name ∙ refl
+
+open_word : (h : Held)
+    → walked rules [] (at_rest h 3) (codes "--open") ≡ at_rest (next h (Of OpenToo)) 3
+unfolding subttx_app clap_on_literals
+open_word h = refl
+
 walk_step : (h : Held) (choice : Look)
     → fold (walked rules []) (at_rest h 3) (words_for choice) ≡ at_rest (next h choice) 3
 walk_step h (Of (Any (Page text page is))) =
@@ -320,6 +394,9 @@ walk_step h (Of (Any (Every text frames is))) =
 walk_step h (Of (Any (Origin text pts is))) =
     ap (λ (w : Walk). walked rules [] w text) (origin_word h)
     ∙ origin_value h text (number_is_name text pts is)
+walk_step h (Of (Any (Pace text frames is))) =
+    ap (λ (w : Walk). walked rules [] w text) (pace_word h)
+    ∙ pace_value h text (pace_is_name text frames is)
 walk_step h (Of (Any Complete)) = complete_word h
 walk_step h (Of (Any EveryFault)) = all_word h
 walk_step h (Of (Pid text pid is)) =
@@ -331,6 +408,11 @@ walk_step h (Of (Size text size is)) =
 walk_step h (Of (Numbers text range is)) =
     ap (λ (w : Walk). walked rules [] w text) (pes_word h)
     ∙ pes_value h text (range_is_name text range is)
+walk_step h (Of (From text frame name is)) =
+    ap (λ (w : Walk). walked rules [] w text) (from_word h) ∙ from_value h text name
+walk_step h (Of (To text frame name is)) =
+    ap (λ (w : Walk). walked rules [] w text) (to_word h) ∙ to_value h text name
+walk_step h (Of OpenToo) = open_word h
 walk_step h (Letters text national name is) =
     ap (λ (w : Walk). walked rules [] w text) (option_word h)
     ∙ option_value h text name
@@ -360,11 +442,15 @@ unfolding subttx_app
 rows_step h (Of (Any (Page text page is))) = refl
 rows_step h (Of (Any (Every text frames is))) = refl
 rows_step h (Of (Any (Origin text pts is))) = refl
+rows_step h (Of (Any (Pace text frames is))) = refl
 rows_step h (Of (Any Complete)) = refl
 rows_step h (Of (Any EveryFault)) = refl
 rows_step h (Of (Pid text pid is)) = refl
 rows_step h (Of (Size text size is)) = refl
 rows_step h (Of (Numbers text range is)) = refl
+rows_step h (Of (From text frame name is)) = refl
+rows_step h (Of (To text frame name is)) = refl
+rows_step h (Of OpenToo) = refl
 rows_step h (Letters text national name is) = refl
 rows_step h (Lines text layout name is) = refl
 
@@ -376,11 +462,15 @@ key_same : (choice : Look) → bytes_eq (key choice) (key choice) ≡ true
 key_same (Of (Any (Page text page is))) = refl
 key_same (Of (Any (Every text frames is))) = refl
 key_same (Of (Any (Origin text pts is))) = refl
+key_same (Of (Any (Pace text frames is))) = refl
 key_same (Of (Any Complete)) = refl
 key_same (Of (Any EveryFault)) = refl
 key_same (Of (Pid text pid is)) = refl
 key_same (Of (Size text size is)) = refl
 key_same (Of (Numbers text range is)) = refl
+key_same (Of (From text frame name is)) = refl
+key_same (Of (To text frame name is)) = refl
+key_same (Of OpenToo) = refl
 key_same (Letters text national name is) = refl
 key_same (Lines text layout name is) = refl
 

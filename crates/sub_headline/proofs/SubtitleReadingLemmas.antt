@@ -4,17 +4,20 @@ use Rattle.std.proofs.lemmas.Bool.Decides.{nat_tests}
 use Rattle.std.proofs.Common.{◌≡◌, ◌∙◌, ℕ, ◌+◌, ◌<◌, Bool, true, false, List, []}
 use Rattle.std.proofs.Common.{◌∷◌, ◌++◌, refl, sym, ap, arith, subst, take, drop, map}
 use Rattle.std.proofs.Common.{length-append}
-use Rattle.std.specs.Prelude.{◌==◌, ◌&&◌, ◌||◌, filter, not, nat_lt, if◌then◌else◌}
+use Rattle.std.specs.Prelude.{◌==◌, ◌&&◌, ◌||◌, filter, not, nat_le, nat_lt, if◌then◌else◌}
 use Rattle.std.specs.List.{AllByRecursion, AllZip, concat, flat_map}
 use Rattle.std.proofs.lemmas.List.{drop_at, get_or-drop, get_or-take}
-use Rattle.stl_file.specs.File.{IsFile}
+use Rattle.stl_file.specs.File.{IsFile, IsFileFor}
+use Rattle.stl_file.specs.Scope.{begins_outside, is_inside, is_outside, whole}
+use Rattle.stl_file.specs.declared.scope.Scope.{Scope}
 use Rattle.stl_file.specs.Subtitle.{SubtitleValue}
-use Rattle.stl_file.specs.SubtitleBlocks.{AreBlocksOf, AreLinked, IsBlock}
-use Rattle.stl_file.specs.TimeCode.{frame_in}
-use Rattle.stl_file.specs.Tti.{cf, ebn, is_kept, text_of}
+use Rattle.stl_file.specs.SubtitleBlocks.{AreBlocksOf, AreLinked, AreOutside, IsBlock}
+use Rattle.stl_file.specs.TimeCode.{frame_in, is_time}
+use Rattle.stl_file.specs.Tti.{cf, ebn, is_kept, tci, text_of}
 use Rattle.stl_file.proofs.ScopeLemmas.{all_inside}
 use Rattle.sub_headline.specs.PlainReading.{groups_read, is_of_subtitle, pieces_of, subtitle_read}
-use Rattle.sub_headline.specs.PlainReading.{subtitles_by_place, time_read}
+use Rattle.sub_headline.specs.PlainReading.{begins_in, subtitles_by_place, subtitles_within}
+use Rattle.sub_headline.specs.PlainReading.{time_read}
 use Rattle.sub_headline.proofs.FrameReadingLemmas.{pieces_cons}
 
 -- ---- blocks
@@ -78,16 +81,6 @@ none_of_linked sgn_is sn_is (b ∷ []) linked = (linked.0.is_subtitle, tt)
 none_of_linked sgn_is sn_is (b ∷ c ∷ g) linked =
     (linked.0.is_subtitle, none_of_linked sgn_is sn_is (c ∷ g) linked.2)
 
-none_of_groups : (ts : List SubtitleValue) (groups : List (List (List ℕ)))
-    → AllZip AreBlocksOf ts groups
-    → AllByRecursion IsNoComment (joined groups)
-none_of_groups [] [] each = tt
-none_of_groups [] (g ∷ groups) each = absurd each
-none_of_groups (t ∷ ts) [] each = tt
-none_of_groups (t ∷ ts) (g ∷ groups) each =
-    all_joined IsNoComment g (joined groups) (none_of_linked t.sgn t.sn g each.0.linked)
-    (none_of_groups ts groups each.1)
-
 not_last : (e : ℕ) → e < 0xF0 → (e == 0xFF) ≡ false
 not_last e low = grind (arith, nat_tests)
 
@@ -122,11 +115,6 @@ time_is b at =
       here,
     ) refl
 
--- A subtitle of these.
-abbrev subtitle_with : (sgn sn tci tco vp jc : ℕ) (text : List ℕ) → SubtitleValue
-subtitle_with sgn sn tci tco vp jc text =
-    record { sgn = sgn; sn = sn; tci = tci; tco = tco; vp = vp; jc = jc; text = text }
-
 subtitle_is : (t : SubtitleValue) (g : List (List ℕ)) → AreBlocksOf t g → subtitle_read g ≡ t
 subtitle_is t g of =
     let tci_is = time_is of.first 5 ∙ sym of.begins.tci_is.is in
@@ -143,36 +131,187 @@ subtitle_is t g of =
       text_is,
     ) refl
 
-groups_are : (ts : List SubtitleValue) (groups : List (List (List ℕ)))
-    → AllZip AreBlocksOf ts groups
-    → map subtitle_read (groups_read (joined groups)) ≡ ts
-groups_are [] [] each = refl
-groups_are [] (g ∷ groups) each = absurd each
-groups_are (t ∷ ts) [] each = absurd each
-groups_are (t ∷ ts) (g ∷ groups) each =
+-- ---- the groups of a file, of which some are outside
+
+-- Linked blocks, of whatever numbers.
+abbrev AreOneSubtitle : List (List ℕ) → Type 0
+AreOneSubtitle g = (sgn_is : ℕ) × (sn_is : ℕ) × AreLinked sgn_is sn_is g
+
+linked_by : (scope : Scope) (out : Bool) (ts : List SubtitleValue) (g : List (List ℕ))
+    (ins outs : List (List (List ℕ)))
+    → is_outside scope g ≡ out
+    → AllByRecursion (AreOutside scope) (if out then g ∷ outs else outs)
+    → AllZip AreBlocksOf ts (if not out then g ∷ ins else ins)
+    → AreOneSubtitle g
+linked_by scope true ts g ins outs is outside are = (_, _, outside.0.linked)
+linked_by scope false [] g ins outs is outside are = absurd are
+linked_by scope false (t ∷ ts) g ins outs is outside are = (t.sgn, t.sn, are.0.linked)
+
+outside_rest : (scope : Scope) (out : Bool) (g : List (List ℕ)) (outs : List (List (List ℕ)))
+    → AllByRecursion (AreOutside scope) (if out then g ∷ outs else outs)
+    → AllByRecursion (AreOutside scope) outs
+outside_rest scope true g outs outside = outside.1
+outside_rest scope false g outs outside = outside
+
+-- What is left of the subtitles behind a group.
+abbrev left_by : Bool → List SubtitleValue → List SubtitleValue
+left_by true ts = ts
+left_by false [] = []
+left_by false (t ∷ ts) = ts
+
+are_rest : (out : Bool) (ts : List SubtitleValue) (g : List (List ℕ))
+    (ins : List (List (List ℕ)))
+    → AllZip AreBlocksOf ts (if not out then g ∷ ins else ins)
+    → AllZip AreBlocksOf (left_by out ts) ins
+are_rest true ts g ins are = are
+are_rest false [] g ins are = absurd are
+are_rest false (t ∷ ts) g ins are = are.1
+
+-- Each is the blocks of one subtitle.
+all_linked : (scope : Scope) (ts : List SubtitleValue) (groups : List (List (List ℕ)))
+    → AllByRecursion (AreOutside scope) (filter (is_outside scope) groups)
+    → AllZip AreBlocksOf ts (filter (is_inside scope) groups)
+    → AllByRecursion AreOneSubtitle groups
+all_linked scope ts [] outside are = tt
+all_linked scope ts (g ∷ groups) outside are =
+    let out = is_outside scope g in (
+      linked_by scope out ts g (filter (is_inside scope) groups)
+          (filter (is_outside scope) groups) refl outside are,
+      all_linked scope (left_by out ts) groups
+          (outside_rest scope out g (filter (is_outside scope) groups) outside)
+          (are_rest out ts g (filter (is_inside scope) groups) are),
+    )
+
+none_of_all : (groups : List (List (List ℕ)))
+    → AllByRecursion AreOneSubtitle groups
+    → AllByRecursion IsNoComment (joined groups)
+none_of_all [] each = tt
+none_of_all (g ∷ groups) each =
+    all_joined IsNoComment g (joined groups)
+    (none_of_linked each.0.0 each.0.1 g each.0.2) (none_of_all groups each.1)
+
+groups_cut : (groups : List (List (List ℕ)))
+    → AllByRecursion AreOneSubtitle groups
+    → groups_read (joined groups) ≡ groups
+groups_cut [] each = refl
+groups_cut (g ∷ groups) each =
     rw (
-      group_cut t.sgn t.sn g (joined groups) each.0.linked,
-      subtitle_is t g each.0,
-      groups_are ts groups each.1,
+      group_cut each.0.0 each.0.1 g (joined groups) each.0.2,
+      groups_cut groups each.1,
     ) refl
+
+-- A first block is not outside where its time is one that is taken.
+outside_by : (scope : Scope) (b : List ℕ)
+    → begins_outside scope b ≡ true
+    → (nat_le scope.from (frame_in (tci b)) && nat_lt (frame_in (tci b)) scope.to) ≡ false
+unfolding begins_outside
+outside_by scope b is = grind (arith, nat_tests)
+
+inside_by : (scope : Scope) (b : List ℕ)
+    → is_time (tci b) ≡ true
+    → begins_outside scope b ≡ false
+    → (nat_le scope.from (frame_in (tci b)) && nat_lt (frame_in (tci b)) scope.to) ≡ true
+unfolding begins_outside
+inside_by scope b time is = grind (arith, nat_tests)
+
+begins_not : (scope : Scope) (g : List (List ℕ))
+    → AreOutside scope g
+    → begins_in scope (subtitle_read g) ≡ false
+begins_not scope g of =
+    ap (λ (bs : List (List ℕ)). begins_in scope (subtitle_read bs)) of.blocks
+    ∙ ap (λ (n : ℕ). nat_le scope.from n && nat_lt n scope.to) (time_is of.first 5)
+    ∙ outside_by scope of.first of.outside
+
+begins_so : (scope : Scope) (t : SubtitleValue) (g : List (List ℕ))
+    → AreBlocksOf t g
+    → is_outside scope g ≡ false
+    → begins_in scope t ≡ true
+begins_so scope t g of is =
+    let here : begins_outside scope of.first ≡ false =
+    sym (ap (is_outside scope) of.blocks) ∙ is in
+    ap (λ (n : ℕ). nat_le scope.from n && nat_lt n scope.to) of.begins.tci_is.is
+    ∙ inside_by scope of.first of.begins.tci_is.in_range here
+
+-- Those that are taken are those of the groups that are inside.
+taken_by : (scope : Scope) (out : Bool) (ts : List SubtitleValue) (g : List (List ℕ))
+    (groups ins outs : List (List (List ℕ)))
+    → is_outside scope g ≡ out
+    → AllByRecursion (AreOutside scope) (if out then g ∷ outs else outs)
+    → AllZip AreBlocksOf ts (if not out then g ∷ ins else ins)
+    → filter (begins_in scope) (map subtitle_read groups) ≡ left_by out ts
+    → filter (begins_in scope) (map subtitle_read (g ∷ groups)) ≡ ts
+taken_by scope true ts g groups ins outs is outside are rest =
+    let others = filter (begins_in scope) (map subtitle_read groups) in
+    ap
+    (λ (b : Bool).
+    let l : List SubtitleValue = if b then subtitle_read g ∷ others else others in l)
+    (begins_not scope g outside.0)
+    ∙ rest
+taken_by scope false [] g groups ins outs is outside are rest = absurd are
+taken_by scope false (t ∷ ts) g groups ins outs is outside are rest =
+    let others = filter (begins_in scope) (map subtitle_read groups) in
+    ap (λ (one : SubtitleValue). filter (begins_in scope) (one ∷ map subtitle_read groups))
+    (subtitle_is t g are.0)
+    ∙ ap (λ (b : Bool). let l : List SubtitleValue = if b then t ∷ others else others in l)
+    (begins_so scope t g are.0 is)
+    ∙ ap (λ (l : List SubtitleValue). t ∷ l) rest
+
+taken_are : (scope : Scope) (ts : List SubtitleValue) (groups : List (List (List ℕ)))
+    → AllByRecursion (AreOutside scope) (filter (is_outside scope) groups)
+    → AllZip AreBlocksOf ts (filter (is_inside scope) groups)
+    → filter (begins_in scope) (map subtitle_read groups) ≡ ts
+taken_are scope [] [] outside are = refl
+taken_are scope (t ∷ ts) [] outside are = absurd are
+taken_are scope ts (g ∷ groups) outside are =
+    let out = is_outside scope g in
+    let ins = filter (is_inside scope) groups in
+    let outs = filter (is_outside scope) groups in
+    taken_by scope out ts g groups ins outs refl outside are
+    (taken_are scope (left_by out ts) groups (outside_rest scope out g outs outside)
+    (are_rest out ts g ins are))
+
+-- All of them.
+each_is : (ts : List SubtitleValue) (groups : List (List (List ℕ)))
+    → AllZip AreBlocksOf ts groups
+    → map subtitle_read groups ≡ ts
+each_is [] [] each = refl
+each_is [] (g ∷ groups) each = absurd each
+each_is (t ∷ ts) [] each = absurd each
+each_is (t ∷ ts) (g ∷ groups) each = rw (subtitle_is t g each.0, each_is ts groups each.1) refl
 
 -- ---- the file
 
--- The subtitles of a file are read from it.
-pub subtitles_are : (bytes gsi : List ℕ) (ts : List SubtitleValue)
-    → IsFile bytes gsi ts
-    → subtitles_by_place bytes ≡ ts
-subtitles_are bytes gsi ts file =
-    let of : AllZip AreBlocksOf ts file.rest.groups =
-    subst (λ (groups : List (List (List ℕ))). AllZip AreBlocksOf ts groups)
-    (all_inside file.rest.groups) file.rest.are_of in
+-- The groups of a file are read from it.
+groups_are : (scope : Scope) (bytes gsi : List ℕ) (ts : List SubtitleValue)
+    (file : IsFileFor scope bytes gsi ts)
+    → subtitles_by_place bytes ≡ map subtitle_read file.rest.groups
+groups_are scope bytes gsi ts file =
+    let each = all_linked scope ts file.rest.groups file.rest.outside file.rest.are_of in
     let none : AllByRecursion IsNoComment (filter is_kept file.blocks) =
     subst (λ (bs : List (List ℕ)). AllByRecursion IsNoComment bs) (sym file.rest.kept)
-    (none_of_groups ts file.rest.groups of) in
+    (none_of_all file.rest.groups each) in
     rw (
       file.bytes,
       drop_at gsi (concat file.blocks) 1024 file.gsi.size,
       blocks_are file.blocks file.rest.each,
       kept_are file.blocks none,
       file.rest.kept,
-    ) (groups_are ts file.rest.groups of)
+      groups_cut file.rest.groups each,
+    ) refl
+
+-- The subtitles of a file are read from it, and those that are taken of it.
+pub subtitles_are : (bytes gsi : List ℕ) (ts : List SubtitleValue)
+    → IsFile bytes gsi ts
+    → subtitles_by_place bytes ≡ ts
+subtitles_are bytes gsi ts file =
+    groups_are whole bytes gsi ts file
+    ∙ each_is ts file.rest.groups
+    (subst (λ (groups : List (List (List ℕ))). AllZip AreBlocksOf ts groups)
+    (all_inside file.rest.groups) file.rest.are_of)
+
+pub taken_subtitles_are : (scope : Scope) (bytes gsi : List ℕ) (ts : List SubtitleValue)
+    → IsFileFor scope bytes gsi ts
+    → subtitles_within scope bytes ≡ ts
+taken_subtitles_are scope bytes gsi ts file =
+    ap (filter (begins_in scope)) (groups_are scope bytes gsi ts file)
+    ∙ taken_are scope ts file.rest.groups file.rest.outside file.rest.are_of

@@ -1,5 +1,5 @@
--- What is accepted by options that allow no frames and no repeats that keep the page, and by the
--- default options.
+-- What is accepted by options that allow no frames and no repeats that keep the page, and of it in
+-- English by the default layout.
 use Rattle.std.specs.Prelude.{◌≡◌, ◌↔◌, ℕ, List, IsFalse}
 use Rattle.stl_rows.specs.Layout.{default_layout, drawing_by}
 use Rattle.stl_rows.specs.declared.layout.Drawing.{Drawing}
@@ -7,7 +7,6 @@ use Rattle.stl_rows.specs.declared.national.National.TheVariants.{English}
 use Rattle.sub_plan.specs.Options.{OptionsValue}
 use Rattle.sub_check.specs.CheckedFiles.{IsAccepted, IsAcceptedBy}
 use Rattle.sub_headline.specs.PlainAcceptance.{IsPlainlyAccepted}
-use Rattle.sub_headline.specs.PlainWords.{default_options}
 
 -- There files are accepted by the options exactly where they mean subtitles and a good transmission
 -- of these.
@@ -22,8 +21,9 @@ LawOfPlainAcceptance =
 abbrev pub default_drawing : Drawing
 default_drawing = drawing_by English default_layout
 
--- By the default options files are accepted exactly where they are by English's own page and rules.
+-- With these files are accepted by any options exactly where they are by English's own page and
+-- rules.
 abbrev pub LawOfEnglishAcceptance : Type 0
 LawOfEnglishAcceptance =
-    (stl pes : List ℕ)
-    → IsAccepted default_drawing default_options stl pes ↔ IsPlainlyAccepted stl pes
+    (options : OptionsValue) (stl pes : List ℕ)
+    → IsAccepted default_drawing options stl pes ↔ IsPlainlyAccepted options stl pes

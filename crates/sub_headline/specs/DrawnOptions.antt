@@ -3,7 +3,6 @@
 use Rattle.std.specs.Prelude.{◌≡◌, ◌<◌, ◌^◌, Bool, List, [], ◌∷◌, Some, codes, fold}
 use Rattle.std.specs.List.{flat_map}
 use Rattle.clap.specs.Words.{Text}
-use Rattle.stl_file.specs.Scope.{whole}
 use Rattle.stl_rows.specs.Layout.{default_layout}
 use Rattle.stl_rows.specs.LayoutText.{layout_of_text}
 use Rattle.stl_rows.specs.SubSets.{option_named}
@@ -66,6 +65,6 @@ LawOfLookWords =
     → (all : Bool)
     × (asked_by request
     ≡ Asked.Check stl (recording_asked recording (looking_of looks).reading)
-    (looking_of looks).reading.options (looking_of looks).national (looking_of looks).layout whole
-    all)
+    (looking_of looks).reading.options (looking_of looks).national (looking_of looks).layout
+    (looking_of looks).reading.scope all)
     × ((looking_of looks).reading.options.origin < 2 ^ 33)

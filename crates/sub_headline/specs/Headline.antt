@@ -4,6 +4,7 @@ use Rattle.std.specs.Prelude.{IsTrue}
 use Rattle.std.specs.List.{flat_map}
 use Rattle.clap.specs.Words.{Text}
 use Rattle.ttx_page.specs.Receiver.ReceiverClass.{Dropping}
+use Rattle.stl_file.specs.Scope.{whole}
 use Rattle.stl_file.specs.Subtitle.{SubtitleValue}
 use Rattle.stl_rows.specs.DuePage.{due}
 use Rattle.stl_rows.specs.Layout.{drawing_by}
@@ -24,7 +25,7 @@ use Rattle.sub_headline.specs.PlainHeadline.{Headline}
 use Rattle.sub_headline.specs.PlainOptions.{Choice, options_by, choice_words}
 use Rattle.sub_headline.specs.OnScreens.{EachDisplayShows}
 use Rattle.sub_headline.specs.RecordingOptions.{Portion, Reading, bytes_read, reading_of, words_in}
-use Rattle.sub_headline.specs.PlainReading.{frames_by_place, subtitles_by_place}
+use Rattle.sub_headline.specs.PlainReading.{frames_by_place, subtitles_by_place, subtitles_within}
 use Rattle.sub_headline.specs.PlainWords.{IsName}
 use Rattle.sub_headline.specs.Run.{RunsProgram}
 
@@ -94,7 +95,8 @@ TellsFiles given files code =
     OfChosen given files
     (λ o file bytes.
     code ≡ 0
-    → AreFilesOf o.origin file bytes (subtitles_by_place file) (frames_by_place o.origin bytes))
+    → AreFilesOf whole o.origin file bytes (subtitles_by_place file)
+    (frames_by_place o.origin bytes))
 
 -- Where complete pages were asked for and the code is 0, they are on the screens.
 abbrev pub TellsComplete : Result (List Text) UsageFault → MemFilesValue → ℕ → Type 0
@@ -116,37 +118,40 @@ OfRecording given files IsSo =
     → bytes_at recording files ≡ Some bytes
     → IsSo (reading_of parts) file bytes
 
--- Where the code is 0, the headline is so of the frames that stand in what is read of a recording.
+-- Where the code is 0, the headline is so of the subtitles and the frames that stand in what is
+-- read of both files.
 abbrev pub TellsRecording : Result (List Text) UsageFault → MemFilesValue → ℕ → Type 0
 TellsRecording given files code =
     OfRecording given files
     (λ r file bytes.
     code ≡ 0
-    → Headline r.options.page r.options.every english_due (subtitles_by_place file)
+    → Headline r.options.page r.options.every english_due (subtitles_within r.scope file)
     (frames_by_place r.options.origin (bytes_read r bytes)))
 
 -- And so is what is so of other receivers and of screens.
-pub record ServesOthers (o : OptionsValue) (file pes : List ℕ) : Type 0 where
-  pub dropping :
-      EachOfClassGets Dropping o.page o.every (subtitles_by_place file)
-      (frames_by_place o.origin pes)
-  pub screens : EachScreenShows o.page (subtitles_by_place file) (frames_by_place o.origin pes)
-  pub complete :
-      IsTrue o.asks_complete
-      → EachDisplayShows o.page (subtitles_by_place file) (frames_by_place o.origin pes)
+pub record ServesOthers
+    (o : OptionsValue) (subtitles : List SubtitleValue) (transmission : Transmission)
+    : Type 0 where
+  pub dropping : EachOfClassGets Dropping o.page o.every subtitles transmission
+  pub screens : EachScreenShows o.page subtitles transmission
+  pub complete : IsTrue o.asks_complete → EachDisplayShows o.page subtitles transmission
 
 abbrev pub TellsRecordingToo : Result (List Text) UsageFault → MemFilesValue → ℕ → Type 0
 TellsRecordingToo given files code =
     OfRecording given files
-    (λ r file bytes. code ≡ 0 → ServesOthers r.options file (bytes_read r bytes))
+    (λ r file bytes.
+    code ≡ 0
+    → ServesOthers r.options (subtitles_within r.scope file)
+    (frames_by_place r.options.origin (bytes_read r bytes)))
 
--- And the bytes that are read are those of a PES file, which holds these frames and nothing else.
+-- And the bytes that are read are those of a PES file, which holds these frames and nothing else;
+-- the subtitle file holds these subtitles, and others only outside of what is read of it.
 abbrev pub TellsRecordingFiles : Result (List Text) UsageFault → MemFilesValue → ℕ → Type 0
 TellsRecordingFiles given files code =
     OfRecording given files
     (λ r file bytes.
     code ≡ 0
-    → AreFilesOf r.options.origin file (bytes_read r bytes) (subtitles_by_place file)
+    → AreFilesOf r.scope r.options.origin file (bytes_read r bytes) (subtitles_within r.scope file)
     (frames_by_place r.options.origin (bytes_read r bytes)))
 
 -- Where the words are `check STL RECORDING` and any of these options, in any order, and the files
@@ -170,14 +175,15 @@ TellsDrawn given files code =
     (λ l file bytes.
     let o = l.reading.options in
     code ≡ 0
-    → Headline o.page o.every (due (drawing_by l.national l.layout)) (subtitles_by_place file)
-    (frames_by_place o.origin (bytes_read l.reading bytes)))
+    → Headline o.page o.every (due (drawing_by l.national l.layout))
+    (subtitles_within l.reading.scope file) (frames_by_place o.origin (bytes_read l.reading bytes)))
 
 -- Where it is not 2, which tells that a device failed or memory ran out, it is 0 exactly where they
--- are accepted: they are those of some subtitles and of a good transmission of these.
+-- are accepted: they are those of some subtitles and of a good transmission of these, by the
+-- options that are chosen.
 abbrev pub TellsAcceptance : Result (List Text) UsageFault → MemFilesValue → ℕ → Type 0
 TellsAcceptance given files code =
-    OfCheck given files (λ file bytes. code ≢ 2 → (code ≡ 0) ↔ IsPlainlyAccepted file bytes)
+    OfChosen given files (λ o file bytes. code ≢ 2 → (code ≡ 0) ↔ IsPlainlyAccepted o file bytes)
 
 -- Of a run of the program over files in memory, whatever standard output is, its code tells all
 -- this.

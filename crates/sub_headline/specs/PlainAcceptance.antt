@@ -1,5 +1,5 @@
--- What is accepted by `check STL PES`, without options: the seven rules of `Good` for English
--- subtitles, in as few words as there are.
+-- What is accepted by `check STL PES` and choices: the seven rules of `Good` for English subtitles,
+-- in as few words as there are.
 use Rattle.std.specs.Prelude.{◌≡◌, ℕ, ◌<◌, ◌≤◌, IfSome, IsFalse, IsTrue, List, length}
 use Rattle.ttx_packet.specs.declared.header.Header.{Header}
 use Rattle.ttx_packet.specs.PageHeader.{HasExactWords, c10, c12, c13, c14, c4, c5, c6, c7}
@@ -7,10 +7,13 @@ use Rattle.ttx_page.specs.declared.packet_kind.PacketKind.TheVariants.{ThisPage}
 use Rattle.ttx_page.specs.Page.{IsCell, cell}
 use Rattle.ttx_page.specs.PacketKind.{kind}
 use Rattle.ttx_page.specs.Shown.{shown}
+use Rattle.stl_file.specs.Scope.{whole}
 use Rattle.stl_file.specs.Subtitle.{SubtitleValue}
 use Rattle.stl_rows.specs.Programme.{first_in, last_out}
-use Rattle.sub_plan.specs.Examples.{page_888}
-use Rattle.sub_rules.specs.Good.{HasCleanSpans, HoldsHeader, IsInOneMode, Repeats}
+use Rattle.ttx_packet.specs.PageId.{PageIdValue}
+use Rattle.sub_laws.specs.OnScreen.{Complete}
+use Rattle.sub_plan.specs.Options.{OptionsValue}
+use Rattle.sub_rules.specs.Good.{HasCleanSpans, HoldsHeader, IsInOneMode, KeepsPace, Repeats}
 use Rattle.sub_rules.specs.Transmission.{EachPacket, IsRising, Transmission, first_frame}
 use Rattle.sub_rules.specs.Transmission.{last_frame, on_air_until}
 use Rattle.sub_headline.specs.EnglishPage.{english_due}
@@ -30,24 +33,25 @@ pub record IsEnglishHeader (h : Header) : Type 0 where
   pub second_option : IsFalse (c13 h)
   pub third_option : IsFalse (c14 h)
 
--- Where the packet is a header of page 888, it is such a header.
-abbrev pub IsControlledInEnglish : List ℕ → Type 0
-IsControlledInEnglish packet =
-    (h : Header) → kind page_888 packet ≡ ThisPage h → IsEnglishHeader h
+-- Where the packet is a header of the page, it is such a header.
+abbrev pub IsControlledInEnglish : PageIdValue → List ℕ → Type 0
+IsControlledInEnglish page packet =
+    (h : Header) → kind page packet ≡ ThisPage h → IsEnglishHeader h
 
 -- At the end of each frame from the first to the last, with packets of its own or not, the page
 -- that is due is shown.
-abbrev pub ShowsEnglishPages : List SubtitleValue → Transmission → Type 0
-ShowsEnglishPages subtitles transmission =
+abbrev pub ShowsEnglishPages : PageIdValue → List SubtitleValue → Transmission → Type 0
+ShowsEnglishPages page subtitles transmission =
     (f row column : ℕ)
     → first_frame transmission ≤ f
     → f ≤ last_frame transmission
     → IsCell row column
-    → shown page_888 (on_air_until transmission f) row column
+    → shown page (on_air_until transmission f) row column
     ≡ cell (english_due subtitles f) row column
 
--- A good transmission of these subtitles on page 888, by the seven rules.
-pub record IsEnglishGood (subtitles : List SubtitleValue) (transmission : Transmission)
+-- A good transmission of these subtitles by the seven rules, on the page of the options.
+pub record IsEnglishGood
+    (o : OptionsValue) (subtitles : List SubtitleValue) (transmission : Transmission)
     : Type 0 where
   -- 1. There is a frame, the frames rise, packets are 42 bytes, and the frames reach from the first
   -- TCI to the last TCO.
@@ -62,21 +66,25 @@ pub record IsEnglishGood (subtitles : List SubtitleValue) (transmission : Transm
   -- 3. All page headers, of any page, agree on C11.
   pub serial : EachPacket (λ one. EachPacket (IsInOneMode one) transmission) transmission
   -- 4. Each header of the page is that of a subtitle in English.
-  pub control : EachPacket IsControlledInEnglish transmission
+  pub control : EachPacket (IsControlledInEnglish o.page) transmission
   -- 5. While the page is open each row has odd parity and stays as it is, and no packet X/25 to
   -- X/28 of its magazine comes.
-  pub spans : HasCleanSpans page_888 transmission
-  -- 6. The first frame holds a header of the page, and so does one of each 250 that follow one
+  pub spans : HasCleanSpans o.page transmission
+  -- 6. The first frame holds a header of the page, and so does one of each `every` that follow one
   -- another.
-  pub opens : HoldsHeader page_888 transmission (first_frame transmission)
-  pub repeats : Repeats page_888 250 transmission
+  pub opens : HoldsHeader o.page transmission (first_frame transmission)
+  pub repeats : Repeats o.page o.every transmission
   -- 7. At each frame's end the page that is due is shown.
-  pub content : ShowsEnglishPages subtitles transmission
+  pub content : ShowsEnglishPages o.page subtitles transmission
+  -- And, where the options ask for it, PES packets are at most so many frames apart, and pages are
+  -- complete.
+  pub paced : KeepsPace o.pace transmission
+  pub complete : IsTrue o.asks_complete → Complete transmission o
 
 -- The bytes of both files are accepted: they are those of some subtitles and of a good transmission
 -- of these.
-pub record IsPlainlyAccepted (stl pes : List ℕ) : Type 0 where
+pub record IsPlainlyAccepted (o : OptionsValue) (stl pes : List ℕ) : Type 0 where
   pub subtitles : List SubtitleValue
   pub transmission : Transmission
-  pub files : AreFilesOf 0 stl pes subtitles transmission
-  pub good : IsEnglishGood subtitles transmission
+  pub files : AreFilesOf whole o.origin stl pes subtitles transmission
+  pub good : IsEnglishGood o subtitles transmission

@@ -4,10 +4,12 @@ use Rattle.std.specs.List.{flat_map}
 use Rattle.clap.specs.Words.{Text}
 use Rattle.ttx_packet.specs.PageId.{PageIdValue, page_of_text}
 use Rattle.stl_file.specs.Scope.{whole}
+use Rattle.stl_file.specs.TimeCode.{day}
 use Rattle.stl_rows.specs.Layout.{default_layout}
 use Rattle.stl_rows.specs.declared.national.National.TheVariants.{English}
 use Rattle.sub_plan.specs.Options.{OptionsValue}
 use Rattle.sub_request.specs.declared.request.Request.{Request}
+use Rattle.sub_words.specs.Arguments.{between}
 use Rattle.sub_words.specs.Requests.{Asked, AsksFor, asked_by}
 use Rattle.sub_words.specs.Texts.{number_of_text}
 use Rattle.sub_headline.specs.PlainWords.{IsName, default_options, whole_pes_file}
@@ -17,6 +19,7 @@ pub data Choice : Type 0 where
   Page : (text : Text) → (page : PageIdValue) → page_of_text text ≡ Some page → Choice
   Every : (text : Text) → (frames : ℕ) → number_of_text text ≡ Some frames → Choice
   Origin : (text : Text) → (pts : ℕ) → number_of_text text ≡ Some pts → Choice
+  Pace : (text : Text) → (frames : ℕ) → between 1 day (number_of_text text) ≡ Some frames → Choice
   Complete : Choice
   EveryFault : Choice
 
@@ -25,6 +28,7 @@ abbrev pub choice_words : Choice → List Text
 choice_words (Page text page is) = codes "--page" ∷ text ∷ []
 choice_words (Every text frames is) = codes "--every" ∷ text ∷ []
 choice_words (Origin text pts is) = codes "--origin" ∷ text ∷ []
+choice_words (Pace text frames is) = codes "--pace" ∷ text ∷ []
 choice_words Complete = codes "--complete" ∷ []
 choice_words EveryFault = codes "--all" ∷ []
 
@@ -33,6 +37,7 @@ abbrev pub with_choice : OptionsValue → Choice → OptionsValue
 with_choice o (Page text page is) = record o { page = page }
 with_choice o (Every text frames is) = record o { every = frames }
 with_choice o (Origin text pts is) = record o { origin = pts }
+with_choice o (Pace text frames is) = record o { pace = Some frames }
 with_choice o Complete = record o { asks_complete = true }
 with_choice o EveryFault = o
 

@@ -4,10 +4,11 @@
 use Rattle.std.specs.Prelude.{ℕ, zero, suc, ◌+◌, ◌-◌, ◌*◌, ◌/◌, ◌%◌, ◌^◌, Bool, not, ◌==◌, ◌||◌}
 use Rattle.std.specs.Prelude.{List}
 use Rattle.std.specs.Prelude.{[], ◌∷◌, length, take, drop, map, filter, slice_index, slice_index_or}
-use Rattle.std.specs.Prelude.{if◌then◌else◌}
+use Rattle.std.specs.Prelude.{if◌then◌else◌, ◌&&◌, nat_le, nat_lt}
 use Rattle.std.specs.List.{flat_map, onto_first, range_with_len}
 use Rattle.ttx_packet.specs.BitOrder.{mirror}
 use Rattle.stl_file.specs.Subtitle.{SubtitleValue}
+use Rattle.stl_file.specs.declared.scope.Scope.{Scope}
 use Rattle.stl_file.specs.TimeCode.{frame_of}
 use Rattle.stl_file.specs.Tti.{before_unused}
 use Rattle.sub_rules.specs.Transmission.{SentFrame, Transmission}
@@ -102,3 +103,10 @@ subtitle_read group =
 abbrev pub subtitles_by_place : List ℕ → List SubtitleValue
 subtitles_by_place bytes =
     map subtitle_read (groups_read (filter is_of_subtitle (pieces_of 128 (drop 1024 bytes))))
+
+-- Those of a part of it, by their TCI.
+abbrev pub begins_in : Scope → SubtitleValue → Bool
+begins_in scope t = nat_le scope.from t.tci && nat_lt t.tci scope.to
+
+abbrev pub subtitles_within : Scope → List ℕ → List SubtitleValue
+subtitles_within scope bytes = filter (begins_in scope) (subtitles_by_place bytes)

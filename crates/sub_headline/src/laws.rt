@@ -15,8 +15,8 @@ pub fn law_of_plain_acceptance()
     ensures { LawOfPlainAcceptance }
 {}
 
-/// By the default options files are accepted exactly where they are by English's own page and
-/// rules.
+/// In English by the default layout files are accepted by any options exactly where they are by
+/// English's own page and rules.
 pub fn law_of_english_acceptance()
     ensures { LawOfEnglishAcceptance }
 {}
@@ -51,8 +51,7 @@ pub fn law_of_english_characters()
 /// and the frames that stand in both files keep the headline, by the options that are chosen, for
 /// receivers that drop rows too, and the screens of all show what is due; the bytes are of their
 /// formats, and hold nothing else; so it is of what is read of a recording, and of subtitles drawn
-/// by a national option and a layout. Without options any code but 2 tells whether they are
-/// accepted.
+/// by a national option and a layout. By choices any code but 2 tells whether they are accepted.
 pub fn law_of_headline<K: Sink>()
     ensures { LawOfHeadline K.contents K.failure_count K.is_push }
 {}

@@ -21,12 +21,12 @@ use sub_io::Sink;
 /// Runs the program over files in memory, as `main` runs it over those of the system.
 ///
 /// Where the words are `check STL PES`, 0 tells that the subtitles and frames that stand in the
-/// files keep the headline. With `--page`, `--every`, `--origin`, `--complete` or `--all` behind
-/// them, in any order, it tells that by these options, for receivers that drop hit rows too, and
-/// what is on the screen of each; that the bytes are of their formats, and hold nothing else. With
-/// `--pid`, `--packet-size` or `--pes` it tells so of what is read of a recording, and with
-/// `--option` or `--layout` the headline of subtitles that are drawn so. Where there are no options
-/// any code but 2 tells whether the files are accepted.
+/// files keep the headline. With `--page`, `--every`, `--origin`, `--pace`, `--complete` or `--all`
+/// behind them, in any order, it tells that by these options, for receivers that drop hit rows too,
+/// and what is on the screen of each; that the bytes are of their formats, and hold nothing else;
+/// and any code but 2 tells whether the files are accepted. With `--pid`, `--packet-size`, `--pes`,
+/// `--from`, `--to` or `--open` it tells so of what is read of a recording and of a subtitle file,
+/// and with `--option` or `--layout` the headline of subtitles that are drawn so.
 pub fn run_in_memory<K: Sink + Drop>(
     alloc: Global,
     given: io::Result<Args>,
