@@ -68,8 +68,8 @@ class Chosen(Case):
     def test_parts(self) -> None:
         """Each part has a clock and a range of its own; of one that was given the others alone."""
         stl = programme(self, times(24))
-        path = self.write("one.pes", joined(apart(sendings(self, stl), 30)))
-        second = f"{ORIGIN + 30 * TICKS}"
+        path = self.write("one.pes", joined(apart(sendings(self, stl), 130)))
+        second = f"{ORIGIN + 130 * TICKS}"
         for words, clocks in (((), [(f"{ORIGIN}", 1), (second, 2)]),
                               (("--origin", f"{ORIGIN}"), [(second, 2)])):
             found = judged(self, stl, path, "--breaks", "1", "--every", "25", *words)
