@@ -78,4 +78,4 @@ _subttx_tool() {
 }
 
 complete -F _subttx subttx
-complete -F _subttx_tool subttx-qc subttx-text subttx-ts2pes
+complete -F _subttx_tool subttx-qc subttx-ts2pes

@@ -34,14 +34,12 @@ def runs_the_whole_way(case: Case, prefix: str) -> None:
     pes = case.write("recording.pes", recording.out)
     done = run("subttx", "check", stl, pes, "--pes", "0-4")
     case.must("check", done.out == b"accepted 226 frames 5 transmissions\n", done)
-    done = run("subttx-text", stl)
-    case.must("text", done.out.endswith(b"3 subtitles\n"), done)
     done = run("subttx-qc", stl, "story.ts", "-o", "report")
     case.must("qc", done.out.endswith(b"accepted 226 frames 5 transmissions\n") and
               os.path.join(prefix, "bin", "subttx").encode() in done.out and
               os.path.exists(case.path("report/story.html")), done)
-    done = run("subttx-text", "--help")
-    case.must("its own names in the help", b"subttx-text STL" in done.out
+    done = run("subttx-ts2pes", "--help")
+    case.must("its own names in the help", b"subttx-ts2pes TS PID" in done.out
               and b"tools/" not in done.out, done)
     done = run("subttx-qc", "--help")
     named = re.findall(r"\S+/docs/manual/\w+\.md", done.out.decode())

@@ -164,13 +164,13 @@ class Modes(Case):
         program = self.bench.program
         with mock.patch.dict(os.environ, {"PATH": self.folder}):
             for called, tool, beside in (
-                    ("tools/qc", "tools/text", "./subttx"), ("qc", "./text", "../subttx"),
-                    ("/some/tools/qc", "/some/tools/text", "/some/subttx"),
-                    ("/some/subttx-qc", "/some/subttx-text", "/some/subttx"),
-                    (self.path("subttx-qc"), "subttx-text", "subttx")):
+                    ("tools/qc", "tools/ts2pes", "./subttx"), ("qc", "./ts2pes", "../subttx"),
+                    ("/some/tools/qc", "/some/tools/ts2pes", "/some/subttx"),
+                    ("/some/subttx-qc", "/some/subttx-ts2pes", "/some/subttx"),
+                    (self.path("subttx-qc"), "subttx-ts2pes", "subttx")):
                 typed = CommandWords(called, program)
-                self.must(called, (typed.tool("text"), typed.beside()) == (tool, beside), (
-                    typed.tool("text"), typed.beside()))
+                self.must(called, (typed.tool("ts2pes"), typed.beside()) == (tool, beside), (
+                    typed.tool("ts2pes"), typed.beside()))
 
 
 class Words(unittest.TestCase):

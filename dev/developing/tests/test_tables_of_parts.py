@@ -118,13 +118,13 @@ class Named(Case):
                   "tools/qc one.stl --origin T")
         self.must("words", shell_line("cat", "a b", ">", "c", "|", "d'e") ==
                   "cat 'a b' >c | 'd'\"'\"'e'")
-        for called, tool, program in (("tools/qc", "tools/text", "subttx"), ("./qc", "./text",
+        for called, tool, program in (("tools/qc", "tools/ts2pes", "subttx"), ("./qc", "./ts2pes",
                                                                            "../subttx"),
-                                      ("qc", "./text", "../subttx"),
-                                      ("/a/tools/qc", "/a/tools/text", "/a/subttx")):
+                                      ("qc", "./ts2pes", "../subttx"),
+                                      ("/a/tools/qc", "/a/tools/ts2pes", "/a/subttx")):
             made = CommandWords(called, self.bench.program)
-            self.must(called, made.tool("text") == tool and made.program_words ==
-                      ["-p", self.bench.program], made.tool("text"))
+            self.must(called, made.tool("ts2pes") == tool and made.program_words ==
+                      ["-p", self.bench.program], made.tool("ts2pes"))
             self.must(f"{called}: beside", os.path.normpath(made.beside()) ==
                       os.path.normpath(program), made.beside())
 
