@@ -1,5 +1,5 @@
-"""JSON results for tests: a plain one of a pair, with other members where a test gives some; and the
-schema as somebody else reads it, who knows nothing of the table from which it is made.
+"""JSON results for tests: a plain one of a pair, with other members where a test gives some; and
+the schema as somebody else reads it, who knows nothing of the table from which it is made.
 """
 from __future__ import annotations
 
@@ -154,7 +154,8 @@ def wrong_by_schema(value: Any) -> list[str]:
 
 
 def some_of(value: dict[str, Any]) -> dict[str, Any]:
-    """A result with some of what its long lists have; those of each pair, where it is of several."""
+    """A result with some of what its long lists have; those of each pair, where it is of several.
+    """
     lists = {one.name: [*value[one.name][:SOME], *value[one.name][SOME::50]]
              for one in LISTS if one.name in value}
     return {**value, **lists, **({"pairs": list(map(some_of, value["pairs"]))}

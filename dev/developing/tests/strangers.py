@@ -1,11 +1,11 @@
-"""Calls of qc at random on trees that strangers have made: odd names, links, pipes, sockets, folders
-under names of files, outputs among the inputs, lists, and results that are none.
+"""Calls of qc at random on trees that strangers have made: odd names, links, pipes, sockets,
+folders under names of files, outputs among the inputs, lists, and results that are none.
 
-Of each call holds that every file that was there is as it was, unless it is a result of these tools;
-that nothing is new outside of the folder of the outputs; that no file under a final name is half a
-result; that each pair has one result; that nothing but a line is told of what is wrong; and that the
-status is the one of the last line. From dev/, `python3 -m developing.tests.strangers ../subttx 0 500`
-prints what does not hold, and `.. NUMBER` what a call does.
+Of each call holds that every file that was there is as it was, unless it is a result of these
+tools; that nothing is new outside of the folder of the outputs; that no file under a final name is
+half a result; that each pair has one result; that nothing but a line is told of what is wrong; and
+that the status is the one of the last line. From dev/, `python3 -m developing.tests.strangers
+../subttx 0 500` prints what does not hold, and `.. NUMBER` what a call does.
 """
 from __future__ import annotations
 

@@ -188,7 +188,8 @@ class Beside(Case):
                           "It is drawn as undecided" in page and "Refused subtitles" in page)
 
     def test_layouts(self) -> None:
-        """--layout auto is found by the subtitles that are judged, and draws what is due of them."""
+        """--layout auto is found by the subtitles that are judged, and draws what is due of them.
+        """
         self.blocks = [(begin, end, b"Number %d" % number)
                        for number, (begin, end) in enumerate(times(14), 1)]
         self.schedule(self.file(), "house.pes", "--every", "25", "--layout", "row=-2")

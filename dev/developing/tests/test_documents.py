@@ -1,4 +1,5 @@
-"""The documents: links lead to files and headings that are there, and quoted sources are sources."""
+"""The documents: links lead to files and headings that are there, and quoted sources are sources.
+"""
 from __future__ import annotations
 
 import glob

@@ -290,10 +290,10 @@ class Pairs(Case):
         told = self.judge(several, drawn_by="after=0A,before=*0B0B")
         whole = "after=0A,before=*0B0B"
         self.must("short", told.word == "not judged" and told.told[:3] == [
-            "--layout auto guesses nothing: what is seen in 10 subtitles at least, and takes nothing "
-            "from a page, no --layout, draws 0 of 12 subtitles as they were sent, and 9 in 10 have "
-            "to be", "after=0A would draw 3 more of 12: say it by --layout after=0A if your "
-            f"inserter draws so", f"{whole} would draw 12 more of 12: say it by --layout '{whole}' "
+            "--layout auto guesses nothing: what is seen in 10 subtitles at least, and takes "
+            "nothing from a page, no --layout, draws 0 of 12 subtitles as they were sent, and 9 in "
+            "10 have to be", "after=0A would draw 3 more of 12: say it by --layout after=0A if "
+            f"your inserter draws so", f"{whole} would draw 12 more of 12: say it by --layout '{whole}' "
             "if your inserter draws so"] and told.told[-1].endswith(f" --layout '{whole}'"),
             told.told)
         told = self.judge([*several, *plain(9)], drawn_by="after=0A")

@@ -119,8 +119,8 @@ class Installed(Case):
             self.must(" ".join(words[1:]), done.status == 2 and len(done.told) == 1, done)
 
     def test_has_no_dead_links(self) -> None:
-        """Each link of an installed document leads to a file there, and each tool that an example of
-        the manual calls beside the program is installed."""
+        """Each link of an installed document leads to a file there, and each tool that an example
+        of the manual calls beside the program is installed."""
         self.tool("install", "-p", self.bench.program, "prefix")
         home = self.path("prefix/lib/subttx")
         paths = [path for path in glob.glob(os.path.join(home, "**", "*.md"), recursive=True)

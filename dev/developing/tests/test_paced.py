@@ -1,5 +1,5 @@
-"""Wrong pages that were sent in a hole: none is accepted where a pace is asked, whatever the hole is
-of; and a note says where none is."""
+"""Wrong pages that were sent in a hole: none is accepted where a pace is asked, whatever the hole
+is of; and a note says where none is."""
 from __future__ import annotations
 
 from developing.multiplex import ADAPTATION_ALONE, PACKET, head

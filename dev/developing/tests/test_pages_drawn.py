@@ -88,8 +88,8 @@ class Rowed(unittest.TestCase):
     """Rows and pages as SVG."""
 
     def test_picture(self) -> None:
-        """Rows in use, none that is below one of double height; letters in boxes and outside, frames
-        and the place."""
+        """Rows in use, none that is below one of double height; letters in boxes and outside,
+        frames and the place."""
         rows = page(r20=b"\x0b\x0b\x0dtall", r21=b"\x0b\x0bcovered", r22=b"\x0b\x0b\1seen <")
         drawn = in_page(picture(rows, SUBTITLE_HEADER, (19, 23), [(22, 3), (22, 4)], (20, 5)))
         self.assertEqual(("tall" in drawn, "covered" in drawn, "seen &lt;</text>" in drawn),

@@ -1,6 +1,6 @@
-"""Laws of origins and cuts, on programmes and transmissions at random: what is sent is known, so what
-has to be found is too. No table: each law is tried on some programmes, each made by its number.
-"""
+"""Laws of origins and cuts, on programmes and transmissions at random: what is sent is known, so
+what has to be found is too. No table: each law is tried on some programmes, each made by its
+number."""
 from __future__ import annotations
 
 import random
@@ -196,7 +196,8 @@ class Laws(unittest.TestCase):
                                  (runs if runs > 1 else 0, [(origin + step * (number - 1)) % CLOCK]), one.told)
 
     def test_runs_far_apart(self) -> None:
-        """Twice in one time base, which is sent each hour and longer than half of what PTS count."""
+        """Twice in one time base, which is sent each hour and longer than half of what PTS count.
+        """
         hour = 3600 * FRAMES_A_SECOND
         for chance, shown, edges, origin in self.each():
             away = chance.randrange(14, 20) * hour

@@ -13,7 +13,8 @@ import time
 from typing import Any, Callable, Collection, Iterable, Iterator, NamedTuple, NoReturn, Sequence
 
 from ..common.command_line import Stop, counted, ended, error_line, say, tell
-from ..common.files import Inputs, IsInput, Line, NOTHING, kind_of, lines_in, list_at, temporary_folder
+from ..common.files import (
+    Inputs, IsInput, Line, NOTHING, kind_of, lines_in, list_at, temporary_folder)
 from ..common.program import TOP, about_program
 from ..judging.status import ACCEPTED, NOT_JUDGED, WAIVED
 from ..report import page, report, transmission
@@ -387,7 +388,8 @@ class Calls:
             if not self.is_stopped:
                 put_object(self.path(item), known)
         except OSError as error:
-            self.unwritten[item.name] = known = unjudged(item.name, f"{reason}; {error_line(error)}")
+            known = unjudged(item.name, f"{reason}; {error_line(error)}")
+            self.unwritten[item.name] = known
         return row_of_object(known, item.name)
 
     def stop(self) -> None:

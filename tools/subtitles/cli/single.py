@@ -168,11 +168,11 @@ def now() -> str:
 
 
 class PairCall(NamedTuple):
-    """A call for a pair, beside what is asked of it: the program, and the files that are written. `name`
-    is that of the pair, where it is not that of its subtitle file, and `here` the folder in which
-    its files stand until somebody gives them their place. `is_claimed`: its files are the caller's;
-    `is_fitted`: its origin was found by the caller; `is_cut`: all that is read may be judged.
-    """
+    """A call for a pair, beside what is asked of it: the program, and the files that are written.
+    `name` is that of the pair, where it is not that of its subtitle file, and `here` the folder in
+    which its files stand until somebody gives them their place. `is_claimed`: its files are the
+    caller's; `is_fitted`: its origin was found by the caller; `is_cut`: all that is read may be
+    judged."""
 
     program: str | None
     out: str | None = None

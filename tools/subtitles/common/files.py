@@ -309,7 +309,8 @@ def written(file: BinaryIO, path: str) -> Iterator[None]:
 
 MOST_BYTES, MOST_OF_LINE = 16_000_000, 65_536
 # What a word is made of, a blank or the comment behind the words; else a quote that does not end.
-PIECE_OF_LIST = re.compile(r"""(?P<blank>[ \t\r\n]+) | (?P<comment>\#.*) | (?P<plain>[^ \t\r\n\\'"\#]+)
+PIECE_OF_LIST = re.compile(r"""(?P<blank>[ \t\r\n]+) | (?P<comment>\#.*)
+                       | (?P<plain>[^ \t\r\n\\'"\#]+)
                        | \\(?P<letter>.) | '(?P<single>[^']*)' | "(?P<double>(?:[^"\\]|\\.)*)" """,
                            re.VERBOSE | re.DOTALL)
 ESCAPED = re.compile(r'\\(["\\])')

@@ -124,7 +124,8 @@ def set_pace(part: Part, pes: Range, verdict: Verdict, speech: Speech,
             speech.choose(chosen_of(pace, recording.is_stream, part.number))
             part.asked = dataclasses.replace(asked, pace_word=str(pace.frames))
         elif note:  # which is told with the verdict
-            speech.chosen.append(request.Selection(request.PACE_CHOICE, None, note, part=part.number))
+            speech.chosen.append(request.Selection(
+                request.PACE_CHOICE, None, note, part=part.number))
     verdict.notes += [note for note in notes if note and note not in verdict.notes]
 
 
@@ -157,7 +158,8 @@ def jump_words(count: int, recording: Recording) -> str:
 
 
 def chosen_of(pace: Pace, is_stream: bool, part: int) -> request.Selection:
-    """A pace that is asked for, by at how many places a loss takes longer, of all that there are."""
+    """A pace that is asked for, by at how many places a loss takes longer, of all that there are.
+    """
     return request.Selection(request.PACE_CHOICE, str(pace.frames), regular_words(pace, is_stream),
                              pace.among - pace.closer, pace.among, part)
 

@@ -68,9 +68,9 @@ def shell_line(*words: str) -> str:
 # two have the same: what ends as the number of a part does, or of a line, is escaped where it is of
 # a pair's own name.
 #
-#     film.json       of the pair of film.stl        film~2.json     of the second one of a list
-#     film.1.html     of its first part              line 7.json     of line 7, where that is no pair
-#     film%2E1.json   of the pair of film.1.stl      %69ndex.json    of the pair of index.stl
+#     film.json       of the pair of film.stl      film~2.json     of the second one of a list
+#     film.1.html     of its first part            line 7.json     of line 7, where that is no pair
+#     film%2E1.json   of the pair of film.1.stl    %69ndex.json    of the pair of index.stl
 
 ENDINGS = ("cut.pes", "txt", "html")  # of what is made of a part
 KEPT, KEPT_STREAM = "recording.pes", "recording.ts"  # of a recording that is kept

@@ -25,8 +25,8 @@ from ..formats.teletext import WORDS, named_by, page_name
 #
 # Of it are made how an option is read and its help, so the man page and completion; the manual's
 # table; the words of a call for a pair, and those of `check`; which calls and lines of a list take
-# it; the member of a JSON result, so the schema, and what --resume compares. A new one is a row here
-# and a field of `Request`.
+# it; the member of a JSON result, so the schema, and what --resume compares. A new one is a row
+# here and a field of `Request`.
 
 
 class Mode(NamedTuple):
@@ -57,14 +57,14 @@ NOT = object()  # an option that `check` does not take
 class Option(NamedTuple):
     """An option.
 
-    `metavar` is what its value is called, None where it has none; `means` what it is, with links for
-    the manual, and `without` what holds where it is left out. `modes` are the calls and lines that
-    take it, `field` where `Request`, or the words of a call, have its value. `read` takes the word,
-    or says by `ArgumentTypeError` why it is none, and `write` makes it again; `sets` is what one
-    without a value sets. `of_check` is what `check` takes where the same option is left out. One `of_pages`
-    changes the pages that are due, so `schedule` takes it. `shape`, `said` and `in_result` are its
-    member of a JSON result: what it may be, what it means, and what it is of the value.
-    """
+    `metavar` is what its value is called, None where it has none; `means` what it is, with links
+    for the manual, and `without` what holds where it is left out. `modes` are the calls and lines
+    that take it, `field` where `Request`, or the words of a call, have its value. `read` takes the
+    word, or says by `ArgumentTypeError` why it is none, and `write` makes it again; `sets` is what
+    one without a value sets. `of_check` is what `check` takes where the same option is left out.
+    One `of_pages` changes the pages that are due, so `schedule` takes it. `shape`, `said` and
+    `in_result` are its member of a JSON result: what it may be, what it means, and what it is of
+    the value."""
 
     name: str
     metavar: str | None
@@ -163,10 +163,11 @@ OPTIONS: tuple[Option, ...] = (
            shape=Text(r"[1-8][0-9A-F]{2}"), in_result=lambda page: page_name(*page)),
     Option("--every", "N", "the repeat bound", TRANSMISSIONS, "250 frames", field="every",
            default=250, read=every_word, of_check=250, shape=Integer(1, MOST_EVERY)),
-    Option("--option", "O", "the national option; `auto`: the one of the language that the subtitle "
-           "file names (LC): 08 `german`; 27, 28, 1B `swedish`; 15 `italian`; 0F `french`; 0A, 21 "
-           "`spanish`; 06, 25 `czech`; any other `english`", JUDGED, "english", field="option",
-           default="english", choices=(*WORDS, AUTO), of_check="english", shape=OneOf(*WORDS)),
+    Option("--option", "O", "the national option; `auto`: the one of the language that the "
+           "subtitle file names (LC): 08 `german`; 27, 28, 1B `swedish`; 15 `italian`; 0F "
+           "`french`; 0A, 21 `spanish`; 06, 25 `czech`; any other `english`", JUDGED, "english",
+           field="option", default="english", choices=(*WORDS, AUTO), of_check="english",
+           shape=OneOf(*WORDS)),
     Option("--origin", "T", "the clock: the PTS of 00:00:00:00", TRANSMISSIONS, "it is fitted",
            field="origin", read=origin_word, shape=Maybe(PTS),
            said="null where it was to be found; the one that was used is in the part."),
@@ -213,12 +214,13 @@ OPTIONS: tuple[Option, ...] = (
     Option("--open", None, "take a file of open subtitles too", JUDGED, "it is refused",
            field="is_open", default=False, of_check=False, of_pages=True, shape=Flag(),
            said="Whether open subtitles are taken too."),
-    Option("--keeping", None, "headers that repeat the page may keep it, with C4 (erase page) clear",
-           TRANSMISSIONS, "they may not", field="may_keep", default=False, of_check=False, shape=Flag(),
-           said="Whether headers that repeat the page may keep it."),
+    Option("--keeping", None, "headers that repeat the page may keep it, with C4 (erase page) "
+           "clear", TRANSMISSIONS, "they may not", field="may_keep", default=False, of_check=False,
+           shape=Flag(), said="Whether headers that repeat the page may keep it."),
     Option("--pace", "K|none", "the frames from a PES packet to the next one at most, its [pace]"
            "(#the-pace); `none`: ask for none", TRANSMISSIONS, "it is measured",
-           field="pace_word", read=pace_or_none, of_check=None, shape=Maybe(Text(r"(none|[1-9][0-9]{0,6})")),
+           field="pace_word", read=pace_or_none, of_check=None,
+           shape=Maybe(Text(r"(none|[1-9][0-9]{0,6})")),
            said="How many frames apart PES packets may be at most; none: not asked; null where it "
            "was to be found: the one that was used is in the part."),
 )
@@ -245,7 +247,8 @@ def option_words(asked: Any) -> list[list[str]]:
 def check_words(asked: Any, is_file: bool = False) -> list[str]:
     """Those that `check` takes too, as a person would type them there; of a subtitle file alone
     those that change the verdict on it."""
-    return [word for one in OPTIONS if one.of_check is not NOT and (ALONE in one.modes or not is_file)
+    return [word for one in OPTIONS
+            if one.of_check is not NOT and (ALONE in one.modes or not is_file)
             for word in one.words(one.value_in(asked), one.of_check)]
 
 

@@ -139,8 +139,8 @@ class Planned:
             self.missing = time.monotonic() if self.missing is None else self.missing
             if not self.is_missed and time.monotonic() - self.missing >= MISSING:
                 self.is_missed = True
-                self.said.append(f"{error_line(error)}: the list is not there for a minute; what it "
-                                 "had is waited for")
+                self.said.append(f"{error_line(error)}: the list is not there for a minute; what "
+                                 "it had is waited for")
             return None
         if self.is_missed:
             self.said.append(f"{self.path} is there again")
