@@ -287,7 +287,7 @@ class Queue:
             self.planned.look(self.is_whole)
             self.next_look = time.monotonic() + LOOK
         if was_empty:
-            self.since = now
+            self.since = max(self.since, now)  # who begins anew hears what is older once more
         self.take(self.planned.open()[:AT_ONCE])
 
     def take(self, programmes: Iterable[Programme]) -> None:
