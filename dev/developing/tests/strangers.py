@@ -30,7 +30,8 @@ from .parts import qc
 WATCHED = 3.0  # seconds for which a folder is watched
 OLD = '{"format": 5, "verdict": "not judged", "status": 2, "name": "old", "reason": "old"}\n'
 STEMS = ["film", "film.1", "film.2", "index", ".film", "film~2", "a\udce9", "a%E9", "a\\xe9",
-         "a\x1b[31m", "two\nlines", "line 2", "-film", "=film", "x" * 240, "Film", "<script>", "50%"]
+         "a\x1b[31m", "two\nlines", "line 2", "-film", "=film", "x" * 240, "Film", "<script>",
+         "50%"]
 KINDS = ["single", "single", "single", "folder", "folder", "list", "list", "collect", "watch",
          "channel"]
 VERDICTS = re.compile(r"accepted|waived|refused|not accepted|\d+ faults|\d+ subtitles?, nothing")

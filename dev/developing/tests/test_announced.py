@@ -60,7 +60,8 @@ class Announced(Case):
                       for some in own for one in (some, *others)]
             cut = [b"".join(spaced[:70]), b"".join(spaced[70:])]
             for name, data in (("whole", b"".join(cut)), ("junk", b"\x47junk" + b"".join(cut)),
-                               ("between", b"junk ".join(cut)), ("at the end", b"".join(cut) + b"G")):
+                               ("between", b"junk ".join(cut)),
+                               ("at the end", b"".join(cut) + b"G")):
                 told = [*packets_in(io.BytesIO(data), size, PID)]
                 self.must(f"{size} {name}", told == own, len(told))
         self.must("no packet", not [*packets_in(io.BytesIO(b""), 188, PID)]

@@ -110,7 +110,8 @@ class Chosen(Case):
         for words in ((), ("--pace", "none")):
             found = judged(self, stl, path, "--origin", f"{TICKS * 250}", *words)
             pace = [one for one in told(found) if one[0] == "pace"]
-            self.must(f"{words}", [one[1:5] for one in pace] == [(None, None, None, 1)] * (not words)
+            self.must(f"{words}",
+                      [one[1:5] for one in pace] == [(None, None, None, 1)] * (not words)
                       and all("may be unseen" in one[5] for one in pace)
                       and not [*wrong_choices(found.result, found.said)], found.said)
 
@@ -119,7 +120,8 @@ class Chosen(Case):
         with open(TS[0], "rb") as file:
             data = file.read()
         for language, (option, why) in LANGUAGES.items():
-            path = self.write("one.stl", b"" if language is None else data[:14] + language + data[16:])
+            path = self.write(
+                "one.stl", b"" if language is None else data[:14] + language + data[16:])
             asked = request_of(parser_of("").parse_args([path, "--option", "auto"]))
             self.must(f"{language!r}", asked.option == option and
                       option_line(asked) == f"option: {option}, since {why}", option_line(asked))

@@ -180,7 +180,8 @@ def main(program: str, first: int, end: int) -> None:
         print(seed, one.text or "-", one.step, one.lost, "ts" if one.is_stream else "pes",
               "right" if one.is_right() else "wrong", told.word, told.parts("pace"),
               "" if is_sound(one, told) else "ACCEPTED", flush=True)
-    print(f"{end - first} programmes, {len(wrong)} accepted of which a wrong cell was sent: {wrong}")
+    print(f"{end - first} programmes, {len(wrong)} accepted of which a wrong cell was sent: "
+          f"{wrong}")
 
 
 if __name__ == "__main__":

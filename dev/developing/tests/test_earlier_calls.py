@@ -64,8 +64,8 @@ class EarlierCalls(Case):
         self.must("no severity", not is_current(known, none, PROGRAM))
         names = {field.name for field in dataclasses.fields(asked)}
         self.must("all words", names == {*OTHERS, "stl", "recording", "severity", "from_time",
-                                             "to_time", "layout", "is_open", "may_keep", "pace_word",
-                                             "found_layout", "kept_stl", "language"},
+                                             "to_time", "layout", "is_open", "may_keep",
+                                             "pace_word", "found_layout", "kept_stl", "language"},
                   names)  # those that are left out here: test_options
 
     def test_object_of_another_program(self) -> None:
@@ -139,7 +139,8 @@ class Objects(Case):
             ({"status": True}, ".status"), ({"verdict": "accepted"}, ".verdict"),
             ({"verdict": 5}, ".verdict"), ({"line": 5}, ".line"), ({"line": ""}, ".verdict"),
             ({"line": None}, ".verdict"), ({"reason": 5}, ".reason"), ({"asked": []}, ".asked"),
-            ({"asked": None}, ".asked"), ({"faults": {}}, ".faults"), ({"faults": [5]}, ".faults[0]"),
+            ({"asked": None}, ".asked"), ({"faults": {}}, ".faults"),
+            ({"faults": [5]}, ".faults[0]"),
             ({"faults": [FAULT, {**FAULT, "row": 25}]}, ".faults[1].row"),
             ({"faults": [{"line": "x"}]}, ".faults[0].block"), ({"hints": {}}, ".hints"),
             ({"cause_counts": []}, ".cause_counts"), ({"fault_count": 1.5}, ".fault_count"),
@@ -319,7 +320,8 @@ class Watched(Case):
                 raise KeyboardInterrupt
             return due(watch, busy)
 
-        with mock.patch("signal.signal"), mock.patch.object(batch, "LOOK", 0.01), mock.patch.object(Watch, "due", look), \
+        with mock.patch("signal.signal"), mock.patch.object(batch, "LOOK", 0.01), \
+                mock.patch.object(Watch, "due", look), \
                 mock.patch.object(batch, "judged_next", judged_next), \
                 mock.patch("subtitles.cli.batch.Calls.items", lambda calls: running), \
                 contextlib.redirect_stdout(io.StringIO()) as out:

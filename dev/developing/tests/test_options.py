@@ -1,5 +1,5 @@
-"""The table of options: a row that is added is found wherever an option stands, and what each row of
-the table comes to."""
+"""The table of options: a row that is added is found wherever an option stands, and what each row
+of the table comes to."""
 from __future__ import annotations
 
 import json
@@ -25,9 +25,10 @@ import dataclasses, json, sys, developing
 from subtitles.common.shapes import Flag, Maybe, Text
 from subtitles.request import request as options
 options.OPTIONS = (*options.OPTIONS, options.Option(
-    "--new-one", "K", "a [new](x.md) `one`", options.JUDGED, "`none`", "new_one", of_check=None, of_pages=True,
-    shape=Maybe(Text()), said="What is new."), options.Option(
-    "--newer", None, "it is newer", options.PAIRS, "", "newer", default=False, of_check=False, shape=Flag()))
+    "--new-one", "K", "a [new](x.md) `one`", options.JUDGED, "`none`", "new_one", of_check=None,
+    of_pages=True, shape=Maybe(Text()), said="What is new."), options.Option(
+    "--newer", None, "it is newer", options.PAIRS, "", "newer", default=False, of_check=False,
+    shape=Flag()))
 options.Request = dataclasses.make_dataclass("Request", [
     ("new_one", object, None), ("newer", bool, False)], bases=(options.Request,))
 from developing import pages
@@ -50,7 +51,8 @@ def said(does):
         return str(reason)
 
 def taken(*line):
-    return said(lambda: refuse_options(parser_of(""), line, mode_of(parser_of("").parse_args(line))))
+    mode = mode_of(parser_of("").parse_args(line))
+    return said(lambda: refuse_options(parser_of(""), line, mode))
 
 program, folder = sys.argv[1:]
 pair, given = ["a.stl", "a.ts"], ["--new-one", "5", "--newer"]
@@ -59,17 +61,21 @@ none = request_of(parser_of("").parse_args(pair))
 help = parser_of("").format_help()
 planned = Planned(folder + "/list", defaults())
 print(json.dumps({
-    "help": help, "man page": pages.of_qc(help)["options"], "chapter": pages.of_chapter()["options"],
+    "help": help, "man page": pages.of_qc(help)["options"],
+    "chapter": pages.of_chapter()["options"],
     "completion": pages.completed("  check STL PES  does\\n", "", [help])["values"],
     "asked": ASKED.made(asked), "left out": ASKED.made(none), "call": call_words(asked),
     "again": again(asked, CommandWords("tools/qc", program)), "check": asked.check_words(),
     "file": asked.check_words(True), "pages": asked.words_of_pages(),
     "schema": schema()["definitions"]["asked"]["properties"],
     "same": request_of(parser_of("").parse_args(call_words(asked))) == asked,
-    "not with": [taken("a.stl", *given), taken(*pair, *given), taken("--collect", "x", "--new-one", "5"),
-                 taken("--channel", "x", "-", "--new-one", "5"), taken("--channel", "x", "-", "--newer")],
+    "not with": [taken("a.stl", *given), taken(*pair, *given),
+                 taken("--collect", "x", "--new-one", "5"),
+                 taken("--channel", "x", "-", "--new-one", "5"),
+                 taken("--channel", "x", "-", "--newer")],
     "line": ASKED.made(request_of_line([*pair, *given], defaults())),
-    "channel": [said(lambda: planned.asked_of(["a.stl", *words])) for words in (given[:2], given[2:])]}))
+    "channel": [said(lambda: planned.asked_of(["a.stl", *words]))
+                for words in (given[:2], given[2:])]}))
 """
 # An option with its words, and its member of a result.
 ROWS: list[tuple[str, str, Any]] = [
@@ -78,7 +84,8 @@ ROWS: list[tuple[str, str, Any]] = [
     ("--breaks", "2", 2), ("--pes", "3-9", [3, 9]), ("--start", "tcp", "tcp"), ("--within", "5", 5),
     ("--from", "00:00:01:00", "00:00:01:00"), ("--to", "00:00:02:00", "00:00:02:00"),
     ("--layout", "fit,up", "fit,up"), ("--pace", "none", "none"), ("--no-complete", "", False),
-    ("--allow-lost", "", True), ("--strict", "", True), ("--open", "", True), ("--keeping", "", True)]
+    ("--allow-lost", "", True), ("--strict", "", True), ("--open", "", True),
+    ("--keeping", "", True)]
 
 
 class Added(Case):
@@ -94,7 +101,8 @@ class Added(Case):
         for name, line in (
                 ("help", "  --new-one K           a new one; without it: none\n"),
                 ("help", "  --newer               it is newer\n"),
-                ("man page", ".TP\n\\fB\\-\\-new\\-one\\fP \\fIK\\fP\nA new one; without it: none.\n"),
+                ("man page",
+                 ".TP\n\\fB\\-\\-new\\-one\\fP \\fIK\\fP\nA new one; without it: none.\n"),
                 ("man page", ".TP\n\\fB\\-\\-newer\\fP\nIt is newer.\n"),
                 ("chapter", "| `--new-one K` | a [new](x.md) `one` | `none` |\n"),
                 ("chapter", "| `--newer` | it is newer |  |\n"),

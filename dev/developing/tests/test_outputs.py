@@ -141,7 +141,8 @@ class Statuses(Case):
         words = argparse.Namespace(csv=None, junit=None, json=None)
         vars(words).update(outputs)
         with contextlib.redirect_stdout(io.StringIO()), contextlib.redirect_stderr(io.StringIO()):
-            return collection.write_collection(words, [self.ROW], [self.path("one.json")], is_stopped)
+            return collection.write_collection(words, [self.ROW], [self.path("one.json")],
+                                               is_stopped)
 
     def test_outputs_that_fail(self) -> None:
         """Each of the three, whether others are written or not."""

@@ -168,7 +168,8 @@ class Hidden(Case):
         frame = sent[wrong - 1][0] // TICKS + 1  # between two that stay
         sent[wrong:wrong + 1] = [(frame * TICKS, WRONG), (AT * TICKS, [])]
         made = self.multiplexed(sent, 0, 1 << 20, 3)
-        note = "at 1 place a jump of the counter of PID 0x101 is announced: what is missing there " \
+        note = "at 1 place a jump of the counter of PID 0x101 is announced: what is missing " \
+            "there " \
             "may be unseen"
         for words in ((), ("--pace", "3"), ("--pace", "none")):
             whole, told = self.judge(made, *words), self.judge(lost(made, 3, True, frame), *words)

@@ -144,7 +144,8 @@ class Rowed(unittest.TestCase):
 
     def test_words(self) -> None:
         """What a cell holds."""
-        names = dict(enumerate("black red green yellow blue magenta cyan white flash steady".split()))
+        names = dict(enumerate(
+            "black red green yellow blue magenta cyan white flash steady".split()))
         names |= {0x0A: "end box", 0x0B: "start box", 0x0C: "normal height", 0x0D: "double height",
                   0x18: "conceal", 0x1C: "black background", 0x1D: "new background"}
         for code in range(32):

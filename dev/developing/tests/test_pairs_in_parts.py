@@ -38,7 +38,8 @@ def apart(sent: Sent, *shifts: int) -> Sent:
 
 
 def cause_of(number: int, begin: int, by: int) -> str:
-    return f'subtitle {number} at {time_of(begin)}, "Number {number}": late by {counted(by, "frame")}'
+    return f'subtitle {number} at {time_of(begin)}, "Number {number}": late by ' \
+        f'{counted(by, "frame")}'
 
 
 class Parts(Case):

@@ -123,15 +123,17 @@ class Lines(unittest.TestCase):
 
     def test_kinds(self) -> None:
         """Of each number what it is of: the file, what ends reading, what is passed over."""
-        kinds = {"stl": listing.STL_FAULTS, "ends": listing.ENDS_READING, "passed": listing.PASSED_OVER}
+        kinds = {"stl": listing.STL_FAULTS, "ends": listing.ENDS_READING,
+                 "passed": listing.PASSED_OVER}
         for number in range(100):
             wanted = {"stl"} if 10 <= number <= 25 or 50 <= number <= 57 else set[str]()
             wanted |= {"ends"} if number in (30, 31, 32, 44) else set()
             wanted |= {"passed"} if 33 <= number <= 40 or number in (45, 61) else set()
             self.assertEqual({kind for kind, some in kinds.items() if number in some}, wanted)
-        self.assertEqual((listing.EMPTY, listing.EMPTY_TIME, listing.OUT_OF_ORDER, listing.OFF_FRAME, listing.GAP,
-                          listing.LOST_PACKETS, listing.CONTENT, listing.CHARACTER, listing.CONTROL, listing.BEGIN,
-                          listing.END), (60, 21, 56, 61, 73, 45, 72, 50, 67, 63, 74))
+        self.assertEqual((listing.EMPTY, listing.EMPTY_TIME, listing.OUT_OF_ORDER,
+                          listing.OFF_FRAME, listing.GAP, listing.LOST_PACKETS, listing.CONTENT,
+                          listing.CHARACTER, listing.CONTROL, listing.BEGIN, listing.END),
+                         (60, 21, 56, 61, 73, 45, 72, 50, 67, 63, 74))
         self.assertEqual((listing.LETTERS, listing.WITH_CAUSE), ((50, 51), {63, 72, 74}))
 
     def test_quickly(self) -> None:
