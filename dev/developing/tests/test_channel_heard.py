@@ -85,7 +85,8 @@ class Pids(Case):
                               *(other.pes(SECOND * 60 * at) for at in range(1, hours * 60)), *TABLE,
                               own.pes(back), own.pes(back + SECOND)])
             self.must(f"{hours}", (heard.pid, heard.anew, heard.now) == (PID, 0, back + SECOND) and
-                      [line[:20] for line in heard.said] == ["the PMT moves page 8"] * 2, heard.said)
+                      [line[:20] for line in heard.said] == ["the PMT moves page 8"] * 2,
+                      heard.said)
 
     def test_moves_of_tables(self) -> None:
         """The last PMT of the programme that named the PID."""

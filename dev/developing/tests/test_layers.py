@@ -12,10 +12,10 @@ from .test_hints import DEV, PACKAGES, TOOLS, modules, scripts
 ORDER = ["common", "formats", "request", "stream", "clock", "recording", "judging", "results",
          "report", "cli"]  # the packages of users, lowest first
 LONGEST_LINE = 100
-# The page's parts name the page itself, for type hints alone; main imports what a call needs.
-NOT_LOADED = {("subtitles.report.faults", "subtitles.report.report"),
-              ("subtitles.report.transmission", "subtitles.report.report"),
-              ("subtitles.cli.main", "subtitles.cli.batch")}
+# The page's parts name the page itself, for type hints alone.
+FOR_HINTS = {("subtitles.report.faults", "subtitles.report.report"),
+             ("subtitles.report.transmission", "subtitles.report.report")}
+MAIN = "subtitles.cli.main"  # imports what a call needs when it needs it
 IN_ROWS = os.path.join("developing", "signs.py")  # a table: each of its rows is a line
 # The second implementation shares with the tools codes, times, layouts and the blocks of files.
 SHARED = {"subtitles." + name for name in (
@@ -144,7 +144,8 @@ class Layers(Case):
                     texts[name_of(path)] = file.read()
         found = cycle_in({
             name: {other for other in texts.keys() & {*imported(text, name, False)}
-                   if (name, other) not in NOT_LOADED} for name, text in texts.items()})
+                   if name != MAIN and (name, other) not in FOR_HINTS}
+            for name, text in texts.items()})
         self.must("tools", not found, found)
 
     def test_end_in_time(self) -> None:
