@@ -29,7 +29,7 @@ from .scenario import send
 
 Sent = list[tuple[int, list[bytes]]]  # PTS, and the Teletext packets then
 Change = Callable[[Sent], Sent]
-FEW = "may be unseen: its PES packets are too few to measure a pace"  # the end of a note
+FEW = "are too few to measure a pace"  # the end of a note
 
 
 class Heard(Speech):
