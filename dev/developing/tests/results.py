@@ -29,7 +29,8 @@ SOME = 20  # of a list are all read by the other reader, then one of 50
 ASKED = {"stl": "one.stl", "recording": "one.ts", "page": "888", "every": 250, "option": "english",
          "origin": None, "complete": True, "pid": None, "allow_lost": False, "severity": None,
          "breaks": 0, "pes": None, "start": None, "within": 0, "strict": False, "from": None,
-         "to": None, "layout": None, "open": False, "keeping": False, "pace": None}
+         "to": None, "layout": None, "open": False, "keeping": False, "pace": None,
+         "late": None, "profile": None}
 FAULT = {**dict.fromkeys((
     "block", "subtitle", "byte", "character", "text_at", "pes", "pes_pts", "pes_time", "packet",
     "frame", "time", "row", "column", "due", "held", "until", "until_pes", "cause")),

@@ -28,7 +28,7 @@ from .bench import SECONDS
 from .parts import qc
 
 WATCHED = 3.0  # seconds for which a folder is watched
-OLD = '{"format": 5, "verdict": "not judged", "status": 2, "name": "old", "reason": "old"}\n'
+OLD = '{"format": 6, "verdict": "not judged", "status": 2, "name": "old", "reason": "old"}\n'
 STEMS = ["film", "film.1", "film.2", "index", ".film", "film~2", "a\udce9", "a%E9", "a\\xe9",
          "a\x1b[31m", "two\nlines", "line 2", "-film", "=film", "x" * 240, "Film", "<script>",
          "50%"]
@@ -249,7 +249,7 @@ class World:
                 return [f"{count} pairs of {len(lines)} lines"]
         kept = self.words[self.words.index("--json") + 1] if "--json" in self.words else ""
         entry = after.get(os.path.relpath(kept, ".")) if kept else None
-        if entry is None or not entry[1].startswith(b'{\n "format": 5,\n "status"'):
+        if entry is None or not entry[1].startswith(b'{\n "format": 6,\n "status"'):
             return []
         pairs = json.loads(entry[1])["pairs"]
         return [] if len(pairs) == count else [f"{count} pairs, {len(pairs)} results"]

@@ -16,9 +16,9 @@ from subtitles.cli.main import (
 from subtitles.common.command_line import Stop
 from subtitles.common.program import TOP
 from subtitles.request.commands import CommandWords
+from subtitles.request.lines import request_of_line
 from subtitles.request.request import (
-    ALONE, BATCH, CHANNEL, CHANNEL_LINE, COLLECT, LINE, MODES, Mode, PAIR, RECORDER, WATCH,
-    request_of_line)
+    ALONE, BATCH, CHANNEL, CHANNEL_LINE, COLLECT, LINE, MODES, Mode, PAIR, RECORDER, WATCH)
 from .bench import Case
 from .test_channel_tables import defaults
 
@@ -33,13 +33,15 @@ VALUES = {"--page": "801", "--every": "25", "--within": "1", "--option": "german
           "--line": "2", "--jobs": "2", "--settled": "1", "--patience": "9",
           "--from": "00:00:01:00",
           "--to": "00:00:02:00", "--layout": "fit", "--pace": "9", "--spool": "feed",
-          "--on-result": "true"}
+          "--on-result": "true", "--late": "0:9/0:9"}
 MANUAL = os.path.join(TOP, "docs", "manual", "qc.md")
 ASKING = {"--batch", "--watch", "--channel", "--collect", "--help", "-h", "--version"}
 
 
-def words_of(name: str) -> list[str]:
-    """An option with its value."""
+def words_of(name: str, folder: str) -> list[str]:
+    """An option with its value; a profile, which is read, stands in a folder."""
+    if name == "--profile":
+        return [name, os.path.join(folder, "house")]
     return [name, VALUES[name]] if name in VALUES else [name]
 
 
@@ -47,11 +49,11 @@ def refusal(mode: Mode, name: str, folder: str) -> str | None:
     """What is said of an option that is given with a mode; `None` where it is taken."""
     try:
         if mode is LINE:
-            request_of_line(["a.stl", "a.ts", *words_of(name)], defaults())
+            request_of_line(["a.stl", "a.ts", *words_of(name, folder)], defaults())
         elif mode is CHANNEL_LINE:
-            Planned(os.path.join(folder, "list"), defaults()).asked_of(["a.stl", *words_of(name)])
+            Planned(os.path.join(folder, "list"), defaults()).asked_of(["a.stl", *words_of(name, folder)])
         else:
-            line = [*CALLS[mode], *words_of(name)]
+            line = [*CALLS[mode], *words_of(name, folder)]
             refuse_options(parser_of(""), line, mode_of(parser_of("").parse_args(line)))
     except Stop as reason:
         return str(reason)
@@ -63,6 +65,7 @@ class Modes(Case):
 
     def test_options_and_refusals(self) -> None:
         """Each option with each of what can be asked for: taken, or refused by its name."""
+        self.write("house", b"--every 25\n")
         for name, taken_by in TAKEN_BY.items():
             for mode in MODES:
                 said = refusal(mode, name, self.folder)

@@ -10,7 +10,8 @@ from subtitles.formats.listing import fault_of_line
 from subtitles.formats.stl import SubtitleFile
 from subtitles.judging.check import Answer
 from subtitles.judging.subtitles import AT_MIDNIGHT, falls_at_midnight, midnight_words
-from subtitles.request.request import Unclear, add_options, request_of_line
+from subtitles.request.lines import request_of_line
+from subtitles.request.request import Unclear, add_options
 from .bench import Case
 from .parts import asked_for
 

@@ -330,6 +330,11 @@ def list_at(path: str, may_be_pipe: bool = False) -> str:
     return bounded_bytes(path, MOST_BYTES, may_be_pipe).decode("utf-8", "surrogateescape")
 
 
+def folder_of(path: str) -> str:
+    """The folder in which a list stands, for what its lines name beside it; none of a pipe."""
+    return os.path.dirname(path) if os.path.isfile(path) else ""
+
+
 def lines_in(text: str) -> list[Line]:
     """The lines of a list that have words."""
     found = []

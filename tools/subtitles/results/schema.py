@@ -8,7 +8,7 @@ from ..common.command_line import MOST_EVERY, PACKET_SIZES
 from ..common.program import MadeWith
 from ..common.shapes import (
     COUNT, Flag, Integer, Listed, MOST_NUMBER, Maybe, Member, Number, OneOf, PID, PTS, Record,
-    Rules, Schema, TIME, Text, definitions, named)
+    Rules, SUM, Schema, TIME, Text, definitions, named)
 from ..common.times import FRAMES_OF_A_DAY, time_of
 from ..formats.layout import layout_text
 from ..judging.causes import NAMES, Wording, counts_of
@@ -28,7 +28,6 @@ FIRST_FAULT, LAST_FAULT = 10, 79  # numbers of what is refused
 CODE_TIME = named("code_time", Text(r"[0-9]{2,3}(:[0-9]{2,3}){3}"))
 DATE = named("date", Text(r"[0-9]{4}-[0-9]{2}-[0-9]{2}T[0-9]{2}:[0-9]{2}:[0-9]{2}Z"))
 PART = named("part_number", Integer(1, MOST_NUMBER), "The part, from 1.")
-SUM = named("sum", Text(r"[0-9a-f]{64}"), "SHA-256.")
 STATUS = named("status", OneOf(*sorted({*STATUSES.values()})),
                "The exit status: 0 accepted or waived, 1 not accepted, 2 not judged.")
 WORD = named("word", OneOf(*STATUSES), "waived: refused by faults that --severity, or "
@@ -275,7 +274,7 @@ COUNTS = Record("counts", "", Member("judged", COUNT), Member("refused", COUNT))
 # What is written is made by it, what is read back has to fit it as a whole, and `dev/make-pages`
 # makes docs/verdict.schema.json of it: a new member is a row here, or in `members`.
 
-FORMAT = 5
+FORMAT = 6
 MOST_LISTED = 20_000  # items of a list
 MOST_SUBTITLES = 100_000  # a subtitle file has 99,999 blocks at most
 MOST_SECONDS = 10 ** 9
