@@ -51,7 +51,8 @@ def refusal(mode: Mode, name: str, folder: str) -> str | None:
         if mode is LINE:
             request_of_line(["a.stl", "a.ts", *words_of(name, folder)], defaults())
         elif mode is CHANNEL_LINE:
-            Planned(os.path.join(folder, "list"), defaults()).asked_of(["a.stl", *words_of(name, folder)])
+            planned = Planned(os.path.join(folder, "list"), defaults())
+            planned.asked_of(["a.stl", *words_of(name, folder)])
         else:
             line = [*CALLS[mode], *words_of(name, folder)]
             refuse_options(parser_of(""), line, mode_of(parser_of("").parse_args(line)))
