@@ -20,9 +20,9 @@ _subttx_value() {
         --option) _subttx_words 'english german swedish italian french spanish czech' "$2" ;;
         --receiver) _subttx_words 'blank keep drop anew' "$2" ;;
         --packet-size) _subttx_words '188 192 204' "$2" ;;
-        --at | --breaks | --every | --flip | --from | --jobs | --layout | --line | --lose | \
-            --on-result | --origin | --pace | --page | --patience | --pes | --pid | --settled | \
-            --skip | --stall | --start | --to | --within)
+        --at | --breaks | --every | --flip | --from | --jobs | --late | --layout | --line | \
+            --lose | --on-result | --origin | --pace | --page | --patience | --pes | --pid | \
+            --settled | --skip | --stall | --start | --to | --within)
             COMPREPLY=()
             ;;
 # end
@@ -78,4 +78,4 @@ _subttx_tool() {
 }
 
 complete -F _subttx subttx
-complete -F _subttx_tool subttx-qc subttx-text subttx-ts2pes
+complete -F _subttx_tool subttx-qc subttx-ts2pes

@@ -20,7 +20,6 @@ looks         how a report looks in a browser
 compiled      the tools compiled once for many calls of tests
 pes           Teletext packets and PES packets of them, written and read
 stl           blocks of subtitle files, written
-mending       a pair mended by what is told
 multiplex     a transport stream that is written
 trial         a run in which something fails, and what has to happen
 trial_inputs  the commands that are run so, and what they read

@@ -127,8 +127,8 @@ class Look(NamedTuple):
 
 
 def measured(looks: Sequence[Look], folder: str) -> list[list[str]]:
-    """What a browser finds wrong with each of some reports, as lines; all are in frames of one page.
-    """
+    """What a browser finds wrong with each of some reports, as lines; all are in frames of one
+    page."""
     frames = "".join(f'<iframe src="{framed(look, folder, number)}" style="border:0;'
                      f'width:{look.width}px;height:2000px"></iframe>'
                      for number, look in enumerate(looks))

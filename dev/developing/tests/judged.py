@@ -22,6 +22,7 @@ from subtitles.judging.pair import Pair
 from subtitles.judging.status import Severity
 from subtitles.judging.verdict import Verdict
 from subtitles.request.commands import CommandWords, Names, Progress, Speech
+from subtitles.request.lines import read_options
 from subtitles.request.request import request_of
 from subtitles.results.objects import found, object_of
 from .bench import Case, packets
@@ -29,7 +30,7 @@ from .scenario import send
 
 Sent = list[tuple[int, list[bytes]]]  # PTS, and the Teletext packets then
 Change = Callable[[Sent], Sent]
-FEW = "may be unseen: its PES packets are too few to measure a pace"  # the end of a note
+FEW = "are too few to measure a pace"  # the end of a note
 
 
 class Heard(Speech):
@@ -87,7 +88,7 @@ def judged(case: Case, *words: str, by: str | None = None, heard: Heard | None =
 def judged_by(program: str, *words: str, heard: Heard | None = None) -> Judged:
     """A pair judged by the words of a command line, by a program."""
     heard = heard or Heard()
-    known = parser_of("").parse_args(["-p", program, *words])
+    known = read_options(parser_of(""), ["-p", program, *words], {}, {})
     asked, typed = request_of(known), CommandWords("tools/qc", program)
     verdict = Verdict(asked, Severity(asked.severity, asked.is_loss_allowed), now())
     with tempfile.TemporaryDirectory() as folder, claimed(known.out, "one"):

@@ -98,11 +98,11 @@ class Pages(Hearing):
 
 class Told(Channel):
     """A channel of a list; what it says is kept, without the time. The feed stands in no segment,
-    and goes on where an earlier call ended it."""
+    and goes on where an earlier call ended it, or so many ticks before that."""
 
     def __init__(self, case: Case, lines: str, out: str | None = None, *more: str,
                  is_kept: bool = False, patience: int = 2, spool: str | None = None,
-                 command: str | None = None) -> None:
+                 command: str | None = None, back: int = 0) -> None:
         words = argparse.Namespace(**{
             **vars(defaults(*more)), "channel": case.write("list", lines.encode()), "name": None,
             "patience": patience, "out": out, "is_kept": is_kept, "stall": 10, "stl": "-",
@@ -110,7 +110,7 @@ class Told(Channel):
         Judging.made = []
         self.said: list[str] = []
         super().__init__(words, "tools/qc", spool or tempfile.mkdtemp(dir=case.folder))
-        ended = self.results.ended()
+        ended = self.results.ended() and self.results.ended() - back
         known = Begin(ended, (BEGIN + ended) % CLOCK, True) if ended else None
         self.hearing = Pages("none", words.pid, known, lambda: ())
         self.segments.between = lambda *times: [Read("segment", 0)]  # type: ignore[assignment]

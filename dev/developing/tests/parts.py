@@ -1,7 +1,6 @@
 """Values of tests in process: parts with answers, carriers, sendings."""
 from __future__ import annotations
 
-import argparse
 import itertools
 import os
 from typing import Sequence
@@ -17,6 +16,7 @@ from subtitles.formats.teletext import Page
 from subtitles.judging.check import Answer
 from subtitles.judging.part import Part
 from subtitles.request.commands import Names
+from subtitles.request.lines import read_options
 from subtitles.request.request import Request, add_options, option_words, request_with
 from subtitles.stream.receiver import Timeline
 from subtitles.stream.survey import Packets, survey
@@ -67,8 +67,7 @@ def asked_for(stl: str, recording: str | None, *words: str) -> Request:
     """What is asked of two files, by the words of a command line."""
     parser = Words("")
     add_options(parser)
-    options: argparse.Namespace = parser.parse_args(words)
-    return request_with(stl, recording, options)
+    return request_with(stl, recording, read_options(parser, words, {}, {}))
 
 
 def call_words(asked: Request) -> list[str]:

@@ -1,5 +1,5 @@
-"""JSON results for tests: a plain one of a pair, with other members where a test gives some; and the
-schema as somebody else reads it, who knows nothing of the table from which it is made.
+"""JSON results for tests: a plain one of a pair, with other members where a test gives some; and
+the schema as somebody else reads it, who knows nothing of the table from which it is made.
 """
 from __future__ import annotations
 
@@ -29,7 +29,8 @@ SOME = 20  # of a list are all read by the other reader, then one of 50
 ASKED = {"stl": "one.stl", "recording": "one.ts", "page": "888", "every": 250, "option": "english",
          "origin": None, "complete": True, "pid": None, "allow_lost": False, "severity": None,
          "breaks": 0, "pes": None, "start": None, "within": 0, "strict": False, "from": None,
-         "to": None, "layout": None, "open": False, "keeping": False, "pace": None}
+         "to": None, "layout": None, "open": False, "keeping": False, "pace": None,
+         "late": None, "profile": None}
 FAULT = {**dict.fromkeys((
     "block", "subtitle", "byte", "character", "text_at", "pes", "pes_pts", "pes_time", "packet",
     "frame", "time", "row", "column", "due", "held", "until", "until_pes", "cause")),
@@ -154,7 +155,8 @@ def wrong_by_schema(value: Any) -> list[str]:
 
 
 def some_of(value: dict[str, Any]) -> dict[str, Any]:
-    """A result with some of what its long lists have; those of each pair, where it is of several."""
+    """A result with some of what its long lists have; those of each pair, where it is of several.
+    """
     lists = {one.name: [*value[one.name][:SOME], *value[one.name][SOME::50]]
              for one in LISTS if one.name in value}
     return {**value, **lists, **({"pairs": list(map(some_of, value["pairs"]))}

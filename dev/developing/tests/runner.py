@@ -136,7 +136,8 @@ def taken_in(path: str, module: str) -> set[str]:
 
 
 def module_of(name: str) -> str:
-    """The module of the tools that a path or a dotted name is of, as `stream/gaps.py` or `stream.gaps`."""
+    """The module of the tools that a path or a dotted name is of, as `stream/gaps.py` or
+    `stream.gaps`."""
     dotted = name.removesuffix(".py").replace("/", ".").removeprefix("tools.")
     return "subtitles." + dotted.removeprefix("subtitles.")
 

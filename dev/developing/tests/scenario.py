@@ -275,8 +275,7 @@ class Scenario:
 
     def tools(self, recording: str) -> list[list[str]]:
         """The words of other tools on the same files."""
-        return [["text", "sent.stl"],
-                *[["ts2pes", recording, "-p", self.program]] * (recording == "one.ts")]
+        return [["ts2pes", recording, "-p", self.program]] * (recording == "one.ts")
 
 
 def send(path: str, data: bytes) -> None:

@@ -1,11 +1,11 @@
-"""Calls of qc at random on trees that strangers have made: odd names, links, pipes, sockets, folders
-under names of files, outputs among the inputs, lists, and results that are none.
+"""Calls of qc at random on trees that strangers have made: odd names, links, pipes, sockets,
+folders under names of files, outputs among the inputs, lists, and results that are none.
 
-Of each call holds that every file that was there is as it was, unless it is a result of these tools;
-that nothing is new outside of the folder of the outputs; that no file under a final name is half a
-result; that each pair has one result; that nothing but a line is told of what is wrong; and that the
-status is the one of the last line. From dev/, `python3 -m developing.tests.strangers ../subttx 0 500`
-prints what does not hold, and `.. NUMBER` what a call does.
+Of each call holds that every file that was there is as it was, unless it is a result of these
+tools; that nothing is new outside of the folder of the outputs; that no file under a final name is
+half a result; that each pair has one result; that nothing but a line is told of what is wrong; and
+that the status is the one of the last line. From dev/, `python3 -m developing.tests.strangers
+../subttx 0 500` prints what does not hold, and `.. NUMBER` what a call does.
 """
 from __future__ import annotations
 
@@ -28,9 +28,10 @@ from .bench import SECONDS
 from .parts import qc
 
 WATCHED = 3.0  # seconds for which a folder is watched
-OLD = '{"format": 5, "verdict": "not judged", "status": 2, "name": "old", "reason": "old"}\n'
+OLD = '{"format": 6, "verdict": "not judged", "status": 2, "name": "old", "reason": "old"}\n'
 STEMS = ["film", "film.1", "film.2", "index", ".film", "film~2", "a\udce9", "a%E9", "a\\xe9",
-         "a\x1b[31m", "two\nlines", "line 2", "-film", "=film", "x" * 240, "Film", "<script>", "50%"]
+         "a\x1b[31m", "two\nlines", "line 2", "-film", "=film", "x" * 240, "Film", "<script>",
+         "50%"]
 KINDS = ["single", "single", "single", "folder", "folder", "list", "list", "collect", "watch",
          "channel"]
 VERDICTS = re.compile(r"accepted|waived|refused|not accepted|\d+ faults|\d+ subtitles?, nothing")
@@ -248,7 +249,7 @@ class World:
                 return [f"{count} pairs of {len(lines)} lines"]
         kept = self.words[self.words.index("--json") + 1] if "--json" in self.words else ""
         entry = after.get(os.path.relpath(kept, ".")) if kept else None
-        if entry is None or not entry[1].startswith(b'{\n "format": 5,\n "status"'):
+        if entry is None or not entry[1].startswith(b'{\n "format": 6,\n "status"'):
             return []
         pairs = json.loads(entry[1])["pairs"]
         return [] if len(pairs) == count else [f"{count} pairs, {len(pairs)} results"]

@@ -51,16 +51,19 @@ class Announced(Case):
             self.must(name, told == wanted, told)
 
     def test_packets(self) -> None:
-        """The TS packets of a PID, of each size, behind bytes of none and where some stand between;
-        the last is whole."""
+        """The TS packets of a PID, of each size, behind bytes of none and where some stand between,
+        once and often; the last is whole."""
         own = [ts_packet(begin=at) for at in range(40)]
         others = [ts_packet(pid) for pid in (0x001, 0x201, 0x102, 0x1FFF)]
         for size in SIZES:
             spaced = [b"\0" * (4 * (size == 192)) + one + b"\0" * (16 * (size == 204))
                       for some in own for one in (some, *others)]
             cut = [b"".join(spaced[:70]), b"".join(spaced[70:])]
+            often = [b"".join(spaced[at:at + 20]) for at in range(0, len(spaced), 20)]
             for name, data in (("whole", b"".join(cut)), ("junk", b"\x47junk" + b"".join(cut)),
-                               ("between", b"junk ".join(cut)), ("at the end", b"".join(cut) + b"G")):
+                               ("between", b"junk ".join(cut)),
+                               ("at the end", b"".join(cut) + b"G"),
+                               ("often", b"junk ".join(often))):
                 told = [*packets_in(io.BytesIO(data), size, PID)]
                 self.must(f"{size} {name}", told == own, len(told))
         self.must("no packet", not [*packets_in(io.BytesIO(b""), 188, PID)]

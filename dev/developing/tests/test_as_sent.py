@@ -101,7 +101,8 @@ class Houses(Case):
                 command = found.verdict.commands[-1]
                 self.must(f"{text} {within}", found.word == "accepted"
                           and found.lines("layout: ")[0].startswith(
-                              f"{layout}, 30 of 30 subtitles as they were sent; ") and f" --layout {quoted(layout)} " in command
+                              f"{layout}, 30 of 30 subtitles as they were sent; ")
+                          and f" --layout {quoted(layout)} " in command
                           and has_layout(found, layout, 30, 30)
                           and found.result["asked"]["layout"] == "auto", found.said)
 

@@ -183,12 +183,14 @@ class Beside(Case):
                     (3, 4, 9): ["00:00:10:10 to 00:00:19:24", "00:00:34:10 to 00:00:39:24"]}[bad],
                     spans)
                 drawn = set(re.findall(r'id="s(\d+)"', page))
-                self.must(f"{bad} {name}: drawn", drawn == ({"6"} if len(bad) > 1 else set()), drawn)
+                self.must(f"{bad} {name}: drawn",
+                          drawn == ({"6"} if len(bad) > 1 else set()), drawn)
                 self.must(f"{bad} {name}: said", "other subtitles were judged: " in page and
                           "It is drawn as undecided" in page and "Refused subtitles" in page)
 
     def test_layouts(self) -> None:
-        """--layout auto is found by the subtitles that are judged, and draws what is due of them."""
+        """--layout auto is found by the subtitles that are judged, and draws what is due of them.
+        """
         self.blocks = [(begin, end, b"Number %d" % number)
                        for number, (begin, end) in enumerate(times(14), 1)]
         self.schedule(self.file(), "house.pes", "--every", "25", "--layout", "row=-2")

@@ -75,6 +75,19 @@ class Pids(Case):
         stays = heard_of([*TABLE, Lines(PID).pes(0), *MOVED, *MOVED], PID)
         self.must("one that is asked for", stays.pid == PID and not stays.said)
 
+    def test_moves_back(self) -> None:
+        """To a PID that carried it long ago, also more than half of the PTS: what came then is not
+        what comes now."""
+        for hours in (1, 12, 14, 20, 26):
+            own, other = Lines(PID), Lines(OTHER)
+            back = SECOND * 3600 * hours
+            heard = heard_of([*TABLE, own.pes(0), own.pes(SECOND), *MOVED, other.pes(2 * SECOND),
+                              *(other.pes(SECOND * 60 * at) for at in range(1, hours * 60)), *TABLE,
+                              own.pes(back), own.pes(back + SECOND)])
+            self.must(f"{hours}", (heard.pid, heard.anew, heard.now) == (PID, 0, back + SECOND) and
+                      [line[:20] for line in heard.said] == ["the PMT moves page 8"] * 2,
+                      heard.said)
+
     def test_moves_of_tables(self) -> None:
         """The last PMT of the programme that named the PID."""
         def table(number: int, **pids: str) -> ProgramMap:

@@ -15,6 +15,7 @@ from subtitles.clock.start import FITTED_SHORT
 from subtitles.common.times import CLOCK, TICKS
 from .listings import BEGIN, LAST, SECOND, Judging, Lines, Pages, Programmes, Told, texts_of
 from .results import result
+from .test_channel_heard import OTHER
 from .test_channel_tables import FIRST
 
 
@@ -143,6 +144,32 @@ class Steps(Programmes):
             self.must("why", channel.said == [f"{name}  not judged: {why}" for name in
                                               ("one", "two")], channel.said)
             self.must("since then", channel.queue.since == 241 * SECOND, channel.queue.since)
+
+    def test_patience_of_another_call(self) -> None:
+        """It counts from the end of the programme before, however much is heard once more."""
+        spool, out = self.path("spool"), self.path("out")
+        os.mkdir(spool)
+        channel, lines = Told(self, self.listed("one", "two"), out, spool=spool), Lines()
+        channel.give(lines.sent(texts_of("one"), BEGIN, 20))
+        for back in (0, 60, 600):
+            over = channel.queue.ended
+            channel = Told(self, self.listed("one", "two"), out, spool=spool, back=back * SECOND)
+            self.must(f"{back}: since", channel.queue.since == over, channel.queue.since)
+            lines = Lines()
+            channel.give(lines.pes(BEGIN + over + SECOND * at) for at in range(-back, 91, 30))
+            self.must(f"{back}: waits", "not judged" not in channel.verdicts, channel.said)
+        channel.give(lines.sent(texts_of("two"), BEGIN + over + SECOND * 100, 20))
+        self.must("two", self.names() == ["two"], channel.said)
+
+    def test_page_that_moved(self) -> None:
+        """What begins behind the move lies on one PID; what it lies within, on two."""
+        for before, pid in ((121, OTHER), (60, OTHER), (1, OTHER), (0, None), (-2, None)):
+            channel, lines = Told(self, self.listed("one")), Lines(OTHER)
+            told = [*lines.sent(texts_of("one"), BEGIN, 20)]
+            channel.give(told[:8])
+            channel.hearing.by_page[0, 0x88].moves.append(-before * SECOND)
+            channel.give(told[8:])
+            self.must(f"{before}", [one.words.pid for one in Judging.made] == [pid], channel.said)
 
     def test_origin_that_is_given(self) -> None:
         """It is begun with its first TCI, and is not said to be fitted."""

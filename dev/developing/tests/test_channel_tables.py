@@ -8,6 +8,7 @@ from developing.stl import boxed, gsi_block, subtitle_blocks
 from subtitles.cli.channel.feed import Awaited, BEFORE, Changes, NEAR, SECOND
 from subtitles.common.command_line import Stop, Words
 from subtitles.common.times import CLOCK, EARLY, TICKS
+from subtitles.request.lines import read_options
 from subtitles.request.request import add_options
 from .bench import Case
 
@@ -21,7 +22,7 @@ def defaults(*words: str) -> argparse.Namespace:
     """The options of a call that has these."""
     parser = Words("")
     add_options(parser)
-    return parser.parse_args(words)
+    return read_options(parser, words, {}, {})
 
 
 def programme(case: Case, name: str, first: int, texts: list[str]) -> str:

@@ -26,8 +26,8 @@ AGREE = "origin: 5 of 5 cues agree, 5 with the letters that are due; the file ha
 ORIGIN_OF_TS = "origin", "5000000000", 5, 5, 1, f"{AGREE}--origin 1678370000 with 2"
 CUT = "pes", "2-6", 5, 7, 1, "cut: 5 of 7 PES packets, from 20:15:00:00 to 20:15:09:00"
 PID = "pid", "0x101", 7, 7, None, RECORDING_PID
-PACE = "pace", None, None, None, 1, "a hole of 15, or of 16, 32, 48 .. TS packets of PID 0x101 " \
-    "alone may be unseen: its PES packets are too few to measure a pace"
+PACE = "pace", None, None, None, 1, "not checked: whether some of this PID alone is missing: " \
+    "its PES packets are too few to measure a pace"
 # Words of a call, and what is chosen: the option, its value, how many agree among how many, of
 # which part, and the line.
 ROWS: list[tuple[Sequence[str], list[tuple[Any, ...]]]] = [
@@ -68,8 +68,8 @@ class Chosen(Case):
     def test_parts(self) -> None:
         """Each part has a clock and a range of its own; of one that was given the others alone."""
         stl = programme(self, times(24))
-        path = self.write("one.pes", joined(apart(sendings(self, stl), 30)))
-        second = f"{ORIGIN + 30 * TICKS}"
+        path = self.write("one.pes", joined(apart(sendings(self, stl), 130)))
+        second = f"{ORIGIN + 130 * TICKS}"
         for words, clocks in (((), [(f"{ORIGIN}", 1), (second, 2)]),
                               (("--origin", f"{ORIGIN}"), [(second, 2)])):
             found = judged(self, stl, path, "--breaks", "1", "--every", "25", *words)
@@ -105,13 +105,14 @@ class Chosen(Case):
             ("pace", "1", pace[0][3], pace[0][3], 1, "pace: a PES packet comes within 1 frame of "
              "the one before: --pace 1")] and pace[0][3] > 5_000, found.said)
         made = sent_of([pes_packet(pts + TICKS * 250, some) for pts, some in every
-                        if some or pts // TICKS % 20 < 4], Shape(100))
+                        if some or pts // TICKS % 60 < 25], Shape(100))
         path = self.write("one.ts", b"".join(one.data for one in made))
         for words in ((), ("--pace", "none")):
             found = judged(self, stl, path, "--origin", f"{TICKS * 250}", *words)
             pace = [one for one in told(found) if one[0] == "pace"]
-            self.must(f"{words}", [one[1:5] for one in pace] == [(None, None, None, 1)] * (not words)
-                      and all("may be unseen" in one[5] for one in pace)
+            self.must(f"{words}",
+                      [one[1:5] for one in pace] == [(None, None, None, 1)] * (not words)
+                      and all("not checked: " in one[5] for one in pace)
                       and not [*wrong_choices(found.result, found.said)], found.said)
 
     def test_languages(self) -> None:
@@ -119,7 +120,8 @@ class Chosen(Case):
         with open(TS[0], "rb") as file:
             data = file.read()
         for language, (option, why) in LANGUAGES.items():
-            path = self.write("one.stl", b"" if language is None else data[:14] + language + data[16:])
+            path = self.write(
+                "one.stl", b"" if language is None else data[:14] + language + data[16:])
             asked = request_of(parser_of("").parse_args([path, "--option", "auto"]))
             self.must(f"{language!r}", asked.option == option and
                       option_line(asked) == f"option: {option}, since {why}", option_line(asked))

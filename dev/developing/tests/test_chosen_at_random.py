@@ -1,7 +1,7 @@
 """What `qc` chooses by itself at random: programmes as houses draw them, of which a few subtitles
 were sent otherwise, or a wrong page was, where some TS or PES packets are lost.
 
-None is accepted of which a wrong cell was sent, but with a note that says what may be unseen. The
+None is accepted of which a wrong cell was sent, but with a note that says what is not checked. The
 gate judges those of some seeds; from dev/, `python3 -m developing.tests.test_chosen_at_random
 PROGRAM 0 300` judges as many and prints each seed with what was said of it.
 """
@@ -26,7 +26,7 @@ from .test_holes import Shape, sent_of
 from .test_layouts import HOUSES, line
 
 GATE = (3, 11, 24, 42, 57, 68, 101, 150, 217, 299)  # seeds of which the gate judges the programmes
-UNSEEN = "may be unseen"
+UNSEEN = "not checked: whether"
 WRONG = [HEADER, row(20, b"Nobody wrote this"), CLOSING]
 Said = tuple[bytes, int]  # a text with its justification code
 
@@ -144,7 +144,7 @@ def sendings_of(case: Case, path: str) -> Sent:
 
 
 def is_sound(one: Programme, told: Judged) -> bool:
-    """Whether nothing wrong is accepted, but with a note that says what may be unseen."""
+    """Whether nothing wrong is accepted, but with a note that says what is not checked."""
     is_accepted = told.verdict.status == 0
     return not is_accepted or one.is_right() or any(
         UNSEEN in note for note in told.result["notes"])
@@ -180,7 +180,8 @@ def main(program: str, first: int, end: int) -> None:
         print(seed, one.text or "-", one.step, one.lost, "ts" if one.is_stream else "pes",
               "right" if one.is_right() else "wrong", told.word, told.parts("pace"),
               "" if is_sound(one, told) else "ACCEPTED", flush=True)
-    print(f"{end - first} programmes, {len(wrong)} accepted of which a wrong cell was sent: {wrong}")
+    print(f"{end - first} programmes, {len(wrong)} accepted of which a wrong cell was sent: "
+          f"{wrong}")
 
 
 if __name__ == "__main__":

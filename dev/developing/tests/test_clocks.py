@@ -57,24 +57,26 @@ class Clocks(Case):
 
     def test_late_from_one_on(self) -> None:
         """All is judged with the clock of the first part, and it is said from when on it is late;
-        of a feed too."""
+        of a feed too. By less than five seconds that is no break, whatever is said."""
         line = f"from {time_of(self.frames[10][0])} on subtitles are "
         at = self.frames[10][0] * TICKS
-        for by, words in ((250, "10.00 s (250 frames) late"), (1, "0.04 s (1 frame) late")):
-            for origin in (0, 5000)[by == 1:]:
+        for by, words in ((250, "10.00 s (250 frames) late"), (130, "5.20 s (130 frames) late"),
+                          (100, "4.00 s (100 frames) late"), (1, "0.04 s (1 frame) late")):
+            for origin in (0, 5000)[by < 250:]:
                 sent = [(pts + origin, some) for pts, some in late(by, at)(self.sent)]
                 given = ["--origin", "5000"] * (origin > 0)
-                more = "; if the programme has a break there, say --breaks 1"
                 found = self.judge(sent, *given)
                 self.must(f"{by} {origin}", found.word == "refused" and
-                          line + words + more in found.told, found.said)
+                          found.told[0].startswith(line + words), found.said)
                 found = self.judge(sent, *given, "--breaks", "1")
-                self.must(f"{by} {origin}: a break", found.word == "accepted" and
-                          found.said[-1].endswith(" in 2 parts"), found.said)
+                self.must(f"{by} {origin}: a break", (
+                    found.word == "accepted" and found.said[-1].endswith(" in 2 parts")
+                    if by >= 125 else found.word == "not judged" and found.told[0] ==
+                    "no break found, where --breaks 1 is said"), found.said)
         feed = in_pipe(self, joined(late(1, at)(self.sent)))
         found = judged(self, self.stl, feed, *WORDS, "--origin", "0")
-        self.must("a feed", found.word == "refused" and line + words + more in found.told,
-                  found.said)
+        self.must("a feed", found.word == "refused" and
+                  found.told[0].startswith(f"{line}0.04 s (1 frame) late"), found.said)
         both = late(50, at, self.frames[15][0] * TICKS - 1)(self.sent)
         self.must("on time again", self.judge(both).told == [
             line + "2.00 s (50 frames) late",
@@ -82,21 +84,51 @@ class Clocks(Case):
         found = judged(self, self.stl, in_pipe(self, joined(self.sent)), *WORDS, "--origin", "7200")
         self.must("a feed that is early", found.told[0] == "all subtitles are 2 frames early")
 
-    def test_later_and_later(self) -> None:
-        """2.5 seconds more each five subtitles: no break was said, or too few, or too many."""
+    def later_each(self, frames: int) -> Sent:
+        """So many frames more each five subtitles."""
         sent = self.sent
         for at in range(5, 20, 5):
-            sent = late(63, sent[next(number for number, (pts, _) in enumerate(self.sent)
-                                      if pts == self.frames[at][0] * TICKS)][0])(sent)
+            sent = late(frames, sent[next(number for number, (pts, _) in enumerate(self.sent)
+                                          if pts == self.frames[at][0] * TICKS)][0])(sent)
+        return sent
+
+    def test_later_and_later(self) -> None:
+        """5.2 seconds more each five subtitles: no break was said, or too few, or too many."""
+        sent = self.later_each(130)
         found = self.judge(sent)
-        self.must("refused", found.word == "refused" and found.told[-1] ==
-                  f"from {time_of(self.frames[15][0])} on subtitles are 7.56 s (189 frames) late; "
-                  "if the programme has breaks there, say --breaks 3", found.told)
+        self.must("refused", found.word == "refused" and found.told[-1].startswith(
+            f"from {time_of(self.frames[15][0])} on subtitles are 15.60 s (390 frames) late"),
+            found.told)
         for count in (1, 2, 4):
             found = self.judge(sent, "--breaks", str(count))
             self.must(f"{count}", found.word == "not judged" and f"3 breaks found, where --breaks "
                       f"{count} is said" in found.told and
                       found.told[-1].endswith(" --breaks 3"), found.told)
+
+    def test_delays_that_add_up(self) -> None:
+        """Three delays of three seconds are no break, but for one that comes with a real one."""
+        for count in (1, 3):
+            found = self.judge(self.later_each(75), "--breaks", str(count))
+            self.must(f"{count}", found.word == "not judged" and found.told[0] ==
+                      f"no break found, where --breaks {count} is said", found.told)
+        at = self.frames[10][0] * TICKS
+        found = self.judge(late(400, at)(late(3, self.frames[15][0] * TICKS)(self.sent)),
+                           "--breaks", "2")
+        self.must("a delay in place of the second", found.word == "not judged" and found.told[0] ==
+                  "1 break found, where --breaks 2 is said", found.told)
+
+    def test_shorter_junctions(self) -> None:
+        """They are judged by two calls, as the manual shows; a delay of one side is refused."""
+        middle = time_of(self.frames[10][0])
+        for by in (124, 25):
+            sent = late(by, self.frames[10][0] * TICKS)(self.sent)
+            for words in (["--to", middle], ["--from", middle], ["--to", middle, "--origin", "0"]):
+                found = self.judge(sent, *words)
+                self.must(f"{by} {words}", found.word == "accepted" and
+                          found.verdict.count == 10, found.said)
+            wrong = late(1, self.frames[15][0] * TICKS)(sent)
+            words = [self.judge(wrong, *way, middle).word for way in (["--to"], ["--from"])]
+            self.must(f"{by}: late", words == ["accepted", "refused"], words)
 
     def test_parts_that_adjoin(self) -> None:
         """The last one is erased where the file's clock stops, and the next comes when it goes on.

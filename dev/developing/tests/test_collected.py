@@ -55,12 +55,14 @@ class Collected(Case):
             with mock.patch.object(collection, "put_file"):
                 self.must(f"{name} to -", self.end(**{name: "-"}) == (2, "", table))
         status, out, told = self.end(csv=self.path("no/x"), junit=self.path("no/y"))
-        self.must("failed", status == 2 and out == f"{table.rstrip()}; not all was written\n" and len(told.splitlines()) == 2 and
+        self.must("failed", status == 2 and
+                  out == f"{table.rstrip()}; not all was written\n" and
+                  len(told.splitlines()) == 2 and
                   "no/x" in told.splitlines()[0] and "no/y" in told.splitlines()[1], told)
         self.end(json=self.path("all"), csv=self.path("lines"), junit=self.path("cases"))
         have = json.loads(self.read("all"))
         self.must("as it is written", self.read("all").startswith(
-            b'{\n "format": 5,\n "status": 2,\n "date": "'))
+            b'{\n "format": 6,\n "status": 2,\n "date": "'))
         self.must("objects", [one["verdict"] for one in have["pairs"]] ==
                   ["accepted", "refused", "not judged", "waived"] and have["status"] == 2, have)
         self.must("lines", len(self.read("lines").splitlines()) == 6)
@@ -77,7 +79,8 @@ class Collected(Case):
         words = argparse.Namespace(csv=self.path("lines"), junit=None, json=None)
         with mock.patch.object(collection, "silence") as silenced, \
                 contextlib.redirect_stdout(Gone()) as out:
-            status = collection.write_collection(words, self.ROWS[:2], [self.path("a"), self.path("b")])
+            status = collection.write_collection(words, self.ROWS[:2],
+                                                 [self.path("a"), self.path("b")])
         self.must("status", status == 1 and os.path.exists(self.path("lines")) and
                   silenced.call_args == mock.call(out), silenced)
 

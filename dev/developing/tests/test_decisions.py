@@ -20,7 +20,8 @@ from subtitles.judging.part import parted, refuse_others
 from subtitles.judging.verdict import frames_until
 from subtitles.recording.recording import of_page
 from subtitles.request.commands import CommandWords
-from subtitles.request.request import Unclear, add_options, request_of_line
+from subtitles.request.lines import request_of_line
+from subtitles.request.request import Unclear, add_options
 from subtitles.results.objects import hint_in
 from subtitles.results.schema import ASKED, total
 from subtitles.stream.receiver import BLANK_PAGE, FEW, Rows, Timeline

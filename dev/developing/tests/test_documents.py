@@ -1,4 +1,5 @@
-"""The documents: links lead to files and headings that are there, and quoted sources are sources."""
+"""The documents: links lead to files and headings that are there, and quoted sources are sources.
+"""
 from __future__ import annotations
 
 import glob
@@ -77,14 +78,17 @@ class Documents(Case):
 
     def test_are_asked(self) -> None:
         """How many words stand before an answer, by the way that a reader goes to it."""
-        self.write("A.md", b"# A\n\nOne two [three](B.md#the-answer) four.\n\n## C d!\n\nFive | - six.")
+        self.write("A.md",
+                   b"# A\n\nOne two [three](B.md#the-answer) four.\n\n## C d!\n\nFive | - six.")
         self.write("B.md", b"# B\n\nNot here: yes.\n\n## The answer\n\nIt is\nyes.\n")
         for way, answer, words in (
                 (["A.md"], "two", 2), (["A.md"], "six", 8), (["A.md#c-d"], "six", 3),
-                (["A.md", "B.md#the-answer"], "is yes", 7), (["A.md", "B.md"], "yes", 7), (["B.md", "A.md"], "One", None),
+                (["A.md", "B.md#the-answer"], "is yes", 7), (["A.md", "B.md"], "yes", 7),
+                (["B.md", "A.md"], "One", None),
                 (["A.md"], "seven", None), (["A.md#none"], "two", None)):
             found = ask(Question("A1", "?", way, answer), self.folder)
-            self.must(f"{way} {answer}", found.words == words and (words is None) == bool(found.why),
+            self.must(f"{way} {answer}",
+                      found.words == words and (words is None) == bool(found.why),
                       found)
         self.must("words", count("a [b](c d) | - e`f`") == 3)
         self.must("links", [link("docs/A.md", one) for one in (

@@ -19,6 +19,8 @@ from subtitles.common.program import MadeWith, about_program
 from subtitles.recording.feed import Stall
 from subtitles.request.commands import CommandWords
 from subtitles.request.request import Request
+from subtitles.request.lateness import Lateness
+from subtitles.request.profile import Profile
 from subtitles.results.objects import (
     Row, found, found_at, has_had_its_turn, is_current, left_by_call, may_take, object_at,
     objects_in, row_of_object, unjudged)
@@ -34,7 +36,8 @@ PROGRAM = MadeWith("1", "ab" * 32, None)
 OTHERS: dict[str, object] = {
     "page": (0, 0x87), "every": 25, "option": "german", "origin": 5, "is_complete": False,
     "pid": 257, "is_loss_allowed": True, "breaks": 1, "pes": (1, 2), "start": "10:00:00:00",
-    "within": 1, "is_strict": True}
+    "within": 1, "is_strict": True, "late": Lateness({0: 1}, {0: 1}),
+    "profile": Profile("house", "0" * 64, {})}
 
 
 class EarlierCalls(Case):
@@ -64,8 +67,8 @@ class EarlierCalls(Case):
         self.must("no severity", not is_current(known, none, PROGRAM))
         names = {field.name for field in dataclasses.fields(asked)}
         self.must("all words", names == {*OTHERS, "stl", "recording", "severity", "from_time",
-                                             "to_time", "layout", "is_open", "may_keep", "pace_word",
-                                             "found_layout", "kept_stl", "language"},
+                                             "to_time", "layout", "is_open", "may_keep",
+                                             "pace_word", "found_layout", "kept_stl", "language"},
                   names)  # those that are left out here: test_options
 
     def test_object_of_another_program(self) -> None:
@@ -122,7 +125,7 @@ class Objects(Case):
             found_row)
         self.must("none", row_of_object(unjudged("name", "why"), "name") == Row(
             "name", "name", "not judged", 2, "why", 0, {}, [], 0.0, ""))
-        none: dict[str, Any] = {"format": 5, "verdict": "not judged", "status": 2, "name": "a",
+        none: dict[str, Any] = {"format": 6, "verdict": "not judged", "status": 2, "name": "a",
                                 "reason": "why"}
         self.must("not judged", unjudged("a", "why") == none and
                   unjudged("a", "why", True) == {**none, "open": True})
@@ -139,7 +142,8 @@ class Objects(Case):
             ({"status": True}, ".status"), ({"verdict": "accepted"}, ".verdict"),
             ({"verdict": 5}, ".verdict"), ({"line": 5}, ".line"), ({"line": ""}, ".verdict"),
             ({"line": None}, ".verdict"), ({"reason": 5}, ".reason"), ({"asked": []}, ".asked"),
-            ({"asked": None}, ".asked"), ({"faults": {}}, ".faults"), ({"faults": [5]}, ".faults[0]"),
+            ({"asked": None}, ".asked"), ({"faults": {}}, ".faults"),
+            ({"faults": [5]}, ".faults[0]"),
             ({"faults": [FAULT, {**FAULT, "row": 25}]}, ".faults[1].row"),
             ({"faults": [{"line": "x"}]}, ".faults[0].block"), ({"hints": {}}, ".hints"),
             ({"cause_counts": []}, ".cause_counts"), ({"fault_count": 1.5}, ".fault_count"),
@@ -319,7 +323,8 @@ class Watched(Case):
                 raise KeyboardInterrupt
             return due(watch, busy)
 
-        with mock.patch("signal.signal"), mock.patch.object(batch, "LOOK", 0.01), mock.patch.object(Watch, "due", look), \
+        with mock.patch("signal.signal"), mock.patch.object(batch, "LOOK", 0.01), \
+                mock.patch.object(Watch, "due", look), \
                 mock.patch.object(batch, "judged_next", judged_next), \
                 mock.patch("subtitles.cli.batch.Calls.items", lambda calls: running), \
                 contextlib.redirect_stdout(io.StringIO()) as out:

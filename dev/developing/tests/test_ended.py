@@ -121,7 +121,8 @@ class Programs(Story):
         for when, several in (
                 ("check*null", ("exit 0", "kill -9 $$")), ("show*", ("exit 0", "exit 1",
                                                                      "kill -9 $$")),
-                ("survey*", ("exit 0", "exit 1", "kill -9 $$", "echo survey 2; echo over 0 0; exit 0",
+                ("survey*", ("exit 0", "exit 1", "kill -9 $$",
+                             "echo survey 2; echo over 0 0; exit 0",
                              f"'{self.bench.program}' \"$@\" | head -n 9; exit 0",
                              f"'{self.bench.program}' \"$@\"; exit 1",
                              f"'{self.bench.program}' \"$@\"; kill -9 $$"))):

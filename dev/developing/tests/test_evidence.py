@@ -115,7 +115,8 @@ class Items(Case):
     def test_items(self) -> None:
         for text, items in ITEMS:
             layout = meant(text)
-            told = [(layout_text(with_items(PLAIN, [item], layout)), layout_text(without(layout, [item])))
+            told = [(layout_text(with_items(PLAIN, [item], layout)),
+                     layout_text(without(layout, [item])))
                     for item in items_in(layout)]
             self.must(text, told == items, told)
             self.must(f"{text}, all", without(layout, items_in(layout)) == PLAIN
@@ -255,7 +256,8 @@ class Pairs(Case):
         for one, item in ((COLOUR, "strip=03"), (FLASH, "strip=08"), (DOUBLE, "strip=0D"),
                           (SPACES, "trim"), (EMPTY, "pack"), (WHITE, "strip=07")):
             told = self.judge([*plain(40), one, *plain(59)], "--strict")
-            words = f"{item} would draw 1 more of 100: say it by --layout {item} if your inserter " \
+            words = f"{item} would draw 1 more of 100: say it by --layout {item} if your " \
+                "inserter " \
                 "draws so"
             self.must(item, told.word == "refused" and told.result["layout"] == {
                 "text": "", "drawn": 99, "found": 100, "items": [],
@@ -290,10 +292,11 @@ class Pairs(Case):
         told = self.judge(several, drawn_by="after=0A,before=*0B0B")
         whole = "after=0A,before=*0B0B"
         self.must("short", told.word == "not judged" and told.told[:3] == [
-            "--layout auto guesses nothing: what is seen in 10 subtitles at least, and takes nothing "
-            "from a page, no --layout, draws 0 of 12 subtitles as they were sent, and 9 in 10 have "
-            "to be", "after=0A would draw 3 more of 12: say it by --layout after=0A if your "
-            f"inserter draws so", f"{whole} would draw 12 more of 12: say it by --layout '{whole}' "
+            "--layout auto guesses nothing: what is seen in 10 subtitles at least, and takes "
+            "nothing from a page, no --layout, draws 0 of 12 subtitles as they were sent, and 9 in "
+            "10 have to be", "after=0A would draw 3 more of 12: say it by --layout after=0A if "
+            f"your inserter draws so", f"{whole} would draw 12 more of 12: say it by --layout "
+            f"'{whole}' "
             "if your inserter draws so"] and told.told[-1].endswith(f" --layout '{whole}'"),
             told.told)
         told = self.judge([*several, *plain(9)], drawn_by="after=0A")

@@ -1,4 +1,5 @@
-"""Calls for pairs in processes that are forked: what each has, how it ends, what becomes of others."""
+"""Calls for pairs in processes that are forked: what each has, how it ends, what becomes of others.
+"""
 from __future__ import annotations
 
 import contextlib

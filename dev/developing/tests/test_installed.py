@@ -34,14 +34,12 @@ def runs_the_whole_way(case: Case, prefix: str) -> None:
     pes = case.write("recording.pes", recording.out)
     done = run("subttx", "check", stl, pes, "--pes", "0-4")
     case.must("check", done.out == b"accepted 226 frames 5 transmissions\n", done)
-    done = run("subttx-text", stl)
-    case.must("text", done.out.endswith(b"3 subtitles\n"), done)
     done = run("subttx-qc", stl, "story.ts", "-o", "report")
     case.must("qc", done.out.endswith(b"accepted 226 frames 5 transmissions\n") and
               os.path.join(prefix, "bin", "subttx").encode() in done.out and
               os.path.exists(case.path("report/story.html")), done)
-    done = run("subttx-text", "--help")
-    case.must("its own names in the help", b"subttx-text STL" in done.out
+    done = run("subttx-ts2pes", "--help")
+    case.must("its own names in the help", b"subttx-ts2pes TS PID" in done.out
               and b"tools/" not in done.out, done)
     done = run("subttx-qc", "--help")
     named = re.findall(r"\S+/docs/manual/\w+\.md", done.out.decode())
@@ -121,8 +119,8 @@ class Installed(Case):
             self.must(" ".join(words[1:]), done.status == 2 and len(done.told) == 1, done)
 
     def test_has_no_dead_links(self) -> None:
-        """Each link of an installed document leads to a file there, and each tool that an example of
-        the manual calls beside the program is installed."""
+        """Each link of an installed document leads to a file there, and each tool that an example
+        of the manual calls beside the program is installed."""
         self.tool("install", "-p", self.bench.program, "prefix")
         home = self.path("prefix/lib/subttx")
         paths = [path for path in glob.glob(os.path.join(home, "**", "*.md"), recursive=True)

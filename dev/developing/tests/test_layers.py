@@ -7,10 +7,16 @@ from typing import Iterator
 
 from subtitles.common.times import CLOCK, ticks_between, wrapped
 from .bench import Case
-from .test_hints import DEV, PACKAGES, TOOLS, modules
+from .test_hints import DEV, PACKAGES, TOOLS, modules, scripts
 
 ORDER = ["common", "formats", "request", "stream", "clock", "recording", "judging", "results",
          "report", "cli"]  # the packages of users, lowest first
+LONGEST_LINE = 100
+# The page's parts name the page itself, for type hints alone.
+FOR_HINTS = {("subtitles.report.faults", "subtitles.report.report"),
+             ("subtitles.report.transmission", "subtitles.report.report")}
+MAIN = "subtitles.cli.main"  # imports what a call needs when it needs it
+IN_ROWS = os.path.join("developing", "signs.py")  # a table: each of its rows is a line
 # The second implementation shares with the tools codes, times, layouts and the blocks of files.
 SHARED = {"subtitles." + name for name in (
     "common.command_line", "common.program.TOP", "common.program.built_program", "common.times",
@@ -66,6 +72,29 @@ def wraps(text: str) -> list[int]:
             and isinstance(node.right, ast.Name) and node.right.id == "CLOCK"]
 
 
+def long_lines(text: str) -> list[int]:
+    """The numbers of the lines that are too long."""
+    return [number for number, line in enumerate(text.split("\n"), 1) if len(line) > LONGEST_LINE]
+
+
+def cycle_in(imports: dict[str, set[str]]) -> list[str]:
+    """Modules of which each imports the next one, and the last one the first; none where there are
+    no such."""
+    clear: set[str] = set()
+
+    def walk(name: str, way: list[str]) -> list[str]:
+        if name in way:
+            return way[way.index(name):]
+        if name not in clear:
+            for other in sorted(imports[name]):
+                if cycle := walk(other, [*way, name]):
+                    return cycle
+            clear.add(name)
+        return []
+
+    return next(filter(None, (walk(name, []) for name in sorted(imports))), [])
+
+
 class Layers(Case):
     """What modules import, and what has one home."""
 
@@ -86,9 +115,10 @@ class Layers(Case):
                 ("subtitles.judging.pair", "from ..report.page import document", False),
                 ("subtitles.judging.pair", "from .. import report", False),
                 ("subtitles.judging.pair", "def f():\n    from ..cli import main", False),
-                ("subtitles.judging.pair", "if TYPE_CHECKING:\n    import subtitles.cli.main", False),
-                ("subtitles.judging.pair", "from ..common.command_line import Stop\nfrom .part import Part",
-                 True),
+                ("subtitles.judging.pair",
+                 "if TYPE_CHECKING:\n    import subtitles.cli.main", False),
+                ("subtitles.judging.pair",
+                 "from ..common.command_line import Stop\nfrom .part import Part", True),
                 ("subtitles.cli.single", "from ..report.page import overview", True),
                 ("subtitles.common.command_line", "from developing import TOOLS", False),
                 ("subtitles.common.command_line", "from ..stream import survey", False),
@@ -99,6 +129,33 @@ class Layers(Case):
                 ("developing.every_place.known", "from subtitles.common.times import CLOCK", True)]:
             wrong = wrong_imports(name, imported(text, name, False))
             self.must(f"{name}: {text}", (not wrong) == is_right, wrong)
+
+    def test_go_in_no_circle(self) -> None:
+        """No module imports one that imports it, over others or for type hints alone."""
+        for imports, wanted in (({"a": set[str]()}, []), ({"a": {"b"}, "b": set[str]()}, []),
+                                ({"a": {"a"}}, ["a"]), ({"a": {"b"}, "b": {"a"}}, ["a", "b"]),
+                                ({"a": {"b", "c"}, "b": set[str](), "c": {"d"}, "d": {"c"}},
+                                 ["c", "d"])):
+            self.must(f"{imports}", cycle_in(imports) == wanted)
+        texts = {}
+        for path in modules(PACKAGES[0]):
+            if not path.endswith("__init__.py"):
+                with open(path, encoding="utf-8") as file:
+                    texts[name_of(path)] = file.read()
+        found = cycle_in({
+            name: {other for other in texts.keys() & {*imported(text, name, False)}
+                   if name != MAIN and (name, other) not in FOR_HINTS}
+            for name, text in texts.items()})
+        self.must("tools", not found, found)
+
+    def test_end_in_time(self) -> None:
+        """Lines of Python end at column 100."""
+        self.must("what is found", long_lines("a" * 100 + "\n" + "ä" * 101 + "\n") == [2])
+        for path in [*(path for folder in PACKAGES for path in modules(folder)), *scripts()]:
+            if not path.endswith(IN_ROWS):
+                with open(path, encoding="utf-8") as file:
+                    found = long_lines(file.read())
+                self.must(path, not found, found)
 
     def test_wrap_in_one_place(self) -> None:
         """PTS are wrapped at 2^33 by `common.times` alone, in what users call."""

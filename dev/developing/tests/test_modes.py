@@ -16,9 +16,9 @@ from subtitles.cli.main import (
 from subtitles.common.command_line import Stop
 from subtitles.common.program import TOP
 from subtitles.request.commands import CommandWords
+from subtitles.request.lines import request_of_line
 from subtitles.request.request import (
-    ALONE, BATCH, CHANNEL, CHANNEL_LINE, COLLECT, LINE, MODES, Mode, PAIR, RECORDER, WATCH,
-    request_of_line)
+    ALONE, BATCH, CHANNEL, CHANNEL_LINE, COLLECT, LINE, MODES, Mode, PAIR, RECORDER, WATCH)
 from .bench import Case
 from .test_channel_tables import defaults
 
@@ -30,15 +30,18 @@ CALLS: dict[Mode, list[str]] = {
 VALUES = {"--page": "801", "--every": "25", "--within": "1", "--option": "german", "--origin": "7",
           "--start": "tcp", "--breaks": "1", "--pes": "2-9", "--pid": "0x101", "--severity": "file",
           "-o": "out", "--json": "x", "--csv": "x", "--junit": "x", "--stall": "5", "-p": "none",
-          "--line": "2", "--jobs": "2", "--settled": "1", "--patience": "9", "--from": "00:00:01:00",
+          "--line": "2", "--jobs": "2", "--settled": "1", "--patience": "9",
+          "--from": "00:00:01:00",
           "--to": "00:00:02:00", "--layout": "fit", "--pace": "9", "--spool": "feed",
-          "--on-result": "true"}
+          "--on-result": "true", "--late": "0:9/0:9"}
 MANUAL = os.path.join(TOP, "docs", "manual", "qc.md")
 ASKING = {"--batch", "--watch", "--channel", "--collect", "--help", "-h", "--version"}
 
 
-def words_of(name: str) -> list[str]:
-    """An option with its value."""
+def words_of(name: str, folder: str) -> list[str]:
+    """An option with its value; a profile, which is read, stands in a folder."""
+    if name == "--profile":
+        return [name, os.path.join(folder, "house")]
     return [name, VALUES[name]] if name in VALUES else [name]
 
 
@@ -46,11 +49,12 @@ def refusal(mode: Mode, name: str, folder: str) -> str | None:
     """What is said of an option that is given with a mode; `None` where it is taken."""
     try:
         if mode is LINE:
-            request_of_line(["a.stl", "a.ts", *words_of(name)], defaults())
+            request_of_line(["a.stl", "a.ts", *words_of(name, folder)], defaults())
         elif mode is CHANNEL_LINE:
-            Planned(os.path.join(folder, "list"), defaults()).asked_of(["a.stl", *words_of(name)])
+            planned = Planned(os.path.join(folder, "list"), defaults())
+            planned.asked_of(["a.stl", *words_of(name, folder)])
         else:
-            line = [*CALLS[mode], *words_of(name)]
+            line = [*CALLS[mode], *words_of(name, folder)]
             refuse_options(parser_of(""), line, mode_of(parser_of("").parse_args(line)))
     except Stop as reason:
         return str(reason)
@@ -62,6 +66,7 @@ class Modes(Case):
 
     def test_options_and_refusals(self) -> None:
         """Each option with each of what can be asked for: taken, or refused by its name."""
+        self.write("house", b"--every 25\n")
         for name, taken_by in TAKEN_BY.items():
             for mode in MODES:
                 said = refusal(mode, name, self.folder)
@@ -164,13 +169,13 @@ class Modes(Case):
         program = self.bench.program
         with mock.patch.dict(os.environ, {"PATH": self.folder}):
             for called, tool, beside in (
-                    ("tools/qc", "tools/text", "./subttx"), ("qc", "./text", "../subttx"),
-                    ("/some/tools/qc", "/some/tools/text", "/some/subttx"),
-                    ("/some/subttx-qc", "/some/subttx-text", "/some/subttx"),
-                    (self.path("subttx-qc"), "subttx-text", "subttx")):
+                    ("tools/qc", "tools/ts2pes", "./subttx"), ("qc", "./ts2pes", "../subttx"),
+                    ("/some/tools/qc", "/some/tools/ts2pes", "/some/subttx"),
+                    ("/some/subttx-qc", "/some/subttx-ts2pes", "/some/subttx"),
+                    (self.path("subttx-qc"), "subttx-ts2pes", "subttx")):
                 typed = CommandWords(called, program)
-                self.must(called, (typed.tool("text"), typed.beside()) == (tool, beside), (
-                    typed.tool("text"), typed.beside()))
+                self.must(called, (typed.tool("ts2pes"), typed.beside()) == (tool, beside), (
+                    typed.tool("ts2pes"), typed.beside()))
 
 
 class Words(unittest.TestCase):

@@ -45,7 +45,8 @@ class Table(unittest.TestCase):
         """As libzvbi 0.2.41 has them in its Latin set, by `vbi_teletext_unicode`."""
         for option in OPTIONS:
             self.assertEqual(letters(option.bits)[0x7F], "\u25a0")
-        self.assertEqual("".join(letters(ENGLISH.bits)[code] for code in b"[\\]^`{|}~"), "←½→↑—¼‖¾÷")
+        self.assertEqual("".join(letters(ENGLISH.bits)[code] for code in b"[\\]^`{|}~"),
+                         "←½→↑—¼‖¾÷")
         self.assertEqual(letters(GERMAN.bits)[0x5E:0x60], ["^", "_"])
 
     def test_nothing_else_has_a_cell(self) -> None:
@@ -64,7 +65,8 @@ class Table(unittest.TestCase):
                 count += 1
                 with self.subTest(no=row["no"], option=row["option"], text=row["text"]):
                     text = bytes.fromhex(row["stl"])
-                    self.assertEqual(has_characters(text, BY_WORD[row["option"]]), row["kind"] == "drawn")
+                    self.assertEqual(has_characters(text, BY_WORD[row["option"]]),
+                                     row["kind"] == "drawn")
         self.assertGreater(count, 150)
         for byte in range(0x80, 0x90):
             self.assertTrue(has_characters(b"A%cA" % byte, ENGLISH), byte)

@@ -83,7 +83,8 @@ class Pages(Case):
                       national_option(bytes(header)) == option,
                       (control_text(bytes(header)), national_option(bytes(header))))
         rows = {1: b"\x0b\x0bHi\x7f~", 6: b"\xa0" * 40, 7: b"a\xa0b", 24: b"\xbf" * 40}
-        self.must("rows", printed_rows(tuple(rows.get(at, b"").ljust(40) for at in range(1, 25))) == [
+        shown = printed_rows(tuple(rows.get(at, b"").ljust(40) for at in range(1, 25)))
+        self.must("rows", shown == [
             f"row {at:02} |{text.ljust(40)}|" for at, text in (
                 (1, "..Hi.~"), (7, "a b"), (24, "?" * 40))])
         self.must("blank", printed_rows((b" " * 40, b"\xa0" * 40)) == ["blank"])

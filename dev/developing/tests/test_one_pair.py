@@ -179,7 +179,8 @@ class Writes(Case):
         asked = self.verdict().asked
         for name in ("json", "csv", "junit"):
             for path in (self.path("one.pes"), example("story.stl"), self.path("link")):
-                self.must(f"{name} {path}", "is an input too" in self.refused(asked, **{name: path}))
+                self.must(f"{name} {path}",
+                          "is an input too" in self.refused(asked, **{name: path}))
         self.must("none", not self.refused(asked, json=self.path("new.json")))
         for name in ("one.cut.pes", "one.recording.pes", "one.json", "one.2.txt", ".one.lock"):
             for at in ("stl", "recording", "severity"):
@@ -347,7 +348,8 @@ class Overview(Case):
         box = in_page(report_page.box(verdict, "the <line>"))
         self.must("box", box.startswith('<div class="verdict refused">') and "the &lt;line&gt;" in
                   box and box.count("3 TS packets lost") == 1 and "warning: strange" in box, box)
-        page = in_page(report_page.overview(dataclasses.replace(verdict, date="2026-01-02T03:04:05Z"),
+        page = in_page(report_page.overview(
+            dataclasses.replace(verdict, date="2026-01-02T03:04:05Z"),
                                             about_program(self.bench.program), names,
                                             CommandWords("tools/qc", self.bench.program)))
         self.must("its date", "2026-01-02 03:04:05 UTC" in page)

@@ -1,5 +1,5 @@
-"""The table of options: a row that is added is found wherever an option stands, and what each row of
-the table comes to."""
+"""The table of options: a row that is added is found wherever an option stands, and what each row
+of the table comes to."""
 from __future__ import annotations
 
 import json
@@ -11,9 +11,10 @@ from typing import Any
 from subtitles.common.command_line import Words
 from subtitles.common.shapes import Flag, Text
 from subtitles.request.commands import CommandWords, again
+from subtitles.request.lines import request_of_line
 from subtitles.request.request import (
     ALONE, CHANNEL_LINE, JUDGED, LINE, OPTIONS, Option, add_options, option_words as
-    options_of, plain, request_of_line, request_with)
+    options_of, plain, request_with)
 from subtitles.results.schema import ASKED
 from .. import DEV
 from .bench import Case
@@ -25,9 +26,10 @@ import dataclasses, json, sys, developing
 from subtitles.common.shapes import Flag, Maybe, Text
 from subtitles.request import request as options
 options.OPTIONS = (*options.OPTIONS, options.Option(
-    "--new-one", "K", "a [new](x.md) `one`", options.JUDGED, "`none`", "new_one", of_check=None, of_pages=True,
-    shape=Maybe(Text()), said="What is new."), options.Option(
-    "--newer", None, "it is newer", options.PAIRS, "", "newer", default=False, of_check=False, shape=Flag()))
+    "--new-one", "K", "a [new](x.md) `one`", options.JUDGED, "`none`", "new_one", of_check=None,
+    of_pages=True, shape=Maybe(Text()), said="What is new."), options.Option(
+    "--newer", None, "it is newer", options.PAIRS, "", "newer", default=False, of_check=False,
+    shape=Flag()))
 options.Request = dataclasses.make_dataclass("Request", [
     ("new_one", object, None), ("newer", bool, False)], bases=(options.Request,))
 from developing import pages
@@ -39,7 +41,8 @@ from subtitles.results.schema import ASKED
 from subtitles.cli.main import mode_of, refuse_options
 from subtitles.results.schema import schema
 from subtitles.common.command_line import Stop
-from subtitles.request.request import request_of, request_of_line
+from subtitles.request.lines import request_of_line
+from subtitles.request.request import request_of
 from subtitles.request.commands import again
 from subtitles.request.commands import CommandWords
 
@@ -50,7 +53,8 @@ def said(does):
         return str(reason)
 
 def taken(*line):
-    return said(lambda: refuse_options(parser_of(""), line, mode_of(parser_of("").parse_args(line))))
+    mode = mode_of(parser_of("").parse_args(line))
+    return said(lambda: refuse_options(parser_of(""), line, mode))
 
 program, folder = sys.argv[1:]
 pair, given = ["a.stl", "a.ts"], ["--new-one", "5", "--newer"]
@@ -59,17 +63,21 @@ none = request_of(parser_of("").parse_args(pair))
 help = parser_of("").format_help()
 planned = Planned(folder + "/list", defaults())
 print(json.dumps({
-    "help": help, "man page": pages.of_qc(help)["options"], "chapter": pages.of_chapter()["options"],
+    "help": help, "man page": pages.of_qc(help)["options"],
+    "chapter": pages.of_chapter()["options"],
     "completion": pages.completed("  check STL PES  does\\n", "", [help])["values"],
     "asked": ASKED.made(asked), "left out": ASKED.made(none), "call": call_words(asked),
     "again": again(asked, CommandWords("tools/qc", program)), "check": asked.check_words(),
     "file": asked.check_words(True), "pages": asked.words_of_pages(),
     "schema": schema()["definitions"]["asked"]["properties"],
     "same": request_of(parser_of("").parse_args(call_words(asked))) == asked,
-    "not with": [taken("a.stl", *given), taken(*pair, *given), taken("--collect", "x", "--new-one", "5"),
-                 taken("--channel", "x", "-", "--new-one", "5"), taken("--channel", "x", "-", "--newer")],
+    "not with": [taken("a.stl", *given), taken(*pair, *given),
+                 taken("--collect", "x", "--new-one", "5"),
+                 taken("--channel", "x", "-", "--new-one", "5"),
+                 taken("--channel", "x", "-", "--newer")],
     "line": ASKED.made(request_of_line([*pair, *given], defaults())),
-    "channel": [said(lambda: planned.asked_of(["a.stl", *words])) for words in (given[:2], given[2:])]}))
+    "channel": [said(lambda: planned.asked_of(["a.stl", *words]))
+                for words in (given[:2], given[2:])]}))
 """
 # An option with its words, and its member of a result.
 ROWS: list[tuple[str, str, Any]] = [
@@ -78,7 +86,9 @@ ROWS: list[tuple[str, str, Any]] = [
     ("--breaks", "2", 2), ("--pes", "3-9", [3, 9]), ("--start", "tcp", "tcp"), ("--within", "5", 5),
     ("--from", "00:00:01:00", "00:00:01:00"), ("--to", "00:00:02:00", "00:00:02:00"),
     ("--layout", "fit,up", "fit,up"), ("--pace", "none", "none"), ("--no-complete", "", False),
-    ("--allow-lost", "", True), ("--strict", "", True), ("--open", "", True), ("--keeping", "", True)]
+    ("--allow-lost", "", True), ("--strict", "", True), ("--open", "", True),
+    ("--keeping", "", True), ("--late", "0:31,5:69/0:100", "0:31,5:69/0:100")]
+BACK = {"--complete", "--no-allow-lost", "--no-keeping"}  # what they say holds without them too
 
 
 class Added(Case):
@@ -94,7 +104,8 @@ class Added(Case):
         for name, line in (
                 ("help", "  --new-one K           a new one; without it: none\n"),
                 ("help", "  --newer               it is newer\n"),
-                ("man page", ".TP\n\\fB\\-\\-new\\-one\\fP \\fIK\\fP\nA new one; without it: none.\n"),
+                ("man page",
+                 ".TP\n\\fB\\-\\-new\\-one\\fP \\fIK\\fP\nA new one; without it: none.\n"),
                 ("man page", ".TP\n\\fB\\-\\-newer\\fP\nIt is newer.\n"),
                 ("chapter", "| `--new-one K` | a [new](x.md) `one` | `none` |\n"),
                 ("chapter", "| `--newer` | it is newer |  |\n"),
@@ -130,20 +141,23 @@ class Rows(Case):
         """Of each option by itself, and of all: the words of a call and the call to type give the
         same, and it is in the result; a line of a list has it too."""
         names = [one.name for one in OPTIONS]
-        self.must("all", {*names} == {"--complete", *(name for name, _, _ in ROWS)})
+        self.must("all", {*names} == {*BACK, "--profile", *(name for name, _, _ in ROWS)})
         parser = Words("")
         add_options(parser)
         plain_words = parser.parse_args([])
         without = ASKED.made(asked_for("one.stl", "one.pes"))
         for name, value, member in ROWS:
             words = [name, value] if value else [name]
+            words += ["--within", "5"] if name == "--late" else []
             asked = asked_for("one.stl", "one.pes", *words)
-            self.must(f"{name}: a call", call_words(asked) == [*words, "--", "one.stl", "one.pes"])
+            self.must(f"{name}: a call",
+                      sorted(call_words(asked)) == sorted([*words, "--", "one.stl", "one.pes"]))
             once_more = request_with("one.stl", "one.pes", parser.parse_args(words))
             self.must(f"{name}: again", once_more == asked)
             known = ASKED.made(asked)
             key = name.replace("--no-", "--").strip("-").replace("-", "_")
-            self.must(f"{name}: result", known == {**without, key: member}, known)
+            self.must(f"{name}: result", known == {
+                **without, **({"within": 5} if name == "--late" else {}), key: member}, known)
             line = request_of_line(["one.stl", "one.pes", *words], plain_words)
             self.must(f"{name}: line", line == asked, line)
         every = [word for name, value, _ in ROWS if name != "--start"
@@ -155,15 +169,17 @@ class Rows(Case):
         self.must("complete", options_of(asked_for("a", "b", "--complete")) == [[]] * len(OPTIONS))
 
     def test_what_stands_in_a_row(self) -> None:
-        """Each says what it is and what holds without it, and each but one of two has a member."""
+        """Each says what it is and what holds without it, and each but those that take another one
+        back has a member."""
         for one in OPTIONS:
             self.must(one.name, bool(one.means and one.without and one.modes) and
                       {*one.modes} <= {*JUDGED} and one.help == plain(one.help), one)
-            self.must(f"{one.name}: member", (one.member is None) == (one.name == "--no-complete"))
+            self.must(f"{one.name}: member", (one.member is None) == one.name.startswith("--no-"))
             has_line = {mode for mode in (LINE, CHANNEL_LINE) if mode in one.modes}
             self.must(f"{one.name}: lines", bool(has_line), one.modes)
         self.must("of a file", [one.name for one in OPTIONS if ALONE in one.modes] == [
-            "--option", "--severity", "--strict", "--from", "--to", "--layout", "--open"])
+            "--option", "--severity", "--strict", "--from", "--to", "--layout", "--open",
+            "--profile"])
 
     def test_words_of_a_value(self) -> None:
         """None where it is what is taken without them."""

@@ -176,10 +176,12 @@ class Origins(Case):
             pes = [one for number in range(runs) for one in self.sent(gap * number)]
             found = self.find(self.own(), pes)
             with self.subTest(runs=runs):
-                self.assertEqual((found.status, len(found.runs)), (int(runs > 1), runs * (runs > 1)))
+                self.assertEqual((found.status, len(found.runs)),
+                                 (int(runs > 1), runs * (runs > 1)))
             for number, (first, last) in enumerate(found.runs):
                 one = self.find(self.own(), pes, "--pes", f"{first}-{last}")
-                self.assertEqual(one.printed, [f"--origin {(gap * number - TICKS * FIRST) % CLOCK}"])
+                self.assertEqual(one.printed,
+                                 [f"--origin {(gap * number - TICKS * FIRST) % CLOCK}"])
 
     def test_late_from_one_on(self) -> None:
         """From when on, and by how much; how late the first is of what is known."""

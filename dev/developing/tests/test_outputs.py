@@ -141,7 +141,8 @@ class Statuses(Case):
         words = argparse.Namespace(csv=None, junit=None, json=None)
         vars(words).update(outputs)
         with contextlib.redirect_stdout(io.StringIO()), contextlib.redirect_stderr(io.StringIO()):
-            return collection.write_collection(words, [self.ROW], [self.path("one.json")], is_stopped)
+            return collection.write_collection(words, [self.ROW], [self.path("one.json")],
+                                               is_stopped)
 
     def test_outputs_that_fail(self) -> None:
         """Each of the three, whether others are written or not."""
@@ -194,8 +195,7 @@ class Members(unittest.TestCase):
                  "origin": 9, "complete": False, "pid": 257, "allow_lost": True,
                  "severity": "file", "breaks": 3, "pes": [3, 9], "start": "tcp", "within": 5,
                  "strict": False, "layout": None, "open": False, "keeping": False,
-                 "pace": None,
-                 "from": None, "to": "10:00:00:00"}
+                 "pace": None, "late": None, "profile": None, "from": None, "to": "10:00:00:00"}
         for asked in (own, dataclasses.replace(own, is_loss_allowed=False, is_strict=True)):
             self.assertEqual(ASKED.made(asked), {**words, "strict": asked.is_strict,
                                                   "allow_lost": not asked.is_strict})

@@ -2,13 +2,14 @@
 that is regular, and of others."""
 from __future__ import annotations
 
+import collections
 from typing import NamedTuple, Sequence
 
 from developing.pes import pes_packet
 from subtitles.common.times import CLOCK, TICKS
 from subtitles.stream.gaps import (
     BY_EVERY, FEW, IRREGULAR, LEAST, PAUSED, Pauses, REGULAR, TOO_FEW, each_of, frame_rows, pace_of,
-    pauses_of)
+    pauses_of, unseen_from, usual_in)
 from subtitles.stream.survey import Packets, Run
 from .bench import Case
 from .judged import Judged, Sent, in_pipe, joined, judged, programme, sendings
@@ -39,6 +40,11 @@ def holed(frames: Sequence[int], *holes: tuple[int, int]) -> list[int]:
     """Frames without those behind one, so many, for each hole."""
     gone = {frame for first, count in holes for frame in range(first + 1, first + 1 + count)}
     return [frame for frame in frames if frame not in gone]
+
+
+def without_frames(count: int) -> list[int]:
+    """Two PES packets in each of 400 frames, but for some in a row."""
+    return [at // 2 for at in range(800) if not 200 <= at // 2 < 200 + count]
 
 
 def repeated(steps: Sequence[int], times: int) -> list[int]:
@@ -82,23 +88,30 @@ TABLE = [
     regular("over the bound nearly everywhere", repeated([*[25] * 300, 1, 1, 1], 1), frames=74,
             every=74, closer=3),
     regular("four in three frames", repeated([1, 1, 0, 1], 100), frames=1),
-    Row("two in a frame", [repeated([0, 1], 200)], IRREGULAR),
-    Row("three in two frames", [repeated([0, 1, 1, 0, 1], 200)], IRREGULAR),
-    Row("all in one frame", [[5] * 400], IRREGULAR),
+    # Where three come in a frame, or in two: a frame more than is usual.
+    regular("two in a frame", repeated([0, 1], 200), closer=398),
+    regular("three in two frames", repeated([0, 1, 1, 0, 1], 200), closer=998),
+    regular("all in one frame", [5] * 400, closer=397),
+    *(regular(f"two in a frame, {count} frames without", without_frames(count), closer=closer)
+      for count, closer in ((1, 793), (3, 788), (8, 778), (24, 746))),
+    regular("one frame of 200 without", repeated([*[0, 1] * 198, 0, 2], 5), closer=1979),
+    regular("one frame of 10 without", repeated([*[0, 1] * 8, 0, 2], 50), frames=3, closer=898),
+    Row("one frame of 40 without", [repeated([*[0, 1] * 38, 0, 2], 25)], IRREGULAR),
     # Jitter of a frame, changes between repeats, bursts at changes.
     regular("jitter", repeated([1, 1, 2, 1, 1], 100)),
-    Row("more jitter", [repeated([1, 1, 2, 0, 1], 100)], IRREGULAR),
-    Row("a frame of three", [repeated([1, 1, 3, 1, 0], 100)], IRREGULAR, each=9),
+    regular("more jitter", repeated([1, 1, 2, 0, 1], 100), frames=3, closer=398),
+    regular("a frame of three", repeated([1, 1, 3, 1, 0], 100), frames=4, each=9, closer=298),
     regular("changes between", repeated([25, 25, 7, 25, 25, 25, 12], 50), frames=56, each=2),
     regular("one change", [*repeated([25], 50), *range(1258, 4000, 25)], frames=57),
     Row("bursts", [repeated([1] * 20 + [100], 50)], IRREGULAR),
-    Row("bursts of two TS packets", [repeated([1] * 10 + [60], 50)], IRREGULAR, each=2),
+    regular("bursts of two TS packets", repeated([1] * 10 + [60], 50), frames=61, each=2,
+            closer=400),
     # As close as any three are, or where that is too close as all but a few.
     regular("few bursts", repeated([*[25] * 300, 1, 1, 1], 1), frames=74, each=2, closer=3),
     regular("one burst of two", repeated([*[25] * 300, 1, 1, *[25] * 100], 1), frames=26),
     regular("one of three", repeated([*[5] * 300, 1, 1, 1, *[5] * 100], 1), frames=10, closer=3),
     regular("one of five", repeated([*[25] * 100, *[1] * 5, *[25] * 100], 1), frames=26, closer=3),
-    Row("one of six", [repeated([*[25] * 100, *[1] * 6, *[25] * 100], 1)], IRREGULAR),
+    regular("one of six", repeated([*[25] * 100, *[1] * 6, *[25] * 100], 1), frames=26, closer=4),
     # Holes, which are few: the first, a middle one, the last; long ones; as many as may be.
     *(regular(f"a hole of {count} behind {first}", holed(LONG, (first, count)))
       for first in (0, 2500, 4700) for count in (1, 15, 16, 17, 32, 160, 249)),
@@ -162,7 +175,7 @@ TABLE = [
            closer=1),
     Row("a file, two in a frame", [[at // 2 for at in range(600)]], REGULAR, 1, closer=598,
         is_stream=False),
-    Row("a file, all in one frame", [[5] * 400], IRREGULAR, is_stream=False),
+    of_pes("a file, all in one frame", [5] * 400, frames=2, closer=398),
     Row("a file with a pause", [holed(LONG, (999, 100))], PAUSED, pauses=[(999, 1100)],
         is_stream=False),
     Row("a file, too few", [range(LEAST)], TOO_FEW, is_stream=False),
@@ -188,6 +201,29 @@ class Told(Case):
             ([[0, 9, 17, 24, 30, 31]], 6)]
         for rows, apart in closest:
             self.must(f"{rows}", pace_of(rows, 1, 250).apart == apart)
+
+    def test_usual(self) -> None:
+        """The longest distance that one in twenty has; none where more than one in a hundred is
+        longer, or more than a few by two frames."""
+        rows: list[tuple[dict[int, int], int | None]] = [
+            ({1: 2000}, 1), ({0: 2000}, 1), ({0: 1900, 2: 100}, 2), ({0: 1901, 2: 99}, None),
+            ({0: 1800, 5: 99, 7: 101}, 7), ({1: 1980, 2: 20}, 1), ({1: 1979, 2: 21}, None),
+            ({1: 1977, 2: 20, 9: 3}, None), ({1: 1980, 2: 17, 9: 3}, 1), ({1: 1996, 9: 4}, None),
+            ({1: 1996, 2: 1, 9: 3}, 1), ({1: 1900, 3: 101, 4: 19}, 3)]
+        for near, wanted in rows:
+            self.must(f"{near}", usual_in(collections.Counter(near), sum(near.values()), FEW)
+                      == wanted)
+
+    def test_unseen(self) -> None:
+        """From how many frames on a hole of 16 TS packets is, by those that came."""
+        two = without_frames(0)
+        rows: list[tuple[list[list[int]], int, int | None]] = [
+            ([], 1, None), ([[7] * 17], 1, None), ([[*range(18)]], 1, 17), ([two], 1, 8),
+            ([two], 2, 4), ([two], 9, 1), ([[5] * 400], 1, 0),
+            ([[*range(0, 1000, 5)], [*range(9)]], 3, 6)]
+        for frames, each, wanted in rows:
+            self.must(f"{frames} {each}", unseen_from(frames, each) == wanted,
+                      unseen_from(frames, each))
 
     def test_rows(self) -> None:
         """The frames that are heard: up to marks, PES packets that are refused or have no frame,
@@ -253,8 +289,8 @@ def alone(made: list[Packet], first: int, count: int) -> list[Packet]:
     return [one for at, one in enumerate(made) if at not in gone]
 
 
-UNSEEN = "a hole of 15, or of 16, 32, 48 .. TS packets of PID 0x101 alone may be unseen: "
-IRREGULAR_NOTE = UNSEEN + "its PES packets come at irregular distances"
+UNSEEN = "not checked: whether {} s or more of this PID alone is missing: its PES packets "
+IRREGULAR_NOTE = UNSEEN.format("0.6") + "come at irregular distances"
 PACE_LINE = "a PES packet comes within 1 frame of the one before, and in 3 at best where 16 TS " \
     "packets are lost: --pace 2"
 
@@ -305,6 +341,25 @@ class Holes(Case):
                   "Refused: at 10:00:26:11 no PES packet has come for as many frames as --pace "
                   "allows: none for 16 frames from 10:00:26:10 on; where nothing was sent then, "
                   "--pace none does not ask for it.", told.verdict.sentence)
+
+    def test_two_in_a_frame(self) -> None:
+        """A PES packet for each field: a frame more than is usual is asked for. A hole of 16 TS
+        packets and more is 79, and what a frame without them has is not; one that is shorter may be
+        unseen, which is said."""
+        sent = filled(sendings(self, programme(self, TIMES)))
+        both = [one for pts, some in sent for one in ((pts, some), (pts + TICKS // 2, []))]
+        made = self.multiplexed(both, 400)
+        note = "not checked: whether up to 0.08 s of this PID alone is missing, at "
+        for count in (0, 16, 32, 48, 160):
+            told = self.judge(alone(made, 1320, count), "--within", "1")
+            self.must(f"{count}", told.word == ("refused" if count else "accepted") and bool(
+                count) == ("refused 79 Silent frame 10:00:26:11" in told.listed), told.listed)
+            self.must(f"{count}: said", told.lines("pace: ") == ["a PES packet comes within 1 "
+                      "frame of the one before, and so may three: --pace 2"] and sum(
+                          line.startswith(note) for line in told.told) == 1, told.said)
+        without_one = [one for at, one in enumerate(both) if at // 2 not in (510, 610)]
+        self.is_told("frames without", self.judge(self.multiplexed(without_one, 400), "--within",
+                                                  "1"), "accepted")
 
     def test_asked(self) -> None:
         """None, one that a hole of 16 keeps, one that it does not, and where losses are allowed;
@@ -389,8 +444,8 @@ class Holes(Case):
     def test_inserters_that_pause(self) -> None:
         """Nothing is sent in pauses of more than a minute, which --every allows: no pace is given,
         and it is said what may be unseen."""
-        for count, note in ((4, UNSEEN + "none of its PES packets came in pauses, of up to 1701 "
-                             "frames"), (6, IRREGULAR_NOTE)):
+        for count, note in ((4, UNSEEN.format("0.6") + "pause, for up to 1701 frames"),
+                            (6, IRREGULAR_NOTE)):
             times = [(BEGIN + 2000 * at, BEGIN + 2000 * at + 200) for at in range(count)]
             sent = filled(sendings(self, programme(self, times), every=25))
             sent = [one for one in sent if (one[0] // TICKS - BEGIN) % 2000 < 300]

@@ -1,5 +1,5 @@
-"""Wrong pages that were sent in a hole: none is accepted where a pace is asked, whatever the hole is
-of; and a note says where none is."""
+"""Wrong pages that were sent in a hole: none is accepted where a pace is asked, whatever the hole
+is of; and a note says where none is."""
 from __future__ import annotations
 
 from developing.multiplex import ADAPTATION_ALONE, PACKET, head
@@ -91,8 +91,8 @@ class Hidden(Case):
         each_other = [one for at, one in enumerate(sent) if at % 2 == 0 or at == PLACE + 1]
         path = self.write("one.pes", joined(each_other))
         told = judged(self, self.path("one.stl"), path, "--origin", "0")
-        self.must("closer", told.parts("pace") == [(2,)] and f"PES packets that are missing from "
-                  f"{path} may be unseen: at 1 place its PES packets come closer" in
+        self.must("closer", told.parts("pace") == [(2,)] and "not checked: whether a PES packet of "
+                  "this file is missing, at 1 place where they come closer" in
                   told.result["notes"], told.said)
 
     def test_files_that_repeat_by_a_clock(self) -> None:
@@ -112,7 +112,7 @@ class Hidden(Case):
             told = judged(self, self.path("one.stl"), self.path("one.pes"), "--origin", "0",
                           "--every", "25")
             self.must(name, told.word == word and told.parts("pace") == [(25,)] and any(
-                "may be unseen: at " in note for note in told.result["notes"]), told.said)
+                "is missing, at " in note for note in told.result["notes"]), told.said)
 
     def test_announced(self) -> None:
         """A hole at which a jump of the counter is announced, which then tells nothing, is 45 where
@@ -141,8 +141,8 @@ class Hidden(Case):
         sent = [one for at, one in enumerate(self.sent()) if at % 12 == 0 or one[1]]
         sent = [one for one in sent if one[0] // TICKS < BEGIN + 600]
         place = [pts // TICKS for pts, _ in sent].index(AT)
-        note = "PES packets that are missing from one.pes may be unseen: its PES packets are too " \
-            "few to measure a pace"
+        note = "not checked: whether PES packets of this file are missing: they are too few to " \
+            "measure a pace"
         for some, word in ((sent, "refused"), (sent[:place] + sent[place + 1:], "accepted")):
             self.write("one.pes", joined(some))
             told = judged(self, self.path("one.stl"), self.path("one.pes"), "--origin", "0", "--to",
@@ -151,13 +151,13 @@ class Hidden(Case):
             self.must(f"a file, {word}", len(sent) < 101 and told.word == word and note in known
                       and told.parts("pace") == [(None,)], told.said)
         made = sent_of([large(pes_packet(pts, some), 4) for pts, some in sent], Shape(100))
+        note = "not checked: whether 1.4 s or more of this PID alone is missing: its PES packets " \
+            "are too few to measure a pace"
         for count, is_announced, word in ((0, False, "refused"), (16, False, "accepted"),
                                           (4, True, "lost")):
             told = self.judge(lost(made, count, is_announced) if count else made, "--to",
                               "10:00:18:00")
-            self.must(f"{count}", told.word == word and "a hole of 15, or of 16, 32, 48 .. TS "
-                      "packets of PID 0x101 alone may be unseen: its PES packets are too few to "
-                      "measure a pace" in told.told, told.said)
+            self.must(f"{count}", told.word == word and note in told.told, told.said)
 
     def test_announced_within_what_is_usual(self) -> None:
         """Where there is a frame for a PES packet that would not be missed at a jump that is
@@ -168,8 +168,8 @@ class Hidden(Case):
         frame = sent[wrong - 1][0] // TICKS + 1  # between two that stay
         sent[wrong:wrong + 1] = [(frame * TICKS, WRONG), (AT * TICKS, [])]
         made = self.multiplexed(sent, 0, 1 << 20, 3)
-        note = "at 1 place a jump of the counter of PID 0x101 is announced: what is missing there " \
-            "may be unseen"
+        note = "not checked: whether some of PID 0x101 is missing at 1 place where a jump of its " \
+            "counter is announced"
         for words in ((), ("--pace", "3"), ("--pace", "none")):
             whole, told = self.judge(made, *words), self.judge(lost(made, 3, True, frame), *words)
             self.must(f"{words}", whole.word == "refused" and note not in whole.told and

@@ -88,8 +88,8 @@ class Rowed(unittest.TestCase):
     """Rows and pages as SVG."""
 
     def test_picture(self) -> None:
-        """Rows in use, none that is below one of double height; letters in boxes and outside, frames
-        and the place."""
+        """Rows in use, none that is below one of double height; letters in boxes and outside,
+        frames and the place."""
         rows = page(r20=b"\x0b\x0b\x0dtall", r21=b"\x0b\x0bcovered", r22=b"\x0b\x0b\1seen <")
         drawn = in_page(picture(rows, SUBTITLE_HEADER, (19, 23), [(22, 3), (22, 4)], (20, 5)))
         self.assertEqual(("tall" in drawn, "covered" in drawn, "seen &lt;</text>" in drawn),
@@ -144,7 +144,8 @@ class Rowed(unittest.TestCase):
 
     def test_words(self) -> None:
         """What a cell holds."""
-        names = dict(enumerate("black red green yellow blue magenta cyan white flash steady".split()))
+        names = dict(enumerate(
+            "black red green yellow blue magenta cyan white flash steady".split()))
         names |= {0x0A: "end box", 0x0B: "start box", 0x0C: "normal height", 0x0D: "double height",
                   0x18: "conceal", 0x1C: "black background", 0x1D: "new background"}
         for code in range(32):

@@ -38,7 +38,8 @@ def apart(sent: Sent, *shifts: int) -> Sent:
 
 
 def cause_of(number: int, begin: int, by: int) -> str:
-    return f'subtitle {number} at {time_of(begin)}, "Number {number}": late by {counted(by, "frame")}'
+    return f'subtitle {number} at {time_of(begin)}, "Number {number}": late by ' \
+        f'{counted(by, "frame")}'
 
 
 class Parts(Case):
@@ -101,8 +102,8 @@ class Parts(Case):
                                                   for at in range(1, 25)])
 
     def test_refused(self) -> None:
-        """The first, the second and the last part, by the file's numbers; the least N is that of all
-        that are refused, and of one that no N accepts there is none."""
+        """The first, the second and the last part, by the file's numbers; the least N is that of
+        all that are refused, and of one that no N accepts there is none."""
         for changes, least in (({3: 2}, 2), ({10: 3}, 3), ({19: 1}, 1), ({3: 2, 10: 4, 19: 3}, 4),
                                ({3: 5, 19: 2}, 5), ({10: 2, 19: 6}, None), ({3: 7, 10: 1}, None)):
             found = self.judge((1000, 3000), changes, "--origin", str(ORIGIN))

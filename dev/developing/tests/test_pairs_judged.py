@@ -283,7 +283,8 @@ class Said(Case):
         self.must("letter", found.result["hints"] == [f"50: {whole}"] and found.said[-2:] == [
             f"50: {whole}", "refused 50 Character block 1 at 6"] and
             [one["do"] for one in found.result["faults"]] == [whole] and any(
-                one.startswith("in block 1 a letter cannot be shown") for one in found.lines("Refused: ")),
+                one.startswith("in block 1 a letter cannot be shown")
+                for one in found.lines("Refused: ")),
             found.said)
         data = bytearray(example_bytes("hello.pes"))
         at = DATA + 4 + 2 + 7  # in the first PES packet: C11 to C14 of its first header

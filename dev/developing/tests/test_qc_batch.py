@@ -21,7 +21,8 @@ def loaded(case: Case, name: str) -> Any:
 
 
 def agrees(case: Case, verdict: Any, name: str = "the schema") -> None:
-    """Tests an object against the schema, by one reader of it, and by two where there is another."""
+    """Tests an object against the schema, by one reader of it, and by two where there is another.
+    """
     over = "a second reader of docs/verdict.schema.json, since there is no python3-jsonschema"
     if second_reader() is None and over not in case.bench.over:
         case.bench.over.append(over)

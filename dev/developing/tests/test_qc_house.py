@@ -126,8 +126,8 @@ class Sites(Case):
     """Batches that end early, folders that are watched."""
 
     def test_goes_on_after_a_kill(self) -> None:
-        """A batch that is killed leaves whole objects, also of the call that was running, which ends
-        by itself; the next one judges the others alone."""
+        """A batch that is killed leaves whole objects, also of the call that was running, which
+        ends by itself; the next one judges the others alone."""
         fill(self, "in", 4)
         program = waiting_program(self, 1)
         words = [tool_path("qc"), "--batch", "in", "-o", "out", "--jobs", "1", "-p", program]

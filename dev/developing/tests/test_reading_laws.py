@@ -1,6 +1,6 @@
-"""Laws of origins and cuts, on programmes and transmissions at random: what is sent is known, so what
-has to be found is too. No table: each law is tried on some programmes, each made by its number.
-"""
+"""Laws of origins and cuts, on programmes and transmissions at random: what is sent is known, so
+what has to be found is too. No table: each law is tried on some programmes, each made by its
+number."""
 from __future__ import annotations
 
 import random
@@ -193,10 +193,13 @@ class Laws(unittest.TestCase):
             for number in range(1, runs + 1):
                 one = found(shown, packets_of(sendings), run=number)
                 self.assertEqual((len(one.runs), [part.origin for part in one.parts]),
-                                 (runs if runs > 1 else 0, [(origin + step * (number - 1)) % CLOCK]), one.told)
+                                 (runs if runs > 1 else 0,
+                                  [(origin + step * (number - 1)) % CLOCK]),
+                                 one.told)
 
     def test_runs_far_apart(self) -> None:
-        """Twice in one time base, which is sent each hour and longer than half of what PTS count."""
+        """Twice in one time base, which is sent each hour and longer than half of what PTS count.
+        """
         hour = 3600 * FRAMES_A_SECOND
         for chance, shown, edges, origin in self.each():
             away = chance.randrange(14, 20) * hour
@@ -259,7 +262,8 @@ def plain(packets: Packets, frames: Sequence[int], begin: int, end: int,
     blank = [at for at in early if "h" in does[at] and "b" in does[at]]
     if not own:
         return None
-    at_begin = frames[own[0]] == begin and early and "b" not in does[early[-1]] and own[0] in changed
+    at_begin = frames[own[0]] == begin and early and "b" not in does[early[-1]] and \
+        own[0] in changed
     first = blank[-1] if blank and not at_begin else next(
         (at for at in own if "h" in does[at]), -1)
     if first < 0:

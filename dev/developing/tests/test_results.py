@@ -44,7 +44,8 @@ STRANGE: list[Any] = [
 TEXTS = {
     b"[" * 100_000: "it is too deep", b'{"a":' * 100_000: "it is too deep",
     b'{"verdict": ' + b"9" * 5_000 + b"}": "is no number", b'{"verdict": NaN}': "is no number",
-    b'{"verdict": -Infinity}': "is no number", b"": "Expecting value", b"\xff": "codec can't decode",
+    b'{"verdict": -Infinity}': "is no number", b"": "Expecting value",
+    b"\xff": "codec can't decode",
     b"\xef\xbb\xbf{}": "Unexpected UTF-8 BOM", b'{"verdict"': "Expecting"}
 
 
@@ -81,7 +82,8 @@ class Written(Case):
 
     def test_schema_is_made(self) -> None:
         """It is what dev/make-pages makes of the table, and is a schema."""
-        self.must("made", read(os.path.join(TOP, SCHEMA)) == laid_out(schema()) + "\n", "dev/make-pages")
+        self.must("made", read(os.path.join(TOP, SCHEMA)) == laid_out(schema()) + "\n",
+                  "dev/make-pages")
         self.must("read", second_reader() is None or second_reader().schema == read_schema())
 
     def test_new_member(self) -> None:
@@ -107,7 +109,8 @@ class Written(Case):
 
     def test_numbers_of_faults(self) -> None:
         """All that `check` refuses."""
-        for number, fits in ((9, False), (10, True), (UNDECIDED, True), (SILENT, True), (80, False)):
+        for number, fits in ((9, False), (10, True), (UNDECIDED, True), (SILENT, True),
+                             (80, False)):
             known = result(faults=[{**FAULT, "number": number}])
             self.must(f"{number}", (misfit(known) is None) == fits != any(
                 wrong_in(known, read_schema())))
@@ -149,7 +152,8 @@ class Written(Case):
     def test_random_calls(self) -> None:
         """Results of calls that no table has."""
         done = self.call([sys.executable, "-m", "developing.tests.at_random", self.bench.program,
-                          *map(str, RANDOM_CALLS)], env={**os.environ, "PYTHONPATH": os.pathsep.join(
+                          *map(str, RANDOM_CALLS)], env={
+                              **os.environ, "PYTHONPATH": os.pathsep.join(
                               [DEV, *os.environ.get("PYTHONPATH", "").split(":")])})
         self.must("all fit", done.status == 0 and len(done.out.splitlines()) ==
                   RANDOM_CALLS[1] - RANDOM_CALLS[0], done.told)

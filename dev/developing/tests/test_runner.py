@@ -28,7 +28,8 @@ class Found(Case):
             if not module.endswith("__init__"):
                 self.must(module, runner.of_module(module, everything))
         self.must("no module", not runner.of_module("subtitles.none", everything))
-        for module, test, most in (("judging.losses", "test_parts_of_verdicts", 3), ("judging.pair", "test_decisions", 5),
+        for module, test, most in (("judging.losses", "test_parts_of_verdicts", 3),
+                                   ("judging.pair", "test_decisions", 5),
                                    ("recording.feed", "test_feeds", 9),
                                    ("judging.transmissions", "test_reasons", 30)):
             kinds = {type(one).__module__.rpartition(".")[2] for one in
@@ -43,7 +44,8 @@ class Found(Case):
         tests = runner.found(["report.strips"])
         kinds = {type(one).__module__.rpartition(".")[2] for one in tests}
         self.must("those that call it", kinds == {"test_report_pictures"}, kinds)
-        kinds = {type(one).__module__.rpartition(".")[2] for one in runner.found(["stream/layout.py"])}
+        kinds = {type(one).__module__.rpartition(".")[2]
+                 for one in runner.found(["stream/layout.py"])}
         self.must("of two", kinds >= {"test_evidence", "test_layouts"} and len(kinds) < 9, kinds)
         self.must("by name alone", all(isinstance(one, unittest.TestCase) and "test_runner" in
                                        one.id() for one in runner.found(["test_runner."])))

@@ -55,13 +55,15 @@ class Sentences(unittest.TestCase):
 
     def test_words(self) -> None:
         """Each verdict, whatever is known."""
-        fault, packet = fault_of_line("refused 73 Gap frame 10:00:00:00"), fault_of_line("refused 34 Pts pes 7")
+        fault = fault_of_line("refused 73 Gap frame 10:00:00:00")
+        packet = fault_of_line("refused 34 Pts pes 7")
         block = fault_of_line("refused 24 Unfinished block 12")
         for seen, wanted in (
                 (Facts(NOT_JUDGED, 0, reason="no\nmore"), "Not judged: no."),
                 (Facts(NOT_JUDGED, 0), "Not judged: check was not answered."),
                 (Facts(ACCEPTED, 1), "Accepted: 1 subtitle, as it is due from the first frame on."),
-                (Facts(ACCEPTED, 1, within=1), "Accepted: 1 subtitle, as it is due within 1 frame."),
+                (Facts(ACCEPTED, 1, within=1),
+                 "Accepted: 1 subtitle, as it is due within 1 frame."),
                 (Facts(LOST, 2, lost=["a", "b", "c"]),
                  "Not accepted: a, and in 2 more places; what was seen is as it is due."),
                 (Facts(LOST, 2, first=fault, faults=1, lost=["a"]),

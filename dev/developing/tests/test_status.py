@@ -99,7 +99,8 @@ class Decided(unittest.TestCase):
                 ((), ("page",), ("repeat", "fitted")), (False, True)):
             parts = [RIGHT["accepted"], (RIGHT | WRONG)[name], RIGHT["accepted"]]
             for severity in ALLOWING if is_allowed else [NAMED]:
-                self.decides(name, Grounds(parts, severity, losses, warnings, is_strict), is_allowed)
+                self.decides(name, Grounds(parts, severity, losses, warnings, is_strict),
+                             is_allowed)
 
     def decides(self, name: str, seen: Grounds, is_allowed: bool) -> None:
         """One of these: --allow-lost, and a severity file that names 45 a warning, are one rule."""

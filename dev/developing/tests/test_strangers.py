@@ -80,7 +80,8 @@ class Inputs(Case):
                    b"c.stl b.pes\n")
         self.write("out/c.txt", b"67 warning\n")
         before = {name: self.read(f"out/{name}") for name in os.listdir(self.path("out"))}
-        done = self.call([tool_path("qc"), "--batch", "list", "-o", "out", "-p", self.bench.program])
+        done = self.call([tool_path("qc"), "--batch", "list", "-o", "out", "-p",
+                          self.bench.program])
         table = done.out.decode()
         self.must("told", done.status == 2 and "4 pairs: 2 accepted, 2 not judged" in table and all(
             f" not judged          out/{name} is an input too" in table

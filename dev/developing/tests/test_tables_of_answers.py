@@ -10,7 +10,8 @@ from subtitles.formats.listing import fault_of_line
 from subtitles.formats.stl import SubtitleFile
 from subtitles.judging.check import Answer
 from subtitles.judging.subtitles import AT_MIDNIGHT, falls_at_midnight, midnight_words
-from subtitles.request.request import Unclear, add_options, request_of_line
+from subtitles.request.lines import request_of_line
+from subtitles.request.request import Unclear, add_options
 from .bench import Case
 from .parts import asked_for
 
@@ -60,7 +61,8 @@ class Answers(Case):
                 self.assertEqual(made.line, line)
             self.assertEqual(list(made.lines()), list(lines))
             self.assertEqual([one.line for one, _ in made.told()],
-                             [one for one in lines if one.startswith("refused ") and fault_of_line(one)])
+                             [one for one in lines
+                              if one.startswith("refused ") and fault_of_line(one)])
             self.assertEqual([begin for begin, _ in made.trusted],
                              [150] * (self.TRUSTED in lines))
 
@@ -144,7 +146,8 @@ class Asked(Case):
                 ("--start tcp --every 50", "--origin 9", (9, None, 50)),
                 ("--start tcp", "--origin=9 --every 25", (9, None, 25)),
                 ("--start tcp", "--every 25", (None, "tcp", 25))):
-            asked = request_of_line(["a.stl", "a.ts", *line.split()], parser.parse_args(call.split()))
+            asked = request_of_line(["a.stl", "a.ts", *line.split()],
+                                    parser.parse_args(call.split()))
             self.assertEqual((asked.origin, asked.start, asked.every), wanted, (call, line))
         for name, wanted_name in (("-", "-"), ("-a", "./-a"), ("a", "a"), ("", ""), (None, None)):
             self.assertEqual(asked_for("-a.stl", name).recording, wanted_name)

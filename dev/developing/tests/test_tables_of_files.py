@@ -4,6 +4,8 @@ and the last.
 from __future__ import annotations
 
 import itertools
+import shutil
+import subprocess
 import unittest
 from typing import Callable, Sequence
 from unittest import mock
@@ -121,15 +123,17 @@ class Lines(unittest.TestCase):
 
     def test_kinds(self) -> None:
         """Of each number what it is of: the file, what ends reading, what is passed over."""
-        kinds = {"stl": listing.STL_FAULTS, "ends": listing.ENDS_READING, "passed": listing.PASSED_OVER}
+        kinds = {"stl": listing.STL_FAULTS, "ends": listing.ENDS_READING,
+                 "passed": listing.PASSED_OVER}
         for number in range(100):
             wanted = {"stl"} if 10 <= number <= 25 or 50 <= number <= 57 else set[str]()
             wanted |= {"ends"} if number in (30, 31, 32, 44) else set()
             wanted |= {"passed"} if 33 <= number <= 40 or number in (45, 61) else set()
             self.assertEqual({kind for kind, some in kinds.items() if number in some}, wanted)
-        self.assertEqual((listing.EMPTY, listing.EMPTY_TIME, listing.OUT_OF_ORDER, listing.OFF_FRAME, listing.GAP,
-                          listing.LOST_PACKETS, listing.CONTENT, listing.CHARACTER, listing.CONTROL, listing.BEGIN,
-                          listing.END), (60, 21, 56, 61, 73, 45, 72, 50, 67, 63, 74))
+        self.assertEqual((listing.EMPTY, listing.EMPTY_TIME, listing.OUT_OF_ORDER,
+                          listing.OFF_FRAME, listing.GAP, listing.LOST_PACKETS, listing.CONTENT,
+                          listing.CHARACTER, listing.CONTROL, listing.BEGIN, listing.END),
+                         (60, 21, 56, 61, 73, 45, 72, 50, 67, 63, 74))
         self.assertEqual((listing.LETTERS, listing.WITH_CAUSE), ((50, 51), {63, 72, 74}))
 
     def test_quickly(self) -> None:
@@ -206,3 +210,21 @@ class Letters(unittest.TestCase):
             self.assertEqual(letters_of(text), wanted)
         self.assertEqual(option_name(7), "national option 111, which is reserved, its letters as □")
         self.assertEqual(option_name(9), "national option 9, its letters as □")
+
+    def test_iso_6937(self) -> None:
+        """The C library's ISO 6937 is an outside value for each byte, and each accent on a letter;
+        four bytes it lacks, or has as another letter of that look."""
+        if not shutil.which("iconv"):
+            self.skipTest("letters of ISO 6937, since there is no iconv")
+        accented = [bytes([accent, letter]) for accent in range(0xC1, 0xD0)
+                    for letter in b"AEOUZaceinouyz"]
+        others = [bytes([byte]) for byte in range(0x20, 0xFF) if not 0x7F <= byte <= 0xA0
+                  and not 0xC0 <= byte <= 0xCF and byte not in (0xA4, 0xA6, 0xE0, 0xE2)]
+        compared = 0
+        for text in accented + others:
+            done = subprocess.run(["iconv", "-f", "ISO6937", "-t", "UTF-8"], input=text,
+                                  check=False, capture_output=True)
+            if done.returncode == 0:
+                compared += 1
+                self.assertEqual(letters_of(text), done.stdout.decode(), text)
+        self.assertGreater(compared, 200)

@@ -53,7 +53,8 @@ class Named(Case):
         """No two have the same, of pairs, of their parts and of lines; none is that of the page
         over all, begins with a point, or has what a terminal would obey."""
         of_names = {"film": "film", "film.1": "film%2E1", "film.v2": "film.v2", "index": "%69ndex",
-                    "index.1": "index%2E1", ".film": "%2Efilm", "film~2": "film%7E2", "50%": "50%25",
+                    "index.1": "index%2E1", ".film": "%2Efilm", "film~2": "film%7E2",
+                    "50%": "50%25",
                     "caf\udce9": "caf%E9", "caf%E9": "caf%25E9", "caf\\xe9": "caf\\xe9",
                     "a\x1b\n": "a%1B%0A", "line 5": "line%205", "line 5 ": "line 5 ", "-a": "-a",
                     "a\u202eb": "a%E2%80%AEb", "": "%", "%": "%25", "Index": "Index"}
@@ -68,7 +69,8 @@ class Named(Case):
             name = [names.pair(f"{stem}.stl") for _ in range(copies)][-1]
             name = part_name(name, part) if part else name
             self.assertEqual(seen.setdefault(name, (stem, copies, part)), (stem, copies, part))
-            self.assertFalse(name == "index" or re.fullmatch("line [0-9]+(~[0-9]+)?", name) or HIDDEN.search(name)
+            self.assertFalse(name == "index" or HIDDEN.search(name)
+                             or re.fullmatch("line [0-9]+(~[0-9]+)?", name)
                              or name[0] == "." or len(os.fsencode(f".{name}.recording.pes")) > 255,
                              name)
         names = NamesOfList()
@@ -118,13 +120,13 @@ class Named(Case):
                   "tools/qc one.stl --origin T")
         self.must("words", shell_line("cat", "a b", ">", "c", "|", "d'e") ==
                   "cat 'a b' >c | 'd'\"'\"'e'")
-        for called, tool, program in (("tools/qc", "tools/text", "subttx"), ("./qc", "./text",
+        for called, tool, program in (("tools/qc", "tools/ts2pes", "subttx"), ("./qc", "./ts2pes",
                                                                            "../subttx"),
-                                      ("qc", "./text", "../subttx"),
-                                      ("/a/tools/qc", "/a/tools/text", "/a/subttx")):
+                                      ("qc", "./ts2pes", "../subttx"),
+                                      ("/a/tools/qc", "/a/tools/ts2pes", "/a/subttx")):
             made = CommandWords(called, self.bench.program)
-            self.must(called, made.tool("text") == tool and made.program_words ==
-                      ["-p", self.bench.program], made.tool("text"))
+            self.must(called, made.tool("ts2pes") == tool and made.program_words ==
+                      ["-p", self.bench.program], made.tool("ts2pes"))
             self.must(f"{called}: beside", os.path.normpath(made.beside()) ==
                       os.path.normpath(program), made.beside())
 
@@ -182,7 +184,8 @@ class Pages(Case):
                            (page_with((20, self.TWO)), False), (page_with((22, b"  two")), True),
                            (page_with((21, b"x")), False)):
             self.assertEqual(is_part(sent, own), part)
-        self.assertEqual((words_on(own), page_text(own, 0), page_text(page_with((1, b"\x5b[#")), 4)),
+        self.assertEqual((words_on(own), page_text(own, 0),
+                          page_text(page_with((1, b"\x5b[#")), 4)),
                          ("Hello two", "Hello / two", "ÄÄ#"))
         self.assertEqual([code_words(code) for code in (0, 7, 0x1F, 0x20, 0x21, 0x7F)],
                          ["alpha black", "alpha white", "release mosaics", "a space", "21", "7F"])

@@ -8,7 +8,7 @@ import unittest
 from types import SimpleNamespace
 from typing import Any, Sequence
 
-from subtitles.clock.alignment import LACKED, Stretch, by_breaks
+from subtitles.clock.alignment import LACKED, LEAST_BREAK, Stretch, by_breaks
 from subtitles.clock.start import Clock, Found, RECORDING
 from subtitles.common.times import CLOCK, Spans, TICKS, joined_spans
 from subtitles.judging.pair import last_time
@@ -76,13 +76,21 @@ class Times(unittest.TestCase):
                              pts)
 
     def test_breaks(self) -> None:
-        """A later origin, another time base, or a minute that the recording lacks begins a part;
-        what is early by less goes with the one before."""
+        """An origin that is later by five seconds than in the part before, and than just before;
+        another time base, or a minute that the recording lacks begins a part. What is early by
+        less, or late by less, goes with the one before."""
+        five = LEAST_BREAK
         for tracks, ends in (
-                ([(0, 0)], [9]), ([(0, 0), (0, -1)], [9, 18]), ([(0, 0), (0, 1)], [18]),
+                ([(0, 0)], [9]), ([(0, 0), (0, -five)], [9, 18]), ([(0, 0), (0, 1 - five)], [18]),
+                ([(0, 0), (0, -1)], [18]), ([(0, 0), (0, 1)], [18]),
                 ([(0, 0), (0, LACKED - 1)], [18]), ([(0, 0), (0, LACKED)], [9, 18]),
-                ([(0, 0), (1, 1)], [9, 18]), ([(0, 0), (0, -1), (0, -2)], [9, 18, 27]),
-                ([(0, 0), (0, 5), (0, 0)], [27]), ([(0, 0), (0, 5), (0, -1)], [18, 27])):
+                ([(0, 0), (1, 1)], [9, 18]), ([(0, 0), (1, -1)], [9, 18]),
+                ([(0, 0), (0, -five), (0, -2 * five)], [9, 18, 27]),
+                ([(0, 0), (0, -75), (0, -150)], [27]),  # two delays of three seconds
+                ([(0, 0), (0, -75), (0, -75 - five)], [18, 27]),
+                ([(0, 0), (0, 75), (0, 75 - five)], [27]),  # early, and then late by two seconds
+                ([(0, 0), (0, -five), (0, -1 - five)], [9, 27]),
+                ([(0, 0), (0, 5), (0, 0)], [27]), ([(0, 0), (0, 5), (0, -five)], [18, 27])):
             row: Any = [Stretch(SimpleNamespace(base=base, start=start),  # type: ignore[arg-type]
                                 9 * at, 9 * at + 9) for at, (base, start) in enumerate(tracks)]
             self.assertEqual([one.end for one in by_breaks(row)], ends, tracks)

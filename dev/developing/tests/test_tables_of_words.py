@@ -37,15 +37,18 @@ class Words(Case):
         many = "9" * 5000
         of_words: list[tuple[Callable[[str], object], dict[str, object]]] = [
             (command_line.page_word, {"888": (0, 0x88), "8FF": none, "": none}),
-            (command_line.time_word, {"00:00:00:00": 0, "23:59:59:24": 2_159_999, "24:00:00:00": none}),
+            (command_line.time_word, {"00:00:00:00": 0, "23:59:59:24": 2_159_999,
+                                      "24:00:00:00": none}),
             (command_line.origin_word, {"0": 0, "8589934591": 8_589_934_591, "8589934592": none,
                                         "-1": none, "000": 0, "0007": 7, "": none, "\u0661": none,
                                         many: none,
                                         "00000000000000": 0, "0x1": none}),
-            (command_line.range_word, {"0-0": (0, 0), "0-99": (0, 99), "1-0": none, "5": none, "-": none,
+            (command_line.range_word, {"0-0": (0, 0), "0-99": (0, 99), "1-0": none, "5": none,
+                                       "-": none,
                                        "999999999999-999999999999": (999_999_999_999,) * 2,
                                 "1-1000000000000": none, "1-2-3": none, "\u0661-\u0662": none}),
-            (command_line.every_word, {"1": 1, "2160000": 2_160_000, "0": none, "2160001": none, "0001": 1,
+            (command_line.every_word, {"1": 1, "2160000": 2_160_000, "0": none, "2160001": none,
+                                       "0001": 1,
                                 "": none, "01500": 1500, "-5": none, many: none, "\u0661": none,
                                        "00": none}),
             (command_line.within_word, {"0": 0, "50": 50, "51": none, "00": 0, "050": 50, "": none,
@@ -71,7 +74,8 @@ class Words(Case):
             self.assertEqual(command_line.stream_words(pid, size), wanted)
         self.assertEqual([command_line.counted(one, "fault") for one in (0, 1, 2)],
                          ["0 faults", "1 fault", "2 faults"])
-        self.assertEqual([command_line.range_words(*one) for one in ((0, 0), (1, 1), (0, 1), (0, 2))],
+        self.assertEqual([command_line.range_words(*one)
+                          for one in ((0, 0), (1, 1), (0, 1), (0, 2))],
                          ["0 frames", "1 frame", "0 to 1 frame", "0 to 2 frames"])
         self.assertEqual(command_line.pid_name(0x1A), "PID 0x1A")
         parser = command_line.Words("")
@@ -338,7 +342,8 @@ class Signals(Case):
 
             seen: list[str] = []
             made: Any = os.mkdir if place == "os.mkdir" else shutil.rmtree
-            patched: Any = mock.patch(f"subtitles.common.files.{place}", interrupted) if place else \
+            patched: Any = \
+                mock.patch(f"subtitles.common.files.{place}", interrupted) if place else \
                 contextlib.nullcontext()
             with mock.patch("tempfile.tempdir", self.folder), self.assertRaises(KeyboardInterrupt):
                 with patched, temporary_folder("one-") as folder:

@@ -200,7 +200,8 @@ class Streams(Case):
             pes = [pes_packet(TICKS * at, [HEADER, *[row(20, b"x")] * chance.randrange(15)])
                    for at in range(60)]
             made = sent(pes)
-            kept = [one for at, one in enumerate(made) if chance.random() > 0.1 or at % 15 == 0 or at < 5]
+            kept = [one for at, one in enumerate(made)
+                    if chance.random() > 0.1 or at % 15 == 0 or at < 5]
             wanted = carried(b"".join(kept), 0x101, 188)
             done = self.extracted(b"".join(kept))
             self.must(f"{seed}", (done.status, done.out) == (1, wanted.data), done.told)

@@ -46,8 +46,8 @@ class Words(unittest.TestCase):
                        first_other=50), 20,
              ["9 of 12 cues agree, 9 with the letters that are due; the file has 20; next best: "
               "--origin 7 with 8", "the first cue that does not agree is 00:00:02:00",
-              "2 of them only to the nearest frame: PTS that are not whole frames apart are refused "
-              "as 61"]),
+              "2 of them only to the nearest frame: PTS that are not whole frames apart are "
+              "refused as 61"]),
             (self.part(9, 9, 9, others=[self.other(7, 9), self.other(5, 9)]), 20,
              ["9 of 9 cues agree, 9 with the letters that are due; the file has 20; next best: "
               "--origin 7 with 9",

@@ -13,12 +13,14 @@ import time
 from typing import Any, Callable, Collection, Iterable, Iterator, NamedTuple, NoReturn, Sequence
 
 from ..common.command_line import Stop, counted, ended, error_line, say, tell
-from ..common.files import Inputs, IsInput, Line, NOTHING, kind_of, lines_in, list_at, temporary_folder
+from ..common.files import (
+    Inputs, IsInput, Line, NOTHING, folder_of, kind_of, lines_in, list_at, temporary_folder)
 from ..common.program import TOP, about_program
 from ..judging.status import ACCEPTED, NOT_JUDGED, WAIVED
 from ..report import page, report, transmission
 from ..request.commands import CommandWords, NamesOfList, Progress, pair_name
-from ..request.request import Request, request_of_line, request_with, take_option
+from ..request.lines import request_of_line
+from ..request.request import Request, request_with, take_option
 from ..results.objects import (
     ENDING, Row, found, in_order, is_current, left_by_call, object_at, put_object, row_of_object,
     rows_in, unjudged)
@@ -93,7 +95,7 @@ def with_files(item: Item) -> Item:
     assert asked.recording
     reason = no_file(asked.stl) or no_file(asked.recording)
     return item._replace(asked=None if reason else asked, reason=reason,
-                         files=(asked.stl, asked.recording, asked.severity))
+                         files=(asked.stl, asked.recording, *asked.others))
 
 
 def of_files(folder: str, files: list[str], defaults: argparse.Namespace) -> Iterable[Item]:
@@ -128,12 +130,12 @@ def sorted_out(files: list[str]) -> tuple[list[str], list[str]]:
 def of_list(path: str, lines: Iterable[Line], defaults: argparse.Namespace) -> Iterator[Item]:
     """The lines of a list: a subtitle file, a recording, and options of their own. Nobody has
     looked at the files yet."""
-    names = NamesOfList()
+    names, folder = NamesOfList(), folder_of(path)
     for line in lines:
         try:
             if line.fault:
                 raise Stop(line.fault)
-            asked = request_of_line(line.words, defaults)
+            asked = request_of_line(line.words, defaults, folder)
         except (Stop, ValueError) as reason:
             yield Item(names.line(line.number), None, f"{path}, line {line.number}: {reason}")
             continue
@@ -387,7 +389,8 @@ class Calls:
             if not self.is_stopped:
                 put_object(self.path(item), known)
         except OSError as error:
-            self.unwritten[item.name] = known = unjudged(item.name, f"{reason}; {error_line(error)}")
+            known = unjudged(item.name, f"{reason}; {error_line(error)}")
+            self.unwritten[item.name] = known
         return row_of_object(known, item.name)
 
     def stop(self) -> None:

@@ -250,5 +250,6 @@ def all_told(place: Place) -> dict[str, Any]:
 
 def testcases(rows: Sequence[Row], date: str) -> Iterator[bytes]:
     """A testcase for each pair."""
-    yield tables.junit_file([tables.TestCase(row.title, row.verdict, row.status, row.line, row.lines,
-                                             row.seconds, row.counts) for row in rows], date)
+    yield tables.junit_file([
+        tables.TestCase(row.title, row.verdict, row.status, row.line, row.lines, row.seconds,
+                        row.counts) for row in rows], date)

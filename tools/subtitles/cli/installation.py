@@ -13,7 +13,7 @@ import sys
 from ..common.command_line import INSTALLED, Stop
 from ..common.program import TOP, read
 
-TOOLS = ["qc", "text", "ts2pes"]
+TOOLS = ["qc", "ts2pes"]
 PAGES = ["subttx.1", "subttx-qc.1"]
 READ = ["README.md", os.path.join("docs", "MANUAL.md"),
         os.path.join("docs", "verdict.schema.json"), "VERSION"]

@@ -9,6 +9,7 @@ from typing import Any, Callable, Sequence
 
 from ..common.command_line import Stop, Words, error_line
 from ..common.files import IsInput, plain_name, whole_file
+from ..request.lines import goes_with, read_options
 from ..request.request import (
     ALONE, BATCH, CHANNEL, COLLECT, Mode, OPTIONS, Option, PAIR, RECORDER, WATCH, add_options)
 from ..results import objects, tables
@@ -111,9 +112,7 @@ def refuse_options(parser: argparse.ArgumentParser, line: Sequence[str], mode: M
     """`Stop` with the first option that does not go with what is asked for."""
     for name in options_in(parser, line):
         if mode not in TAKEN_BY[name]:
-            *others, last = (one.words for one in TAKEN_BY[name])
-            known = f"{', '.join(others)} or {last}" if others else last
-            raise Stop(f"{name} goes with {known}, and not with {mode.words}")
+            raise Stop(goes_with(name, TAKEN_BY[name], mode))
 
 
 # The words of tools/qc.
@@ -198,8 +197,8 @@ def name_in(line: Sequence[str]) -> str:
 
 def answer(text: str, called: str, line: list[str]) -> int:
     """Does what the words ask; answers the status."""
-    words = parser_of(text).parse_args(line)
-    refuse_options(parser_of(text), line, mode_of(words))
+    refuse_options(parser_of(text), line, mode_of(parser_of(text).parse_args(line)))
+    words = read_options(parser_of(text), line, {}, {})
     if words.is_kept and words.out is None:
         raise Stop("--keep goes with -o DIR, where it keeps what was judged")
     words.out = words.out and plain_name(words.out)

@@ -28,7 +28,8 @@ from ..judging.verdict import Gap, Verdict
 from ..recording.recording import Recording, size_of
 from ..report.page import overview
 from ..request.commands import (
-    CommandWords, LOCK, Names, Progress, Speech, files_in, index_in, lock_of, pair_name)
+    CommandWords, LOCK, Names, Progress, Speech, files_in, index_in, lock_of, pair_name,
+    profile_line)
 from ..request.request import AUTO_OF_FEED, Request, Unclear, keep_stl, request_of
 from ..results import objects, tables
 from ..results.objects import found, object_text, unjudged
@@ -168,11 +169,11 @@ def now() -> str:
 
 
 class PairCall(NamedTuple):
-    """A call for a pair, beside what is asked of it: the program, and the files that are written. `name`
-    is that of the pair, where it is not that of its subtitle file, and `here` the folder in which
-    its files stand until somebody gives them their place. `is_claimed`: its files are the caller's;
-    `is_fitted`: its origin was found by the caller; `is_cut`: all that is read may be judged.
-    """
+    """A call for a pair, beside what is asked of it: the program, and the files that are written.
+    `name` is that of the pair, where it is not that of its subtitle file, and `here` the folder in
+    which its files stand until somebody gives them their place. `is_claimed`: its files are the
+    caller's; `is_fitted`: its origin was found by the caller; `is_cut`: all that is read may be
+    judged."""
 
     program: str | None
     out: str | None = None
@@ -202,6 +203,8 @@ def judge_request(asked: Request, call: PairCall, called: str) -> int:
     is_output_taken = any(path in OWN_OUTPUT for path in (call.json, call.csv, call.junit))
     speech = Speech(Progress(), is_output_taken)
     speech.at_end = ignore_signals  # what stands last is that of the status
+    if asked.profile:
+        speech.say(profile_line(asked.profile))
     typed = CommandWords(called, call.program)
     verdict = Verdict(asked, Severity(asked.severity, asked.is_loss_allowed), now(),
                       was_fitted=call.is_fitted)
@@ -229,7 +232,7 @@ def judge_request(asked: Request, call: PairCall, called: str) -> int:
 def refuse_outputs(call: PairCall, asked: Request, out: str | None, name: str) -> None:
     """`Stop` where a file that is asked for can't be written, or is an input; nothing is done yet.
     """
-    inputs = Inputs(asked.stl, asked.recording, asked.severity)
+    inputs = Inputs(asked.stl, asked.recording, *asked.others)
     for path in (call.json, call.csv, call.junit):
         if path:
             inputs.refuse(path, True)

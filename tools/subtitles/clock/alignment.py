@@ -276,6 +276,7 @@ def bases_of(subtitles: Sequence[Shown], packets: Packets, within: int,
 
 IN_A_ROW = 5  # edges that have to agree with an origin of their own
 NEW_TRACK = IN_A_ROW - 1  # points that another origin costs
+LEAST_BREAK = 5 * FRAMES_A_SECOND  # frames; what is later by less is a delay
 LACKED = 60 * FRAMES_A_SECOND  # frames, at least, by which the file's clock jumps on at a break
 OF_TEXT = 3  # points of an edge whose text is there
 Place = tuple[int, int]  # in a recording: a time base, and frames after its first PTS
@@ -454,15 +455,19 @@ def part_of(subtitles: Sequence[Shown], bases: Sequence[Base], row: Sequence[Str
 
 
 def by_breaks(row: Sequence[Stretch]) -> list[Stretch]:
-    """The row as breaks part it: PTS have gone back, the origin is later, or the file's clock jumps
-    on. Subtitles that are early, and come back, go with what was before."""
+    """The row as breaks part it: PTS have gone back, the origin is later by five seconds at least
+    than that of the part before, and than just before, or the file's clock jumps on. Subtitles that
+    are late by less, and those that are early and come back, go with what was before: two delays of
+    three seconds are no break."""
     parted = list(row[:1])
-    for one in row[1:]:
-        away = one.track.start - parted[-1].track.start
-        if one.track.base != parted[-1].track.base or away < 0 or away >= LACKED:
-            parted.append(one)
+    for before, stretch in zip(row, row[1:]):
+        track = stretch.track
+        away = track.start - parted[-1].track.start
+        is_break = max(away, track.start - before.track.start) <= -LEAST_BREAK
+        if track.base != parted[-1].track.base or is_break or away >= LACKED:
+            parted.append(stretch)
         else:
-            parted[-1] = parted[-1]._replace(end=one.end)
+            parted[-1] = parted[-1]._replace(end=stretch.end)
     return parted
 
 

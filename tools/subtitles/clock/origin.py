@@ -25,8 +25,8 @@ LISTED = 20  # places at which subtitles begin to be late
 class Sought(NamedTuple):
     """What is looked for: the subtitle file, and the page with its national option, in a recording
     by its name; the origin that is known, the frames within which a page has to be whole, and how
-    many breaks there are; of the PES packets with some numbers alone, and of the subtitles that come
-    in some frames, but for those that are left out, by their places in the file."""
+    many breaks there are; of the PES packets with some numbers alone, and of the subtitles that
+    come in some frames, but for those that are left out, by their places in the file."""
 
     stl: str
     name: str

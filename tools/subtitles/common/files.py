@@ -309,7 +309,8 @@ def written(file: BinaryIO, path: str) -> Iterator[None]:
 
 MOST_BYTES, MOST_OF_LINE = 16_000_000, 65_536
 # What a word is made of, a blank or the comment behind the words; else a quote that does not end.
-PIECE_OF_LIST = re.compile(r"""(?P<blank>[ \t\r\n]+) | (?P<comment>\#.*) | (?P<plain>[^ \t\r\n\\'"\#]+)
+PIECE_OF_LIST = re.compile(r"""(?P<blank>[ \t\r\n]+) | (?P<comment>\#.*)
+                       | (?P<plain>[^ \t\r\n\\'"\#]+)
                        | \\(?P<letter>.) | '(?P<single>[^']*)' | "(?P<double>(?:[^"\\]|\\.)*)" """,
                            re.VERBOSE | re.DOTALL)
 ESCAPED = re.compile(r'\\(["\\])')
@@ -327,6 +328,11 @@ class Line(NamedTuple):
 def list_at(path: str, may_be_pipe: bool = False) -> str:
     """The text of a list."""
     return bounded_bytes(path, MOST_BYTES, may_be_pipe).decode("utf-8", "surrogateescape")
+
+
+def folder_of(path: str) -> str:
+    """The folder in which a list stands, for what its lines name beside it; none of a pipe."""
+    return os.path.dirname(path) if os.path.isfile(path) else ""
 
 
 def lines_in(text: str) -> list[Line]:

@@ -158,7 +158,8 @@ def layout_text(layout: Layout) -> str:
 
 
 @functools.lru_cache(maxsize=KEPT)
-def cell_lines(text: bytes, option: NationalOption, strip: bytes = b"") -> tuple[bytes, ...] | Refused:
+def cell_lines(text: bytes, option: NationalOption, strip: bytes = b"") \
+        -> tuple[bytes, ...] | Refused:
     """The lines of a text, each as the cells that its bytes give; or the first that gives none."""
     lines = [bytearray()]
     for at, byte, cell in cells_in(text, option):

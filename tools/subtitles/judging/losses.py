@@ -7,7 +7,7 @@ from typing import Iterator, Sequence
 
 from ..common.command_line import counted, pid_name
 from ..common.times import (
-    FRAMES_OF_A_DAY, TICKS, frame_in, pts_of, ticks_between, ticks_within, time_of)
+    FRAMES_A_SECOND, FRAMES_OF_A_DAY, TICKS, frame_in, pts_of, ticks_between, ticks_within, time_of)
 from ..formats.listing import LOSSES
 from ..recording.recording import Recording
 from ..request import request
@@ -15,7 +15,7 @@ from ..request.commands import Speech
 from ..request.request import NONE
 from ..stream.gaps import (
     BY_EVERY, IRREGULAR, PAUSED, Pace, Place, REGULAR, TOO_FEW, each_of, frame_rows, pace_of,
-    pauses_of, what_of)
+    pauses_of, unseen_from, what_of)
 from ..stream.survey import PACKET, Range, jumps_at
 from .part import Part
 from .verdict import Gap, Verdict
@@ -106,7 +106,7 @@ def unsent_in(part: Part) -> list[str]:
 # The pace by which a part is judged, where its PES packets are regular; else what is unseen.
 
 NEXT = 1  # frame from a PES packet to one that comes in the next frame
-HOLES = "a hole of 15, or of 16, 32, 48 .. TS packets"  # that a counter of 4 bits may not show
+UNCHECKED = "not checked: whether"  # begins the note on what nothing tells
 
 
 def set_pace(part: Part, pes: Range, verdict: Verdict, speech: Speech,
@@ -114,26 +114,31 @@ def set_pace(part: Part, pes: Range, verdict: Verdict, speech: Speech,
     """Asks for the pace of the PES packets that are judged, where they are regular and none is
     asked for, by the frames of the subtitles. Where holes may be unseen the verdict has notes."""
     asked, recording = part.asked, part.recorded[0]
-    pace = measured_pace(part, pes, times)
+    pace, unseen = measured_pace(part, pes, times)
     notes = [jump_words(take_jumps(part, pes, pace), recording)]
     if asked.pace_word is not None:
         notes.append(clock_words(recording) if asked.pace_word == NONE else "")
     else:
-        notes.append(note := unseen_words(pace, recording))
+        notes.append(note := unseen_words(pace, unseen, recording))
         if pace.frames:
             speech.choose(chosen_of(pace, recording.is_stream, part.number))
             part.asked = dataclasses.replace(asked, pace_word=str(pace.frames))
         elif note:  # which is told with the verdict
-            speech.chosen.append(request.Selection(request.PACE_CHOICE, None, note, part=part.number))
+            speech.chosen.append(request.Selection(
+                request.PACE_CHOICE, None, note, part=part.number))
     verdict.notes += [note for note in notes if note and note not in verdict.notes]
 
 
-def measured_pace(part: Part, pes: Range, times: Sequence[tuple[int, int]]) -> Pace:
-    """How far apart the PES packets of a part come."""
+def measured_pace(part: Part, pes: Range, times: Sequence[tuple[int, int]]) \
+        -> tuple[Pace, int | None]:
+    """How far apart the PES packets of a part come; and from how many frames on a hole of them is
+    one that the counter may not show."""
     packets, asked, (recording, found) = part.packets, part.asked, part.recorded
     size = None if recording.is_stream else os.path.getsize(recording.path)
-    return pace_of(frame_rows(packets, pes, found.origin, asked.within),
-                   each_of(packets, pes, size), asked.every, pauses_of(times), recording.is_stream)
+    rows = frame_rows(packets, pes, found.origin, asked.within)
+    each = each_of(packets, pes, size)
+    return pace_of(rows, each, asked.every, pauses_of(times), recording.is_stream), \
+        unseen_from(rows, each)
 
 
 def take_jumps(part: Part, pes: Range, pace: Pace) -> int:
@@ -151,38 +156,46 @@ def take_jumps(part: Part, pes: Range, pace: Pace) -> int:
 
 def jump_words(count: int, recording: Recording) -> str:
     """That nothing tells what is missing at so many jumps of the counter; nothing of none."""
-    return f"at {counted(count, 'place')} a jump of the counter of " \
-        f"{pid_name(recording.packets.pid)} is announced: what is missing there may be unseen" \
-        if count else ""
+    return f"{UNCHECKED} some of {pid_name(recording.packets.pid)} is missing at " \
+        f"{counted(count, 'place')} where a jump of its counter is announced" if count else ""
 
 
 def chosen_of(pace: Pace, is_stream: bool, part: int) -> request.Selection:
-    """A pace that is asked for, by at how many places a loss takes longer, of all that there are."""
+    """A pace that is asked for, by at how many places a loss takes longer, of all that there are.
+    """
     return request.Selection(request.PACE_CHOICE, str(pace.frames), regular_words(pace, is_stream),
                              pace.among - pace.closer, pace.among, part)
 
 
 def regular_words(pace: Pace, is_stream: bool) -> str:
     """What PES packets are like that are regular, and the pace that comes of it."""
-    lost = f", and in {pace.lost} at best where 16 TS packets are lost" if is_stream else ""
+    more = ", and so may three" if pace.is_dense else \
+        f", and in {pace.lost} at best where 16 TS packets are lost" if is_stream else ""
     return f"pace: a PES packet comes within {counted(pace.apart, 'frame')} of the one before" \
-        f"{lost}: --pace {pace.frames}"
+        f"{more}: --pace {pace.frames}"
 
 
-def unseen_words(pace: Pace, recording: Recording) -> str:
-    """Which holes may be unseen; nothing where `--every` or the pace tells them."""
+def unseen_words(pace: Pace, unseen: int | None, recording: Recording) -> str:
+    """What nothing tells of holes, which no counter shows from so many frames on; nothing where
+    `--every` or the pace tells them."""
     if pace.kind == BY_EVERY or pace.kind == REGULAR and not pace.closer:
         return ""
     if without := clock_words(recording):
         return without
-    why = {REGULAR: f"at {counted(pace.closer, 'place')} its PES packets come closer",
-           IRREGULAR: "its PES packets come at irregular distances",
-           PAUSED: "none of its PES packets came in pauses, of up to "
-                   f"{counted(pace.apart, 'frame')}",
-           TOO_FEW: "its PES packets are too few to measure a pace"}[pace.kind]
-    holes = f"{HOLES} of {pid_name(recording.packets.pid)} alone" if recording.is_stream else \
-        f"PES packets that are missing from {recording.name}"
-    return f"{holes} may be unseen: {why}"
+    if pace.kind == REGULAR:
+        what, whose = (f"up to {(pace.lost - 1) / FRAMES_A_SECOND:.2f} s of this PID alone",
+                       "its PES packets") if recording.is_stream else (
+                           "a PES packet of this file", "they")
+        return f"{UNCHECKED} {what} is missing, at {counted(pace.closer, 'place')} where {whose} " \
+            "come closer"
+    why = {IRREGULAR: "come at irregular distances",
+           PAUSED: f"pause, for up to {counted(pace.apart, 'frame')}",
+           TOO_FEW: "are too few to measure a pace"}[pace.kind]
+    if not recording.is_stream:
+        return f"{UNCHECKED} PES packets of this file are missing: they {why}"
+    tenths = 10 * (unseen or 0) // FRAMES_A_SECOND
+    what = f"{tenths / 10} s or more" if tenths else "some"
+    return f"{UNCHECKED} {what} of this PID alone is missing: its PES packets {why}"
 
 
 def clock_words(recording: Recording) -> str:

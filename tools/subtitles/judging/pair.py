@@ -278,8 +278,8 @@ def cut_part(pair: Pair, part: Part) -> Range:
         pair.speech.say(line)
     else:
         first, last = one.range
-        pair.speech.choose(Selection(PES_CHOICE, f"{first}-{last}", line, last - first + 1, one.read,
-                                     part.number))
+        pair.speech.choose(Selection(PES_CHOICE, f"{first}-{last}", line, last - first + 1,
+                                     one.read, part.number))
     if damage and not one.is_over:
         pair.speech.say(f"cut: {recording.shown}: {damage}; it was read up to there")
     if one.range is None:
@@ -469,8 +469,8 @@ def judge_headers(pair: Pair, part: Part) -> None:
     `check` tells where they may."""
     kept = None if part.asked.may_keep else kept_in(part.headers_sent(), part.asked.option)
     if kept and part.held:
-        part.kept = judged_by(kept, try_part(pair, part, dataclasses.replace(part.asked, may_keep=True)), part.held,
-                              part.due().page_at)
+        keeping = dataclasses.replace(part.asked, may_keep=True)
+        part.kept = judged_by(kept, try_part(pair, part, keeping), part.held, part.due().page_at)
 
 
 def measure_part(pair: Pair, part: Part, count: int) -> None:

@@ -239,7 +239,8 @@ def of_several(found: Sequence[Cause], subtitles: Sequence[Subtitle]) -> str:
     first, last = subtitles[found[0].place], subtitles[found[-1].place]
     name = found[0].name
     if name == IN_PAUSE:
-        return f"another text was sent in {counted(len(found), 'pause')}, the first {found[0].words}"
+        return f"another text was sent in {counted(len(found), 'pause')}, the first " \
+            f"{found[0].words}"
     is_to_the_end = found[-1].place == len(subtitles) - 1
     when = f"from {time_of(first.begin)} on" if is_to_the_end else \
         f"from {time_of(first.begin)} to {time_of(last.begin)}"

@@ -208,8 +208,8 @@ def positions_in(file: SubtitleFile) -> Iterator[int]:
             yield place
 
 
-def refused_of(file: SubtitleFile, told: FaultLine, advice: OptionAdvice, known: dict[int, Meaning]) \
-        -> RefusedSubtitle:
+def refused_of(file: SubtitleFile, told: FaultLine, advice: OptionAdvice,
+               known: dict[int, Meaning]) -> RefusedSubtitle:
     """A subtitle by the first line that names it."""
     assert told.block is not None
     subtitle = file.at_block(told.block)

@@ -392,8 +392,8 @@ def due_pages_of(program: str, stl: str, page: Page, option: str, between: Betwe
         return DuePages([], [])
     with temporary_folder("subttx-qc-") as folder:
         path = os.path.join(folder, "due.pes")
-        program_answer(program, "schedule", "--page", page_name(*page), "--option", option, "--every",
-                       EVERY, *between.words(), *words, "--", stl, path)
+        program_answer(program, "schedule", "--page", page_name(*page), "--option", option,
+                       "--every", EVERY, *between.words(), *words, "--", stl, path)
         packets = survey(program, path, page).by_pid.get(PES, Packets(PES))
     due = Timeline(packets, page, 0)
     return DuePages(subtitles, [due.page_at(one.begin) for one in subtitles], due)

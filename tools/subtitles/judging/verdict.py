@@ -280,6 +280,8 @@ class Verdict:
         if word == REFUSED:
             return refused
         line = self.accepted_line() if refused is None else f"{WAIVED}: {refused}"
+        if self.asked.waivers:
+            line += f"; the profile has {' and '.join(self.asked.waivers)}"
         if word == LOST:
             return f"not accepted, since TS packets are lost: {line}"
         if word == WARNED:

@@ -227,8 +227,8 @@ def followed(source: Source, call: Listening, keep: Callable[[bytes], None]) \
         yield still, is_ready and not ready and still >= PATIENCE
 
 
-def read_feed(name: str, path: str, asked: Request, program: str, survey: Survey, ending: Ending | None,
-              speech: Speech, stalled_after: int) -> SummedFile:
+def read_feed(name: str, path: str, asked: Request, program: str, survey: Survey,
+              ending: Ending | None, speech: Speech, stalled_after: int) -> SummedFile:
     """Reads a feed as long as more is needed, or to its end, and keeps it at a path; what was
     read."""
     stall, digest, count = Stall(stalled_after, speech.tell), hashlib.sha256(), 0

@@ -184,7 +184,8 @@ def of_pauses(pts: Sequence[int], asked: Request, origin: int) -> Iterator[Notic
 def of_repeat(headers: Sequence[int], asked: Request, origin: int, times: list[tuple[int, int]]) \
         -> Iterator[Notice]:
     """Where the page is repeated so often that `--every` would not see a repeat that is missing."""
-    every = repeat_distance((frame_in(pts, origin, asked.within) for pts in headers), edges_of(times))
+    every = repeat_distance((frame_in(pts, origin, asked.within) for pts in headers),
+                            edges_of(times))
     if every is not None and every * 2 < asked.every:
         yield Notice("repeat", f"the page is repeated each "
                      f"{'frame' if every == 1 else counted(every, 'frame')}; --every {every} would "

@@ -97,7 +97,8 @@ def heads(*names: str) -> Markup:
     return joined(markup('<th scope="col">{}</th>', name) for name in names)
 
 
-def table_row(head: Value, columns: Iterable[str], cells: Iterable[Value], name: Value = "") -> Markup:
+def table_row(head: Value, columns: Iterable[str], cells: Iterable[Value], name: Value = "") \
+        -> Markup:
     """A row of a table, each cell with the head of its column."""
     named = joined(markup('<td data-name="{}">{}</td>', column, cell)
                    for column, cell in zip(columns, cells))

@@ -322,7 +322,8 @@ has ended there, or it can't be read or followed any longer.</p>
 <p><b>Pictures.</b> On the left is the page that is due at the end of the frame, from
 <code>subttx schedule</code> of the subtitle file, and on the right the page that a receiver holds
 then, which has heard the PES file from its first packet. They are cut to the rows in use. The grey
-ground is where the programme's picture is seen: a receiver shows what stands in boxes alone, and what stands outside of them is faint here. Flashing
+ground is where the programme's picture is seen: a receiver shows what stands in boxes alone, \
+and what stands outside of them is faint here. Flashing
 letters are underlined with dots. Cells whose code differs from the due page's are framed in orange
 and black. Dotted cells are those of the receiver's old page which nobody sent or erased since it
 was tuned in; dashed ones came with even parity. Mosaics are drawn as &#9618;, and what is concealed
@@ -498,7 +499,8 @@ def made_from(files: Iterable[tuple[str, SummedFile]], date: str, program: MadeW
             for name, lines in words]
     return markup('<h2 id="files">Made from</h2><table class="files"><thead><tr><td></td>{}</tr>'
                   "</thead><tbody>{}</tbody></table>{}", heads("Name", "Size", "SHA-256"), rows,
-                  names_block([("Date", date), ("Version", program.version), *told, ("PROVED", proved)]))
+                  names_block([("Date", date), ("Version", program.version), *told,
+                               ("PROVED", proved)]))
 
 
 PAGE_COLUMNS = ("Headers", "First PTS", "First frame", "Last PTS", "Last frame",
@@ -632,7 +634,8 @@ def table(verdict: Verdict, names: Names) -> Markup:
             begin or "", end or "", markup('<a href="{}">{}</a>', page, part.answer.lead),
             f"{part.answer.count:,}", names_line([part.causes]) if part.causes else "none",
             clock_of(part)]
-        rows.append(table_row(markup('<a href="{}">part {}</a>', page, part.number), PART_COLUMNS, cells))
+        head = markup('<a href="{}">part {}</a>', page, part.number)
+        rows.append(table_row(head, PART_COLUMNS, cells))
     return markup('<table class="pages parts"><thead><tr>{}</tr></thead><tbody>{}</tbody></table>',
                   heads("Part", *PART_COLUMNS), joined(rows))
 

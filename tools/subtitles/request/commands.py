@@ -14,7 +14,8 @@ from typing import Callable, TextIO
 from ..common.command_line import HIDDEN, INSTALLED, Stop, quoted, shown, silence, tell
 from ..common.files import is_utf_8
 from ..common.program import TOP, behind_script
-from .request import Request, Selection, option_words
+from .profile import Profile
+from .request import OPTIONS, Request, Selection, option_words
 
 
 # Commands as they would be typed: the tools and the program by the names that the caller uses.
@@ -68,9 +69,9 @@ def shell_line(*words: str) -> str:
 # two have the same: what ends as the number of a part does, or of a line, is escaped where it is of
 # a pair's own name.
 #
-#     film.json       of the pair of film.stl        film~2.json     of the second one of a list
-#     film.1.html     of its first part              line 7.json     of line 7, where that is no pair
-#     film%2E1.json   of the pair of film.1.stl      %69ndex.json    of the pair of index.stl
+#     film.json       of the pair of film.stl      film~2.json     of the second one of a list
+#     film.1.html     of its first part            line 7.json     of line 7, where that is no pair
+#     film%2E1.json   of the pair of film.1.stl    %69ndex.json    of the pair of index.stl
 
 ENDINGS = ("cut.pes", "txt", "html")  # of what is made of a part
 KEPT, KEPT_STREAM = "recording.pes", "recording.ts"  # of a recording that is kept
@@ -202,6 +203,13 @@ def again(asked: Request, typed: CommandWords, *more: str) -> str:
     instead = {"--origin": ["--origin", "--start"]}.get(more[0], [more[0]]) if more else []
     words += [word for option in options if not set(option[:1]) & set(instead) for word in option]
     return shell_line(*words, *more)
+
+
+def profile_line(profile: Profile) -> str:
+    """What a profile says, on a line."""
+    words = [word for one in OPTIONS if (setting := profile.settings.get(one.field))
+             and setting.name == one.name for word in one.words(setting.value, None)]
+    return f"profile {profile.name}: {shell_line(*words) or 'it says nothing'}"
 
 
 # A line on the terminal that rewrites itself, and shows how much is done.

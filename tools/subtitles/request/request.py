@@ -4,29 +4,30 @@ from __future__ import annotations
 import argparse
 import contextlib
 import dataclasses
-import functools
 import os
 import stat
 from typing import Any, Callable, Iterable, NamedTuple, Sequence
 
 from ..common.command_line import (
-    MOST_EVERY, MOST_WITHIN, Stop, Words, breaks_word, every_word, origin_word, pace_word,
+    MOST_EVERY, MOST_WITHIN, Stop, breaks_word, every_word, origin_word, pace_word,
     page_word, pid_word, range_word, shown, start_word, time_word, within_word)
 from ..common.files import first_bytes, plain_name
 from ..common.shapes import (
-    COUNT, Flag, Integer, Listed, Maybe, Member, OneOf, PID, PTS, Shape, TIME, Text)
+    COUNT, Flag, Integer, Listed, Maybe, Member, OneOf, PID, PTS, Record, SUM, Shape, TIME, Text)
 from ..common.times import Between, FRAMES_OF_A_DAY, frame_of, time_of
 from ..formats.layout import fault_in
 from ..formats.stl import stl_bytes
 from ..formats.teletext import WORDS, named_by, page_name
+from .lateness import Lateness, late_text, late_word
+from .profile import Profile
 
 
 # The table of the options of a pair: a row for each.
 #
 # Of it are made how an option is read and its help, so the man page and completion; the manual's
 # table; the words of a call for a pair, and those of `check`; which calls and lines of a list take
-# it; the member of a JSON result, so the schema, and what --resume compares. A new one is a row here
-# and a field of `Request`.
+# it; the member of a JSON result, so the schema, and what --resume compares. A new one is a row
+# here and a field of `Request`.
 
 
 class Mode(NamedTuple):
@@ -57,14 +58,14 @@ NOT = object()  # an option that `check` does not take
 class Option(NamedTuple):
     """An option.
 
-    `metavar` is what its value is called, None where it has none; `means` what it is, with links for
-    the manual, and `without` what holds where it is left out. `modes` are the calls and lines that
-    take it, `field` where `Request`, or the words of a call, have its value. `read` takes the word,
-    or says by `ArgumentTypeError` why it is none, and `write` makes it again; `sets` is what one
-    without a value sets. `of_check` is what `check` takes where the same option is left out. One `of_pages`
-    changes the pages that are due, so `schedule` takes it. `shape`, `said` and `in_result` are its
-    member of a JSON result: what it may be, what it means, and what it is of the value.
-    """
+    `metavar` is what its value is called, None where it has none; `means` what it is, with links
+    for the manual, and `without` what holds where it is left out. `modes` are the calls and lines
+    that take it, `field` where `Request`, or the words of a call, have its value. `read` takes the
+    word, or says by `ArgumentTypeError` why it is none, and `write` makes it again; `sets` is what
+    one without a value sets. `of_check` is what `check` takes where the same option is left out.
+    One `of_pages` changes the pages that are due, so `schedule` takes it, and one `in_profile` may
+    stand in a profile. `shape`, `said` and `in_result` are its member of a JSON result: what it may
+    be, what it means, and what it is of the value."""
 
     name: str
     metavar: str | None
@@ -79,6 +80,7 @@ class Option(NamedTuple):
     choices: Sequence[str] = ()
     of_check: Any = NOT
     of_pages: bool = False
+    in_profile: bool = False
     shape: Shape | None = None
     said: str = ""
     in_result: Callable[[Any], Any] = lambda value: value
@@ -157,32 +159,40 @@ def range_text(pes: tuple[int, int]) -> str:
     return f"{pes[0]}-{pes[1]}"
 
 
+PROFILE = Record("profile", "", Member("name", Text()), Member("sha256", SUM))
+
 OPTIONS: tuple[Option, ...] = (
     Option("--page", "P", "the page", TRANSMISSIONS, "888", field="page", default=(0, 0x88),
-           read=page_word, write=lambda page: page_name(*page), of_check=(0, 0x88),
+           read=page_word, write=lambda page: page_name(*page), of_check=(0, 0x88), in_profile=True,
            shape=Text(r"[1-8][0-9A-F]{2}"), in_result=lambda page: page_name(*page)),
     Option("--every", "N", "the repeat bound", TRANSMISSIONS, "250 frames", field="every",
-           default=250, read=every_word, of_check=250, shape=Integer(1, MOST_EVERY)),
-    Option("--option", "O", "the national option; `auto`: the one of the language that the subtitle "
-           "file names (LC): 08 `german`; 27, 28, 1B `swedish`; 15 `italian`; 0F `french`; 0A, 21 "
-           "`spanish`; 06, 25 `czech`; any other `english`", JUDGED, "english", field="option",
-           default="english", choices=(*WORDS, AUTO), of_check="english", shape=OneOf(*WORDS)),
+           default=250, read=every_word, of_check=250, in_profile=True,
+           shape=Integer(1, MOST_EVERY)),
+    Option("--option", "O", "the national option; `auto`: the one of the language that the "
+           "subtitle file names (LC): 08 `german`; 27, 28, 1B `swedish`; 15 `italian`; 0F "
+           "`french`; 0A, 21 `spanish`; 06, 25 `czech`; any other `english`", JUDGED, "english",
+           field="option", default="english", choices=(*WORDS, AUTO), of_check="english",
+           in_profile=True, shape=OneOf(*WORDS)),
     Option("--origin", "T", "the clock: the PTS of 00:00:00:00", TRANSMISSIONS, "it is fitted",
            field="origin", read=origin_word, shape=Maybe(PTS),
            said="null where it was to be found; the one that was used is in the part."),
     Option("--complete", None, "ask for [closing headers]"
            "(transmissions.md#closing-headers---complete)", TRANSMISSIONS, "they are asked for",
-           field="is_complete", default=True, of_check=False, shape=Flag()),
+           field="is_complete", default=True, of_check=False, in_profile=True, shape=Flag()),
     Option("--no-complete", None, "ask for none", TRANSMISSIONS, "they are asked for",
-           field="is_complete", default=True, sets=False),
+           field="is_complete", default=True, sets=False, in_profile=True),
     Option("--pid", "PID", "the PID of a transport stream", (*PAIRS, CHANNEL),
            "the one that carries the page", field="pid", read=pid_word,
-           write=lambda pid: f"0x{pid:X}", shape=Maybe(PID)),
+           write=lambda pid: f"0x{pid:X}", in_profile=True, shape=Maybe(PID)),
     Option("--allow-lost", None, "lost TS packets are a warning (45, and 79)", TRANSMISSIONS,
-           "they are refused", field="is_loss_allowed", default=False, shape=Flag()),
+           "they are refused", field="is_loss_allowed", default=False, in_profile=True,
+           shape=Flag()),
+    Option("--no-allow-lost", None, "they are refused, whatever the profile says", TRANSMISSIONS,
+           "they are refused", field="is_loss_allowed", default=False, sets=False),
     Option("--severity", "FILE", "lines `NUMBER error`, `NUMBER warning` and `others warning` (for "
            "all numbers that it does not name); a warning does not count for the status", JUDGED,
-           "all are errors", field="severity", shape=Maybe(Text()), said="The name of the file."),
+           "all are errors", field="severity", in_profile=True, shape=Maybe(Text()),
+           said="The name of the file."),
     Option("--breaks", "N", "the [breaks](recording.md#programmes-with-breaks) of the programme: "
            "each part has its own clock", PAIRS, "none", field="breaks", default=0,
            read=breaks_word, shape=COUNT, said="How many the programme has."),
@@ -195,8 +205,14 @@ OPTIONS: tuple[Option, ...] = (
            "it is fitted", field="start", read=start_word, shape=Maybe(Text()),
            said="The time code of the first picture, or tcp."),
     Option("--within", "N", "the frames within which a page has to be whole", TRANSMISSIONS, "0",
-           field="within", default=0, read=within_word, of_check=0, shape=Integer(0, MOST_WITHIN),
-           said="The frames within which a page has to be whole."),
+           field="within", default=0, read=within_word, of_check=0, in_profile=True,
+           shape=Integer(0, MOST_WITHIN), said="The frames within which a page has to be whole."),
+    Option("--late", "SHARES", "with `--within`: the shares of begins, and behind the slash of "
+           "ends, that are 0, 1 .. frames late where all is right, as `0:31,1:40,2:29/0:100`: a "
+           "clock that is fitted is the likeliest by them", TRANSMISSIONS, "none", field="late",
+           read=late_word, write=late_text, in_profile=True, shape=Maybe(Text()),
+           said="The shares of begins and of ends that are so many frames late.",
+           in_result=lambda late: late and late_text(late)),
     Option("--strict", None, "[warnings](#warnings) about the recording count, also that the clock "
            "was fitted", JUDGED, "they change nothing", field="is_strict", default=False,
            shape=Flag(), said="Whether warnings count."),
@@ -208,19 +224,27 @@ OPTIONS: tuple[Option, ...] = (
            said="Only the subtitles whose TCI is before were judged."),
     Option("--layout", "TEXT|auto", "how the house draws its subtitles; `auto`: [the layout]"
            "(#the-layout) that draws them as they were sent", JUDGED, "as of `check`",
-           field="layout", read=layout_or_auto, of_check=None, of_pages=True, shape=Maybe(Text()),
+           field="layout", read=layout_or_auto, of_check=None, of_pages=True, in_profile=True,
+           shape=Maybe(Text()),
            said="How pages are drawn that are due; auto: as they were sent, see layout."),
     Option("--open", None, "take a file of open subtitles too", JUDGED, "it is refused",
            field="is_open", default=False, of_check=False, of_pages=True, shape=Flag(),
            said="Whether open subtitles are taken too."),
-    Option("--keeping", None, "headers that repeat the page may keep it, with C4 (erase page) clear",
-           TRANSMISSIONS, "they may not", field="may_keep", default=False, of_check=False, shape=Flag(),
-           said="Whether headers that repeat the page may keep it."),
+    Option("--keeping", None, "headers that repeat the page may keep it, with C4 (erase page) "
+           "clear", TRANSMISSIONS, "they may not", field="may_keep", default=False, of_check=False,
+           in_profile=True, shape=Flag(), said="Whether headers that repeat the page may keep it."),
+    Option("--no-keeping", None, "they may not, whatever the profile says", TRANSMISSIONS,
+           "they may not", field="may_keep", default=False, sets=False),
     Option("--pace", "K|none", "the frames from a PES packet to the next one at most, its [pace]"
            "(#the-pace); `none`: ask for none", TRANSMISSIONS, "it is measured",
-           field="pace_word", read=pace_or_none, of_check=None, shape=Maybe(Text(r"(none|[1-9][0-9]{0,6})")),
+           field="pace_word", read=pace_or_none, of_check=None, in_profile=True,
+           shape=Maybe(Text(r"(none|[1-9][0-9]{0,6})")),
            said="How many frames apart PES packets may be at most; none: not asked; null where it "
            "was to be found: the one that was used is in the part."),
+    Option("--profile", "FILE", "what the house says once: [options, one a line](#a-profile); what "
+           "is typed beside it wins", JUDGED, "nothing", field="profile",
+           write=lambda profile: str(profile.name), shape=Maybe(PROFILE),
+           said="The profile; what it says stands in the other members."),
 )
 
 
@@ -238,14 +262,16 @@ def add_options(parser: argparse.ArgumentParser, options: Iterable[Option] | Non
 
 
 def option_words(asked: Any) -> list[list[str]]:
-    """The options of what is asked, each as words."""
-    return [one.words(one.value_in(asked), one.default) for one in OPTIONS]
+    """The options of what is asked, each as words; a profile says those that it has."""
+    return [one.words(one.value_in(asked), asked.profile.value(one.field, one.default)
+                      if asked.profile else one.default) for one in OPTIONS]
 
 
 def check_words(asked: Any, is_file: bool = False) -> list[str]:
     """Those that `check` takes too, as a person would type them there; of a subtitle file alone
     those that change the verdict on it."""
-    return [word for one in OPTIONS if one.of_check is not NOT and (ALONE in one.modes or not is_file)
+    return [word for one in OPTIONS
+            if one.of_check is not NOT and (ALONE in one.modes or not is_file)
             for word in one.words(one.value_in(asked), one.of_check)]
 
 
@@ -298,6 +324,8 @@ class Request:
     is_open: bool = False  # whether open subtitles are taken too
     may_keep: bool = False  # whether headers that repeat the page may keep it
     pace_word: str | None = None  # frames, or `none`
+    late: Lateness | None = None  # of a right inserter, where the house knows it
+    profile: Profile | None = None  # of which the fields here have what it says
     found_layout: str | None = None  # by --layout auto; the empty one is that without an option
     kept_stl: str | None = None  # what came through a pipe as the subtitle file
     language: str | None = None  # of the subtitle file, where that names the option
@@ -306,6 +334,11 @@ class Request:
     def stl_path(self) -> str:
         """The subtitle file that can be read."""
         return self.kept_stl or self.stl
+
+    @property
+    def others(self) -> tuple[str | None, ...]:
+        """The files that are read beside both: none is written to."""
+        return self.severity, self.profile and self.profile.name
 
     @property
     def page_name(self) -> str:
@@ -338,6 +371,13 @@ class Request:
         word = self.pace_word
         return None if word is None or word == NONE else int(word)
 
+    @property
+    def waivers(self) -> list[str]:
+        """The options by which the profile lets faults pass."""
+        return [one.name for one in OPTIONS if one.field in ("is_loss_allowed", "severity")
+                and one.words(one.value_in(self), one.default) and self.profile
+                and self.profile.value(one.field, None) == one.value_in(self)]
+
     def of_check(self) -> Request:
         """The same as `check` is asked: for `auto`, and no layout or pace, it has no word."""
         return dataclasses.replace(
@@ -369,6 +409,8 @@ def request_with(stl: str, recording: str | None, options: argparse.Namespace) -
     named = recording and (recording if recording == "-" else plain_name(recording))
     if options.origin is not None and options.start is not None:
         raise Stop("--start tells the origin: --origin is too many")
+    if options.late and options.late.longest > options.within:
+        raise Stop(f"--late says {options.late.longest} frames, and --within {options.within}")
     asked = Request(plain_name(stl), named, **pair_options(options))
     if asked.option == AUTO and not is_pipe(asked.stl):  # else it is known once that is read
         take_option(asked)
@@ -405,29 +447,6 @@ def option_line(asked: Request) -> str:
     language = f"the language of the file (LC) is {shown(asked.language)}" if asked.language else \
         "the file names no language (LC)"
     return f"option: {asked.option}, since {language}"
-
-
-@functools.lru_cache(maxsize=None)
-def line_parser() -> Words:
-    """What a line of a list is read by; it takes longer to make than to use."""
-    parser = Words("")
-    parser.add_argument("stl")
-    parser.add_argument("recording")
-    add_options(parser)
-    return parser
-
-
-def request_of_line(line: Sequence[str], defaults: argparse.Namespace) -> Request:
-    """The pair of a line of a list, with the options that hold for all where it has none."""
-    known = pair_options(defaults)
-    given = {word.partition("=")[0] for word in line}
-    for one, other in (("origin", "start"), ("start", "origin")):
-        if f"--{one}" in given:
-            known[other] = None  # a line that tells its origin takes none of the call
-    asked = request_of(line_parser().parse_args(line, argparse.Namespace(**known)))
-    if asked.recording == "-":
-        raise Stop("- is no recording of a list: give a file")
-    return asked
 
 
 # What `qc` chooses by itself, with the evidence that it is chosen by: a line that is printed, and

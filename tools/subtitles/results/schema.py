@@ -8,7 +8,7 @@ from ..common.command_line import MOST_EVERY, PACKET_SIZES
 from ..common.program import MadeWith
 from ..common.shapes import (
     COUNT, Flag, Integer, Listed, MOST_NUMBER, Maybe, Member, Number, OneOf, PID, PTS, Record,
-    Rules, Schema, TIME, Text, definitions, named)
+    Rules, SUM, Schema, TIME, Text, definitions, named)
 from ..common.times import FRAMES_OF_A_DAY, time_of
 from ..formats.layout import layout_text
 from ..judging.causes import NAMES, Wording, counts_of
@@ -28,13 +28,12 @@ FIRST_FAULT, LAST_FAULT = 10, 79  # numbers of what is refused
 CODE_TIME = named("code_time", Text(r"[0-9]{2,3}(:[0-9]{2,3}){3}"))
 DATE = named("date", Text(r"[0-9]{4}-[0-9]{2}-[0-9]{2}T[0-9]{2}:[0-9]{2}:[0-9]{2}Z"))
 PART = named("part_number", Integer(1, MOST_NUMBER), "The part, from 1.")
-SUM = named("sum", Text(r"[0-9a-f]{64}"), "SHA-256.")
 STATUS = named("status", OneOf(*sorted({*STATUSES.values()})),
                "The exit status: 0 accepted or waived, 1 not accepted, 2 not judged.")
-WORD = named("word", OneOf(*STATUSES), "waived: refused by faults that --severity, or --allow-lost, "
-             "names warnings, and by no other (status 0). lost: what was seen is accepted or waived, "
-             "and TS packets are missing. warned: with --strict, what was seen is accepted or "
-             "waived, and there are warnings.")
+WORD = named("word", OneOf(*STATUSES), "waived: refused by faults that --severity, or "
+             "--allow-lost, names warnings, and by no other (status 0). lost: what was seen is "
+             "accepted or waived, and TS packets are missing. warned: with --strict, what was seen "
+             "is accepted or waived, and there are warnings.")
 
 FOUND_FILE = Record(
     "found", "",
@@ -64,12 +63,13 @@ OF_CAUSE = (
            "By how many frames it is late or early; null for the others."),
     Member("text", Text(), "The subtitle's text, its rows joined by a slash."),
     Member("sent", Maybe(Text()), "The text that is sent; null where nothing is."),
-    Member("other", Maybe(Integer(0, 65535)), "The number (SN) of the subtitle whose text that is."),
+    Member("other", Maybe(Integer(0, 65535)),
+           "The number (SN) of the subtitle whose text that is."),
     Member("other_position", Maybe(Integer(1, MOST_NUMBER)),
            "The place of that subtitle in the file, from 1."),
     Member("words", Text(), "The cause as it is printed."))
-CAUSE = Record("cause", "Why a subtitle is held otherwise than it is due. All 72s of its time share "
-               "it, those after its TCO and those of its early coming too.", *OF_CAUSE)
+CAUSE = Record("cause", "Why a subtitle is held otherwise than it is due. All 72s of its time "
+               "share it, those after its TCO and those of its early coming too.", *OF_CAUSE)
 LISTED_CAUSE = Record("listed_cause", "A cause with the part that it is of.",
                       Member("part", PART), *OF_CAUSE)
 
@@ -96,12 +96,12 @@ FAULT = Record(
     Member("text_at", Maybe(COUNT),
            "For 50 and 51 that byte of the text, for 52 to 55 the line, from 0."),
     Member("pes", Maybe(COUNT), "The PES packet of the recording, from 0, of a feed of what was "
-           "judged; of several in a frame the one that holds the packet, or the last one; null in a "
-           "gap between two."),
+           "judged; of several in a frame the one that holds the packet, or the last one; null in "
+           "a gap between two."),
     Member("pes_pts", Maybe(PTS)),
     Member("pes_time", Maybe(TIME)),
-    Member("packet", Maybe(COUNT), "The Teletext packet of that PES packet, from 0; of several in a "
-           "frame it is counted on from one to the next."),
+    Member("packet", Maybe(COUNT), "The Teletext packet of that PES packet, from 0; of several in "
+           "a frame it is counted on from one to the next."),
     Member("frame", Maybe(Integer(0, FRAMES_OF_A_DAY - 1)), "The frame of the day, 0 to 2159999."),
     Member("time", Maybe(TIME)),
     Member("row", Maybe(Integer(1, 24))),
@@ -128,9 +128,9 @@ CLOCK_OF_PART = Record(
     Member("origin", PTS),
     Member("source", OneOf(*SOURCES),
            "Fitted to the recording, given as --origin, or as --start by a time or tcp."),
-    Member("delay_frames", Maybe(Integer(-FRAMES_OF_A_DAY, FRAMES_OF_A_DAY)), "How many frames later "
-           "than by the clock the cues of the subtitles came; null where that is not known, as "
-           "with a clock that was fitted to the recording."))
+    Member("delay_frames", Maybe(Integer(-FRAMES_OF_A_DAY, FRAMES_OF_A_DAY)), "How many frames "
+           "later than by the clock the cues of the subtitles came; null where that is not known, "
+           "as with a clock that was fitted to the recording."))
 
 
 class PartOf(NamedTuple):
@@ -153,8 +153,8 @@ JUDGED_PART = Record(
     Member("origin", Maybe(PTS), of=lambda of: of.part.origin),
     Member("from", Maybe(TIME), of=lambda of: of.part.times()[0]),
     Member("to", Maybe(TIME), of=lambda of: of.part.times()[1]),
-    Member("verdict", OneOf("accepted", "refused", "not judged"), "not judged: a signal stopped the "
-           "call, and what was reported so far is here.", lambda of: of.part.answer.verdict),
+    Member("verdict", OneOf("accepted", "refused", "not judged"), "not judged: a signal stopped "
+           "the call, and what was reported so far is here.", lambda of: of.part.answer.verdict),
     Member("line", Text(), "That of check without --all.", lambda of: of.part.answer.line),
     Member("frames", Maybe(COUNT), of=lambda of: of.part.answer.frames),
     Member("transmissions", Maybe(COUNT), of=lambda of: of.part.answer.transmissions),
@@ -169,8 +169,8 @@ JUDGED_PART = Record(
     Member("pace", Maybe(Integer(1, MOST_EVERY)), "The frames from a PES packet to the next one at "
            "most by which it was judged: what was asked, or was found where PES packets are "
            "regular; null where none was.", lambda of: of.part.asked.pace),
-    Member("judged", Maybe(FILE), "The PES packets of a feed that were judged; null of a file, which "
-           "can be read once more."),
+    Member("judged", Maybe(FILE), "The PES packets of a feed that were judged; null of a file, "
+           "which can be read once more."),
     Member("clock", Maybe(CLOCK_OF_PART), of=lambda of: of.part.clock))
 
 GAP = Record(
@@ -214,9 +214,9 @@ WHOLE = Record(
     Member("number", Integer(0, 65535)),
     Member("begin", TIME),
     Member("end", TIME),
-    Member("whole_after", Maybe(COUNT), "How many frames after its TCI its page was whole, and where "
-           "complete pages are asked for ended; null where it never was while it was due, or nobody "
-           "saw it: of one too that was due before the recording has anything of the page."))
+    Member("whole_after", Maybe(COUNT), "How many frames after its TCI its page was whole, and "
+           "where complete pages are asked for ended; null where it never was while it was due, or "
+           "nobody saw it: of one too that was due before the recording has anything of the page."))
 
 LAYOUT_ITEM = Record(
     "layout_item", "",
@@ -241,8 +241,8 @@ LAYOUT = Record(
     Member("found", COUNT, "How many were sent with their letters."),
     Member("items", Listed(LAYOUT_ITEM, MOST_ITEMS),
            "On what each item rests; of strip each code is one."),
-    Member("left", Listed(LAYOUT_LEFT, MOST_ITEMS), "Items that are not taken, and would draw more: "
-           "too few subtitles show them, or they take from a page what a viewer sees."))
+    Member("left", Listed(LAYOUT_LEFT, MOST_ITEMS), "Items that are not taken, and would draw "
+           "more: too few subtitles show them, or they take from a page what a viewer sees."))
 
 CHOSEN = Record(
     "chosen", "",
@@ -250,9 +250,9 @@ CHOSEN = Record(
     Member("what", OneOf(*CHOICES), "The option that would say it."),
     Member("value", Maybe(Text()), "The value that is taken, as the option has it; empty for the "
            "layout without an option; null where none is asked for."),
-    Member("agree", Maybe(COUNT), "How many agree: of pid PES packets with a header of the page, of "
-           "origin cues, of pes PES packets in the time of the subtitles, of layout subtitles that "
-           "it draws as they were sent, of pace places where a loss takes longer; else null."),
+    Member("agree", Maybe(COUNT), "How many agree: of pid PES packets with a header of the page, "
+           "of origin cues, of pes PES packets in the time of the subtitles, of layout subtitles "
+           "that it draws as they were sent, of pace places where a loss takes longer; else null."),
     Member("among", Maybe(COUNT), "Of how many."),
     Member("line", Text(), "The evidence as it was printed."))
 
@@ -274,7 +274,7 @@ COUNTS = Record("counts", "", Member("judged", COUNT), Member("refused", COUNT))
 # What is written is made by it, what is read back has to fit it as a whole, and `dev/make-pages`
 # makes docs/verdict.schema.json of it: a new member is a row here, or in `members`.
 
-FORMAT = 5
+FORMAT = 6
 MOST_LISTED = 20_000  # items of a list
 MOST_SUBTITLES = 100_000  # a subtitle file has 99,999 blocks at most
 MOST_SECONDS = 10 ** 9
@@ -323,8 +323,8 @@ def sum_of_parts(known: Writing, name: str) -> int | None:
     return total([getattr(part.answer, name) for part in known.verdict.parts])
 
 
-FOUND = Record("found_files", "The files as they were when judging began; null for what is no file. "
-               "--resume and --watch judge again where they differ.", *(
+FOUND = Record("found_files", "The files as they were when judging began; null for what is no "
+               "file. --resume and --watch judge again where they differ.", *(
                    Member(name, Maybe(FOUND_FILE)) for name in ("stl", "recording", "severity")))
 INPUTS = Record("inputs", "", Member("stl", Maybe(FILE)), Member("recording", Maybe(FILE)))
 CAUSE_COUNTS = Record("cause_counts", "How many causes there are of each name.", *(
@@ -341,8 +341,8 @@ TOGETHER = Rules([*(
 # The lists, which are written one item after another and read like that; of each is said how many
 # items are left out.
 LISTS = (
-    Member("parts", Listed(JUDGED_PART, MOST_LISTED), "What was judged by itself, each with its own "
-           "origin. The verdict says nothing of frames between them.",
+    Member("parts", Listed(JUDGED_PART, MOST_LISTED), "What was judged by itself, each with its "
+           "own origin. The verdict says nothing of frames between them.",
            lambda known: (PartOf(part, known.verdict.is_kept) for part in known.verdict.parts)),
     Member("lost", Listed(GAP, MOST_LISTED), of=lambda known: known.verdict.gaps),
     Member("notes", Listed(Text(), MOST_LISTED),
@@ -351,23 +351,25 @@ LISTS = (
     Member("hints", Listed(Text(), MOST_LISTED), "What to know of the first fault of some numbers, "
            "as of a letter (50), content (72) or a page header (67), a line each that begins with "
            "the number.", lambda known: known.verdict.hints),
-    Member("warnings", Listed(WARNING, MOST_LISTED), "What is strange of the recording; the verdict "
-           "says nothing of it, but with asked.strict.", lambda known: known.verdict.warnings),
+    Member("warnings", Listed(WARNING, MOST_LISTED), "What is strange of the recording; the "
+           "verdict says nothing of it, but with asked.strict.",
+           lambda known: known.verdict.warnings),
     Member("commands", Listed(Text(), MOST_LISTED), "The steps as they can be typed.",
            lambda known: known.verdict.commands),
     Member("chosen", Listed(CHOSEN, MOST_LISTED), "What qc chose by itself, and by which evidence, "
            "in the order in which it did.", lambda known: known.verdict.chosen),
     Member("trusted", Listed(TRUSTED, MOST_LISTED), "Frames that may stay on air as they are, both "
-           "included; where asked.within is 1 or more, with what is promised within so many frames.",
-           trusted_of),
+           "included; where asked.within is 1 or more, with what is promised within so many "
+           "frames.", trusted_of),
     Member("faults", Listed(FAULT, MOST_LISTED), "In the order in which check --all tells them.",
            lambda known: faults_of(known.verdict)),
     Member("causes", Listed(LISTED_CAUSE, MOST_LISTED), "Of each subtitle whose content is refused "
-           "(72) one cause, in the order of the subtitles; of the first one that is 63 and the last "
-           "one that is 74 too, where the recording goes on there.", cause_rows),
+           "(72) one cause, in the order of the subtitles; of the first one that is 63 and the "
+           "last one that is 74 too, where the recording goes on there.", cause_rows),
     Member("subtitles", Listed(WHOLE, MOST_SUBTITLES),
            "The subtitles of what was judged to its end.", subtitle_rows))
-LEFT_OUT = Record("left_out", "How many items of each list are left out, since there are so many.", *(
+LEFT_OUT = Record("left_out", "How many items of each list are left out, since there are so "
+                  "many.", *(
     Member(one.name, COUNT) for one in LISTS))
 
 VERDICT = Record(
@@ -377,8 +379,8 @@ VERDICT = Record(
     Member("status", STATUS, of=lambda known: known.verdict.status),
     Member("line", Maybe(Text()), "The last line on standard output; null where it was not judged.",
            lambda known: known.verdict.line),
-    Member("lead", Maybe(Text()), "The same with the fault that a viewer sees first (63, 72, 74, 77 "
-           "or 78), where there is one: reports, and tables of many pairs, begin with it.",
+    Member("lead", Maybe(Text()), "The same with the fault that a viewer sees first (63, 72, 74, "
+           "77 or 78), where there is one: reports, and tables of many pairs, begin with it.",
            lambda known: known.verdict.lead),
     Member("sentence", Text(), "The verdict in one sentence for a person.",
            lambda known: known.verdict.sentence),
@@ -402,12 +404,13 @@ VERDICT = Record(
            lambda known: known.verdict.seconds),
     Member("cause_counts", CAUSE_COUNTS, of=lambda known: counts_of(
         part.causes for part in known.verdict.parts if part.causes)),
-    Member("accepted_within", Maybe(Integer(1, MOST_TRIED)), "The least N above asked.within within "
-           "which it would be accepted, where it is refused; null where there is none, where nobody "
-           "looked, as of a feed, and else.", lambda known: known.verdict.accepted_within),
-    Member("whole_after", Maybe(SPREAD), "After how many frames subtitles were whole: the least, the "
-           "middle one, the greatest, and how many nobody saw whole; null where none was seen so, or "
-           "nobody looked.", lambda known: known.verdict.delays),
+    Member("accepted_within", Maybe(Integer(1, MOST_TRIED)), "The least N above asked.within "
+           "within which it would be accepted, where it is refused; null where there is none, "
+           "where nobody looked, as of a feed, and else.",
+           lambda known: known.verdict.accepted_within),
+    Member("whole_after", Maybe(SPREAD), "After how many frames subtitles were whole: the least, "
+           "the middle one, the greatest, and how many nobody saw whole; null where none was seen "
+           "so, or nobody looked.", lambda known: known.verdict.delays),
     *LISTS,
     Member("left_out", LEFT_OUT),
     rules=[TOGETHER])
@@ -444,10 +447,10 @@ def schema() -> Schema:
         "type": "array", "items": {"oneOf": [VERDICT.reference(), NO_PAIR.reference()]}}
     return {
         "$schema": "http://json-schema.org/draft-07/schema#",
-        "$comment": "What tools/qc writes with --json; dev/make-pages makes this file. Every member "
-                    "is always there, but for `open`; null stands for what does not apply or is not "
-                    "known. Times are HH:MM:SS:FF at 25 frames a second, in the time of the subtitle "
-                    "file. A later format has another number.",
+        "$comment": "What tools/qc writes with --json; dev/make-pages makes this file. Every "
+                    "member is always there, but for `open`; null stands for what does not apply "
+                    "or is not known. Times are HH:MM:SS:FF at 25 frames a second, in the time of "
+                    "the subtitle file. A later format has another number.",
         "title": "A verdict on a subtitle file and its recording, or on a batch of them",
         "oneOf": [one.reference() for one in (VERDICT, BATCH, NO_PAIR)],
         "definitions": {**definitions([VERDICT, NO_PAIR]), BATCH.name: batch}}

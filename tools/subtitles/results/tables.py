@@ -131,7 +131,8 @@ def said(value: object) -> object:
 
 def table_lines(objects: Iterable[dict[str, Any]]) -> Iterator[bytes]:
     """The lines of many pairs and of their faults, by their objects, under one head."""
-    return (line.encode() for line in column_lines(row for known in objects for row in column_rows(known)))
+    rows = (row for known in objects for row in column_rows(known))
+    return (line.encode() for line in column_lines(rows))
 
 
 def column_rows(known: dict[str, Any]) -> Iterator[Known]:

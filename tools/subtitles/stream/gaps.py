@@ -274,6 +274,7 @@ def repeat_distance(frames: Iterable[int], edges: Sequence[int]) -> int | None:
 
 LEAST = 100  # PES packets: of fewer nothing is told
 FEW, PART = 3, 1000  # so many may be otherwise, or one in so many
+OFTEN, SELDOM = 20, 100  # one distance in so many is usual; no more than one in so many is longer
 HOLE = 17  # TS packets from a PES packet to the next one that comes, where 16 are lost
 TWO_LOST, ONE_LOST = 3, 2  # distances between PES packets, where two are missing, or one
 UNITS = 4  # that a TS packet holds: the header of a PES packet has the place of one
@@ -298,13 +299,14 @@ class Pace(NamedTuple):
     """What PES packets are like: how many frames they are apart at most, nearly everywhere, and how
     many where some are lost; with pauses the longest of them. Where they are regular a pace of one
     frame less tells each such loss, and refuses nothing that is nearer; but at so many places, of
-    `among`, where they come `closer`."""
+    `among`, where they come `closer`. `is_dense`: three of them may come where two do."""
 
     kind: str
     apart: int = 0
     lost: int = 0
     closer: int = 0
     among: int = 0
+    is_dense: bool = False
 
     @property
     def frames(self) -> int | None:
@@ -331,15 +333,18 @@ def pace_of(rows: Sequence[Sequence[int]], each: int, every: int, pauses: Pauses
     lost = lost_in(far, apart, few) if is_stream else apart + 1
     if min(lost, *far) > every:
         return Pace(BY_EVERY, apart, lost)
-    if max(apart, 1) >= lost:
-        return Pace(IRREGULAR, apart, lost)
-    steps = max(TWO_LOST, -(-HOLE // each))
-    silences = [one for row in rows for one in silences_in(row, lost, steps)]
+    is_dense = max(apart, 1) >= lost
+    if is_dense:
+        usual = usual_in(near, count, few)
+        if usual is None:
+            return Pace(IRREGULAR, apart, lost)
+        lost = usual + 2
+    silences = [one for row in rows for one in silences_in(row, lost, steps_of(each))]
     idle = idle_of(silences, every, pauses)
     if 2 * len(idle) > len(silences):
         return Pace(PAUSED, max(one.last - one.first for one in idle), lost)
     closer = sum(many for frames, many in far.items() if frames < lost)
-    return Pace(REGULAR, apart, lost, closer, sum(far.values()))
+    return Pace(REGULAR, apart, lost, closer, sum(far.values()), is_dense)
 
 
 def lost_in(far: collections.Counter[int], apart: int, few: int) -> int:
@@ -347,6 +352,27 @@ def lost_in(far: collections.Counter[int], apart: int, few: int) -> int:
     that were sent, or where that is no farther than most come, in as few as all but a few."""
     least = min(far)
     return least if least > max(apart, 1) else at_rank(far, few, False)
+
+
+def usual_in(near: collections.Counter[int], count: int, few: int) -> int | None:
+    """How many frames PES packets are apart where three of them take no longer than two do nearly
+    everywhere, as where two come in a frame: the most that are usual, so that a frame more is no
+    loss. `None` where too many are apart by more, or more than a few by more than that frame."""
+    usual = max([1, *(frames for frames, many in near.items() if many * OFTEN >= count)])
+    longer = sum(many for frames, many in near.items() if frames > usual)
+    is_usual = longer * SELDOM <= count and longer - near[usual + 1] <= few
+    return usual if is_usual else None
+
+
+def steps_of(each: int) -> int:
+    """How many PES packets from the last one before 16 TS packets to the next that comes."""
+    return max(TWO_LOST, -(-HOLE // each))
+
+
+def unseen_from(rows: Sequence[Sequence[int]], each: int) -> int | None:
+    """How many frames 16 TS packets take at least, of which the counter tells nothing, by the PES
+    packets that came; `None` where these are too few."""
+    return min(distances(rows, steps_of(each)), default=None)
 
 
 def idle_of(silences: Sequence[Lull], every: int, pauses: Pauses) -> list[Lull]:

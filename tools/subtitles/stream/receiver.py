@@ -172,8 +172,8 @@ class Order:
 
     `doubts` are frames of which not all is known that was sent: from the PES packet before one that
     is not heard, as a mark is, to the next one; `lost` others. `halt` is the number of the first
-    PES packet whose frame is before that of the one before, or less than so many behind it: `least`;
-    from there on nothing is heard, and `falls` are the frames of all such.
+    PES packet whose frame is before that of the one before, or less than so many behind it:
+    `least`; from there on nothing is heard, and `falls` are the frames of all such.
     """
 
     def __init__(self, least: int = 0) -> None:

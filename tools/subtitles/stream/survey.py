@@ -468,6 +468,7 @@ def names_of(code: str) -> list[str]:
 SYNC, ADAPTATION, ANNOUNCED, BEGINS = 0x47, 0x20, 0x80, 0x40
 PACKET, HEAD, IN_A_ROW = 188, 14, 5
 AT_A_TIME = 1 << 22
+IN_A_PIECE = 4096  # TS packets, at most, that are looked at at once
 PTS_AT = slice(9, 14)  # in a PES header
 
 
@@ -510,24 +511,30 @@ def packets_in(file: BinaryIO, size: int, pid: int) -> Iterator[bytes]:
     data, is_over = b"", False
     while not is_over:
         more = file.read(AT_A_TIME)
-        is_over, data = not more, data + more
-        at = begin_of(data, size)
-        count = (len(data) - at) // size if is_over else max((len(data) - at) // size - IN_A_ROW, 0)
-        syncs = data[at:at + count * size:size]
-        good = len(syncs) - len(syncs.lstrip(bytes([SYNC])))
-        low = data[at + 2:at + good * size:size].translate(is_low)
-        place = low.find(1)
-        while place >= 0:
-            begin = at + place * size
-            if data[begin + 1] & 0x1F == pid >> 8:
-                yield data[begin:begin + PACKET]
-            place = low.find(1, place + 1)
-        data = data[at + good * size + (good < count):]
+        is_over, data, at = not more, data + more, 0
+        while True:  # one row of packets after another, between which something is damaged
+            at = begin_of(data, size, at)
+            left = (len(data) - at) // size - (0 if is_over else IN_A_ROW)
+            count = min(max(left, 0), IN_A_PIECE)
+            syncs = data[at:at + count * size:size]
+            good = len(syncs) - len(syncs.lstrip(bytes([SYNC])))
+            low = data[at + 2:at + good * size:size].translate(is_low)
+            place = low.find(1)
+            while place >= 0:
+                begin = at + place * size
+                if data[begin + 1] & 0x1F == pid >> 8:
+                    yield data[begin:begin + PACKET]
+                place = low.find(1, place + 1)
+            if not count:
+                break
+            at += good * size + (good < count)
+        data = data[at:]
 
 
-def begin_of(data: bytes, size: int) -> int:
-    """Where the first of some TS packets in a row begins; the end where none does."""
-    at = data.find(SYNC)
+def begin_of(data: bytes, size: int, at: int) -> int:
+    """Where the first of some TS packets in a row begins, from a place on; the end where none does.
+    """
+    at = data.find(SYNC, at)
     while at >= 0:
         row = data[at:at + size * IN_A_ROW:size]
         if row == bytes([SYNC]) * len(row):

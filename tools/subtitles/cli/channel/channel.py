@@ -265,7 +265,7 @@ class Channel:
         elif parts is None:
             known = unjudged(name, self.why_not_kept())
         else:
-            is_moved = any(running.since <= one for one in heard.moves)
+            is_moved = any(running.begin <= one for one in heard.moves)
             asked = dataclasses.replace(running.asked,
                                         pid=None if is_moved else heard.pid or None)
             folder, known = self.results.judge(

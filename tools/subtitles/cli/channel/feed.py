@@ -463,7 +463,8 @@ class Heard(Survey):
         self.moves.append(self.clock.now)
         alive = self.silence.alive
         for run in self.packets.runs:
-            if alive is not None and run.pts is not None and ticks_between(alive, run.pts) >= 0:
+            if alive is not None and run.pts is not None and \
+                    0 <= ticks_between(alive, run.pts) < MINUTE:
                 self.go_on(run)
 
     # What is not needed any more.

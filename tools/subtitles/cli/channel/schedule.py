@@ -7,10 +7,11 @@ import time
 from typing import Any, Callable, Iterable, NamedTuple, Sequence, Union
 
 from ...common.command_line import Stop, Words, error_line
-from ...common.files import Line, lines_in, list_at
+from ...common.files import Line, folder_of, lines_in, list_at
 from ...common.times import FRAMES_OF_A_DAY, TICKS, time_of
 from ...recording.feed import Ending
 from ...request.commands import NamesOfList
+from ...request.lines import read_options, refuse_settings
 from ...request.request import (
     AUTO_OF_FEED, CHANNEL_LINE, Request, add_options, pair_options, request_of)
 from ...results.objects import has_had_its_turn
@@ -139,8 +140,8 @@ class Planned:
             self.missing = time.monotonic() if self.missing is None else self.missing
             if not self.is_missed and time.monotonic() - self.missing >= MISSING:
                 self.is_missed = True
-                self.said.append(f"{error_line(error)}: the list is not there for a minute; what it "
-                                 "had is waited for")
+                self.said.append(f"{error_line(error)}: the list is not there for a minute; what "
+                                 "it had is waited for")
             return None
         if self.is_missed:
             self.said.append(f"{self.path} is there again")
@@ -193,9 +194,14 @@ class Planned:
     def asked_of(self, line: list[str]) -> Request:
         """What the words of a line ask."""
         refuse_options(line_parser(), line, CHANNEL_LINE)
-        parser = line_parser()
-        parser.set_defaults(recording="-", **pair_options(self.defaults))
-        asked = request_of(parser.parse_args(line))
+        known, bare = (pair_options(words) for words in (
+            self.defaults, getattr(self.defaults, "bare", self.defaults)))
+        feed = {"recording": "-"}
+        words = read_options(line_parser(), line, {**known, **feed}, {**bare, **feed},
+                             folder_of(self.path))
+        asked = request_of(words)
+        if asked.profile and asked.profile != self.defaults.profile:
+            refuse_settings(asked.profile, CHANNEL_LINE)
         if asked.is_layout_sought:
             raise Stop(AUTO_OF_FEED)
         return asked
@@ -287,7 +293,7 @@ class Queue:
             self.planned.look(self.is_whole)
             self.next_look = time.monotonic() + LOOK
         if was_empty:
-            self.since = now
+            self.since = max(self.since, now)  # who begins anew hears what is older once more
         self.take(self.planned.open()[:AT_ONCE])
 
     def take(self, programmes: Iterable[Programme]) -> None:
