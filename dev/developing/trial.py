@@ -16,7 +16,7 @@ LONGEST = 600  # seconds for it, on a machine that does other things too
 LONG_LOG = 1 << 20  # bytes of strace's log: a run with more of them does not end
 
 CALL = re.compile(r"^\d+ +(\w+)\((.*)\) += (-?\w+)(.*)$")
-CALLS = "trace=openat,read,write,statx,mmap,brk,rt_sigaction"
+CALLS = "trace=openat,read,write,close,statx,mmap,brk,rt_sigaction"
 STRACE = ["strace", "-f", "--seccomp-bpf", "-y", "-s", "0", "-e", CALLS]
 # What others say on standard error: the shell that starts a run, and strace.
 OTHERS = re.compile(r"(sh|strace): ")
