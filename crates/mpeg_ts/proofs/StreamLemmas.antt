@@ -58,7 +58,7 @@ pub by_bool : {P : Type 0} (b : Bool) → (b ≡ true → P) → (b ≡ false �
 by_bool b h1 h2 = grind (arith, nat_tests)
 
 -- The number of the bytes is room enough.
-items_room : (distance : ℕ) (in_step : Bool) (room : ℕ) (more : ℕ) (bytes : List ℕ)
+pub items_room : (distance : ℕ) (in_step : Bool) (room : ℕ) (more : ℕ) (bytes : List ℕ)
     → 188 ≤ distance
     → length bytes ≤ room
     → length bytes ≤ more
@@ -284,7 +284,7 @@ ahead_held : (v : StreamValue) (bytes : List ℕ)
 ahead_held v bytes le = drop-append-le v.lead v.window.held (take v.window.left bytes) le
 
 -- A byte of those that are held.
-index-append : (i : ℕ) (xs ys : List ℕ)
+pub index-append : (i : ℕ) (xs ys : List ℕ)
     → i < length xs
     → slice_index (xs ++ ys) i ≡ slice_index xs i
 index-append i [] ys lt = absurd (omega arith)
@@ -292,7 +292,7 @@ index-append zero (x ∷ xs) ys lt = refl
 index-append (suc i) (x ∷ xs) ys lt = index-append i xs ys (omega arith)
 
 -- A byte behind the end.
-index-behind : (i : ℕ) (xs : List ℕ) → length xs ≤ i → slice_index xs i ≡ 0
+pub index-behind : (i : ℕ) (xs : List ℕ) → length xs ≤ i → slice_index xs i ≡ 0
 index-behind i [] le = refl
 index-behind zero (x ∷ xs) le = absurd (omega arith)
 index-behind (suc i) (x ∷ xs) le = index-behind i xs (omega arith)

@@ -13,7 +13,8 @@ use Rattle.mpeg_ts.specs.declared.packet_size.PacketSize.{PacketSize}
 use Rattle.mpeg_ts.specs.declared.packet_size.PacketSize.TheVariants.{Plain, TimeStamped}
 use Rattle.mpeg_ts.specs.declared.packet_size.PacketSize.TheVariants.{ErrorCorrected}
 use Rattle.mpeg_ts.specs.PacketsInStep.{Item, Packet, Skipped, begins_packet, items}
-use Rattle.mpeg_ts.proofs.StreamLemmas.{by_bool, items_end, items_packet, items_skipped}
+use Rattle.mpeg_ts.proofs.StreamLemmas.{index-append, index-behind, items_end, items_packet}
+use Rattle.mpeg_ts.proofs.StreamLemmas.{items_room, items_skipped}
 use Rattle.ttx_page.specs.Receiver.{RunsBy}
 use Rattle.ttx_page.proofs.RunLemmas.{RunsBy-append}
 use Rattle.ts_survey.specs.InStep.{AreFound, LawOfTwoCalls, behind, counted_on}
@@ -34,22 +35,6 @@ size_far ErrorCorrected = omega arith
 
 pub ruleset sizes = (size_near, size_far)
 
--- A byte that has come stays where it is, whatever follows.
-pub index_known : (bytes more : List ℕ) (place : ℕ)
-    → place < length bytes
-    → slice_index (bytes ++ more) place ≡ slice_index bytes place
-index_known [] more place below = absurd (omega arith)
-index_known (x ∷ xs) more zero below = refl
-index_known (x ∷ xs) more (suc place) below = index_known xs more place (omega arith)
-
--- A byte behind the end.
-pub index_behind : (bytes : List ℕ) (place : ℕ)
-    → length bytes ≤ place
-    → slice_index bytes place ≡ 0
-index_behind [] place past = refl
-index_behind (x ∷ xs) zero past = absurd (omega arith)
-index_behind (x ∷ xs) (suc place) past = index_behind xs place (omega arith)
-
 -- A packet begins by the bytes that have come, and by what follows.
 pub begins_by : (distance place : ℕ) (in_step : Bool) (bytes more : List ℕ)
     → place < length bytes
@@ -57,39 +42,15 @@ pub begins_by : (distance place : ℕ) (in_step : Bool) (bytes more : List ℕ)
     ≡ ((slice_index bytes place == 0x47)
     && (in_step || (slice_index (bytes ++ more) (place + distance) == 0x47)))
 begins_by distance place in_step bytes more below =
-    grind (arith, nat_tests, index_known, get_or-drop)
+    grind (arith, nat_tests, index-append, get_or-drop)
 
 -- Nothing follows.
 pub nothing_more : (bytes more : List ℕ) → more ≡ [] → bytes ++ more ≡ bytes
 nothing_more bytes more none = ap (λ l. bytes ++ l) none ∙ append-nil bytes
 
-pub ruleset starts = (index_known, index_behind, begins_by, nothing_more)
+pub ruleset starts = (index-append, index-behind, begins_by, nothing_more)
 
 -- ---- items
-
--- The number of the bytes is room enough.
-items_room : (distance : ℕ) (in_step : Bool) (room : ℕ) (more : ℕ) (bytes : List ℕ)
-    → 188 ≤ distance
-    → length bytes ≤ room
-    → length bytes ≤ more
-    → items distance in_step room bytes ≡ items distance in_step more bytes
-items_room distance in_step zero more bytes far le le_more = grind (arith, nat_tests, items_end)
-items_room distance in_step (suc room) zero bytes far le le_more =
-    grind (arith, nat_tests, items_end)
-items_room distance in_step (suc room) (suc more) bytes far le le_more =
-    grind (
-      arith,
-      nat_tests,
-      by_bool,
-      items_end,
-      items_packet,
-      length-drop,
-      items_skipped,
-      items_room distance true room more (drop distance bytes) far
-          (omega (arith, length-drop distance bytes)) (omega (arith, length-drop distance bytes)),
-      items_room distance false room more (drop 1 bytes) far
-          (omega (arith, length-drop 1 bytes)) (omega (arith, length-drop 1 bytes)),
-    )
 
 -- Bytes that begin with a packet.
 front_packet : (distance : ℕ) (in_step : Bool) (bytes : List ℕ)
