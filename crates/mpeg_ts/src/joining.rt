@@ -217,7 +217,8 @@ impl Joining {
             && self.last_payload() == payload_of(packet)
     }
 
-    // Whether something is lost between the last good packet and this one.
+    // Whether something is lost between the last good packet and this one. Not so where nothing
+    // came before, or a jump is announced: there nobody knows.
     fn is_break(&self, packet: &[u8; PACKET]) -> bool
         ensures { result ≡ is_break (link_after self.now self.now.last packet.now) }
     {
@@ -233,7 +234,8 @@ impl Joining {
         counter_of(packet) != (self.header[3] % 0x10 + 1) % 0x10
     }
 
-    // Whether this packet does not follow the last good one.
+    // Whether this packet does not follow the last good one: it begins anew where nothing came
+    // before, where something is lost, and where a jump is announced.
     fn is_unlinked(&self, packet: &[u8; PACKET]) -> bool
         ensures { result ≡ is_unlinked (link_after self.now self.now.last packet.now) }
     {
@@ -364,7 +366,8 @@ impl Joining {
         }
     }
 
-    /// Takes what is given next of what is ready. Bytes that are no PES packet stay.
+    /// Takes what is given next of what is ready. Bytes that are no PES packet stay, to be read by
+    /// `extract`; `take_first` takes them too.
     #[tactic(auto, using(crate::proofs::ReadyLemmas::taking))]
     #[inline(always)]
     pub fn take_next(&mut self) -> Next

@@ -1,4 +1,14 @@
 //! The end of a frame: what stands broken there, and what is told of it.
+//!
+//! ```text
+//! end_waiting    the last frame, where its end is still to come
+//!   end_open
+//!     end_sent   a frame of PES packets: has the first one a header?
+//! end_of_frame   any frame of the day; `end_sent` calls it too
+//!   end_quietly  nothing stood broken, and nothing does
+//!   end_otherwise
+//!     end_at_once, end_within   by whether the page has to be whole at each end
+//! ```
 ghost use Rattle.std.specs.Prelude.{◌≡◌, ◌==◌, ◌&&◌, ℕ, suc, ◌+◌, ◌<◌, List, IsTrue, None};
 ghost use Rattle.std.specs.Prelude.{false, is_err, length, nat_le, not, true};
 ghost use Rattle.stl_file.specs.TimeCode.{day};

@@ -1,4 +1,5 @@
-//! What a reader who follows a listing while it is made asks of devices.
+//! What a reader who follows a listing while it is made asks of devices: whether they hold
+//! something back (they wait), and that they hand it on.
 
 ghost use Rattle.std.specs.Prelude.{◌≡◌, ℕ, Bool, OnOk, false, is_ok};
 ghost use Rattle.sub_io.specs.HandingOn.{StaysTold};

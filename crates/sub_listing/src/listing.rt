@@ -17,11 +17,11 @@ use crate::status::Status;
 use arrayvec::ArrayVec;
 use sub_io::Flush;
 
-/// Room for one piece: the lines of one PES packet, or of one subtitle.
-pub const PIECE: usize = 7168;
+/// Room for the lines of one PES packet, or of one subtitle.
+pub const LINES_ROOM: usize = 7168;
 
-/// The lines of one piece.
-pub type Text = ArrayVec<u8, PIECE>;
+/// The lines of one of them.
+pub type Text = ArrayVec<u8, LINES_ROOM>;
 
 /// Reads what is listed of an input, a source or one that gives pieces, and makes its lines.
 pub trait Lister<I> {

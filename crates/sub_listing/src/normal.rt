@@ -20,7 +20,7 @@ use sub_io::{Flush, Sink, Source};
 const MOST_READ: usize = 12_800_897;
 
 /// Bytes that one pull asks for at most.
-const PIECE: usize = 4096;
+const PULL_ROOM: usize = 4096;
 
 /// Why the input was not read.
 #[derive(Clone, Copy, Debug, PartialEq, Eq)]
@@ -119,9 +119,9 @@ pub fn read_input<A: Allocator + Drop, S: Source>(
     ensures count { CountsIf S.failure_count input.old (failed is_input_read result) input.new }
 {
     let mut bytes = Vec::new(alloc);
-    let mut room = [0; PIECE];
+    let mut room = [0; PULL_ROOM];
     'pieces: while bytes.len() < MOST_READ {
-        let piece = &mut room[..PIECE.min(MOST_READ - bytes.len())];
+        let piece = &mut room[..PULL_ROOM.min(MOST_READ - bytes.len())];
         match input.pull(piece) {
             Ok(0) => return Ok(bytes),
             Ok(len) => {

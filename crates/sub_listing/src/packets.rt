@@ -17,7 +17,7 @@ ghost use Rattle.sub_listing.specs.Printer.{StaysPrinted, printer_value};
 
 use crate::faults::{line_of_check, line_of_failed_read};
 use crate::lines::{number_in_file, push_lower_hex, push_number, push_text};
-use crate::listing::{Lister, PIECE, Text, end_at, end_with, list};
+use crate::listing::{LINES_ROOM, Lister, Text, end_at, end_with, list};
 use crate::printer::Printer;
 use crate::printing::print_fault_line;
 use crate::status::Status;
@@ -160,7 +160,7 @@ const PES_LINE: usize = 64;
 const UNIT_LINE: usize = 192;
 
 // A piece has room for the lines of a PES packet and of all its units.
-const _: () = prove!(PES_LINE + MOST_UNITS * UNIT_LINE <= PIECE);
+const _: () = prove!(PES_LINE + MOST_UNITS * UNIT_LINE <= LINES_ROOM);
 
 // Appends the lines of a PES packet, which has this number in its file, and of its Teletext units.
 fn push_frame(text: &mut Text, number: u64, reader: &ComparingReader)
@@ -178,7 +178,7 @@ fn push_frame(text: &mut Text, number: u64, reader: &ComparingReader)
 
 // Appends the line of a Teletext unit: its fields, and its packet in Teletext's own order of bits.
 fn push_unit(text: &mut Text, number: usize, unit: &Unit)
-    requires { array_vec_len text.old + UNIT_LINE ≤ PIECE }
+    requires { array_vec_len text.old + UNIT_LINE ≤ LINES_ROOM }
     ensures items { text.new.items ≡ text.old.items ++ unit_line number unit.now }
     ensures len { array_vec_len text.new ≤ array_vec_len text.old + UNIT_LINE }
 {

@@ -41,9 +41,12 @@ goes_back g = g.any_refused && not (g.within == 0)
 abbrev pub steps_before : Criteria → Option ℕ → List CheckStep
 steps_before g since = if goes_back g then GoesBack since ∷ [] else []
 
--- What comes at the end of frame f, up to which i frames of the list counted at the end before, and
--- now n: within frames, since which the page is not whole, and whether that is late; and what is
--- told.
+-- What comes at the end of a frame: within frames, since which the page is not whole, and whether
+-- that is late; and what is told.
+--
+--   i   how many frames of the list had been sent by the end of the frame before
+--   n   how many have been sent by this end
+--   f   the frame of the day
 abbrev pub steps_at_end : Criteria → Transmission → ℕ → ℕ → ℕ → List CheckStep
 steps_at_end g frames i n f =
     steps_before g (since_before g frames i f)

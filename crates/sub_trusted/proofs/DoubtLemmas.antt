@@ -1,4 +1,4 @@
--- For what may stay.
+-- For `law_of_trusted` and `law_of_trusted_repeats`.
 -- A fact of the frames that are told as trusted by events, `EachTrusted`: it is kept where up to
 -- which piece is passed over is told among them, `each-announced`.
 use Rattle.std.proofs.lemmas.Bool.Decides.{nat_tests}

@@ -1,4 +1,4 @@
--- For what may stay.
+-- For `law_of_trusted` and `law_of_trusted_repeats`.
 -- Which frame is trusted no more by what is told of a frame's packets, `packets_doubt`, of its
 -- number, `order_at`, and at an end, which may be late, `end_doubt`; and since which frame an end
 -- is unfinished: none after it, `seen_low`.

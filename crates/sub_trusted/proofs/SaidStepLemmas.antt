@@ -1,4 +1,4 @@
--- For what may stay.
+-- For `law_of_trusted` and `law_of_trusted_repeats`.
 -- Steps one after another, and what is trusted of them, `Goes`: of steps that say events alone,
 -- `Goes-says`; what is kept after these, `said`.
 use Rattle.std.proofs.lemmas.Bool.Decides.{nat_tests}

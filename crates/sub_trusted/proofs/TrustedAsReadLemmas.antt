@@ -1,4 +1,4 @@
--- For what may stay.
+-- For `law_of_trusted` and `law_of_trusted_repeats`.
 -- Where in a stretch of frames is on air what was read, and the first of them holds a header with
 -- which the text begins, what suffices of the one there suffices of the other: `sufficient_too`,
 -- and its frames are finished in time, `finishes_too`.

@@ -1,4 +1,4 @@
--- For what may stay.
+-- For `law_of_trusted` and `law_of_trusted_repeats`.
 -- What comes at the end of a frame: `ending`. What is told as trusted with it is so.
 use Rattle.std.proofs.lemmas.Bool.Decides.{nat_tests}
 use Rattle.std.proofs.Common.{◌≡◌, ℕ, suc, ◌-◌, ◌<◌, ◌≤◌, ◌⊎◌, inl, inr, Bool, true, false, ◌&&◌}

@@ -1,4 +1,4 @@
--- For what may stay.
+-- For `law_of_trusted` and `law_of_trusted_repeats`.
 -- Of frames that are told as trusted nothing is told that a receiver depends on, in the part in
 -- which frames rise: `untold`; nor is the page open at an end of them, `closed`, and the first one
 -- has a header with which the text begins, `header_there`.

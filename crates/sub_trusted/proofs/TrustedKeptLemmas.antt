@@ -1,4 +1,4 @@
--- For what may stay.
+-- For `law_of_trusted` and `law_of_trusted_repeats`.
 -- What is kept of quiet frames, within however many frames the page has to be whole: of the frames
 -- that have ended, `Keeps`, before the next one, `Arrives`, while it is sent, `Opens`, and at its
 -- end, `Closed`. What is told as trusted then is those of a run, `passes_before`; and how a run

@@ -1,4 +1,4 @@
--- For what may stay.
+-- For `law_of_trusted` and `law_of_trusted_repeats`.
 -- What is kept of the steps of an end, `Looks`, `Backs`, and that what comes there may be taken as
 -- what is told once it was looked at: `with_end`.
 use Rattle.std.proofs.lemmas.Bool.Decides.{nat_tests}

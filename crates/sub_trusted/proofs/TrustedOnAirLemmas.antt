@@ -1,4 +1,4 @@
--- For what may stay.
+-- For `law_of_trusted` and `law_of_trusted_repeats`.
 -- Frames that are told as trusted may stay, whatever is on air elsewhere: `law_of_trusted_repeats`;
 -- as its case where no repeat may keep and no frame may be late `law_of_trusted`. And it is known
 -- what was due there: `law_of_trusted_known`.

@@ -1,4 +1,4 @@
--- For what may stay.
+-- For `law_of_trusted` and `law_of_trusted_repeats`.
 -- What is told as trusted of pieces may stay, within however many frames the page has to be whole:
 -- `all_stay_within`; and what is told from a piece on, `each_passes` and `all_pass`.
 use Rattle.std.proofs.lemmas.Bool.Decides.{nat_tests}

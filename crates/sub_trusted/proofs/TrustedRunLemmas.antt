@@ -1,4 +1,4 @@
--- For what may stay.
+-- For `law_of_trusted` and `law_of_trusted_repeats`.
 -- What a run of quiet frames holds, `Run`; and the frames of one that may stay, `Stays`.
 use Rattle.std.proofs.Common.{◌≡◌, ℕ, ◌+◌, ◌-◌, ◌<◌, ◌≤◌, ◌⊎◌, true, false, length}
 use Rattle.sub_rules.specs.Events.{standing_at}

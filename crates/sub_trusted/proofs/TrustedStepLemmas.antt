@@ -1,4 +1,4 @@
--- For what may stay.
+-- For `law_of_trusted` and `law_of_trusted_repeats`.
 -- What comes of a frame, step after step: before its packets, `arrival`, of its packets,
 -- `more_sent`, of a piece that is passed over, `passed`, and at an end, `end_tells`. What is told
 -- as trusted with them is so.

@@ -39,7 +39,8 @@ pub enum Compared {
 #[derive(Drop)]
 pub struct ComparingReader {
     progress: Progress,
-    // Directly after the fault of a piece, how many pieces were taken with it.
+    // Directly after the fault of a piece, how many pieces were taken with it: `pass_over` goes on
+    // there, where a fault ends reading otherwise.
     behind: Option<u32>,
     kept: KeptFrame,
 }
