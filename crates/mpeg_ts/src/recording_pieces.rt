@@ -1,4 +1,7 @@
 //! The pieces that the packets of a PID carry: PES packets and marks.
+//!
+//! Transport packets are taken one by one: to take a PES packet's together saved three instructions
+//! in a hundred of a multiplex, for 1,400 lines.
 ghost use Rattle.std.specs.Prelude.{◌≡◌, ◌≤◌, [], Some, false, is_ok, length, option_map, take};
 ghost use Rattle.std.specs.Prelude.{true};
 ghost use Rattle.sub_io.specs.Asking.{Asks};

@@ -1,4 +1,8 @@
 //! Subtitles in the order of a file: their times and places, and their texts one behind the other.
+//!
+//! A `Subtitle` has room for 1,008 bytes of text: 100,000 of them took 103 MB, and page faults half
+//! of a check's time. So a programme keeps cues of 24 bytes with all texts in one list, and lends a
+//! `Record` of the same value.
 
 ghost use Rattle.std.specs.Prelude.{◌≡◌, ℕ, ◌-◌, ◌<◌, ◌≤◌, ◌==◌, ◌++◌, [], ◌∷◌};
 ghost use Rattle.std.specs.Prelude.{Some, length, take};

@@ -1,4 +1,7 @@
 //! What stands before a device that may say stop.
+//!
+//! A device that said stop is told nothing more. Without it 35 functions returned whether to stop.
+//! Its ghost field says that what was told is all of it or, after a stop, a prefix.
 ghost use Rattle.std.specs.Prelude.{◌≡◌};
 
 use sub_io::Audience;

@@ -1,4 +1,9 @@
 //! The device that a program asks for files: the system, or what stands in for it in a test.
+//!
+//! No contract of std says what the system opens by a name. So clauses speak of the calls of a
+//! `FileSystem`, their names and their order. What is done to a file after the answer shows in no
+//! byte: so each is given back (`into_inner` of buffers and readers) and let go as the answer left
+//! it.
 ghost use Rattle.std.specs.Prelude.{◌≡◌, ◌≢◌, IfErr, IfOk, IfSome, Option, true};
 ghost use Rattle.std.specs.IoError.{error_kind};
 ghost use Rattle.sub_files.specs.Apart.{was_found};

@@ -1,6 +1,7 @@
 -- Which refusal the bytes of a PES packet deserve, by the grammar alone: what is asked of them, in
 -- order, and the first question in which no packet of the grammar agrees with them (EN 300 472; the
--- order of the questions is (own)).
+-- order of the questions is (own)). The parser says the same fault; said of it alone, that sentence
+-- would need the same questions.
 --
 -- A question has a number. It asks for bytes of the packet or of data unit k, or how many bytes
 -- there are, and a fault is told where the answer is wrong:
