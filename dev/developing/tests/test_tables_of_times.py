@@ -11,7 +11,7 @@ from typing import Any, Sequence
 from subtitles.clock.alignment import LACKED, LEAST_BREAK, Stretch, by_breaks
 from subtitles.clock.start import Clock, Found, RECORDING
 from subtitles.common.times import CLOCK, Spans, TICKS, joined_spans
-from subtitles.judging.pair import last_time
+from subtitles.judging.clocks import last_time
 from subtitles.stream.gaps import (
     ClockJump, Place, SECOND, jumps_of, place_line, places_of, strange_of, what_of)
 from subtitles.stream.ranges import cut_of
