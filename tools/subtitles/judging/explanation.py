@@ -20,8 +20,9 @@ from .within import least_within
 
 
 class Explainer(NamedTuple):
-    """What explains the parts of a pair: the program, what is looked for in the recording, who hears
-    what is said, and the verdict; how many parts there are. `is_summed`: results are written."""
+    """What explains the parts of a pair: the program, what is looked for in the recording, who
+    hears what is said, and the verdict; how many parts there are. `is_summed`: results are
+    written."""
 
     program: str
     programme: Programme
