@@ -1,0 +1,177 @@
+"""--measure: a profile of recordings that somebody says are right, each line with what it rests on.
+"""
+from __future__ import annotations
+
+import argparse
+import os
+from typing import Iterable, Iterator, NamedTuple, Sequence
+
+from ..common.command_line import Stop, counted, quoted, say, version
+from ..common.files import temporary_folder
+from ..common.times import Span
+from ..formats.stl import Subtitle
+from ..formats.teletext import BY_WORD, page_name
+from ..judging.losses import measured_pace
+from ..judging.measurement import (
+    Delays, Finding, Repeats, Sending, delays_of, every_of, keeping_of, late_found, layout_found,
+    option_of, pace_found, repeats_in, sendings_of)
+from ..judging.pair import Pair, cut_within
+from ..judging.part import Part
+from ..judging.status import Severity
+from ..judging.transmissions import control_words, keeps
+from ..judging.verdict import Verdict
+from ..request.commands import CommandWords, Names, Progress, Speech
+from ..request.request import PID_CHOICE, Request, Unclear, request_with
+from ..stream.gaps import Pace
+from ..stream.receiver import timeline_near
+from ..stream.survey import HEADER
+from .single import now
+
+
+class Unsaid(Speech):
+    """What a pair says while it is read, which is kept."""
+
+    def __init__(self) -> None:
+        super().__init__(Progress())
+        self.lines: list[str] = []
+
+    def say(self, line: str) -> None:
+        self.last = line
+        self.lines.append(line)
+
+    def tell(self, line: str) -> None:
+        self.lines.append(line)
+
+
+class Measured(NamedTuple):
+    """What one recording tells: its PID and what the PMT says of it, in words; the others as
+    `judging.measurement` has them. `headers` are how many there are, and how many keep the page;
+    `is_alone`: nothing else is wrong in any."""
+
+    pid: str | None
+    said: Sequence[str]
+    repeats: Sequence[Repeats]
+    paces: Sequence[Pace]
+    delays: Sequence[Delays]
+    headers: tuple[int, int]
+    is_alone: bool
+    options: set[str]
+    sendings: Sequence[Sending]
+
+
+def measure(words: argparse.Namespace, called: str) -> int:
+    """Prints the profile of the pairs of a call; answers the status."""
+    typed, asked = CommandWords(called, words.program), requests_of(words)
+    with temporary_folder("subttx-qc-") as folder:
+        found = [measured(one, typed, os.path.join(folder, str(number)))
+                 for number, one in enumerate(asked)]
+    for line in profile_lines(asked, found):
+        say(line)
+    return 0
+
+
+def requests_of(words: argparse.Namespace) -> list[Request]:
+    """The pairs of a call: a subtitle file and its recording, one after another."""
+    names = words.measure
+    if len(names) % 2:
+        raise Stop(f"--measure takes pairs, STL RECORDING: {names[-1]} has no recording")
+    asked = [request_with(stl, recording, words) for stl, recording in zip(names[::2], names[1::2])]
+    if len(asked) > 1 and words.origin is not None:
+        raise Stop("--origin is the clock of one recording: measure it by itself, or give --start")
+    return asked
+
+
+def measured(asked: Request, typed: CommandWords, folder: str) -> Measured:
+    """What a recording tells; `Stop` where it can't be measured."""
+    os.mkdir(folder)
+    names = Names("measured", folder, None)
+    names.give(asked.stl)
+    speech = Unsaid()
+    pair = Pair(Verdict(asked, Severity(None), now()), typed, names, speech, False)
+    try:
+        recording, found, pair.judged = pair.heard
+        parts = pair.parts(found, recording)
+        return of_parts(pair, parts, speech)
+    except Unclear as why:
+        raise Stop(f"{asked.stl} {asked.recording} can't be measured: {why}") from None
+
+
+def of_parts(pair: Pair, parts: Sequence[Part], speech: Unsaid) -> Measured:
+    """The same of its parts: one, or one of each PID where the page moves."""
+    asked, option = pair.asked, BY_WORD[pair.asked.option]
+    for part in parts:
+        recording, found = part.recorded
+        part.pes = cut_within(pair, recording, found, asked.within).range
+    subtitles = [subtitles_of(part, pair.judged) for part in parts]
+    times = [(one.begin, one.end) for one in pair.judged]
+    held = [timeline_near(part.packets, asked.page, part.recorded[1].origin, 1, Span(
+        part.recorded[1].begin, part.recorded[1].end), asked.every, part.recorded[1].packets)
+        for part in parts]
+    headers = [part.headers_sent() for part in parts]
+    return Measured(
+        *pid_of(pair, speech),
+        [one for part in parts if (one := repeats_in(
+            part.pts(HEADER), part.pts()[-1] if part.pes else None, part.origin or 0, times))],
+        [measured_pace(part, part.pes, times)[0] for part in parts if part.pes],
+        [delays_of(asked.stl, *of, option) for of in zip(subtitles, held)],
+        (sum(one.total() for one in headers),
+         sum(count for one in headers for header, count in one.items() if keeps(header))),
+        not any(control_words(header, asked.option) for one in headers for header in one),
+        {option for part in parts for option in part.options_sent()},
+        [one for of in zip(subtitles, held) for one in sendings_of(asked.stl, *of, option)])
+
+
+def subtitles_of(part: Part, subtitles: Iterable[Subtitle]) -> list[Subtitle]:
+    """The subtitles that come in the frames of a part."""
+    return [one for one in subtitles if part.asked.between.has(one.begin)]
+
+
+def pid_of(pair: Pair, speech: Speech) -> tuple[str | None, list[str]]:
+    """The PID with the page, and in lines what it rests on and what the PMT says; none of PES
+    packets, and of several PIDs."""
+    recording, name = pair.heard.recording, pair.asked.page_name
+    lines = [one.line for one in speech.chosen if one.what == PID_CHOICE]
+    if not recording.is_stream or recording.stages:
+        return None, lines
+    pid = recording.packets.pid
+    for programme in recording.survey.programmes:
+        for other, pages in programme.pages.items():
+            if any(one.page == pair.asked.page for one in pages):
+                lines.append(f"programme {programme.number} announces page {name} in PID "
+                             f"0x{other:X}: {', '.join(one.line() for one in pages)}")
+    return f"0x{pid:X}", [*dict.fromkeys(lines)] or [f"PID 0x{pid:X} was asked for"]
+
+
+# What is printed.
+
+def profile_lines(asked: Sequence[Request], found: Sequence[Measured]) -> Iterator[str]:
+    """The profile, which `--profile` reads."""
+    first = asked[0]
+    files = " ".join(quoted(name) for one in asked for name in (one.stl, one.recording or ""))
+    yield f"# qc {version()} --measure {files}"
+    yield (f"# Measured of {counted(len(asked), 'recording')}, and not judged: what is wrong in it "
+           "is right by this. Read each line, and keep what is true of your house.")
+    is_known = first.origin is not None or first.start is not None
+    counts = [one.headers for one in found]
+    options = {option for one in found for option in one.options}
+    findings = [
+        Finding(f"--page {page_name(*first.page)}", []), pid_found(found),
+        option_of(options, first.option),
+        every_of([its for one in found for its in one.repeats]),
+        pace_found([its for one in found for its in one.paces]),
+        *late_found([its for one in found for its in one.delays], is_known),
+        keeping_of(sum(count for count, _ in counts), sum(count for _, count in counts),
+                   all(one.is_alone for one in found)),
+        layout_found([its for one in found for its in one.sendings], BY_WORD[first.option])]
+    for finding in findings:
+        yield from finding.all()
+
+
+def pid_found(found: Sequence[Measured]) -> Finding:
+    """The PID, where it is the same in all recordings."""
+    pids = {one.pid for one in found}
+    lines = [f"pid: {line}" for line in dict.fromkeys(line for one in found for line in one.said)]
+    pid = next(iter(pids)) if len(pids) == 1 else None
+    if len(pids) > 1:
+        lines.append("pid: it is not the same in all recordings")
+    return Finding(f"--pid {pid}" if pid else "", lines)
