@@ -11,19 +11,23 @@ from ..common.files import temporary_folder
 from ..common.times import Span
 from ..formats.stl import Subtitle
 from ..formats.teletext import BY_WORD, page_name
+from ..judging.check import Answer
+from ..judging.clocks import Programme, cut_within
 from ..judging.losses import measured_pace
 from ..judging.measurement import (
     Delays, Finding, Repeats, Sending, delays_of, every_of, keeping_of, late_found, layout_found,
     option_of, pace_found, repeats_in, sendings_of)
-from ..judging.pair import Pair, cut_within
-from ..judging.part import Part
+from ..judging.pair import Pair
+from ..judging.part import (
+    Part, PartFrames, PartPace, PartRange, answered_part, nothing_due)
 from ..judging.status import Severity
 from ..judging.transmissions import control_words, keeps
 from ..judging.verdict import Verdict
-from ..request.commands import CommandWords, Names, Progress, Speech
+from ..recording.recording import refuse_files
+from ..request.commands import CommandWords, Listener, Names, Progress, Speech
 from ..request.request import PID_CHOICE, Request, Unclear, request_with
 from ..stream.gaps import Pace
-from ..stream.receiver import timeline_near
+from ..stream.receiver import Timeline, timeline_near
 from ..stream.survey import HEADER
 from .single import now
 
@@ -86,39 +90,52 @@ def measured(asked: Request, typed: CommandWords, folder: str) -> Measured:
     os.mkdir(folder)
     names = Names("measured", folder, None)
     names.give(asked.stl)
-    speech = Unsaid()
-    pair = Pair(Verdict(asked, Severity(None), now()), typed, names, speech, False)
+    listener = Listener(Unsaid())
+    pair = Pair(Verdict(asked, Severity(None), now()), typed, names, listener, False)
     try:
-        recording, found, pair.judged = pair.heard
-        parts = pair.parts(found, recording)
-        return of_parts(pair, parts, speech)
+        refuse_files(asked)
+        return of_pair(pair)
     except Unclear as why:
         raise Stop(f"{asked.stl} {asked.recording} can't be measured: {why}") from None
 
 
-def of_parts(pair: Pair, parts: Sequence[Part], speech: Unsaid) -> Measured:
-    """The same of its parts: one, or one of each PID where the page moves."""
+def of_pair(pair: Pair) -> Measured:
+    """The same of a pair that is read."""
     asked, option = pair.asked, BY_WORD[pair.asked.option]
-    for part in parts:
-        recording, found = part.recorded
-        part.pes = cut_within(pair, recording, found, asked.within).range
-    subtitles = [subtitles_of(part, pair.judged) for part in parts]
-    times = [(one.begin, one.end) for one in pair.judged]
-    held = [timeline_near(part.packets, asked.page, part.recorded[1].origin, 1, Span(
-        part.recorded[1].begin, part.recorded[1].end), asked.every, part.recorded[1].packets)
-        for part in parts]
+    recording, clocks, subtitles = pair.located
+    cuts = [cut_of_part(clocks.programme, frames) for frames in pair.parts_in(
+        recording, clocks.found, clocks.programme, subtitles)]
+    parts = [answered_part(PartPace(cut, cut.frames.asked), Answer(pair.names.list_path),
+                           nothing_due) for cut in cuts]
+    times = [(one.begin, one.end) for one in subtitles]
+    sent = [(subtitles_of(part, subtitles), held_near(part)) for part in parts]
     headers = [part.headers_sent() for part in parts]
     return Measured(
-        *pid_of(pair, speech),
-        [one for part in parts if (one := repeats_in(
-            part.pts(HEADER), part.pts()[-1] if part.pes else None, part.origin or 0, times))],
-        [measured_pace(part, part.pes, times)[0] for part in parts if part.pes],
-        [delays_of(asked.stl, *of, option) for of in zip(subtitles, held)],
-        (sum(one.total() for one in headers),
-         sum(count for one in headers for header, count in one.items() if keeps(header))),
-        not any(control_words(header, asked.option) for one in headers for header in one),
-        {option for part in parts for option in part.options_sent()},
-        [one for of in zip(subtitles, held) for one in sendings_of(asked.stl, *of, option)])
+        *pid_of(pair),
+        [repeats for part in parts if (repeats := repeats_in(
+            part.pts(HEADER), part.pts()[-1], part.origin or 0, times))],
+        [measured_pace(cut, times)[0] for cut in cuts],
+        [delays_of(asked.stl, *both, option) for both in sent],
+        (sum(counts.total() for counts in headers),
+         sum(count for counts in headers for header, count in counts.items() if keeps(header))),
+        not any(control_words(header, asked.option) for counts in headers for header in counts),
+        {word for part in parts for word in part.options_sent()},
+        [sending for both in sent for sending in sendings_of(asked.stl, *both, option)])
+
+
+def cut_of_part(programme: Programme, frames: PartFrames) -> PartRange:
+    """A part with the PES packets of its time."""
+    pes = cut_within(programme, frames.recording, frames.found, programme.asked.within).range
+    if pes is None:
+        raise Unclear("nothing of the page is in the recording at the time of the subtitles")
+    return PartRange(frames, pes)
+
+
+def held_near(part: Part) -> Timeline:
+    """What is held around the frames of a part."""
+    recording, found = part.recorded
+    return timeline_near(recording.packets, part.asked.page, found.origin, 1,
+                         Span(found.begin, found.end), part.asked.every, found.packets)
 
 
 def subtitles_of(part: Part, subtitles: Iterable[Subtitle]) -> list[Subtitle]:
@@ -126,11 +143,11 @@ def subtitles_of(part: Part, subtitles: Iterable[Subtitle]) -> list[Subtitle]:
     return [one for one in subtitles if part.asked.between.has(one.begin)]
 
 
-def pid_of(pair: Pair, speech: Speech) -> tuple[str | None, list[str]]:
+def pid_of(pair: Pair) -> tuple[str | None, list[str]]:
     """The PID with the page, and in lines what it rests on and what the PMT says; none of PES
     packets, and of several PIDs."""
-    recording, name = pair.heard.recording, pair.asked.page_name
-    lines = [one.line for one in speech.chosen if one.what == PID_CHOICE]
+    recording, name = pair.located.recording, pair.asked.page_name
+    lines = [one.line for one in pair.listener.selections if one.what == PID_CHOICE]
     if not recording.is_stream or recording.stages:
         return None, lines
     pid = recording.packets.pid
