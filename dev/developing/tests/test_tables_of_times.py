@@ -8,7 +8,7 @@ import unittest
 from types import SimpleNamespace
 from typing import Any, Sequence
 
-from subtitles.clock.alignment import LACKED, LEAST_BREAK, Stretch, by_breaks
+from subtitles.clock.stretches import LACKED, LEAST_BREAK, Stretch, by_breaks
 from subtitles.clock.start import Clock, Found, RECORDING
 from subtitles.common.times import CLOCK, Spans, TICKS, joined_spans
 from subtitles.judging.clocks import last_time

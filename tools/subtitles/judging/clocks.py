@@ -10,8 +10,7 @@ from ..common.command_line import Stop, counted, error_line
 from ..common.times import FRAMES_OF_A_DAY, TICKS, time_of
 from ..recording.recording import Recording
 from ..request.commands import Listener
-from ..request.request import (
-    MOST_TRIED, ORIGIN_CHOICE, PES_CHOICE, Request, Selection, Unclear)
+from ..request.request import ORIGIN_CHOICE, PES_CHOICE, Request, Selection, Unclear
 from ..stream.ranges import Cut, cut_of
 from ..stream.receiver import LEAST
 from ..stream.survey import Packets, Range
@@ -65,7 +64,7 @@ def parts_of(programme: Programme, recording: Recording, listener: Listener) -> 
     listener.noted(*origin.shifts)
     found = found_in(origin, whole)
     if not found and (given is None or asked.breaks or origin.runs):
-        raise unclear_origin(origin, clock_options(programme, recording, origin))
+        raise unclear_origin(origin, clock_options(recording, origin))
     found, delay = found or [whole], list[str]()
     if given:
         clock, delay = with_delay(given, origin)
@@ -105,7 +104,8 @@ def search_in(programme: Programme, name: str, clock: Clock | None = None) -> So
     """What is looked for in a recording by its name."""
     asked = programme.asked
     return Sought(asked.stl_path, name, asked.page, asked.option, clock and clock.origin,
-                  asked.within, asked.breaks, programme.inside, asked.between, programme.left_out)
+                  asked.within, asked.breaks, programme.inside, asked.between, programme.left_out,
+                  asked.late)
 
 
 def origin_in(packets: Packets, asked: Sought) -> Origin:
@@ -165,22 +165,17 @@ def unclear_origin(origin: Origin, again: Iterable[str]) -> Unclear:
     return Unclear(told, *again)
 
 
-def clock_options(programme: Programme, recording: Recording, origin: Origin) -> Iterator[str]:
+def clock_options(recording: Recording, origin: Origin) -> Iterator[str]:
     """What a person may type where the origin is not clear."""
     again = recording.again
     if origin.runs and recording.stages:  # they are numbered on no PID
         yield from (again("--pid", f"0x{stage.pid:X}") for stage in recording.stages)
     elif origin.runs:
         yield from (again("--pes", f"{first}-{last}") for first, last in origin.runs)
+    elif origin.breaks is not None:
+        yield again("--breaks", str(origin.breaks))
     else:
-        later = search_in(programme, recording.shown)._replace(within=MOST_TRIED)
-        if programme.asked.within < MOST_TRIED and \
-                found_in(origin_in(recording.packets, later), programme.whole):
-            yield again("--within", str(MOST_TRIED))
-        if origin.breaks is not None:
-            yield again("--breaks", str(origin.breaks))
-        else:
-            yield from (again("--origin", "T"), again("--page", "P"))
+        yield from (again("--origin", "T"), again("--page", "P"))
 
 
 # What is taken of the recording.
