@@ -21,7 +21,7 @@ from .test_reading_laws import found, packets_of, programme as random_programme,
 Inserter = Callable[[random.Random, bool], int]  # how late a begin is, or an end
 UNIFORM = {within: late_word("/".join([",".join(f"{by}:1" for by in range(within + 1))] * 2))
            for within in (1, 2, 5)}
-# Right inserters, each with its N: rows need a frame, or one a row, while an erasing header does not.
+# Right inserters, each with its N: rows need a frame, or one a row, an erasing header none.
 INSERTERS: dict[str, tuple[int, Inserter]] = {
     "on time": (1, lambda chance, is_begin: 0),
     "rows": (1, lambda chance, is_begin: int(is_begin)),

@@ -70,8 +70,8 @@ class Words(unittest.TestCase):
               "none", "no cue is late"]),
             (self.part(9, 10, 9, within=3, late=[0], early=Early(1, 30, 2), first_other=50), 20,
              ["9 of 10 cues agree, 9 with the letters that are due; the file has 20; next best: "
-              "none", "no cue is late", "1 of 30 cues comes up to 2 frames before what is usual for "
-              "the others: that is early", "the first cue that does not agree is 00:00:02:00"]),
+              "none", "no cue is late", "1 of 30 cues comes up to 2 frames before what is usual "
+              "for the others: that is early", "the first cue that does not agree is 00:00:02:00"]),
             (self.part(8, 10, 8, within=3, late=[0], early=Early(2, 10, 1)), 20,
              ["8 of 10 cues agree, 8 with the letters that are due; the file has 20; next best: "
               "none", "no cue is late", "2 of 10 cues come up to 1 frame before what is usual for "
