@@ -28,7 +28,7 @@ from unittest import mock
 from subtitles.cli.main import main
 from subtitles.common.command_line import run
 from subtitles.common.program import TOP
-from subtitles.judging import faults, pair, subtitles
+from subtitles.judging import calls, faults, subtitles
 from subtitles.recording.feed import Ending
 from subtitles.report import report
 from .parts import MEANINGS
@@ -153,7 +153,7 @@ def in_folder() -> Iterator[None]:
 def called(words: list[str], program: str, more: Sequence[str] = ("-p", "PROGRAM")) -> Said:
     """All that a call of qc says; not by the time, and with other words for the manual's."""
     others: list[tuple[Any, str, object]] = [
-        (pair, "subprocess", Here),
+        (calls, "subprocess", Here),
         (Ending, "is_due", lambda self, packets: packets.count > 2 * self.count + 4),
         *((module, "meanings", lambda: MEANINGS) for module in (subtitles, faults, report))]
     with contextlib.ExitStack() as stack:

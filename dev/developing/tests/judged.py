@@ -14,14 +14,14 @@ from typing import Any, Callable, NamedTuple, Sequence
 from developing.pes import data_field, pes_packet, pts_in, teletext_packets
 from developing.stl import gsi_block, subtitle_blocks
 from subtitles.cli.main import parser_of
-from subtitles.cli.single import Files, PairCall, claimed, draw, end_pair, judge_pair, now
+from subtitles.cli.single import (
+    Files, PairCall, claimed, draw, end_pair, judge_pair, verdict_of)
 from subtitles.common.program import MadeWith
 from subtitles.common.times import CLOCK, TICKS
 from subtitles.formats.stl import NEW_LINE
 from subtitles.judging.pair import Pair
-from subtitles.judging.status import Severity
 from subtitles.judging.verdict import Verdict
-from subtitles.request.commands import CommandWords, Names, Progress, Speech
+from subtitles.request.commands import CommandWords, Listener, Names, Progress, Speech
 from subtitles.request.lines import read_options
 from subtitles.request.request import request_of
 from subtitles.results.objects import found, object_of
@@ -90,14 +90,15 @@ def judged_by(program: str, *words: str, heard: Heard | None = None) -> Judged:
     heard = heard or Heard()
     known = read_options(parser_of(""), ["-p", program, *words], {}, {})
     asked, typed = request_of(known), CommandWords("tools/qc", program)
-    verdict = Verdict(asked, Severity(asked.severity, asked.is_loss_allowed), now())
+    listener = Listener(heard)
+    verdict = verdict_of(asked, listener)
     with tempfile.TemporaryDirectory() as folder, claimed(known.out, "one"):
         names = Names("one", folder, known.out)
         names.give(asked.stl)
         files = Files(PairCall(program, known.out, known.is_kept, known.json, known.csv,
                                known.junit), verdict, typed, names)
         verdict.found = found(asked)
-        pair = Pair(verdict, typed, names, heard, True)
+        pair = Pair(verdict, typed, names, listener, True)
         if known.out:
             pair.draw = functools.partial(draw, pair)
         judge_pair(pair, files)

@@ -3,7 +3,8 @@ from __future__ import annotations
 
 import itertools
 import os
-from typing import Sequence
+from types import SimpleNamespace
+from typing import Any, Sequence
 
 from developing.pes import packet
 from subtitles.cli.main import main
@@ -14,10 +15,11 @@ from subtitles.common.program import TOP
 from subtitles.formats.listing import FaultLine, Meaning, fault_of_line
 from subtitles.formats.teletext import Page
 from subtitles.judging.check import Answer
-from subtitles.judging.part import Part
+from subtitles.judging.part import Explanation, Part
 from subtitles.request.commands import Names
 from subtitles.request.lines import read_options
 from subtitles.request.request import Request, add_options, option_words, request_with
+from subtitles.stream.gaps import Place
 from subtitles.stream.receiver import Timeline
 from subtitles.stream.survey import Packets, survey
 from .bench import Case
@@ -52,15 +54,24 @@ def answer(lines: Sequence[str] = ("accepted 10 frames 2 transmissions",),
 
 
 def part_with(begin: int | None, end: int | None, origin: int | None,
-              said: Answer | None = None, number: int = 1, source: str = GIVEN) -> Part:
-    """A part of some frames."""
+              said: Answer | None = None, number: int = 1, source: str = GIVEN,
+              packets: Packets | None = None, places: Sequence[Place] = (), **more: Any) -> Part:
+    """A part of some frames; with PES packets or places at which something is missing of a
+    recording that has these."""
     found = None if begin is None or end is None or origin is None else \
         Found(begin, end, Clock(origin, source))
     names = Names("a", "", None)
     names.given = "a.stl"
-    part = Part(number, asked_for("a.stl", "a.pes"), names, found, was_read=True)
-    part.answer = said or answer()
-    return part
+    if packets is not None or places:
+        more["recording"] = SimpleNamespace(packets=packets, stream=lambda: None,
+                                            places=lambda jumps: [*places])
+    known: dict[str, Any] = {
+        "asked": asked_for("a.stl", "a.pes"), "names": names, "found": found,
+        "explanation": Explanation(was_read=True), **more}
+    if packets is not None and found and "pes" in more:
+        held = Timeline(packets, known["asked"].page, found.origin, 0, more["pes"])
+        known["timeline"] = lambda: held
+    return Part(number, answer=said or answer(), **known)
 
 
 def asked_for(stl: str, recording: str | None, *words: str) -> Request:

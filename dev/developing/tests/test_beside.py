@@ -253,8 +253,8 @@ class Judgeable(unittest.TestCase):
             ([refused, "refused 33 Flags pes 0", "ended 33 Flags pes 1", "2 faults"], False),
             (["accepted 51 frames 2 transmissions"], True)]
         for lines, wanted in rows:
-            part = part_with(0, 9, 0, answer(lines))
-            part.pes, part.packets = (0, 1), Packets(0, [Run(0, 2, 0, 0, "h", "")])
+            part = part_with(0, 9, 0, answer(lines), pes=(0, 1),
+                             packets=Packets(0, [Run(0, 2, 0, 0, "h", "")]))
             self.assertEqual(part.is_read(), wanted, lines)
 
 

@@ -113,6 +113,15 @@ class Steps(Programmes):
         heard = channel.hearing.by_page[0, 0x89]
         self.must("one time", heard.changes[False].times[0] == 15 * SECOND, heard.changes)
 
+    def test_option_of_the_file(self) -> None:
+        """With --option auto the language that the file names goes with it, so the result has the
+        choice; else there is none."""
+        for options, wanted in ((" --option auto", "09"), (" --option english", None), ("", None)):
+            channel = Told(self, self.listed("one", options=options))
+            channel.give(Lines().sent(texts_of("one"), BEGIN, 20))
+            self.must(f"{options}", [one.words.language for one in Judging.made] == [wanted],
+                      [one.words.language for one in Judging.made])
+
     def test_what_a_call_left(self) -> None:
         """Its line, with what to know of its first fault; where it ended with another status, what
         it told last."""

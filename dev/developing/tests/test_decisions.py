@@ -15,7 +15,7 @@ from subtitles.clock.start import Clock, Found, RECORDING, START
 from subtitles.common.command_line import Words
 from subtitles.common.times import Between, Span, TICKS
 from subtitles.formats.stl import NamedSubtitle, Subtitle, SubtitleFile
-from subtitles.judging.pair import unclear_origin, with_delay
+from subtitles.judging.clocks import unclear_origin, with_delay
 from subtitles.judging.part import parted, refuse_others
 from subtitles.judging.verdict import frames_until
 from subtitles.recording.recording import of_page

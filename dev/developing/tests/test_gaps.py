@@ -47,8 +47,9 @@ class Places(Case):
         for marks, clocks, jumps, wanted in rows:
             own = [run._replace(pts=None, fault=45) if run.first in {mark.number for mark in marks}
                    else run for run in runs]
-            packets = Packets(5, own, marks=marks, clocked=clocks, jumps=jumps)
-            told = [((one.before, one.after), one.is_announced) for one in places_of(packets)]
+            packets = Packets(5, own, marks=marks, clocked=clocks)
+            told = [((one.before, one.after), one.is_announced)
+                    for one in places_of(packets, jumps)]
             self.must(f"{marks} {clocks} {jumps}", told == wanted, told)
         self.must("said", what_of(Place(1, 2, is_announced=True)) == "more time passes than usual, "
                   "and a jump of the counter is announced")

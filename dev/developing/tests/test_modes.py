@@ -7,7 +7,7 @@ import unittest
 from types import ModuleType
 from unittest import mock
 
-from subtitles.cli import batch, collection, main, single
+from subtitles.cli import batch, collection, main, measure, single
 from subtitles.cli.channel import channel, recorder
 from subtitles.cli.channel.schedule import Planned
 from subtitles.cli.main import (
@@ -18,14 +18,14 @@ from subtitles.common.program import TOP
 from subtitles.request.commands import CommandWords
 from subtitles.request.lines import request_of_line
 from subtitles.request.request import (
-    ALONE, BATCH, CHANNEL, CHANNEL_LINE, COLLECT, LINE, MODES, Mode, PAIR, RECORDER, WATCH)
+    ALONE, BATCH, CHANNEL, CHANNEL_LINE, COLLECT, LINE, MEASURE, MODES, Mode, PAIR, RECORDER, WATCH)
 from .bench import Case
 from .test_channel_tables import defaults
 
 CALLS: dict[Mode, list[str]] = {
     PAIR: ["a.stl", "a.ts"], ALONE: ["a.stl"], BATCH: ["--batch", "in"], WATCH: ["--watch", "in"],
     CHANNEL: ["--channel", "list", "-"], RECORDER: ["-", "--spool", "feed"],
-    COLLECT: ["--collect", "in"]}
+    COLLECT: ["--collect", "in"], MEASURE: ["--measure", "a.stl", "a.ts"]}
 # A value of each option that has one.
 VALUES = {"--page": "801", "--every": "25", "--within": "1", "--option": "german", "--origin": "7",
           "--start": "tcp", "--breaks": "1", "--pes": "2-9", "--pid": "0x101", "--severity": "file",
@@ -35,7 +35,7 @@ VALUES = {"--page": "801", "--every": "25", "--within": "1", "--option": "german
           "--to": "00:00:02:00", "--layout": "fit", "--pace": "9", "--spool": "feed",
           "--on-result": "true", "--late": "0:9/0:9"}
 MANUAL = os.path.join(TOP, "docs", "manual", "qc.md")
-ASKING = {"--batch", "--watch", "--channel", "--collect", "--help", "-h", "--version"}
+ASKING = {"--batch", "--watch", "--channel", "--collect", "--measure", "--help", "-h", "--version"}
 
 
 def words_of(name: str, folder: str) -> list[str]:
@@ -109,6 +109,8 @@ class Modes(Case):
             ([*CALLS[PAIR], "-o@x"], single, "judge_call", {"out": "./@x"}),
             (CALLS[BATCH], batch, "judge_batch", {"batch": "in"}),
             (CALLS[COLLECT], collection, "collect", {"collect": "in"}),
+            ([*CALLS[MEASURE], "--page", "801"], measure, "measure",
+             {"measure": ["a.stl", "a.ts"], "stl": None}),
             (CALLS[WATCH], batch, "watch", {"settled": 5}),
             ([*CALLS[WATCH], "--settled", "0"], batch, "watch", {"settled": 0}),
             (CALLS[CHANNEL], channel, "judge_channel", {"patience": 60, "stall": 10}),

@@ -15,7 +15,7 @@ from subtitles.cli.single import (
 from subtitles.clock.start import Clock, FITTED, Found, GIVEN, RECORDING
 from subtitles.common.program import about_program
 from subtitles.judging.check import Answer
-from subtitles.judging.part import Part
+from subtitles.judging.part import Explanation, Part
 from subtitles.judging.status import Severity
 from subtitles.judging.verdict import Gap, Verdict
 from subtitles.recording.recording import Notice
@@ -63,8 +63,7 @@ class Ends(Case):
             "Accepted: 3 subtitles, each of them as it is due from the first frame on.",
             "! a note", said[2], "a hint", "accepted 10 frames 2 transmissions"] and
             "strange" in said[2] and said[2].startswith("! "), said)
-        fitted = part_with(0, 9, 0)
-        fitted.found = Found(0, 9, Clock(0, RECORDING))
+        fitted = part_with(0, 9, 0, source=RECORDING)
         said = self.said(self.verdict([fitted, part_with(10, 19, 0, number=2)]))
         self.must("parts", said[1:3] == [
             "part 1, from 00:00:00:00 to 00:00:00:09: accepted 10 frames 2 transmissions",
@@ -101,12 +100,11 @@ class Ends(Case):
         rows: list[tuple[Sequence[int], int, bool]] = [
             ((0, 3), 1, True), ((), 1, False), ((0, 3), 0, False)]
         for delays, within, is_said in rows:
-            one = part_with(0, 9, 0)
-            one.delays = delays
+            one = part_with(0, 9, 0, explanation=Explanation(delays=delays, was_read=True))
             said = self.said(self.verdict([one], *(["--within", str(within)] if within else [])))
             self.must(f"{delays} {within}", len(said) == 2 + is_said, said)
-        refused = part_with(0, 9, 0, answer(REFUSED))
-        refused.accepted_within = 4
+        refused = part_with(0, 9, 0, answer(REFUSED),
+                            explanation=Explanation(accepted_within=4))
         self.must("accepted within", any("--within 4" in one for one in self.said(
             self.verdict([refused]))[1:]))
 
@@ -153,10 +151,9 @@ class Writes(Case):
         for line in lines:
             said.take(line)
         said.end(1)
-        made = part_with(0, 9, 0, said, number)
-        made.names = Names("a", self.folder, self.folder)
-        made.names.given = example("story.stl")
-        return made
+        names = Names("a", self.folder, self.folder)
+        names.given = example("story.stl")
+        return part_with(0, 9, 0, said, number, names=names)
 
     def verdict(self, lines: Sequence[str] = REFUSED) -> Verdict:
         made = Verdict(asked_for(example("story.stl"), self.path("one.pes")), Severity(None), now())
@@ -328,8 +325,8 @@ class Overview(Case):
         for delay, words in ((None, "origin 7, given"), (0, "origin 7, given"),
                              (2, "origin 7, given, all 2 frames late"),
                              (-1, "origin 7, given, all 1 frame early")):
-            verdict.parts[0].found = Found(0, 9, Clock(7, GIVEN, delay))
-            self.must(words, report_page.clock_of(verdict.parts[0]) == words)
+            part = part_with(0, 9, 7, found=Found(0, 9, Clock(7, GIVEN, delay)))
+            self.must(words, report_page.clock_of(part) == words)
         table = in_page(report_page.table(verdict, names))
         for number in (1, 2, 3):
             link = f'<a href="one.{number}.html">'

@@ -13,7 +13,7 @@ from subtitles.common.shapes import Flag, Text
 from subtitles.request.commands import CommandWords, again
 from subtitles.request.lines import request_of_line
 from subtitles.request.request import (
-    ALONE, CHANNEL_LINE, JUDGED, LINE, OPTIONS, Option, add_options, option_words as
+    ALONE, CHANNEL_LINE, JUDGED, LINE, MEASURE, OPTIONS, Option, add_options, option_words as
     options_of, plain, request_with)
 from subtitles.results.schema import ASKED
 from .. import DEV
@@ -173,7 +173,7 @@ class Rows(Case):
         back has a member."""
         for one in OPTIONS:
             self.must(one.name, bool(one.means and one.without and one.modes) and
-                      {*one.modes} <= {*JUDGED} and one.help == plain(one.help), one)
+                      {*one.modes} <= {*JUDGED, MEASURE} and one.help == plain(one.help), one)
             self.must(f"{one.name}: member", (one.member is None) == one.name.startswith("--no-"))
             has_line = {mode for mode in (LINE, CHANNEL_LINE) if mode in one.modes}
             self.must(f"{one.name}: lines", bool(has_line), one.modes)

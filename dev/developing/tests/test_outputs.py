@@ -213,8 +213,8 @@ class Members(unittest.TestCase):
             2, 7, "00:00:01:00", "00:00:01:24", "accepted", 10, 2, 0, None, None, None, None])
         self.assertEqual(bare["clock"], {"origin": 7, "source": GIVEN, "delay_frames": None})
         recording: Any = SimpleNamespace(stream=lambda: (0x101, 204))
-        part.recording, part.pes = recording, (3, 9)
-        part.judged, part.found = SummedFile("a.cut.pes", 5, "sum"), None
+        part = dataclasses.replace(part, recording=recording, pes=(3, 9), found=None,
+                                   judged=SummedFile("a.cut.pes", 5, "sum"))
         for is_kept, name in ((True, "a.cut.pes"), (False, None)):
             words = JUDGED_PART.made(PartOf(part, is_kept))
             self.assertEqual([words[name] for name in ("pid", "packet_size", "pes", "judged",

@@ -128,6 +128,13 @@ class Hidden(Case):
             self.must(f"one, {words}", told.word == word and line in told.told and
                       [one["judged"] for one in told.result["lost"]] == [True]
                       and told.listed[-1].startswith("accepted"), told.said)
+        own, later, more = self.sent(), (BEGIN + 730) * TICKS, 400 * TICKS
+        broken = [one for one in own if one[0] < later]
+        broken += [(later + at * TICKS, []) for at in range(400)]
+        broken += [(pts + more, some) for pts, some in own if pts >= later]
+        told = self.judge(lost(self.multiplexed(broken, 0, 1 << 20, 3), 3, True), "--breaks", "1")
+        self.must("before a break", told.word == "lost" and line in told.told
+                  and [one["judged"] for one in told.result["lost"]] == [True], told.said)
         told = self.judge(lost(made, 5, True))  # one, and the first two thirds of another
         self.must("five", told.word == "refused" and
                   told.result["line"] == "refused 45 Lost pes 300", told.said)

@@ -9,7 +9,7 @@ from subtitles.clock.origin import Sought
 from subtitles.clock.start import FITTED, FITTED_LATER, GIVEN, RECORDING
 from subtitles.common.command_line import counted
 from subtitles.common.times import CLOCK, EARLY, TICKS, time_of
-from subtitles.judging.pair import origin_in
+from subtitles.judging.clocks import origin_in
 from .bench import Case, example
 from .parts import packets_told
 from .judged import FEW, Change, Judged, Sent, joined, judged, late, programme, sendings
@@ -312,7 +312,8 @@ class Within(Case):
         return [one for one in self.sent if not begin <= one[0] < begin + LASTS * TICKS]
 
     def test_what_to_type(self) -> None:
-        """Where the clock is not clear, or no break is found, the call within which it is."""
+        """Where the clock is not clear no bound is advised, which would hide what is early; the one
+        that the house knows accepts it."""
         chance = random.Random(2)
         stl = programme(self, times(10), 1)
         sent = [(ORIGIN + pts + TICKS * chance.randrange(5), some)
@@ -323,10 +324,13 @@ class Within(Case):
         for words, some in rows:
             found = judged(self, stl, self.write("one.pes", joined(some)), *words)
             typed = found.lines("! type ")
-            self.must(f"{words}", found.word == "not judged" and len(typed) == 1 and
-                      typed[0].endswith(" ".join([*words, "--within 5"])), found.said)
-            found = judged(self, stl, self.path("one.pes"), *words, "--within", "5")
-            self.must(f"{words}: what is typed", found.word == "accepted", found.said)
+            more = ["--breaks 0"] if words else ["--origin T"]
+            self.must(f"{words}", found.word == "not judged" and
+                      [line.endswith(" ".join(more)) for line in typed] == [True], found.said)
+            shares = "/".join(["0:1,1:1,2:1,3:1,4:1"] * 2)
+            found = judged(self, stl, self.path("one.pes"), *words, "--within", "4", "--late",
+                           shares)
+            self.must(f"{words}: by shares", found.word == "accepted", found.said)
 
     def test_causes(self) -> None:
         """Fields with one PTS are no wrong colour; a repeat that erases the page for longer is not

@@ -2,19 +2,20 @@
 """
 from __future__ import annotations
 
+import dataclasses
 from typing import Any, Sequence
 
 from developing.pes import pes_packet
 from subtitles.clock.origin import Agreement
-from subtitles.clock.start import Clock, FITTED, FITTED_LATER, Found, GIVEN, RECORDING
+from subtitles.clock.start import FITTED, FITTED_LATER, GIVEN, RECORDING
 from subtitles.common.times import CLOCK, TICKS
 from subtitles.formats.listing import ENDS_READING, STL_FAULTS
 from subtitles.judging.check import Answer, NO_END
 from subtitles.judging.losses import gap_of, gaps_of, lacks
-from subtitles.judging.pair import FIXED, OF_ENDS, OF_FRAMES, OF_PACKETS
-from subtitles.judging.part import Part
+from subtitles.judging.part import Explanation, Part
 from subtitles.judging.status import ERROR, OTHERS, REFUSALS, Severity, WARNING
 from subtitles.judging.verdict import Gap, MOVED, Spread, Verdict, spread_of
+from subtitles.judging.within import FIXED, OF_ENDS, OF_FRAMES, OF_PACKETS
 from subtitles.recording.feed import is_enough
 from subtitles.stream.gaps import Place
 from .bench import Case
@@ -81,7 +82,7 @@ class Verdicts(Case):
         for at in range(3):
             for said, is_error in ((REFUSED, False), (OTHER, True)):
                 parts = self.three(0, 1, 2)
-                parts[at].answer = answer(said)
+                parts[at] = dataclasses.replace(parts[at], answer=answer(said))
                 found = verdict_of(parts, warned).status
                 self.must(f"{at} {said[0]}", found == int(is_error), found)
         self.must("none", verdict_of(self.three(), warned).status == 0)
@@ -143,8 +144,7 @@ class Verdicts(Case):
             (answer(REFUSED), [outside], False), (answer(REFUSED), [outside, inside], True),
             (lost, [], True)]
         for said, places, wanted in rows:
-            part = part_with(100, 199, 0, said)
-            part.pes = 0, 9
+            part = part_with(100, 199, 0, said, pes=(0, 9))
             self.must(f"{said.numbers} {places}", lacks(part, places) == wanted)
 
     def test_accepted_within(self) -> None:
@@ -155,9 +155,8 @@ class Verdicts(Case):
                                                                       None),
                 ((None, None, None), (0, 2), None), ((None, None, None), (), None),
                 ((5, None, 1), (0, 2), 5)):
-            parts = self.three(*refused)
-            for part, within in zip(parts, known):
-                part.accepted_within = within
+            parts = [dataclasses.replace(part, explanation=Explanation(accepted_within=within))
+                     for part, within in zip(self.three(*refused), known)]
             found = verdict_of(parts).accepted_within
             self.must(f"{known} {refused}", found == wanted, found)
 
@@ -167,9 +166,7 @@ class Verdicts(Case):
                 ((GIVEN,), None), ((RECORDING,), FITTED), ((GIVEN, RECORDING), FITTED_LATER),
                 ((RECORDING, GIVEN), FITTED), ((GIVEN, GIVEN, RECORDING), FITTED_LATER),
                 ((GIVEN, GIVEN, GIVEN), None)):
-            parts = [part_with(0, 9, 0) for _ in sources]
-            for part, source in zip(parts, sources):
-                part.found = Found(0, 9, Clock(0, source))
+            parts = [part_with(0, 9, 0, source=source) for source in sources]
             found = verdict_of(parts).fitted
             self.must(f"{sources}", found == wanted, found)
 
@@ -179,8 +176,9 @@ class Verdicts(Case):
             ([None, 2, None, 4], Spread(2, 4, 4, 2))]
         for several, wanted in of_spreads:
             self.must(f"{several}", spread_of(several) == wanted, spread_of(several))
-        parts = self.three()
-        parts[0].delays, parts[2].delays = [1, None], [7]
+        delays: list[list[int | None]] = [[1, None], [], [7]]
+        parts = [dataclasses.replace(part, explanation=Explanation(delays=known))
+                 for part, known in zip(self.three(), delays)]
         self.must("of all parts", verdict_of(parts).delays == Spread(1, 7, 7, 1))
 
 
@@ -210,12 +208,9 @@ class Read(Case):
             for line in lines:
                 said.take(line)
             said.end(int(said.frames is None))
-            part = part_with(0, 9, 0, said)
-            part.pes = 0, 2
-            part.packets = packets_told(self, data)
+            part = part_with(0, 9, 0, said, packets=packets_told(self, data), pes=(0, 2))
             self.must(f"{lines}", part.is_read() == wanted)
-        part.pes = None
-        self.must("no recording", not part.is_read())
+        self.must("no recording", not dataclasses.replace(part, pes=None).is_read())
 
     def test_passed_over(self) -> None:
         """Runs of PES packets that were passed over: one that ends is a run up to there, if it is

@@ -7,11 +7,12 @@ import random
 import unittest
 from typing import Sequence
 
-from subtitles.clock.alignment import (
-    AGAIN, Edge, Shown, bases_of, by_breaks, edges_of, find_row, parts_of, runs_of)
+from subtitles.clock.alignment import AGAIN, Edge, Shown, bases_of, edges_of
+from subtitles.clock.stretches import by_breaks, find_row, parts_of, runs_of
 from subtitles.clock.origin import (
     Origin, Sought, packets_of as packets_of_run, take_one, take_parts)
 from subtitles.common.times import CLOCK, FRAMES_A_SECOND, FRAMES_OF_A_DAY, TICKS, frame_in
+from subtitles.request.lateness import Lateness
 from subtitles.stream.ranges import cut_of
 from subtitles.stream.survey import Change, Packets, Run
 
@@ -55,7 +56,7 @@ def packets_of(sendings: Sequence[Sending], every: int = 0, chance: random.Rando
 
 
 def found(shown: Sequence[Shown], packets: Packets, within: int = 0, known: int | None = None,
-          breaks: int = 0, run: int | None = None) -> Origin:
+          breaks: int = 0, run: int | None = None, late: Lateness | None = None) -> Origin:
     """What is found."""
     asked = Sought("", "", origin=known, breaks=breaks)
     origin, bases = Origin(), bases_of(shown, packets, within)
@@ -66,9 +67,9 @@ def found(shown: Sequence[Shown], packets: Packets, within: int = 0, known: int 
         bases = bases_of(shown, packets, within, origin.runs[run - 1])
     row = find_row(bases)
     if breaks:
-        take_parts(origin, asked, bases, parts_of(shown, bases, by_breaks(row)))
+        take_parts(origin, asked, bases, parts_of(shown, bases, by_breaks(row), late))
     else:
-        take_one(origin, asked, bases, row, parts_of(shown, bases, row))
+        take_one(origin, asked, bases, row, parts_of(shown, bases, row, late))
     return origin
 
 
@@ -130,7 +131,8 @@ class Laws(unittest.TestCase):
                                 for line in one.told), one.told)
 
     def test_within(self) -> None:
-        """Each up to N frames late: the origin is that of the least late."""
+        """Each up to N frames late: by shares that say so the origin is that of the least late.
+        Without, it is that or a later one, before which some are early, or it is not clear."""
         for chance, shown, edges, origin in self.each():
             within = chance.choice((1, 2, 5))
             late = [chance.randrange(within + 1) for _ in edges]
@@ -138,9 +140,14 @@ class Laws(unittest.TestCase):
                 sent(edges, origin), late)]
             if any(one >= two for (one, _), (two, _) in zip(sendings, sendings[1:])):
                 continue
+            shares = dict.fromkeys(range(within + 1), 1)
+            one = found(shown, packets_of(sendings), within, late=Lateness(shares, shares))
+            least = (origin + TICKS * min(late)) % CLOCK
+            self.assertEqual([part.origin for part in one.parts], [least], one.told)
             one = found(shown, packets_of(sendings), within)
-            self.assertEqual([part.origin for part in one.parts],
-                             [(origin + TICKS * min(late)) % CLOCK], one.told)
+            origins = [part.origin for part in one.parts]
+            self.assertTrue(origins == [least] or any(
+                "before what is usual for the others" in line for line in one.told), one.told)
 
     def test_fields(self) -> None:
         """Within some frames what comes in the second field of a frame is not late."""

@@ -36,7 +36,7 @@ def faults(*lines: str) -> Faults:
         for line in told:
             answer.take(line)
         answer.stop()
-        return Faults(answer, PROGRAMME)
+        return Faults(answer, PROGRAMME, answer.trusted)
 
 
 class Told(unittest.TestCase):

@@ -104,8 +104,7 @@ class Bounds(unittest.TestCase):
                 (("--within", "2"), 7, "--page 888 --every 250 --origin 7 --option english "
                  "--complete --within 2")):
             asked = asked_for("a.stl", "a.pes", *words)
-            part = part_with(0, 9, origin)
-            part.asked = asked
+            part = part_with(0, 9, origin, asked=asked)
             judged: Any = SimpleNamespace(asked=asked)
             program: Any = None
             self.assertEqual(Subject(judged, part, 1, program, [], []).options(), wanted)

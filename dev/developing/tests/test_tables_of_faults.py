@@ -21,7 +21,7 @@ from subtitles.judging.faults import fault_place, gap_words, hints_of
 from subtitles.judging.part import tell_causes
 from subtitles.judging.sentence import Facts, of_causes, what_is_wrong
 from subtitles.judging.transmissions import DuePages, program_answer
-from subtitles.request.commands import CLEAR, Progress, Speech
+from subtitles.request.commands import CLEAR, Listener, Progress, Speech
 from subtitles.request.request import Unclear
 from subtitles.stream.receiver import BLANK_PAGE, OLD
 from .bench import Case
@@ -229,11 +229,10 @@ class Words(Case):
         good = ["accepted 1 frames 1 transmissions"]
         wanted = ["67: C4 (erase page) is clear: a repeat that does not erase",
                   "73: the longest gap is 225 frames"]
-        parts = [part_with(0, 99, ORIGIN, answer(some, path=self.path(f"list{at}")), at)
+        parts = [part_with(0, 99, ORIGIN, answer(some, path=self.path(f"list{at}")), at,
+                           packets=packets_told(self, data), pes=(0, 4),
+                           asked=asked_for("one.stl", "one.pes"))
                  for at, some in enumerate((lines, good, [lines[2], "1 faults"]), 1)]
-        for part in parts:
-            part.packets, part.pes = packets_told(self, data), (0, 4)
-            part.asked = asked_for("one.stl", "one.pes")
         verdict = verdict_of(parts)
         verdict.asked.every = 100
         self.must("of each", list(hints_of(verdict)) == [
@@ -266,7 +265,7 @@ class Words(Case):
             for count in (0, 40, 41, 45):
                 heard = Heard()
                 causes: Any = SimpleNamespace(all=lambda: list(range(count)))
-                tell_causes(heard, causes, "english")
+                tell_causes(Listener(heard), causes, "english")
                 self.must(f"{count} causes", heard.lines == [
                     *(f"cause {at}" for at in range(min(count, 40))),
                     *[f".. {count - 40} more causes"] * (count > 40)], heard.lines)

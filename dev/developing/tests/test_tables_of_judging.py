@@ -17,8 +17,9 @@ from subtitles.common.times import CLOCK, TICKS
 from subtitles.formats.stl import SubtitleFile
 from subtitles.judging.causes import (
     ATTRIBUTE, Cause, EARLY, LATE, NEVER, NOT_ERASED, OTHER, PLACE, TEXT, UNKNOWN)
-from subtitles.judging.pair import (
-    NOTHING, found_in, is_accepted, is_delay, least_of, may_be, same_part, within_line)
+from subtitles.judging.clocks import found_in
+from subtitles.judging.within import (
+    NOTHING, is_accepted, is_delay, least_of, may_be, same_part, within_line)
 from subtitles.recording.recording import (
     Notice, count_notices, length_words, of_character_sets, of_jumps, of_pauses, of_repeat,
     of_tables, there_are)

@@ -8,14 +8,14 @@ import unittest
 from types import SimpleNamespace
 from typing import Any, Sequence
 
-from subtitles.clock.alignment import LACKED, LEAST_BREAK, Stretch, by_breaks
+from subtitles.clock.stretches import LACKED, LEAST_BREAK, Stretch, by_breaks
 from subtitles.clock.start import Clock, Found, RECORDING
 from subtitles.common.times import CLOCK, Spans, TICKS, joined_spans
-from subtitles.judging.pair import last_time
+from subtitles.judging.clocks import last_time
 from subtitles.stream.gaps import (
     ClockJump, Place, SECOND, jumps_of, place_line, places_of, strange_of, what_of)
 from subtitles.stream.ranges import cut_of
-from subtitles.stream.survey import Clocked, Mark, Packets, Run, Survey
+from subtitles.stream.survey import Change, Clocked, Mark, Packets, Run, Survey
 from .parts import asked_for
 
 
@@ -134,6 +134,83 @@ class Times(unittest.TestCase):
             packets = packets_with([100, None, 200, 600], clocked=several, marks=[
                 Mark(number, 100, 3, 0) for number in marks])
             self.assertEqual([(one.before, one.missing) for one in places_of(packets)], wanted)
+
+    def test_cuts(self) -> None:
+        """The three questions of a cut of frames 100 to 200: where it begins, where it ends, which
+        PES packets lie in the time. A PES packet is its frame and what it does: a header, which
+        erases, of a page that is blank then, opens it, closes it, changes its text."""
+        whole, every, late = (100, 200), (100, 200, 25), (100, 200, 25, 2)
+        rows: list[tuple[str, str, tuple[int, ...], tuple[int, int] | None, bool, bool, int]] = [
+            # Where it begins.
+            ("with the first header", "100 he, 200 he", whole, (0, 1), True, False, 2),
+            ("behind rows", "100 -, 101 -, 120 he, 200 he", whole, (2, 3), True, False, 4),
+            ("nowhere: no header", "100 -, 200 -", whole, None, False, False, 2),
+            ("nowhere: before and behind it", "99 he, 201 he, 202 he", whole, None, False, False,
+             3),
+            ("with the last blank one", "75 heb, 80 heb, 100 he, 200 heb", every, (1, 3), True,
+             False, 4),
+            ("not with one before the bound", "74 heb, 100 he, 200 heb", every, (1, 2), True,
+             False, 3),
+            ("with the bound", "75 heb, 100 he, 200 heb", every, (0, 2), True, False, 3),
+            ("without a bound with none", "99 heb, 100 he, 200 heb", whole, (1, 2), True, False, 3),
+            ("not with one that shows text", "80 heb, 90 he, 100 he, 200 heb", every, (0, 3), True,
+             False, 4),
+            ("not with one of which old text may stand", "80 hb, 100 he, 200 heb", every, (1, 2),
+             True, False, 3),
+            ("but behind one that erases", "80 he, 90 hb, 100 he, 200 heb", every, (1, 3), True,
+             False, 4),
+            ("with itself, where it erases a page that shows text at the first TCI",
+             "80 heb, 90 he, 100 hex, 200 heb", every, (2, 3), True, False, 4),
+            ("not where nothing changes then", "80 heb, 90 he, 100 he, 200 heb", every, (0, 3),
+             True, False, 4),
+            ("not later than the first TCI", "80 heb, 90 he, 101 hex, 200 heb", every, (0, 3),
+             True, False, 4),
+            ("with one in two PES packets of a frame", "80 he, 80 b, 100 he, 200 heb", late,
+             (0, 3), True, False, 4),
+            ("which is no sending within 0", "80 he, 80 b, 100 he, 200 heb", every, (2, 3), True,
+             False, 4),
+            # Where it ends.
+            ("with what is there", "100 he, 150 -", every, (0, 1), False, False, 2),
+            ("with a header at the last TCO", "100 he, 200 heb, 201 -, 202 -", every, (0, 1), True,
+             True, 3),
+            ("with all of that frame", "100 he, 200 heb, 200 -, 201 -", every, (0, 2), True, True,
+             4),
+            ("with a later one", "100 he, 200 -, 210 he, 220 he", every, (0, 2), True, True, 4),
+            ("up to the bound", "100 he, 225 he, 226 he", every, (0, 1), True, True, 3),
+            ("not behind it", "100 he, 226 he, 227 he", every, (0, 0), False, True, 3),
+            ("without a bound at the last TCO", "100 he, 200 -, 201 he", whole, (0, 1), True, True,
+             3),
+            ("late: not with a page that shows text", "100 he, 200 he, 203 -", late, (0, 2), True,
+             False, 3),
+            ("late: with the blank one", "100 he, 200 he, 201 heb, 202 -", late, (0, 2), True,
+             True, 4),
+            ("late: with one that ends, where one before did",
+             "100 heo, 101 c, 200 heob, 201 cb, 202 -", late, (0, 3), True, True, 5),
+            ("late: as late as may be", "100 he, 201 he, 202 he, 203 -", late, (0, 2), True, True,
+             4),
+            # Which PES packets lie in the time.
+            ("one behind alone", "100 he, 900 he, 150 he, 200 he, 201 -, 202 -", every, (0, 3),
+             True, True, 5),
+            ("two behind", "100 he, 900 he, 901 he, 200 he", every, (0, 0), False, True, 3),
+            ("one before alone", "100 he, 5 he, 200 heb", every, (0, 2), True, False, 3),
+            ("marks between and behind", "100 he, m, 200 heb, m, 201 -", every, (0, 3), True, True,
+             5),
+            ("marks before", "m, 100 he, 200 heb", every, (1, 2), True, False, 3),
+            ("nothing", "", every, None, False, False, 0)]
+        for name, sent, asked, wanted, has_end, is_over, read in rows:
+            known = [one.split() for one in sent.split(", ") if one]
+            made = Packets(257, [
+                Run(at, 1, None if one[0] == "m" else TICKS * int(one[0]), 0,
+                    "".join(one[1:]).strip("x-"), "") for at, one in enumerate(known)],
+                changes=[Change(0, b"", at) for at, one in enumerate(known) if "x" in one[-1]])
+            begin, end, bound, within = (*asked, None, 0)[:4] if len(asked) < 4 else asked
+            found = cut_of(made, begin or 0, end or 0, 0, bound, within or 0)
+            with self.subTest(name):
+                self.assertEqual((found.range, found.has_end, found.is_over, found.read),
+                                 (wanted, has_end, is_over, read))
+        made = Packets(257, [Run(at, 1, TICKS * (100 + at), 0, "he", "") for at in range(9)])
+        found = cut_of(made, 100, 200, 0, 25, inside=(3, 5))
+        self.assertEqual((found.range, found.came, found.read), ((3, 5), 103, 7))
 
     def test_marks_at_the_ends_of_a_cut(self) -> None:
         """A mark just behind the last frame, up to the first PES packet of a later one, is judged;

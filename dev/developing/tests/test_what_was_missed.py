@@ -10,6 +10,7 @@ from developing.pes import pes_packet
 from subtitles.cli.channel.feed import Losses
 from subtitles.cli.channel.schedule import OnAir, Planned, Queue
 from subtitles.clock.alignment import back_at
+from subtitles.clock.start import Clock, Found, GIVEN
 from subtitles.common.times import CLOCK, NO_FRAME, Span, TICKS
 from subtitles.judging.losses import places_on
 from subtitles.report import page
@@ -113,10 +114,8 @@ class Values(Case):
         places = [Place(None, TICKS, missing=9), Place(TICKS, 2 * TICKS, missing=9),
                   Place(None, TICKS, 1, mark=0), Place(TICKS, 2 * TICKS, 1, mark=1)]
         for came, wanted in ((None, places), (5, places[1:])):
-            one = part_with(0, 100, 0)
-            recording: Any = SimpleNamespace(places=lambda: places)
-            assert one.found
-            one.recording, one.found = recording, one.found._replace(came=came)
+            one = part_with(0, 100, 0, places=places,
+                            found=Found(0, 100, Clock(0, GIVEN), came=came))
             self.must(f"{came}", [*places_on(one, None)] == wanted)
 
     def test_held_before(self) -> None:

@@ -6,8 +6,9 @@ import unittest
 from types import SimpleNamespace
 from typing import Any
 
-from subtitles.clock.alignment import Stretch
+from subtitles.clock.delays import Early
 from subtitles.clock.origin import break_lines, frames_words, part_lines, shift_lines
+from subtitles.clock.stretches import Stretch
 from subtitles.common.times import CLOCK, TICKS
 
 ORIGIN = CLOCK - 5 * TICKS
@@ -29,7 +30,8 @@ class Words(unittest.TestCase):
         fit = SimpleNamespace(**best, points=lambda is_one=True: best["agree"])
         sent = SimpleNamespace(edges=[None] * edges, within=more.get("within", 0),
                                apart=lambda _: more.get("apart"))
-        return SimpleNamespace(best=fit, others=more.get("others", []), sent=sent)
+        return SimpleNamespace(best=fit, others=more.get("others", []), sent=sent,
+                               early=more.get("early"))
 
     def other(self, origin: int, agree: int) -> Any:
         return SimpleNamespace(origin=origin, agree=agree, start=900, texts=1,
@@ -65,7 +67,16 @@ class Words(unittest.TestCase):
               "none", "cues are 0 to 2 frames late, 1 in the middle"]),
             (self.part(9, 9, 9, within=3, late=[0, 0]), 20,
              ["9 of 9 cues agree, 9 with the letters that are due; the file has 20; next best: "
-              "none", "no cue is late"])]
+              "none", "no cue is late"]),
+            (self.part(9, 10, 9, within=3, late=[0], early=Early(1, 30, 2), first_other=50), 20,
+             ["9 of 10 cues agree, 9 with the letters that are due; the file has 20; next best: "
+              "none", "no cue is late", "1 of 30 cues comes up to 2 frames before what is usual "
+              "for the others: that is early", "the first cue that does not agree is 00:00:02:00"]),
+            (self.part(8, 10, 8, within=3, late=[0], early=Early(2, 10, 1)), 20,
+             ["8 of 10 cues agree, 8 with the letters that are due; the file has 20; next best: "
+              "none", "no cue is late", "2 of 10 cues come up to 1 frame before what is usual for "
+              "the others: early subtitles, or an inserter that is late for the others? Give "
+              "--origin or --start"])]
         for is_begin, agree, late, line in (
                 (True, 5, 2, "all beginnings are 2 frames late compared with the ends"),
                 (False, 4, -1, "4 of 5 ends are 1 frame early compared with the beginnings")):

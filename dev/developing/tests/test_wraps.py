@@ -11,8 +11,8 @@ import unittest
 from subtitles.cli.channel.feed import FeedClock
 from subtitles.clock.start import Clock, Found, RECORDING
 from subtitles.common.times import CLOCK, FRAMES_OF_A_DAY, Span, TICKS
-from subtitles.judging.losses import is_in, place_time
-from subtitles.judging.part import reach, unseen
+from subtitles.judging.losses import place_time
+from subtitles.judging.part import is_in, reach, unseen
 from subtitles.report.transmission import place_of_pts
 from subtitles.stream.gaps import Place, SECOND
 from developing.multiplex import TENTH, Multiplex
@@ -98,8 +98,7 @@ class Losses(unittest.TestCase):
     def test_marks(self) -> None:
         """A mark is in the part with whose PES packets it is judged, whatever its PTS are: the
         first one, one between, the last."""
-        part = part_with(100, 200, 0)
-        part.pes = 7, 19
+        part = part_with(100, 200, 0, pes=(7, 19))
         for mark, wanted in ((0, False), (6, False), (7, True), (12, True), (19, True),
                              (20, False)):
             for place in (Place(None, None, mark=mark), Place(TICKS * 150, TICKS * 151, mark=mark),

@@ -11,7 +11,8 @@ from ..common.command_line import Stop, Words, error_line
 from ..common.files import IsInput, plain_name, whole_file
 from ..request.lines import goes_with, read_options
 from ..request.request import (
-    ALONE, BATCH, CHANNEL, COLLECT, Mode, OPTIONS, Option, PAIR, RECORDER, WATCH, add_options)
+    ALONE, BATCH, CHANNEL, COLLECT, MEASURE, Mode, OPTIONS, Option, PAIR, RECORDER, WATCH,
+    add_options)
 from ..results import objects, tables
 from . import single
 
@@ -44,6 +45,8 @@ ASKING = (
     Option("--collect", "DIR", "one table and one page of the JSON results in a folder", (COLLECT,),
            field="collect"),
     Option("--watch", "IN", "judge the pairs that come into a folder", (WATCH,), field="watch"),
+    Option("--measure", "STL RECORDING", "print a [profile](#a-profile) of recordings that are "
+           "right, of one pair or more; nothing is judged", (MEASURE,), field="measure", nargs="+"),
     Option("--channel", "LIST", "judge the programmes of a list, one after another, out of a feed",
            (CHANNEL,), field="channel"))
 OF_CALL = (
@@ -54,7 +57,8 @@ OF_CALL = (
     Option("--json", "FILE", "the verdict as a JSON result", OUTPUT_MODES, field="json"),
     Option("--csv", "FILE", "a line for each fault", OUTPUT_MODES, field="csv"),
     Option("--junit", "FILE", "the verdict for a CI", OUTPUT_MODES, field="junit"),
-    Option("-p", "PROGRAM", "the program that is asked", CALLS, "./subttx", field="program"),
+    Option("-p", "PROGRAM", "the program that is asked", (*CALLS, MEASURE), "./subttx",
+           field="program"),
     Option("--resume", None, "keep what an earlier call has judged in the same way",
            (BATCH, CHANNEL), field="is_resumed", default=False),
     Option("--line", "N", "judge line N of LIST alone, as an engine's job does", (BATCH,),
@@ -77,7 +81,7 @@ TAKEN_BY = {one.name: one.modes for one in (*OPTIONS, *OF_CALL)}
 def mode_of(words: argparse.Namespace) -> Mode:
     """What is asked for; `Stop` where that is two things."""
     asked = {BATCH: words.batch, COLLECT: words.collect, WATCH: words.watch,
-             CHANNEL: words.channel}
+             MEASURE: words.measure, CHANNEL: words.channel}
     given = [mode for mode, value in asked.items() if value is not None]
     if len(given) > 1:
         raise Stop(f"{given[0].words} and {given[1].words} are two calls")
@@ -85,8 +89,8 @@ def mode_of(words: argparse.Namespace) -> Mode:
         if words.stl is None or words.recording is not None:
             raise Stop("--channel LIST takes one feed: a file, a pipe, or -")
     elif given and words.stl is not None:
-        raise Stop(f"{words.stl} stands beside {given[0].words}, which takes its pairs from "
-                   f"{asked[given[0]]}")
+        own = "behind it" if given[0] is MEASURE else f"from {asked[given[0]]}"
+        raise Stop(f"{words.stl} stands beside {given[0].words}, which takes its pairs {own}")
     if not given and words.spool is not None and words.stl is not None and words.recording is None:
         return RECORDER
     return given[0] if given else ALONE if words.recording is None else PAIR
@@ -208,6 +212,9 @@ def answer(text: str, called: str, line: list[str]) -> int:
     if words.batch is not None:
         from . import batch
         return batch.judge_batch(words, called)
+    if words.measure is not None:
+        from . import measure
+        return measure.measure(words, called)
     if words.watch is not None:
         from . import batch
         return batch.watch(words, called)

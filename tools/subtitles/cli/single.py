@@ -21,14 +21,15 @@ from ..common.program import about_program
 from ..formats.listing import is_line
 from ..judging.causes import count_line
 from ..judging.faults import faults_of, hints_of
-from ..judging.pair import Pair, within_line
+from ..judging.pair import Pair
 from ..judging.part import Part
 from ..judging.status import NOT_JUDGED, Severity
 from ..judging.verdict import Gap, Verdict
+from ..judging.within import within_line
 from ..recording.recording import Recording, size_of
 from ..report.page import overview
 from ..request.commands import (
-    CommandWords, LOCK, Names, Progress, Speech, files_in, index_in, lock_of, pair_name,
+    CommandWords, LOCK, Listener, Names, Progress, Speech, files_in, index_in, lock_of, pair_name,
     profile_line)
 from ..request.request import AUTO_OF_FEED, Request, Unclear, keep_stl, request_of
 from ..results import objects, tables
@@ -206,8 +207,8 @@ def judge_request(asked: Request, call: PairCall, called: str) -> int:
     if asked.profile:
         speech.say(profile_line(asked.profile))
     typed = CommandWords(called, call.program)
-    verdict = Verdict(asked, Severity(asked.severity, asked.is_loss_allowed), now(),
-                      was_fitted=call.is_fitted)
+    listener = Listener(speech)
+    verdict = verdict_of(asked, listener, call.is_fitted)
     verdict.is_kept = call.is_kept
     name = call.name or pair_name(asked.stl)
     refuse_outputs(call, asked, here, name)
@@ -220,13 +221,19 @@ def judge_request(asked: Request, call: PairCall, called: str) -> int:
         names.give(asked.stl_path)
         files = Files(call, verdict, typed, names)
         verdict.found = found(asked)
-        pair = Pair(verdict, typed, names, speech, files.are_any())
-        pair.stalled_after, pair.is_cut = call.stall, call.is_cut
+        pair = Pair(verdict, typed, names, listener, files.are_any(), call.stall, call.is_cut)
         if out is not None:
             pair.draw = functools.partial(draw, pair)
         judge_pair(pair, files)
         end_pair(verdict, speech, files)
     return verdict.status
+
+
+def verdict_of(asked: Request, listener: Listener, is_fitted: bool = False) -> Verdict:
+    """A verdict of which nothing is known yet; it has what the listener hears."""
+    return Verdict(asked, Severity(asked.severity, asked.is_loss_allowed), now(),
+                   notes=listener.notes, commands=listener.commands, chosen=listener.selections,
+                   was_fitted=is_fitted)
 
 
 def refuse_outputs(call: PairCall, asked: Request, out: str | None, name: str) -> None:
@@ -262,7 +269,7 @@ def draw(pair: Pair, part: Part, gaps: Sequence[Gap], count: int) -> None:
                                    part.names.folder)
     files = [(kind, file) for kind, file in (
         ("STL", verdict.stl), ("PES", part.judged), ("Recording", verdict.recording)) if file]
-    subject = report.Subject(verdict, part, count, program, pair.speech.commands, files)
+    subject = report.Subject(verdict, part, count, program, verdict.commands, files)
     try:
         made = report_page.report_page(report.Report(subject))
     except transmission.NoReport as reason:
@@ -285,7 +292,6 @@ def judge_pair(pair: Pair, files: Files) -> None:
         ignore_signals()  # what is known is written now
         verdict.is_stopped = True
         verdict.reason = f"stopped at {pair.stop(now())}"
-    verdict.commands, verdict.chosen = pair.speech.commands, pair.speech.chosen
     verdict.seconds = round(time.monotonic() - began, 3)
     try:
         files.write(pair.recording)

@@ -10,11 +10,13 @@ from ..common.times import (
     ticks_within, time_of, wrapped)
 from ..formats.stl import letters_on_page, readable, stl_bytes, subtitle_times
 from ..formats.teletext import Page, page_name
+from ..request.lateness import Lateness
 from ..stream.receiver import subcode_words, turns_of
 from ..stream.survey import Packets, Range, STRAY
-from .alignment import (
-    Airing, Base, Fit, FittedPart, IN_A_ROW, MOST_APART, Shown, Stretch, bases_of, by_breaks,
-    find_row, parts_of, runs_of)
+from .alignment import Base, Fit, MOST_APART, Shown, bases_of
+from .delays import Drift, Early, drift_of
+from .stretches import (
+    Airing, FittedPart, IN_A_ROW, Stretch, by_breaks, find_row, parts_of, runs_of)
 
 
 NEAR = 10 * FRAMES_A_SECOND  # to the origin 0
@@ -38,6 +40,7 @@ class Sought(NamedTuple):
     inside: Range | None = None
     between: Between = ALL_DAY
     left_out: Collection[int] = ()
+    late: Lateness | None = None  # the shares of the inserter's delays, where they are known
 
 
 class OfPart(NamedTuple):
@@ -109,16 +112,16 @@ def find(asked: Sought, packets: Packets) -> Origin:
     if not bases:
         origin.told += [*other_words(packets, asked.page), "no cue agrees with any origin"]
         return origin
-    runs = runs_of(bases)
+    runs = runs_of(bases, asked.origin is not None)
     if len(runs) > 1:
         origin.runs = [packets_of(runs, number, bases, packets) for number in range(len(runs))]
         origin.told += [runs_line(len(runs)), *run_lines(runs, origin.runs, bases)]
         return origin
     row = find_row(bases)
     if asked.breaks:
-        take_parts(origin, asked, bases, parts_of(subtitles, bases, by_breaks(row)))
+        take_parts(origin, asked, bases, parts_of(subtitles, bases, by_breaks(row), asked.late))
     else:
-        take_one(origin, asked, bases, row, parts_of(subtitles, bases, row))
+        take_one(origin, asked, bases, row, parts_of(subtitles, bases, row, asked.late))
     if origin.status:
         origin.told[:0] = other_words(packets, asked.page)
     return origin
@@ -158,7 +161,7 @@ def take_one(origin: Origin, asked: Sought, bases: Sequence[Base],
         origin.told.append("no cue agrees with any origin")
         return
     part, edges = parts[0], bases[0].edges
-    if is_clear(part):
+    if is_clear(part, asked.origin is not None):
         origin.status = 0
         is_back = len(bases) > 1 and len(parts) == 1
         add(origin, part, part.sent.packets if is_back else None, None, len(edges))
@@ -168,7 +171,9 @@ def take_one(origin: Origin, asked: Sought, bases: Sequence[Base],
         origin.shifted_from = edges[row[1].first].frame
         origin.shifts = shift_lines(row, parts,
                                     part.origin if asked.origin is None else asked.origin)
-        origin.told += origin.shifts
+    if drift := drift_of(edges, bases[part.base].changes):
+        origin.shifts = [drift_line(drift)]
+    origin.told += origin.shifts
     first, last = (time_of_pts(pts, part.origin) for pts in part.sent.sent)
     origin.told.append(f"subtitles due from {time_of(edges[0].frame)} to "
                        f"{time_of(edges[-1].frame)}, page sent from {first} to {last}")
@@ -184,7 +189,7 @@ def take_parts(origin: Origin, asked: Sought, bases: Sequence[Base],
                         *break_lines(parts)]
         return
     count = sum(len(part.sent.edges) for part in parts)
-    if all(map(is_clear, parts)):
+    if all(is_clear(part, part is parts[0] and asked.origin is not None) for part in parts):
         origin.status = 0
         for part in parts:
             add(origin, part, part.sent.packets if len(bases) > 1 else None,
@@ -260,10 +265,12 @@ def as_good(part: FittedPart) -> list[Fit]:
             and not (apart and (abs(fit.start - best.start) <= MOST_APART or not fit.texts))]
 
 
-def is_clear(part: FittedPart) -> bool:
-    """Whether the origin of a part is clear."""
-    return not as_good(part) and (part.best.agree * 2 >= part.best.among
-                                  or bool(part.sent.apart(part.best)))
+def is_clear(part: FittedPart, is_known: bool = False) -> bool:
+    """Whether the origin of a part is clear. Where it is known, cues before the fitted one are
+    early, however many they are."""
+    is_open = part.early is not None and part.early.are_many and not is_known
+    return not as_good(part) and not is_open and (
+        part.best.agree * 2 >= part.best.among or bool(part.sent.apart(part.best)))
 
 
 def agree_line(part: FittedPart, count: int) -> str:
@@ -289,6 +296,8 @@ def part_lines(part: FittedPart, count: int) -> Iterator[str]:
         names = ", ".join(f"--origin {fit.origin}" for fit in equal[:NAMED])
         yield (f"it is not unique: as good as --origin {best.origin} are {names}"
                + (f" and {len(equal) - NAMED} more" if len(equal) > NAMED else ""))
+    if part.early:
+        yield early_line(part.early)
     if best.first_other is not None:
         yield f"the first cue that does not agree is {time_of(best.first_other)}"
     if apart:
@@ -301,6 +310,23 @@ def part_lines(part: FittedPart, count: int) -> Iterator[str]:
     if best.agree * 2 < best.among and not apart:
         yield (f"fewer than half of the cues agree with --origin {best.origin}: check that this "
                "is the right subtitle file")
+
+
+def early_line(early: Early) -> str:
+    """How many cues come before the clock that was taken, and what that may be."""
+    count = f"{early.cues} of {counted(early.among, 'cue')} " \
+        f"{'comes' if early.cues == 1 else 'come'} up to {counted(early.frames, 'frame')} before " \
+        "what is usual for the others"
+    return f"{count}: early subtitles, or an inserter that is late for the others? Give --origin " \
+        "or --start" if early.are_many else f"{count}: that is early"
+
+
+def drift_line(drift: Drift) -> str:
+    """That what is sent comes later and later, or earlier."""
+    way = "later and later" if drift.frames > 0 else "earlier and earlier"
+    by = counted(abs(drift.frames), "frame")
+    return f"from {time_of(drift.first)} to {time_of(drift.last)} subtitles come {way}, by {by}: " \
+        "is the file, or the recording, for another frame rate?"
 
 
 def shift_lines(row: Sequence[Stretch], parts: Sequence[FittedPart], known: int) -> list[str]:

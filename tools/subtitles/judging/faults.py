@@ -117,11 +117,11 @@ def hint_words(told: FaultLine, part: Part, verdict: Verdict) -> str:
     if told.number == DISPLAY:
         return open_words(part.subtitle_file())
     if told.number in OF_HEADERS:
-        return part.of_header
+        return part.explanation.of_header
     if told.number in OF_ENDS:
         return end_words(told.number, part, asked.page_name)
     if told.number == CONTENT:
-        return part.otherwise
+        return part.explanation.otherwise
     if told.number in BY_LAYOUT:
         return ", ".join(left_lines(verdict.layout)) if verdict.layout else ""
     if told.number in (EMPTY_TIME, OUT_OF_ORDER):
@@ -129,16 +129,18 @@ def hint_words(told: FaultLine, part: Part, verdict: Verdict) -> str:
     if part.pes is None or part.origin is None:
         return ""
     if told.number == OFF_FRAME:
-        return off_words(most_off(part.pts(), part.origin), part.accepted_within)
+        return off_words(most_off(part.pts(), part.origin),
+                         part.explanation.accepted_within)
     if told.number == SILENT:
         return silent_words(told, part)
     if told.number == GAP:
         times = [(one.begin, one.end) for one in part.due().subtitles]
         return gap_words((part.pts(HEADER), part.pts()[-1:]), part.origin, asked,
-                         part.answer.numbers, times, part.is_lost)
-    if part.kept:
-        return part.kept.words()
-    return header_words(fault_place(told, part.packets, part.held).headers, asked, part.better)
+                         part.answer.numbers, times, part.explanation.is_lost)
+    if part.explanation.kept:
+        return part.explanation.kept.words()
+    return header_words(fault_place(told, part.packets, part.held).headers, asked,
+                        part.explanation.better)
 
 
 def end_words(number: int, part: Part, page: str) -> str:
@@ -225,9 +227,10 @@ class PartFaults:
         if told.number == DISPLAY:
             do = open_words(self.subtitles) or do
         if told.number == CONTENT:
-            do = self.part.otherwise or do
+            do = self.part.explanation.otherwise or do
         do = midnight_words(told, self.subtitles) or do
-        means = header_words(place.headers, self.asked, self.part.better) or means
+        means = header_words(place.headers, self.asked,
+                             self.part.explanation.better) or means
         return {
             "part": self.part.number, "line": told.line, "number": told.number,
             "name": told.name, "severity": self.verdict.severity.of(told.number),

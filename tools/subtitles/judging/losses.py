@@ -7,18 +7,17 @@ from typing import Iterator, Sequence
 
 from ..common.command_line import counted, pid_name
 from ..common.times import (
-    FRAMES_A_SECOND, FRAMES_OF_A_DAY, TICKS, frame_in, pts_of, ticks_between, ticks_within, time_of)
+    FRAMES_A_SECOND, FRAMES_OF_A_DAY, TICKS, frame_in, pts_of, ticks_between, time_of)
 from ..formats.listing import LOSSES
 from ..recording.recording import Recording
-from ..request import request
-from ..request.commands import Speech
-from ..request.request import NONE
+from ..request.commands import Listener
+from ..request.request import NONE, PACE_CHOICE, Selection
 from ..stream.gaps import (
     BY_EVERY, IRREGULAR, PAUSED, Pace, Place, REGULAR, TOO_FEW, each_of, frame_rows, pace_of,
     pauses_of, unseen_from, what_of)
-from ..stream.survey import PACKET, Range, jumps_at
-from .part import Part
-from .verdict import Gap, Verdict
+from ..stream.survey import PACKET, PTSPair, jumps_at
+from .part import Part, PartPace, PartRange, is_in
+from .verdict import Gap
 
 
 # Places at which something of a recording is missing, and of which parts that is.
@@ -34,7 +33,8 @@ def gaps_in(recording: Recording, parts: Sequence[Part]) -> list[Gap]:
     """Where something is missing; on a PID to which the page moved, or from which, what is of none
     of its parts is left out."""
     if not recording.stages:
-        return gaps_of(recording.places(), parts)
+        jumps = [jump for part in parts for jump in part.jumps]
+        return gaps_of(recording.places(jumps), parts)
     return [gap_of(place, one.origin or 0, True) for one, other in zip(parts, [*parts[1:], None])
             for place in places_on(one, other) if is_in(place, one) or is_in_move(place, one)]
 
@@ -42,12 +42,11 @@ def gaps_in(recording: Recording, parts: Sequence[Part]) -> list[Gap]:
 def places_on(one: Part, other: Part | None) -> Iterator[Place]:
     """Where something is missing on a PID; what is where the page goes to the one of another part
     is told here, and not there."""
-    recording, its = one.recorded
-    for place in recording.places():
+    for place in one.places():
         if other and is_in_move(place, one):
             _, found = other.recorded
             yield dataclasses.replace(place, after=pts_of(found.begin, found.origin))
-        elif place.mark is not None or place.before is not None or its.came is None:
+        elif place.mark is not None or place.before is not None or one.recorded[1].came is None:
             yield place
 
 
@@ -65,20 +64,6 @@ def is_in_move(place: Place, one: Part) -> bool:
     found = one.found
     return bool(found and found.stage and found.goes is not None and place.mark is None
                 and place.before == found.stage.last())
-
-
-def is_in(place: Place, part: Part) -> bool:
-    """Whether a mark is one of those that are judged with a part; or where none stands, whether
-    frames of the part may lack what is missing there."""
-    if part.found is None:
-        return False
-    if place.mark is not None and part.pes is not None:
-        return part.pes[0] <= place.mark <= part.pes[1]
-    begin, end = part.found[:2]
-    first, length = pts_of(begin, part.found.origin), TICKS * (end - begin)
-    is_before = place.after is not None and ticks_within(first, length, place.after) <= 0
-    is_after = place.before is not None and ticks_within(first, length, place.before) >= length
-    return not is_before and not is_after
 
 
 def lacks(part: Part, places: Sequence[Place]) -> bool:
@@ -109,49 +94,47 @@ NEXT = 1  # frame from a PES packet to one that comes in the next frame
 UNCHECKED = "not checked: whether"  # begins the note on what nothing tells
 
 
-def set_pace(part: Part, pes: Range, verdict: Verdict, speech: Speech,
-             times: Sequence[tuple[int, int]]) -> None:
-    """Asks for the pace of the PES packets that are judged, where they are regular and none is
-    asked for, by the frames of the subtitles. Where holes may be unseen the verdict has notes."""
-    asked, recording = part.asked, part.recorded[0]
-    pace, unseen = measured_pace(part, pes, times)
-    notes = [jump_words(take_jumps(part, pes, pace), recording)]
+def paced_part(part: PartRange, times: Sequence[tuple[int, int]], listener: Listener) -> PartPace:
+    """A part with the pace of the PES packets that are judged, where they are regular and none is
+    asked for, by the frames of the subtitles. Where holes may be unseen notes say so."""
+    number, asked, recording = part.frames.number, part.frames.asked, part.frames.recording
+    pace, unseen = measured_pace(part, times)
+    jumps, count = late_jumps(part, pace)
+    notes = [jump_words(count, recording)]
     if asked.pace_word is not None:
         notes.append(clock_words(recording) if asked.pace_word == NONE else "")
     else:
         notes.append(note := unseen_words(pace, unseen, recording))
         if pace.frames:
-            speech.choose(chosen_of(pace, recording.is_stream, part.number))
-            part.asked = dataclasses.replace(asked, pace_word=str(pace.frames))
+            listener.chosen(chosen_of(pace, recording.is_stream, number))
+            asked = dataclasses.replace(asked, pace_word=str(pace.frames))
         elif note:  # which is told with the verdict
-            speech.chosen.append(request.Selection(
-                request.PACE_CHOICE, None, note, part=part.number))
-    verdict.notes += [note for note in notes if note and note not in verdict.notes]
+            listener.chosen(Selection(PACE_CHOICE, None, note, part=number), is_said=False)
+    listener.noted(*notes)
+    return PartPace(part, asked, jumps)
 
 
-def measured_pace(part: Part, pes: Range, times: Sequence[tuple[int, int]]) \
-        -> tuple[Pace, int | None]:
+def measured_pace(part: PartRange, times: Sequence[tuple[int, int]]) -> tuple[Pace, int | None]:
     """How far apart the PES packets of a part come; and from how many frames on a hole of them is
     one that the counter may not show."""
-    packets, asked, (recording, found) = part.packets, part.asked, part.recorded
+    (_, asked, _, found, recording, _), pes, _ = part
     size = None if recording.is_stream else os.path.getsize(recording.path)
-    rows = frame_rows(packets, pes, found.origin, asked.within)
-    each = each_of(packets, pes, size)
+    rows = frame_rows(recording.packets, pes, found.origin, asked.within)
+    each = each_of(recording.packets, pes, size)
     return pace_of(rows, each, asked.every, pauses_of(times), recording.is_stream), \
         unseen_from(rows, each)
 
 
-def take_jumps(part: Part, pes: Range, pace: Pace) -> int:
-    """Takes the jumps of the counter that a stream announces where a PES packet comes later than
-    is usual; answers at how many others there is a frame for one that may be missing."""
-    recording = part.recorded[0]
+def late_jumps(part: PartRange, pace: Pace) -> tuple[list[PTSPair], int]:
+    """The jumps of the counter that a stream announces where a PES packet comes later than is
+    usual; and at how many others there is a frame for one that may be missing."""
+    recording = part.frames.recording
     if not recording.is_stream:
-        return 0
-    found = jumps_at(part.packets, pes, min(pace.apart, NEXT), recording.path,
+        return [], 0
+    found = jumps_at(recording.packets, part.pes, min(pace.apart, NEXT), recording.path,
                      recording.survey.size or PACKET)
-    late = [one for one in found if ticks_between(*one) > pace.apart * TICKS]
-    part.packets.jumps = late
-    return len(found) - len(late)
+    late = [pair for pair in found if ticks_between(*pair) > pace.apart * TICKS]
+    return late, len(found) - len(late)
 
 
 def jump_words(count: int, recording: Recording) -> str:
@@ -160,11 +143,11 @@ def jump_words(count: int, recording: Recording) -> str:
         f"{counted(count, 'place')} where a jump of its counter is announced" if count else ""
 
 
-def chosen_of(pace: Pace, is_stream: bool, part: int) -> request.Selection:
+def chosen_of(pace: Pace, is_stream: bool, part: int) -> Selection:
     """A pace that is asked for, by at how many places a loss takes longer, of all that there are.
     """
-    return request.Selection(request.PACE_CHOICE, str(pace.frames), regular_words(pace, is_stream),
-                             pace.among - pace.closer, pace.among, part)
+    return Selection(PACE_CHOICE, str(pace.frames), regular_words(pace, is_stream),
+                     pace.among - pace.closer, pace.among, part)
 
 
 def regular_words(pace: Pace, is_stream: bool) -> str:

@@ -4,65 +4,119 @@ from __future__ import annotations
 import collections
 import dataclasses
 import functools
-from typing import Callable, Collection, Iterator, Sequence
+from typing import Callable, Collection, Iterator, NamedTuple, Sequence
 
 from ..clock.start import Clock, Found
 from ..common.command_line import counted, pid_name
 from ..common.files import SummedFile
 from ..common.times import (
-    Between, FRAMES_OF_A_DAY, Span, TICKS, frame_in, pts_of, ticks_within, time_of)
+    Between, FRAMES_OF_A_DAY, Span, Spans, TICKS, frame_in, pts_of, ticks_within, time_of)
 from ..formats.listing import EMPTY, PASSED_OVER, STL_FAULTS
 from ..formats.stl import Subtitle, SubtitleFile
 from ..formats.teletext import BY_BITS, RESERVED
 from ..recording.recording import Notice, Recording
-from ..request.commands import MOST_LINES, Names, Speech
+from ..request.commands import Listener, MOST_LINES, Names
 from ..request.request import Request, Unclear
 from ..stream.gaps import Place
 from ..stream.ranges import Stage, move_words, part_inside, up_to
 from ..stream.receiver import Timeline, national_option, timeline_near
-from ..stream.survey import PES, Packets, Range
+from ..stream.survey import PES, PTSPair, Packets, Range
 from .causes import Causes, Wording
 from .check import Answer
 from .status import REFUSED, Said
 from .transmissions import DuePages, Kept, headers_of
 
 
-# A part of a pair: what is judged by itself, what `check --all` said of it, and what follows.
+# A part of a pair, made in steps, each a value that the next one takes: its frames with their
+# clock, the PES packets of these frames, the pace by which they are judged; then what `check --all`
+# said of it, and why.
 
 
-@dataclasses.dataclass
+class PartFrames(NamedTuple):
+    """A part as it is found: its number, its options and names, its frames with their clock, and
+    the recording. Subtitles of the file that are not judged are left out, by their places there."""
+
+    number: int
+    asked: Request
+    names: Names
+    found: Found
+    recording: Recording
+    left_out: Collection[int] = ()
+
+
+class PartRange(NamedTuple):
+    """A part with the numbers of the PES packets that are judged; of a feed, which nobody can read
+    once more, with the file that is."""
+
+    frames: PartFrames
+    pes: Range
+    judged: SummedFile | None = None
+
+
+class PartPace(NamedTuple):
+    """A part with the options by which it is judged, the pace that is asked for among them; and
+    between which PTS a jump of the counter is announced, and more time passes than usual."""
+
+    range: PartRange
+    asked: Request
+    jumps: Sequence[PTSPair] = ()
+
+
+@dataclasses.dataclass(frozen=True)
+class Explanation:
+    """What follows of what `check` said of a part: why its content is refused, after how many
+    frames each subtitle was whole; the least number of frames within which one that is refused
+    would be accepted. `was_read`: something of its recording, or it has none; `is_lost`: something
+    of what was sent is. Of what is told first `hint` is what to know of it, and `sent_hint` of the
+    first of its transmission; `of_header` is what is wrong with its PES headers, `otherwise` how
+    the house draws, `better` the national options by which less is refused, and `kept` what is said
+    where headers are refused for nothing but that they keep the page."""
+
+    causes: Causes | None = None
+    delays: Sequence[int | None] = ()
+    accepted_within: int | None = None
+    was_read: bool = False
+    is_lost: bool = False
+    hint: str = ""
+    sent_hint: str = ""
+    of_header: str = ""
+    otherwise: str = ""
+    better: Collection[str] = ()
+    kept: Kept | None = None
+
+
+def nothing_due() -> DuePages:
+    """Of a file that is refused no page is due."""
+    return DuePages([], [])
+
+
+@dataclasses.dataclass(frozen=True)
 class Part:
-    """What is judged by itself: all of a pair, or the subtitles of one clock, or of one PID.
+    """What is judged by itself: all of a pair, or the subtitles of one clock, or of one PID; with
+    what `check` answered, and what explains that.
 
-    `found` are its frames with their clock; of a subtitle file alone there are none. `packets` are
-    those of the recording, and `pes` the numbers of those that are judged; `judged` is what is
-    judged of a feed, which nobody can read once more. `answer` is there once `check` is asked.
+    `found` are its frames with their clock; of a subtitle file alone there are none. `pes` are the
+    numbers of the PES packets that are judged, and `judged` is what is judged of a feed.
     """
 
     number: int
     asked: Request
     names: Names
+    answer: Answer
     found: Found | None = None
     recording: Recording | None = None
-    packets: Packets = dataclasses.field(default_factory=lambda: Packets(PES))
-    left_out: Collection[int] = ()  # subtitles that are not judged, by their places in the file
-    due: Callable[[], DuePages] = lambda: DuePages([], [])  # none of a file that is refused
+    left_out: Collection[int] = ()
     pes: Range | None = None
     judged: SummedFile | None = None
-    answer: Answer = dataclasses.field(init=False)
+    jumps: Sequence[PTSPair] = ()
+    due: Callable[[], DuePages] = nothing_due
+    timeline: Callable[[], Timeline | None] = lambda: None
+    explanation: Explanation = Explanation()
 
-    # What follows.
-    causes: Causes | None = None
-    delays: Sequence[int | None] = ()  # after how many frames each subtitle was whole
-    accepted_within: int | None = None  # the least number of frames, of one that is refused
-    was_read: bool = False  # something of its recording, or it has none
-    is_lost: bool = False  # something of what was sent
-    hint: str = ""  # what to know of the fault that is told first
-    sent_hint: str = ""  # the same of its transmission
-    of_header: str = ""  # what is wrong with its PES headers, where that is refused
-    otherwise: str = ""  # how the house draws, where its content is refused for that
-    better: Collection[str] = ()  # national options that were tried, by which less is refused
-    kept: Kept | None = None  # where headers are refused for nothing but that they keep the page
+    @property
+    def packets(self) -> Packets:
+        """Those of its recording, on its PID."""
+        return self.recording.packets if self.recording else Packets(PES)
 
     @property
     def clock(self) -> Clock | None:
@@ -83,13 +137,19 @@ class Part:
         assert self.recording and self.found
         return self.recording, self.found
 
-    @functools.cached_property
+    @property
     def held(self) -> Timeline | None:
         """What a receiver holds of what is judged."""
-        if self.pes is None or self.found is None:
-            return None
-        return Timeline(self.packets, self.asked.page, self.found.origin, self.asked.within,
-                        self.pes)
+        return self.timeline()
+
+    @property
+    def causes(self) -> Causes | None:
+        return self.explanation.causes
+
+    @property
+    def delays(self) -> Sequence[int | None]:
+        """After how many frames each subtitle was whole."""
+        return self.explanation.delays
 
     def subtitle_file(self) -> SubtitleFile:
         """Its subtitles by their blocks and frames."""
@@ -97,7 +157,7 @@ class Part:
 
     def said(self) -> Said:
         """What the program said of it."""
-        return self.answer.said(self.was_read)
+        return self.answer.said(self.explanation.was_read)
 
     @property
     def is_refused(self) -> bool:
@@ -110,11 +170,25 @@ class Part:
             return False
         numbers = self.answer.numbers - STL_FAULTS
         if not numbers:  # beside refused subtitles it was read where something is told of it
-            return not self.answer.numbers or len(self.answer.trusted) > 0
+            return not self.answer.numbers or len(self.trusted) > 0
         if numbers - PASSED_OVER - {EMPTY}:
             return True
         count = min(self.pes[1] + 1, self.packets.count) - self.pes[0]
         return count > self.answer.passed.total()
+
+    def places(self) -> list[Place]:
+        """Where something of its recording is missing."""
+        return self.recording.places(self.jumps) if self.recording else []
+
+    @functools.cached_property
+    def trusted(self) -> Spans:
+        """The frames that may stay on air. A hole without a mark is seen by who reads the PCR: of
+        its frames nothing is known."""
+        if self.found is None:
+            return self.answer.trusted
+        holes = [place for place in self.places() if place.mark is None and is_in(place, self)]
+        return self.answer.trusted.without(
+            unseen(holes, self.found.origin, self.asked.within, False))
 
     def pts(self, does: str = "") -> list[int]:
         """The PTS of its PES packets, of those that do something."""
@@ -142,6 +216,32 @@ class Part:
     def times(self) -> tuple[str, str] | tuple[None, None]:
         """Its first and its last frame as times."""
         return (time_of(self.found.begin), time_of(self.found.end)) if self.found else (None, None)
+
+
+def answered_part(pace: PartPace, answer: Answer, due: Callable[[], DuePages]) -> Part:
+    """The part that `check` answers about, as it was asked; due is what is due of it."""
+    (frames, pes, judged), asked, jumps = pace
+    number, _, names, found, recording, left_out = frames
+
+    def timeline() -> Timeline:
+        return Timeline(recording.packets, asked.page, found.origin, asked.within, pes)
+
+    return Part(number, asked, names, answer, found, recording, left_out, pes, judged, jumps, due,
+                functools.lru_cache(maxsize=None)(timeline))
+
+
+def is_in(place: Place, part: Part) -> bool:
+    """Whether a mark is one of those that are judged with a part; or where none stands, whether
+    frames of the part may lack what is missing there."""
+    if part.found is None:
+        return False
+    if place.mark is not None and part.pes is not None:
+        return part.pes[0] <= place.mark <= part.pes[1]
+    begin, end = part.found[:2]
+    first, length = pts_of(begin, part.found.origin), TICKS * (end - begin)
+    is_before = place.after is not None and ticks_within(first, length, place.after) <= 0
+    is_after = place.before is not None and ticks_within(first, length, place.before) >= length
+    return not is_before and not is_after
 
 
 # A page that moves to another PID: what is judged on each of them, and what is said of the move.
@@ -247,7 +347,7 @@ def part_causes(part: Part) -> Causes | None:
     asked, (recording, found) = part.asked, part.recorded
     held = timeline_near(part.packets, asked.page, found.origin, asked.within,
                          Span(found.begin, found.end), asked.every, found.packets)
-    lost = recording.places() if recording.is_stream else []
+    lost = part.places() if recording.is_stream else []
     causes = Causes(part.due(), held, unseen(lost, found.origin, asked.within),
                     reach(None if recording.packets.refusal else recording.reach(), found))
     causes.name(part.answer)
@@ -274,10 +374,10 @@ def unseen(places: Sequence[Place], origin: int, within: int, is_with_next: bool
                    FRAMES_OF_A_DAY if last is None else last - (not is_with_next))
 
 
-def tell_causes(speech: Speech, causes: Causes, option: str) -> None:
+def tell_causes(listener: Listener, causes: Causes, option: str) -> None:
     """Says the first causes, and how many more there are."""
     wording, every = Wording(causes, option), causes.all()
     for cause in every[:MOST_LINES]:
-        speech.say(wording.line(cause))
+        listener.said(wording.line(cause))
     if len(every) > MOST_LINES:
-        speech.say(f".. {len(every) - MOST_LINES} more causes")
+        listener.said(f".. {len(every) - MOST_LINES} more causes")

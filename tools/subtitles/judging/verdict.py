@@ -199,7 +199,7 @@ class Verdict:
         elif refused:
             is_caused = refused.causes and refused.causes.named
             first = refused.answer.first if is_caused else refused.answer.leading
-            said = said._replace(first=first, hint=refused.hint, causes=refused.causes)
+            said = said._replace(first=first, hint=refused.explanation.hint, causes=refused.causes)
         return sentence_of(said)
 
     def sent_beside(self, said: Facts, beside: JudgedBeside) -> Facts:
@@ -209,7 +209,7 @@ class Verdict:
         part = next((part for part in self.parts if part.answer.first_sent), None)
         said = said._replace(refused=beside.words(), subtitles=len(beside.judged), is_file=False,
                              faults=sum(answer.count_sent for answer in answers))
-        return said._replace(first=part.answer.first_sent, hint=part.sent_hint,
+        return said._replace(first=part.answer.first_sent, hint=part.explanation.sent_hint,
                              causes=part.causes) if part else said
 
     @property
@@ -231,7 +231,7 @@ class Verdict:
     def accepted_within(self) -> int | None:
         """The least number of frames within which all parts would be accepted, where one is
         refused and it is known."""
-        refused = [part.accepted_within for part in self.parts if part.is_refused]
+        refused = [part.explanation.accepted_within for part in self.parts if part.is_refused]
         known = [one for one in refused if one is not None]
         return max(known) if known and len(known) == len(refused) else None
 

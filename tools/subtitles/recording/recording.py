@@ -6,7 +6,7 @@ import functools
 import os
 import stat
 import subprocess
-from typing import Iterator, NamedTuple, Sequence
+from typing import Iterable, Iterator, NamedTuple, Sequence
 
 from ..clock.start import NoFirst
 from ..common.command_line import PACKET_SIZES, Stop, counted, pid_name, shown, stream_words
@@ -14,7 +14,7 @@ from ..common.files import SummedFile, Sums, first_bytes, pieces_of
 from ..common.times import FRAMES_OF_A_DAY, NO_FRAME, frame_in, frames_at, ticks_between, time_of
 from ..formats.stl import SubtitleFile
 from ..formats.teletext import BY_WORD, OTHER_REGIONS, START, as_sent, of_track
-from ..request.commands import CommandWords, KEPT, KEPT_STREAM, Names, Speech, again
+from ..request.commands import CommandWords, KEPT, KEPT_STREAM, Listener, Names, again
 from ..request.request import LC, PID_CHOICE, Request, Selection, Unclear
 from ..stream.gaps import (
     Place, SAID, SECOND, edges_of, jumps_of, marks_told, places_of, reach_of, repeat_distance,
@@ -22,7 +22,7 @@ from ..stream.gaps import (
 from ..stream.ranges import Stage, joined_stages, stages_of
 from ..stream.receiver import FEW, PAUSE
 from ..stream.survey import (
-    ANY, Announced, HEADER, KINDS, PES, Packets, SUBTITLE_KINDS, Survey, names_of, survey)
+    ANY, Announced, HEADER, KINDS, PES, PTSPair, Packets, SUBTITLE_KINDS, Survey, names_of, survey)
 from . import feed
 from .feed import Ending
 
@@ -276,16 +276,16 @@ class Recording:
     where it moves to another one, and `packets` then stand for all of them. What is judged is a
     range of the recording itself; what comes through a pipe is kept in a file, at `path`."""
 
-    def __init__(self, asked: Request, typed: CommandWords, names: Names, speech: Speech,
-                 stalled_after: int) -> None:
+    def __init__(self, asked: Request, typed: CommandWords, names: Names, listener: Listener,
+                 stalled_after: int, is_cut: bool = False) -> None:
         assert asked.recording is not None
-        self.asked, self.typed, self.names, self.speech = asked, typed, names, speech
+        self.asked, self.typed, self.names, self.listener = asked, typed, names, listener
         self.name, self.stalled_after = asked.recording, stalled_after
         self.size = size_of(self.name)
         self.is_feed = self.size is None
         self.is_piped = self.is_feed or self.name == STANDARD_INPUT
         self.path = names.whole_path if self.is_piped else names.as_program(self.name, "given")
-        self.is_cut = False  # of a feed, by who calls this tool: it is read to its end
+        self.is_cut = is_cut  # of a feed, by who calls this tool: it is read to its end
         self.survey, self.packets = Survey(), Packets(PES)
         self.stages: list[Stage] = []
         self.file: SummedFile | None = None
@@ -312,13 +312,14 @@ class Recording:
 
     def show(self) -> None:
         """What is read, on a terminal."""
-        if self.speech.progress.is_due():
-            self.speech.show(self.name)
+        if self.listener.speech.progress.is_due():
+            self.listener.speech.show(self.name)
 
     def read_feed(self, ending: Ending | None) -> None:
         """Takes what comes through a pipe, as long as more is needed."""
         self.file = feed.read_feed(self.name, self.path, self.asked, self.typed.program_path,
-                                   self.survey, ending, self.speech, self.stalled_after)
+                                   self.survey, ending, self.listener.speech,
+                                   self.stalled_after)
 
     def chosen(self) -> Packets:
         """The only PID that carries the page, or the one that was asked for."""
@@ -354,7 +355,8 @@ class Recording:
         begun = sum(1 for _ in packets.pts(does=HEADER))
         line = f"{pid_name(packets.pid)}: page {self.asked.page_name} has a header in {begun} of " \
             f"{counted(packets.count, 'PES packet')}, and {why}"
-        self.speech.choose(Selection(PID_CHOICE, f"0x{packets.pid:X}", line, begun, packets.count))
+        self.listener.chosen(Selection(PID_CHOICE, f"0x{packets.pid:X}", line, begun,
+                                       packets.count))
 
     def why_nothing(self) -> list[str]:
         """Why nothing is given of each PID that should carry Teletext: scrambled, or not as it is.
@@ -374,16 +376,16 @@ class Recording:
         """Says what was read, and where something is missing."""
         packets = self.packets
         if packets.damage:
-            self.speech.say(f"{self.name}: {packets.damage}; it was read up to there")
+            self.listener.said(f"{self.name}: {packets.damage}; it was read up to there")
         if not self.is_stream:
             return
         why = why_refused(packets)
         if why:
-            self.speech.say(why)
+            self.listener.said(why)
         if self.survey.skipped:
-            self.speech.say(f"{counted(self.survey.skipped, 'byte')} of no TS packet skipped")
+            self.listener.said(f"{counted(self.survey.skipped, 'byte')} of no TS packet skipped")
         for line in marks_told(packets):
-            self.speech.say(line)
+            self.listener.said(line)
 
     # What it is.
 
@@ -434,9 +436,9 @@ class Recording:
                            stdin=subprocess.DEVNULL, stdout=subprocess.DEVNULL, check=True)
             yield from pieces_of(own)
 
-    def places(self) -> list[Place]:
-        """Where something is missing."""
-        return places_of(self.packets)
+    def places(self, jumps: Iterable[PTSPair] = ()) -> list[Place]:
+        """Where something is missing, also where a jump that is announced hides it."""
+        return places_of(self.packets, jumps)
 
     def reach(self) -> tuple[int, int] | None:
         """From which PTS to which all is there that was sent, by the PCR."""

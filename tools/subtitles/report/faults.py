@@ -48,10 +48,10 @@ class Faults:
     told, or stands; at those that are `undecided` it is not known what is due.
     """
 
-    def __init__(self, answer: Answer, programme: SubtitleList) -> None:
+    def __init__(self, answer: Answer, programme: SubtitleList, trusted: Spans) -> None:
         self.answer, self.programme = answer, programme
         self.count, self.counts, self.firsts = answer.count, answer.counts, answer.firsts
-        self.passed, self.trusted = answer.passed, answer.trusted
+        self.passed, self.trusted = answer.passed, trusted
         self.spans = joined_spans(spans for number, spans in answer.marks.items()
                                   if number != UNDECIDED)
         self.undecided = answer.marks.get(UNDECIDED, Spans())

@@ -185,14 +185,14 @@ class Report:
             raise NoReport(f"nothing is wrong with {self.stl}, "
                            f"{counted(len(self.subtitles), 'subtitle')}: give the PES file, which "
                            "is drawn beside it")
-        self.faults = Faults(answer, due)
+        self.faults = Faults(answer, due, self.part.trusted)
         self.meanings = meanings()
         self.lost = first_lines([gap.line() for gap in subject.judged.gaps])
         unread = [self.asked.recording] if self.asked.recording and self.part.pes is None else []
         self.notes = [*(f"{shown(one)} was not read" for one in unread), *subject.judged.notes,
                       *(one.said() for one in subject.judged.warnings),
                       *([layout_line(found)] if (found := subject.judged.layout) else []),
-                      *[self.part.otherwise] * bool(self.part.otherwise)]
+                      *filter(None, [self.part.explanation.otherwise])]
         self.reasons = Reasons(self.part.causes, self.asked.option) if self.part.causes else None
         self.looked = [looked_at(one, frames, self.asked.within)
                        for one, frames in zip(self.subtitles, self.part.delays)]

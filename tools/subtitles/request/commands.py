@@ -251,14 +251,11 @@ MOST_LINES = 40  # of a list
 
 
 class Speech:
-    """Lines on standard output, or on standard error where a file goes there; the commands among
-    them are remembered, and what is chosen by the evidence that they give."""
+    """Lines on standard output, or on standard error where a file goes there."""
 
     def __init__(self, progress: Progress, is_output_taken: bool = False) -> None:
         self.progress = progress
         self.out = sys.stderr if is_output_taken else sys.stdout
-        self.commands: list[str] = []
-        self.chosen: list[Selection] = []
         self.last, self.listed = "", 0
         self.at_end: Callable[[], None] = lambda: None  # what is done before the verdict's line
         self.lock = threading.RLock()  # a feed is heard beside the program that judges it
@@ -293,16 +290,10 @@ class Speech:
         with self.lock:
             self.progress.show(line)
 
-    def command(self, *words: str) -> None:
-        """A command, as it would be typed."""
-        self.commands.append(shell_line(*words))
+    def command(self, line: str) -> None:
+        """A command, as it would be typed; what it lists is said then."""
         self.listed = 0
-        self.say(f"+ {self.commands[-1]}")
-
-    def choose(self, one: Selection) -> None:
-        """A choice, and why it is made."""
-        self.say(one.line)
-        self.chosen.append(one)
+        self.say(f"+ {line}")
 
     def of_list(self, line: str) -> None:
         """A line of a list, of which the first ones are said."""
@@ -323,3 +314,33 @@ class Speech:
         self.at_end()
         if self.last != line:
             self.say(line)
+
+
+class Listener:
+    """Hears what is said while a pair is judged. Each line goes on to who prints it; what a result
+    has of it is kept: the `commands`, what is chosen, and the notes of the verdict."""
+
+    def __init__(self, speech: Speech) -> None:
+        self.speech = speech
+        self.commands: list[str] = []
+        self.selections: list[Selection] = []
+        self.notes: list[str] = []
+
+    def said(self, line: str) -> None:
+        """A line of what is done."""
+        self.speech.say(line)
+
+    def chosen(self, selection: Selection, is_said: bool = True) -> None:
+        """A choice, and why it is made, where that is not said elsewhere."""
+        if is_said:
+            self.speech.say(selection.line)
+        self.selections.append(selection)
+
+    def written(self, *words: str) -> None:
+        """A command, as it would be typed."""
+        self.commands.append(shell_line(*words))
+        self.speech.command(self.commands[-1])
+
+    def noted(self, *lines: str) -> None:
+        """What else was seen, which is told with the verdict."""
+        self.notes += [line for line in lines if line and line not in self.notes]

@@ -44,13 +44,16 @@ WATCH = Mode("`--watch`", "--watch")
 CHANNEL = Mode("`--channel`", "--channel")
 RECORDER = Mode("`--spool` alone", "--spool alone")
 COLLECT = Mode("`--collect`", "--collect")
+MEASURE = Mode("`--measure`", "--measure")
 LINE = Mode("a line of a batch", "a line of a batch's list")
 CHANNEL_LINE = Mode("a line of a channel", "a line of a channel's list")
-MODES = (PAIR, ALONE, BATCH, WATCH, CHANNEL, RECORDER, COLLECT, LINE, CHANNEL_LINE)
+MODES = (PAIR, ALONE, BATCH, WATCH, CHANNEL, RECORDER, COLLECT, MEASURE, LINE, CHANNEL_LINE)
 
 PAIRS = (PAIR, BATCH, WATCH, LINE)
 TRANSMISSIONS = (*PAIRS, CHANNEL, CHANNEL_LINE)
 JUDGED = (*TRANSMISSIONS, ALONE)
+MEASURED_PAIRS, MEASURED_SENT, MEASURED = (  # the same, and what --measure takes
+    (*modes, MEASURE) for modes in (PAIRS, TRANSMISSIONS, JUDGED))
 
 NOT = object()  # an option that `check` does not take
 
@@ -62,7 +65,8 @@ class Option(NamedTuple):
     for the manual, and `without` what holds where it is left out. `modes` are the calls and lines
     that take it, `field` where `Request`, or the words of a call, have its value. `read` takes the
     word, or says by `ArgumentTypeError` why it is none, and `write` makes it again; `sets` is what
-    one without a value sets. `of_check` is what `check` takes where the same option is left out.
+    one without a value sets, and `nargs` how many values there are, where it is not one. `of_check`
+    is what `check` takes where the same option is left out.
     One `of_pages` changes the pages that are due, so `schedule` takes it, and one `in_profile` may
     stand in a profile. `shape`, `said` and `in_result` are its member of a JSON result: what it may
     be, what it means, and what it is of the value."""
@@ -78,6 +82,7 @@ class Option(NamedTuple):
     write: Callable[[Any], str] = str
     sets: Any = True
     choices: Sequence[str] = ()
+    nargs: str | None = None
     of_check: Any = NOT
     of_pages: bool = False
     in_profile: bool = False
@@ -162,7 +167,7 @@ def range_text(pes: tuple[int, int]) -> str:
 PROFILE = Record("profile", "", Member("name", Text()), Member("sha256", SUM))
 
 OPTIONS: tuple[Option, ...] = (
-    Option("--page", "P", "the page", TRANSMISSIONS, "888", field="page", default=(0, 0x88),
+    Option("--page", "P", "the page", MEASURED_SENT, "888", field="page", default=(0, 0x88),
            read=page_word, write=lambda page: page_name(*page), of_check=(0, 0x88), in_profile=True,
            shape=Text(r"[1-8][0-9A-F]{2}"), in_result=lambda page: page_name(*page)),
     Option("--every", "N", "the repeat bound", TRANSMISSIONS, "250 frames", field="every",
@@ -170,10 +175,10 @@ OPTIONS: tuple[Option, ...] = (
            shape=Integer(1, MOST_EVERY)),
     Option("--option", "O", "the national option; `auto`: the one of the language that the "
            "subtitle file names (LC): 08 `german`; 27, 28, 1B `swedish`; 15 `italian`; 0F "
-           "`french`; 0A, 21 `spanish`; 06, 25 `czech`; any other `english`", JUDGED, "english",
+           "`french`; 0A, 21 `spanish`; 06, 25 `czech`; any other `english`", MEASURED, "english",
            field="option", default="english", choices=(*WORDS, AUTO), of_check="english",
            in_profile=True, shape=OneOf(*WORDS)),
-    Option("--origin", "T", "the clock: the PTS of 00:00:00:00", TRANSMISSIONS, "it is fitted",
+    Option("--origin", "T", "the clock: the PTS of 00:00:00:00", MEASURED_SENT, "it is fitted",
            field="origin", read=origin_word, shape=Maybe(PTS),
            said="null where it was to be found; the one that was used is in the part."),
     Option("--complete", None, "ask for [closing headers]"
@@ -181,7 +186,7 @@ OPTIONS: tuple[Option, ...] = (
            field="is_complete", default=True, of_check=False, in_profile=True, shape=Flag()),
     Option("--no-complete", None, "ask for none", TRANSMISSIONS, "they are asked for",
            field="is_complete", default=True, sets=False, in_profile=True),
-    Option("--pid", "PID", "the PID of a transport stream", (*PAIRS, CHANNEL),
+    Option("--pid", "PID", "the PID of a transport stream", (*MEASURED_PAIRS, CHANNEL),
            "the one that carries the page", field="pid", read=pid_word,
            write=lambda pid: f"0x{pid:X}", in_profile=True, shape=Maybe(PID)),
     Option("--allow-lost", None, "lost TS packets are a warning (45, and 79)", TRANSMISSIONS,
@@ -197,14 +202,14 @@ OPTIONS: tuple[Option, ...] = (
            "each part has its own clock", PAIRS, "none", field="breaks", default=0,
            read=breaks_word, shape=COUNT, said="How many the programme has."),
     Option("--pes", "I-J", "the numbers of the first and the last PES packet that may be judged, "
-           "where the programme is in the recording more than once", PAIRS, "all", field="pes",
-           read=range_word, write=range_text, shape=Maybe(Listed(COUNT, 2, 2)),
+           "where the programme is in the recording more than once", MEASURED_PAIRS, "all",
+           field="pes", read=range_word, write=range_text, shape=Maybe(Listed(COUNT, 2, 2)),
            said="The numbers of the first and the last PES packet that may be judged."),
     Option("--start", "TIME|tcp", "the clock: the time code of the recording's [first picture]"
-           "(recording.md#the-clock-by-the-first-picture); `tcp`: that of the GSI block", PAIRS,
-           "it is fitted", field="start", read=start_word, shape=Maybe(Text()),
+           "(recording.md#the-clock-by-the-first-picture); `tcp`: that of the GSI block",
+           MEASURED_PAIRS, "it is fitted", field="start", read=start_word, shape=Maybe(Text()),
            said="The time code of the first picture, or tcp."),
-    Option("--within", "N", "the frames within which a page has to be whole", TRANSMISSIONS, "0",
+    Option("--within", "N", "the frames within which a page has to be whole", MEASURED_SENT, "0",
            field="within", default=0, read=within_word, of_check=0, in_profile=True,
            shape=Integer(0, MOST_WITHIN), said="The frames within which a page has to be whole."),
     Option("--late", "SHARES", "with `--within`: the shares of begins, and behind the slash of "
@@ -216,10 +221,10 @@ OPTIONS: tuple[Option, ...] = (
     Option("--strict", None, "[warnings](#warnings) about the recording count, also that the clock "
            "was fitted", JUDGED, "they change nothing", field="is_strict", default=False,
            shape=Flag(), said="Whether warnings count."),
-    Option("--from", "TIME", "only the subtitles whose TCI is at TIME or later", JUDGED, "all",
+    Option("--from", "TIME", "only the subtitles whose TCI is at TIME or later", MEASURED, "all",
            field="from_time", read=time_text, of_check=None, shape=Maybe(TIME),
            said="Only the subtitles whose TCI is then or later were judged."),
-    Option("--to", "TIME", "only the subtitles whose TCI is before TIME", JUDGED, "all",
+    Option("--to", "TIME", "only the subtitles whose TCI is before TIME", MEASURED, "all",
            field="to_time", read=time_text, of_check=None, shape=Maybe(TIME),
            said="Only the subtitles whose TCI is before were judged."),
     Option("--layout", "TEXT|auto", "how the house draws its subtitles; `auto`: [the layout]"
@@ -227,7 +232,7 @@ OPTIONS: tuple[Option, ...] = (
            field="layout", read=layout_or_auto, of_check=None, of_pages=True, in_profile=True,
            shape=Maybe(Text()),
            said="How pages are drawn that are due; auto: as they were sent, see layout."),
-    Option("--open", None, "take a file of open subtitles too", JUDGED, "it is refused",
+    Option("--open", None, "take a file of open subtitles too", MEASURED, "it is refused",
            field="is_open", default=False, of_check=False, of_pages=True, shape=Flag(),
            said="Whether open subtitles are taken too."),
     Option("--keeping", None, "headers that repeat the page may keep it, with C4 (erase page) "
@@ -257,7 +262,7 @@ def add_options(parser: argparse.ArgumentParser, options: Iterable[Option] | Non
         elif one.choices:
             known["choices"] = one.choices
         else:
-            known |= {"metavar": one.metavar, "type": one.read}
+            known |= {"metavar": one.metavar, "type": one.read, "nargs": one.nargs}
         parser.add_argument(one.name, **known)
 
 

@@ -291,7 +291,7 @@ class Writing(NamedTuple):
 def trusted_of(known: Writing) -> Iterator[dict[str, Value]]:
     """The trusted stretches of all parts."""
     for part in known.verdict.parts:
-        for begin, end in part.answer.trusted:
+        for begin, end in part.trusted:
             yield {"part": part.number, "from": time_of(begin), "to": time_of(end)}
 
 

@@ -11,7 +11,7 @@ from typing import Iterable, Iterator, NamedTuple, Optional, Sequence, Tuple
 
 from ..common.command_line import counted, pid_name
 from ..common.times import NO_FRAME, TICKS, frames_at, ticks_between, time_of, wrapped
-from .survey import Clocked, Packets, Range, Survey
+from .survey import Clocked, PTSPair, Packets, Range, Survey
 
 
 # Where something of a PID is missing, and where its clock jumps, in words.
@@ -45,9 +45,9 @@ class ClockJump(NamedTuple):
     ticks: int
 
 
-def places_of(packets: Packets) -> list[Place]:
+def places_of(packets: Packets, announced: Iterable[PTSPair] = ()) -> list[Place]:
     """Where a mark stands, where the PCR and the counters of other PIDs alone tell it, and where a
-    jump is announced that hides it."""
+    jump of the counter is announced that hides it."""
     after = {run.first: run.pts for run in packets.runs}
     following: dict[int, int | None] = {}
     pts = None
@@ -62,7 +62,7 @@ def places_of(packets: Packets) -> list[Place]:
             if overlap(hole, one) and is_within(hole.missing, one):
                 one.missing = max(one.missing, hole.missing)
     known += [hole for hole in holes if not any(overlap(hole, one) for one in known)]
-    jumps = [Place(before, after, is_announced=True) for before, after in packets.jumps]
+    jumps = [Place(before, after, is_announced=True) for before, after in announced]
     return known + [jump for jump in jumps if not any(overlap(jump, one) for one in known)]
 
 

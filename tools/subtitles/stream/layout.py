@@ -8,8 +8,8 @@ from typing import Iterable, Iterator, NamedTuple, Sequence, TypeVar
 from ..common.command_line import counted, quoted
 from ..formats.layout import (
     COLOURS, COLUMNS, DOUBLE, DRAWN_CODES, Layout, MOST_AFTER, MOST_BEFORE, MOST_SHIFT, NEW_LINE,
-    PLAIN, Refused, SPACE, START_BOX, WHITE, column_of, drawn, items_of, layout_text, leading,
-    letters_of_text, letters_on, page_rows, placed_rows, prepared, start_of)
+    PLAIN, Refused, SPACE, START_BOX, WHITE, column_of, drawn, items_of, layout_of, layout_text,
+    leading, letters_of_text, letters_on, page_rows, placed_rows, prepared, start_of)
 from ..formats.stl import Subtitle
 from ..formats.teletext import COMMON, NationalOption, cells_in
 from .receiver import Rows, Timeline
@@ -313,6 +313,9 @@ BROUGHT = (DOUBLE, START_BOX)  # those that `before` may put back
 # Behind a line's own codes: another colour than its own, steady in the place of its flash, normal
 # in the place of its double height.
 OVERRULING = (*COLOURS, 0x09, 0x0C)
+FLASH = 0x08
+BOXES_SHOWN = 2  # start boxes before a line: of one alone libzvbi shows nothing
+MOST_MOVED = 2  # rows by which a house may have all lines elsewhere
 LayoutItem = tuple[str, int]  # its name, and of `strip` the code
 Group = frozenset[LayoutItem]
 Page = Rows | None  # what a layout draws of a text, if it does
@@ -398,10 +401,32 @@ def items_text(group: Iterable[LayoutItem], layout: Layout) -> str:
 
 
 def taken_from(layout: Layout) -> Group:
-    """The items of a layout that take from a page what a viewer sees, and do not put it back."""
-    gone = {*SEEN_CODES, *({*BROUGHT} - {*layout.before, *layout.behind})}
+    """The items of a layout that no house draws by, or that take from a page what a viewer sees and
+    do not put it back."""
+    brought = layout.before + layout.behind
+    gone = {*SEEN_CODES, *({*BROUGHT} - {*brought})}
     taken: set[LayoutItem] = {("strip", code) for code in layout.strip if code in gone}
-    return frozenset(taken | {(STAR, 0)} if {*OVERRULING} & {*layout.behind} else taken)
+    if {*OVERRULING} & {*layout.behind}:
+        taken.add((STAR, 0))
+    if FLASH in brought or brought.count(START_BOX) < BOXES_SHOWN:
+        taken.add(("before", 0))
+    if abs(layout.row) > MOST_MOVED:
+        taken.add(("row", 0))
+    return frozenset(taken)
+
+
+def never_words(text: str) -> str:
+    """Why a layout that draws more is not proposed."""
+    layout = layout_of(text) or PLAIN
+    brought, taken = layout.before + layout.behind, taken_from(layout)
+    if FLASH in brought:
+        return "all would flash"
+    if ("before", 0) in taken:
+        return "receivers show a line behind two start boxes"
+    if ("row", 0) in taken:
+        return f"no house moves all by more than {MOST_MOVED} rows"
+    return "it takes from a page what a viewer sees" if taken else \
+        f"{FEWEST} subtitles have to show it, and {TENTHS} in 10 of these as they were sent"
 
 
 # ---- evidence

@@ -18,13 +18,41 @@ SKIPPED = 1 << 31  # ticks of a run that may be skipped: it does not reach aroun
 AFTER = 2  # PES packets in a row after the last frame, with which reading ends
 
 
-class One(NamedTuple):
+class SentPacket(NamedTuple):
     """A PES packet: its number, its frame, where it has a PTS, and what it does."""
 
     number: int
     frame: int | None
     does: str
     changes: bool
+
+
+class CutTime(NamedTuple):
+    """The time of a cut: the first and the last frame of the subtitles, and those from which and up
+    to which PES packets are looked at, `low` and `high`; how late pages may be. `is_bound`: it ends
+    with a page transmission at `end` or later."""
+
+    begin: int
+    end: int
+    low: int
+    high: int
+    within: int
+    is_bound: bool
+
+    def has(self, frame: int | None) -> bool:
+        """Whether a frame is looked at."""
+        return frame is not None and self.low <= frame <= self.high
+
+
+class CutEnd(NamedTuple):
+    """Where a cut ends: the last PES packet that is taken, the last frame of these, whether the
+    last page transmission has come; and the place of the PES packet that tells that all may be
+    taken, `None` where more may come."""
+
+    number: int
+    frame: int
+    has_come: bool
+    over_at: int | None
 
 
 class Cut(NamedTuple):
@@ -60,51 +88,45 @@ def cut_of(packets: Packets, begin: int, end: int, origin: int, every: int | Non
     is blank, and has ended where it does, or that is as many after it. `inside` are the numbers
     that may be taken.
     """
-    low = max(begin - (every or 0), 0)
     high = end if every is None else min(end + max(every, within), FRAMES_OF_A_DAY - 1)
+    time = CutTime(begin, end, max(begin - (every or 0), 0), high, within, every is not None)
+    own, read, is_over = in_time(packets, time, origin, inside)
+    came = own[0].frame if own else None
+    at, first = beginning_in(own, time)
+    if first is None:
+        return Cut(None, read, came=came, is_over=is_over)
+    last = ending_in(own, at, first, time)
+    if last.over_at is not None:
+        read, is_over = own[last.over_at].number + 1, True
+    frame = next((packet.frame for packet in own
+                  if packet.number >= first and packet.frame is not None), None)
+    return Cut((first, last.number), read, frame, last.frame, came, last.has_come, is_over)
+
+
+# Which PES packets lie in the time.
+
+def in_time(packets: Packets, time: CutTime, origin: int, inside: Range | None) \
+        -> tuple[list[SentPacket], int, bool]:
+    """The PES packets from the first that comes in the time on, to the second in a row that comes
+    behind it; how many were read up to there, and whether there are two such: one alone may have a
+    wrong PTS."""
     changed = {change.number for change in packets.changes}
-    own: list[One] = []  # from the first in the time on
-    first: int | None = None  # of those, that is taken
-    has_end = came = None
-    kept_to = kept_last = -1
-    after = read = 0  # in a row behind the last frame; all that were looked at
-    for number, pts, does in from_time_on(packets, pts_of(low, origin), pts_of(high, origin)):
+    own: list[SentPacket] = []
+    behind = read = 0
+    for number, pts, does in from_time_on(packets, *(
+            pts_of(frame, origin) for frame in (time.low, time.high))):
         read = number + 1
         if inside and number > inside[1]:
             break
-        if inside and number < inside[0]:
+        frame = None if pts is None else frame_in(pts, origin, time.within)
+        if inside and number < inside[0] or not own and not time.has(frame):
             continue
-        frame = None if pts is None else frame_in(pts, origin, within)
+        own.append(SentPacket(number, frame, does, number in changed))
         if frame is not None:
-            if has_end and within and every is not None and frame > kept_last:
-                high = kept_last
-            is_in = low <= frame <= high
-            came = frame if came is None and is_in else came
-            after = after + 1 if frame > high and came is not None else 0
-            if after == (1 if first is not None and has_end is not False and kept_last == high
-                         else AFTER):
-                return made(own, first, kept_to, kept_last, read, came, has_end, True)
-        if came is None:
-            continue
-        own.append(One(number, frame, does, number in changed))
-        if first is None:
-            if frame is None or not low <= frame <= high or frame < begin:
-                continue
-            first = begin_of(own, begin, within)
-            if first is None:
-                continue
-            has_end = None if every is None else False
-        if after:
-            continue
-        kept_to = number
-        if frame is None or not low <= frame <= high:
-            continue
-        kept_last = frame
-        if has_end is False and frame >= end:
-            has_end = HEADER in does if not within else frame >= end + within or \
-                is_page_over(own, first)
-            high = frame if has_end and not within else high
-    return made(own, first, kept_to, kept_last, read or packets.count, came, has_end, False)
+            behind = behind + 1 if frame > time.high else 0
+            if behind == AFTER:
+                return own, read, True
+    return own, read or packets.count, False
 
 
 def from_time_on(packets: Packets, low: int, high: int) -> Iterator[tuple[int, int | None, str]]:
@@ -124,7 +146,20 @@ def is_outside(run: Run, low: int, high: int) -> bool:
     return wrapped(first - begin) > length and wrapped(begin - first) > wrapped(last - first)
 
 
-def begin_of(own: list[One], begin: int, within: int) -> int | None:
+# Where what is judged begins.
+
+def beginning_in(own: Sequence[SentPacket], time: CutTime) -> tuple[int, int | None]:
+    """The place of the first PES packet of the subtitles' time with which it is known where a cut
+    begins, and the number with which it does; `None` where nothing tells it."""
+    for at, packet in enumerate(own):
+        if time.has(packet.frame) and packet.frame is not None and packet.frame >= time.begin:
+            first = begin_of(own[:at + 1], time.begin, time.within)
+            if first is not None:
+                return at, first
+    return 0, None
+
+
+def begin_of(own: Sequence[SentPacket], begin: int, within: int) -> int | None:
     """The number with which a row begins whose last is the first from the first frame on: that of
     the last sending before it after which the page is blank, else its own, if it has a header."""
     *before, now = own
@@ -135,31 +170,57 @@ def begin_of(own: list[One], begin: int, within: int) -> int | None:
         while within and end < len(before) and before[end].frame in (before[at].frame, None):
             end += 1
         sending = before[at:end]
-        is_known = is_known or any(ERASE in one.does for one in sending)
-        if is_known and any(HEADER in one.does for one in sending) and BLANK in sending[-1].does:
+        is_known = is_known or any(ERASE in packet.does for packet in sending)
+        if is_known and any(HEADER in packet.does for packet in sending) \
+                and BLANK in sending[-1].does:
             found = sending[0].number
         at = end
     is_blank = not before or BLANK in next(
-        (one.does for one in reversed(before) if one.frame is not None), BLANK)
+        (packet.does for packet in reversed(before) if packet.frame is not None), BLANK)
     if now.frame == begin and not is_blank and now.changes:
         found = None
     return found if found is not None else now.number if HEADER in now.does else None
 
 
-def is_page_over(own: list[One], first: int) -> bool:
+# Where it ends.
+
+def ending_in(own: Sequence[SentPacket], at: int, first: int, time: CutTime) -> CutEnd:
+    """Where a cut ends that begins with the number `first`, as the PES packet at a place tells.
+    What comes in the last frame is taken too."""
+    number, last, high, behind = first, -1, time.high, 0
+    has_come = not time.is_bound
+    for place in range(at, len(own)):
+        packet = own[place]
+        frame = packet.frame
+        if frame is not None:
+            if has_come and time.within and time.is_bound and frame > last:
+                high = last
+            behind = behind + 1 if frame > high else 0
+            if behind == (1 if has_come and last == high else AFTER):
+                return CutEnd(number, last, has_come, place)
+        if behind:
+            continue
+        number = packet.number
+        if frame is not None and time.low <= frame <= high:
+            last = frame
+            if not has_come and frame >= time.end:
+                has_come = is_last(own[:place + 1], first, frame, time)
+                high = frame if has_come and not time.within else high
+    return CutEnd(number, last, has_come, None)
+
+
+def is_last(own: Sequence[SentPacket], first: int, frame: int, time: CutTime) -> bool:
+    """Whether a cut ends with the last of these, which comes at the last TCO or later."""
+    if not time.within:
+        return HEADER in own[-1].does
+    return frame >= time.end + time.within or is_page_over(own, first)
+
+
+def is_page_over(own: Sequence[SentPacket], first: int) -> bool:
     """Whether the page is blank, and has ended where it did before."""
-    taken = [one for one in own if one.number >= first]
+    taken = [packet for packet in own if packet.number >= first]
     return BLANK in taken[-1].does and not (
-        OPEN in taken[-1].does and any(CLOSED in one.does for one in taken))
-
-
-def made(own: list[One], first: int | None, last: int, last_frame: int, read: int,
-         came: int | None, has_end: bool | None, is_over: bool) -> Cut:
-    """What is taken."""
-    if first is None:
-        return Cut(None, read, came=came, is_over=is_over)
-    frame = next((one.frame for one in own if one.number >= first and one.frame is not None), None)
-    return Cut((first, last), read, frame, last_frame, came, has_end is not False, is_over)
+        OPEN in taken[-1].does and any(CLOSED in packet.does for packet in taken))
 
 
 # A page that moves to another PID, as the PMT says: which PES packets of which PID are of it when.

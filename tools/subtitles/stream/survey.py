@@ -18,6 +18,7 @@ from ..formats.teletext import Page, page_name
 PES = 0  # stands for the PID of a file of PES packets
 HEADER, ERASE, CLOSED, OPEN, BLANK, STRAY = "h", "e", "c", "o", "b", "s"
 Range = tuple[int, int]  # the numbers of the first and the last PES packet
+PTSPair = tuple[int, int]  # of two PES packets, one after the other
 Texts = tuple[tuple[int, bytes], ...]  # some rows, each by its number
 
 
@@ -98,8 +99,6 @@ class Packets:
     samples: list[tuple[int, int]] = dataclasses.field(default_factory=list)  # PTS, ticks ahead
     sets: list[tuple[int, int, int | None, int | None]] = dataclasses.field(default_factory=list)
     sent: dict[str, int] = dataclasses.field(default_factory=dict)  # pages with the subtitle bit
-    # Between which PTS a jump of the counter is announced, and more time passes than usual.
-    jumps: list[tuple[int, int]] = dataclasses.field(default_factory=list)
     damage: str | None = None  # why a file of PES packets can't be read on
     refusal: int = 0  # 31 or 32 where what follows is no PES packet with Teletext
     packets: int = 0  # TS packets of it
@@ -472,8 +471,8 @@ IN_A_PIECE = 4096  # TS packets, at most, that are looked at at once
 PTS_AT = slice(9, 14)  # in a PES header
 
 
-def jumps_at(packets: Packets, inside: Range, usual: int, path: str, size: int
-             ) -> list[tuple[int, int]]:
+def jumps_at(packets: Packets, inside: Range, usual: int, path: str, size: int) \
+        -> list[PTSPair]:
     """Where a jump is announced of a PID and a PES packet comes more frames after the one before
     than is usual: the PTS of both. `size` is from one TS packet to the next."""
     pts = [*packets.pts(inside)]

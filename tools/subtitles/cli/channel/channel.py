@@ -286,7 +286,7 @@ class Channel:
         call = single.PairCall(words.program, is_kept=words.is_kept, stall=words.stall, name=name,
                                is_claimed=True, is_fitted=running.is_fitted, is_cut=True, **placed)
         return single.judge_request(
-            dataclasses.replace(asked, recording="-", language=None), call, self.called)
+            dataclasses.replace(asked, recording="-"), call, self.called)
 
     def unjudged(self, name: str, reason: str, is_open: bool = False) -> None:
         """A programme is not judged."""

@@ -1,0 +1,275 @@
+"""Delays of cues: which clock they tell within N frames, by their shares and without; a clock that
+drifts; and airings by their times. Tables of what decides, and inserters as they are."""
+from __future__ import annotations
+
+import random
+import unittest
+from typing import Callable, Sequence
+
+from subtitles.clock.alignment import Agreed, Edge, bases_of, edges_of
+from subtitles.clock.delays import (
+    Drift, Early, FEW_TEXTS, RARE, UNSEEN_SHARE, drift_of, likeliest, settled, usual_delay)
+from subtitles.clock.origin import Origin
+from subtitles.clock.stretches import are_alike, is_again
+from subtitles.common.times import TICKS
+from subtitles.request.lateness import Lateness, late_word
+from .bench import Case, example
+from .judged import Judged, joined, judged, late, programme, sendings
+from .test_clocks import FIRST, evenly
+from .test_reading_laws import found, packets_of, programme as random_programme, sent
+
+Inserter = Callable[[random.Random, bool], int]  # how late a begin is, or an end
+UNIFORM = {within: late_word("/".join([",".join(f"{by}:1" for by in range(within + 1))] * 2))
+           for within in (1, 2, 5)}
+# Right inserters, each with its N: rows need a frame, or one a row, an erasing header none.
+INSERTERS: dict[str, tuple[int, Inserter]] = {
+    "on time": (1, lambda chance, is_begin: 0),
+    "rows": (1, lambda chance, is_begin: int(is_begin)),
+    "by rows": (3, lambda chance, is_begin: is_begin * chance.choice((1, 1, 2, 2, 3))),
+    "any of two": (1, lambda chance, is_begin: chance.randrange(2)),
+    "any of six": (5, lambda chance, is_begin: chance.randrange(6)),
+    "mostly one": (2, lambda chance, is_begin: chance.choices((0, 1, 2), (2, 6, 2))[0]),
+    "seldom on time": (1, lambda chance, is_begin: chance.choices((0, 1), (5, 95))[0]),
+    "seldom late": (2, lambda chance, is_begin: chance.choices((0, 1, 2), (90, 8, 2))[0]),
+    "never on time": (2, lambda chance, is_begin: chance.randrange(1, 3) if is_begin else 1)}
+
+
+def shares_of(inserter: Inserter) -> Lateness:
+    """What is measured of it on another day, by a clock that is known."""
+    chance = random.Random(99)
+    kinds = [[inserter(chance, is_begin) for _ in range(400)] for is_begin in (True, False)]
+    return Lateness(*({by: kind.count(by) for by in sorted({*kind})} for kind in kinds))
+
+
+def all_agree(origin: Origin) -> bool:
+    """Whether all cues agree that may."""
+    known = origin.agreement
+    return known is not None and known.agree == known.among
+
+
+class Clocks(unittest.TestCase):
+    """Which clock is meant."""
+
+    def test_usual(self) -> None:
+        """The earliest delay that half as many begins, or ends, have as have the commonest of their
+        kind; ends that are fewer than one cue in ten tell nothing."""
+        rows: list[tuple[dict[int, int], dict[int, int], int]] = [
+            ({}, {}, 0), ({0: 1}, {}, 0), ({0: 1, 2: 1}, {}, 0), ({3: 9}, {}, 3),
+            ({0: 5, 2: 10}, {}, 0), ({0: 4, 2: 10}, {}, 2), ({0: 2, 2: 4}, {}, 2),
+            ({0: 3, 2: 6}, {}, 0), ({0: 1, 2: 2}, {}, 2), ({0: 2, 2: 2}, {}, 0),
+            ({1: 20}, {0: 20}, 0), ({1: 20}, {0: 2, 1: 18}, 1), ({1: 90}, {0: 9}, 1),
+            ({1: 90}, {0: 10}, 0), ({0: 1, 1: 19}, {1: 20}, 1)]
+        for begins, ends, wanted in rows:
+            self.assertEqual(usual_delay(begins, ends), wanted, (begins, ends))
+
+    def moved(self, delays: Sequence[int], within: int, shares: Lateness | None = None
+              ) -> tuple[int, Early | None]:
+        """Of begins that are so late, without ends: by how many frames the clock is later than the
+        one of the earliest cue."""
+        frames = [100 * at + at * at for at in range(1, len(delays) + 1)]
+        edges = [Edge(frame, b"%d" % at, True) for at, frame in enumerate(frames)]
+        base = bases_of([], packets_of([(TICKS * (frame + by), edge.letters) for frame, by, edge in
+                                        zip(frames, delays, edges)]), within)[0]
+        base = base.limited(edges, -1, 1 << 40)
+        fit = base.fit(base.fits[0].start)
+        best, early = settled(base, fit, shares)
+        return fit.start - best.start, early
+
+    def test_settled(self) -> None:
+        """What is before the usual clock is told, and whether it is many; without N nothing is."""
+        for delays, within, wanted in (
+                ([0] * 9, 2, (0, None)), ([2] * 9, 2, (0, None)), ([0, 1, 2] * 4, 2, (0, None)),
+                ([0, *[2] * 8], 2, (2, Early(1, 9, 2))), ([0, *[1] * 19], 1, (1, Early(1, 20, 1))),
+                ([0, *[1] * 20], 1, (1, Early(1, 21, 1))),
+                ([0, 1, *[2] * 50], 2, (2, Early(2, 52, 2)))):
+            self.assertEqual(self.moved(delays, within), wanted, delays)
+        self.assertEqual([Early(count, of, 1).are_many for count, of in (
+            (1, RARE), (1, RARE + 1), (2, 2 * RARE), (2, 2 * RARE + 1))], [True, False] * 2)
+
+    def test_likeliest(self) -> None:
+        """By shares: also before the earliest cue, and where fewer are before the others than
+        without; of two that are as likely the later."""
+        for delays, text, wanted in (
+                ([0] * 9, "0:1/0:1", 0), ([0] * 9, "1:1/0:1", -1), ([0] * 9, "2:1/0:1", -2),
+                ([0] * 9, "0:1,2:9/0:1", -2), ([0] * 9, "0:1,1:1,2:1/0:1", 0),
+                ([0, 1, 2] * 4, "0:1,1:1,2:1/0:1", 0), ([0, *[2] * 8], "0:1/0:1", 2),
+                ([0, *[2] * 8], "0:1,2:8/0:1", 0), ([0, *[2] * 8], "1:1,2:8/0:1", 0),
+                ([0, *[1] * 19], "0:95,1:5/0:1", 1), ([0, *[1] * 19], "0:5,1:95/0:1", 0),
+                ([0, 0, 1, 2], "0:1,1:2,2:1/0:1", -0)):
+            by, early = self.moved(delays, 2, late_word(text))
+            self.assertEqual((by, early), (wanted, None), (delays, text))
+        self.assertLess(UNSEEN_SHARE, 1 / 400)
+
+    def test_right_inserters(self) -> None:
+        """Of each kind all is as it may be: by the shares of its house always; without them it is
+        accepted, or not clear, or what is seldom is early."""
+        for name, (within, inserter) in INSERTERS.items():
+            shares = shares_of(inserter)
+            for seed in range(6):
+                chance = random.Random(seed)
+                shown = [one._replace(letters=b"text %d" % at, begin=one.begin + 30 * at,
+                                      end=one.end + 30 * at)
+                         for at, one in enumerate(random_programme(chance, (12, 40)[seed % 2]))]
+                edges = edges_of(shown)
+                times = [(pts + TICKS * inserter(chance, edge.is_begin), text)
+                         for (pts, text), edge in zip(sent(edges, 0), edges)]
+                with self.subTest(name, seed=seed):
+                    one = found(shown, packets_of(times), within, late=shares)
+                    self.assertTrue(one.status == 0 and all_agree(one), one.told)
+                    one = found(shown, packets_of(times), within)
+                    before = [line for line in one.told if " before what is usual" in line]
+                    self.assertTrue(one.status == 0 and all_agree(one) or before, one.told)
+
+    def test_early_ones(self) -> None:
+        """One early subtitle of an inserter whose shares are known is before its clock."""
+        for name, (within, inserter) in INSERTERS.items():
+            if name in ("any of six", "seldom late"):
+                continue  # a begin that is a frame early is as likely
+            chance = random.Random(5)
+            shown = [one._replace(letters=b"text %d" % at)
+                     for at, one in enumerate(random_programme(chance, 30))]
+            edges, shares = edges_of(shown), shares_of(inserter)
+            begins = [at for at, edge in enumerate(edges) if edge.is_begin]
+            times = [(pts + TICKS * (-1 if at == begins[20] else inserter(chance, edge.is_begin)),
+                      text) for at, ((pts, text), edge) in enumerate(zip(sent(edges, 0), edges))]
+            one = found(shown, packets_of(sorted(times)), within, late=shares)
+            self.assertFalse(all_agree(one), (name, one.told))
+
+
+class Drifts(unittest.TestCase):
+    """A clock that drifts."""
+
+    def drift(self, delays: Sequence[int], texts: Sequence[bytes] = ()) -> Drift | None:
+        """Of texts each 100 frames that are so late."""
+        texts = texts or [b"%d" % at for at in range(len(delays))]
+        return drift_of([Edge(100 * at, text, True) for at, text in enumerate(texts)], {
+            100 * at + by: Agreed(0, b"%d" % at, 0) for at, by in enumerate(delays)})
+
+    def test_drifts(self) -> None:
+        """Steady ones, in either way, with an outlier or rounded; not one delay, nor any that are
+        up and down, nor too few."""
+        steady = [at // 3 for at in range(12)]
+        for delays, wanted in (
+                (steady, Drift(0, 1100, 3)), ([-by for by in steady], Drift(0, 1100, -3)),
+                ([0, 0, 0, 0, 1, 1, 1, 1, 2, 2, 2, 2], Drift(0, 1100, 2)),
+                ([*range(0, 48, 4)], Drift(0, 1100, 44)), ([*steady[:5], 30, *steady[6:]],
+                                                           Drift(0, 1100, 3)),
+                ([*steady[:5], 30, 40, *steady[7:]], None), ([0] * 12, None), ([7] * 12, None),
+                ([0] * 6 + [1] * 6, None), ([0] * 6 + [2] * 6, None), ([0] * 6 + [3] * 6, None),
+                ([0] * 9 + [3] * 3, None), ([0, 1, 2] * 4, None), ([0, 2] * 6, None),
+                ([0, 0, 2, 2, 0, 0, 2, 2, 0, 0, 2, 2], None),
+                ([2 * at for at in range(FEW_TEXTS)], Drift(0, 500, 10)),
+                ([2 * at for at in range(FEW_TEXTS - 1)], None), ([], None),
+                ([0] * 4 + [130] * 4 + [260] * 4, None)):
+            self.assertEqual(self.drift(delays), wanted, delays)
+
+    def test_texts(self) -> None:
+        """Those alone that are due once and sent once; of most subtitles."""
+        steady = [at // 2 for at in range(12)]
+        own = [b"%d" % at for at in range(12)]
+        self.assertEqual(self.drift(steady, [*own[:6], *[b"other"] * 6]), Drift(0, 500, 2))
+        self.assertIsNone(self.drift(steady, [*own[:6], *[b"x%d" % at for at in range(7)]]))
+        self.assertEqual(self.drift(steady, [*own[:7], *[b"x%d" % at for at in range(5)]]),
+                         Drift(0, 600, 3))
+
+    def test_never_of_right_inserters(self) -> None:
+        """Next to none of those drifts that are late as they may be."""
+        count = 0
+        for _, inserter in INSERTERS.values():
+            for seed in range(200):
+                chance = random.Random(seed)
+                delays = [inserter(chance, True) for _ in range(chance.choice((6, 8, 12, 40)))]
+                count += self.drift(delays) is not None
+        self.assertLess(count, 4)  # of 1,800
+
+
+class Airings(unittest.TestCase):
+    """What is another airing."""
+
+    def test_alike(self) -> None:
+        """Half of the frames are others moved by a distance: a grid, and no programme."""
+        for frames, wanted in (
+                ([0, 10, 20, 30], True), ([0, 1, 10, 11, 20, 21], True), ([0, 3, 9, 27, 81], False),
+                ([at * at for at in range(40)], False), ([5], False), ([], True)):
+            self.assertEqual(are_alike(frames), wanted, frames)
+
+    def test_again(self) -> None:
+        """Half of all; a quarter of the texts over half of the programme; those of the first."""
+        base = bases_of([], packets_of([(0, b"a")]), 0)[0]
+        base = base.limited([Edge(at, b"%d" % at if at % 2 == 0 else b"", at % 2 == 0)
+                             for at in range(40)], -1, 1)
+        first = {at: (0, at) for at in range(40)}
+        for some, known, wanted in (
+                (range(20), first, True), (range(19), first, False), (range(0, 40, 2), first, True),
+                (range(1, 40, 2), first, False), (range(0, 20, 4), first, False),
+                ((0, 4, 8, 16, 20), first, True), ((0, 4, 8, 16, 18), first, False),
+                ((0, 4, 8, 20), first, False), ((0, 4, 8, 16, 20), {0: (0, 0), 4: (0, 4)}, False),
+                ((0, 4, 8, 16, 20), {0: (0, 0), 4: (0, 4), 20: (0, 20)}, True), ((), first, False)):
+            self.assertEqual(is_again([base], known, {at: (0, 100 + at) for at in some}), wanted,
+                             some)
+
+
+class Judgements(Case):
+    """Pairs judged within N frames, and with two airings."""
+
+    def test_early_within(self) -> None:
+        """A subtitle that is early is not the others' delay: few are refused and named, of many it
+        is not clear; by a clock that is given, or by shares, it is refused."""
+        for count, word in ((6, "not judged"), (40, "refused")):
+            stl = programme(self, evenly(count), name=f"{count}.stl")
+            sends = sendings(self, stl)
+            at = evenly(count)[3][0] * TICKS
+            path = self.write("one.pes", joined(sorted(late(-2, at, at)(sends))))
+            words = [stl, path, "--every", "25", "--no-complete", "--within", "3"]
+            for more, wanted in (([], word), (["--origin", "0"], "refused"),
+                                 (["--late", "0:1/0:1"], "refused")):
+                one = judged(self, *words, *more)
+                self.must(f"{count} {more}", one.word == wanted, one.said)
+                self.must(f"{count} {more}: named", wanted != "refused" or "subtitle 4" in
+                          one.verdict.sentence and "2 frames early" in one.verdict.sentence,
+                          one.verdict.sentence)
+            one = judged(self, stl, self.write("two.pes", joined(late(2, at, at)(sends))),
+                         *words[2:])
+            self.must(f"{count}: late", one.word == "accepted", one.said)
+
+    def drifting(self, frames: int) -> Judged:
+        """Of twenty subtitles, of which the last comes so many frames late."""
+        stl = programme(self, evenly(20))
+        begin, end = evenly(20)[0][0], evenly(20)[-1][1]
+        path = self.write("one.pes", joined([
+            (pts + TICKS * ((pts // TICKS - begin) * frames // (end - begin)), some)
+            for pts, some in sendings(self, stl)]))
+        return judged(self, stl, path, "--every", "30", "--no-complete", "--within", str(
+            frames if frames < 5 else 0), "--pace", "none")
+
+    def test_drift(self) -> None:
+        """It has its own sentence, also where it is accepted."""
+        for frames, words in ((3, ("accepted",)), (4, ("accepted",)),
+                              (8, ("refused", "not judged")), (60, ("refused", "not judged"))):
+            one = self.drifting(frames)
+            lines = [line for line in one.told if line.startswith("from 10:00:00:00 to 10:01:35:00 "
+                                                                  "subtitles come later and later")]
+            self.must(f"{frames}", one.word in words and len(lines) == 1 and
+                      "another frame rate?" in lines[0], one.said)
+
+    def test_airings(self) -> None:
+        """Twice, where one of them is right: of the other most texts are wrong, or most are
+        missing."""
+        times = [(FIRST + at * at * 7 + 90 * at, FIRST + at * at * 7 + 90 * at + 60 + at)
+                 for at in range(20)]
+        stl, hour = programme(self, times), 3600 * 25 * TICKS
+        right = sendings(self, stl)
+        other = sendings(self, programme(self, times, text=b"Other words %d", name="other.stl"))
+        few = [one for at in (0, 8, 16) for one in sendings(self, programme(
+            self, times[at:at + 3], first=at + 1, name="few.stl"))]
+        for name, second, words, word in (
+                ("wrong texts", other, [], "not judged"),
+                ("wrong texts, a clock", other, ["--origin", "0"], "accepted"),
+                ("few", few, [], "not judged"), ("few, a clock", few, ["--origin", "0"],
+                                                 "not judged"),
+                ("none", [], [], "accepted")):
+            both = [*right, *((pts + hour, some) for pts, some in second)]
+            one = judged(self, stl, self.write("one.pes", joined(both)), "--every", "25",
+                         "--no-complete", *words)
+            self.must(name, one.word == word and (word == "accepted" or one.told[0] ==
+                                                  "the programme is there 2 times"), one.said)

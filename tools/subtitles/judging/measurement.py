@@ -1,0 +1,322 @@
+"""How a house sends: what recordings tell that somebody says are right. Nothing here judges."""
+from __future__ import annotations
+
+import collections
+import re
+from typing import Callable, Iterable, Iterator, NamedTuple, Sequence
+
+from ..common.command_line import MOST_WITHIN, counted, quoted
+from ..common.times import FRAMES_OF_A_DAY, NO_FRAME, frames_at, time_of
+from ..formats.layout import (
+    PLAIN, Refused, SPACE, drawn, layout_text, letters_of_text, letters_on, page_rows)
+from ..formats.stl import Subtitle
+from ..formats.teletext import NationalOption
+from ..request.lateness import Lateness, late_text
+from ..stream.gaps import Pace, edges_of, longest_gap, repeat_distance
+from ..stream.layout import (
+    Choice, FEWEST, Left, Sent, TENTHS, cells_text, choices_of, counts_words, draws, never_words,
+    sent_in)
+from ..stream.receiver import Rows, Timeline
+
+NAMED = 5  # subtitles that speak against something
+APART = 25  # frames before a TCI within which its page may come too early
+
+
+class Finding(NamedTuple):
+    """What is found of an option: the words that propose it, none where it is not proposed; and
+    what that rests on, in lines."""
+
+    words: str
+    lines: Sequence[str]
+
+    def all(self) -> Iterator[str]:
+        """It in lines of a profile."""
+        yield from (f"# {line}" for line in self.lines)
+        if self.words:
+            yield self.words
+
+
+class Sending(NamedTuple):
+    """A subtitle of a file, and the page with its letters that was sent at its frames."""
+
+    stl: str
+    subtitle: Subtitle
+    sent: Sent
+
+    @property
+    def name(self) -> str:
+        """It by its file, its place and its time."""
+        one = self.subtitle
+        return f"{self.stl}, {one.name} at {time_of(one.begin)}"
+
+
+# How often the page is repeated.
+
+
+class Repeats(NamedTuple):
+    """Of the headers of a page from the first to the last: how many, the most frames from one to
+    the next, the frame from which on these are, how many frames are usual."""
+
+    headers: int
+    longest: int
+    since: int
+    usual: int | None
+
+
+def repeats_in(pts: list[int], last: int | None, origin: int, times: Sequence[tuple[int, int]]) \
+        -> Repeats | None:
+    """Those of the headers at some PTS, of a recording with a last PES packet; `None` where there
+    are fewer than two."""
+    frames = [frame for frame in frames_at(pts, origin, 1) if frame != NO_FRAME]
+    ends = [] if last is None else [frame + 1 for frame in frames_at([last], origin, 1)
+                                    if frame != NO_FRAME and frames and frame >= frames[-1]]
+    longest = longest_gap([*frames, *ends])
+    if not longest:
+        return None
+    known = sorted({*frames, *ends})
+    since = next(one for one, other in zip(known, known[1:]) if other - one == longest)
+    return Repeats(len(frames), longest, since, repeat_distance(frames, edges_of(times)))
+
+
+def every_of(several: Sequence[Repeats]) -> Finding:
+    """The repeat bound: the most frames from a header to the next one, of all recordings."""
+    if not several:
+        return Finding("", ["every: there are too few headers of the page"])
+    worst = max(several, key=lambda one: one.longest)
+    usual = [one.usual for one in several if one.usual is not None]
+    words = f", and {max(usual)} are usual" if usual else ""
+    return Finding(f"--every {worst.longest}", [
+        f"every: of {counted(sum(one.headers for one in several), 'header')} of the page the next "
+        f"comes within {counted(worst.longest, 'frame')}, the first of these from "
+        f"{time_of(worst.since)} on{words}"])
+
+
+# How far apart PES packets come.
+
+
+def pace_found(paces: Sequence[Pace]) -> Finding:
+    """The pace that holds in all recordings."""
+    frames = [one.frames for one in paces]
+    known = [one for one in frames if one is not None]
+    if not known or len(known) < len(frames):
+        why = ", ".join(dict.fromkeys(one.kind for one, its in zip(paces, frames) if its is None))
+        return Finding("", [f"pace: none, since PES packets are {why or 'none'}"])
+    return Finding(f"--pace {max(known)}", [
+        f"pace: a PES packet comes within {counted(max(one.apart for one in paces), 'frame')} of "
+        "the one before nearly everywhere"])
+
+
+# How late cues are, by a clock that is given.
+
+
+class Delays(NamedTuple):
+    """How many begins, and ends, are so many frames late; in words each cue that is early, and each
+    subtitle whose letters never came."""
+
+    begins: collections.Counter[int]
+    ends: collections.Counter[int]
+    early: list[str]
+    unseen: list[str]
+
+
+def delays_of(stl: str, subtitles: Sequence[Subtitle], held: Timeline, option: NationalOption) \
+        -> Delays:
+    """Those of the subtitles of a file, by the letters that are held. Where two adjoin the end of
+    one is the begin of the other."""
+    found = Delays(collections.Counter(), collections.Counter(), [], [])
+    rows = [(one, letters_of_text(one.text, option)) for one in subtitles]
+    for place, (one, letters) in enumerate(rows):
+        if not letters:
+            continue
+        name = f"{stl}, {one.name} at {time_of(one.begin)}"
+        before, after = (rows[at][0] if 0 <= at < len(rows) else None
+                         for at in (place - 1, place + 1))
+        is_new = before is None or rows[place - 1][1] != letters or before.end + APART < one.begin
+        first = begun(held, one, letters, APART if is_new else 0)
+        if first is None:
+            found.unseen.append(name)
+            continue
+        if is_new and first > held.first:
+            take(found.begins, found.early, first - one.begin, f"{name} begins")
+        if after is None or after.begin > one.end:
+            last = ended(held, one, letters, FRAMES_OF_A_DAY if after is None else after.begin)
+            if last < held.last:
+                take(found.ends, found.early, last + 1 - one.end, f"{name} ends")
+    return found
+
+
+def take(counts: collections.Counter[int], early: list[str], delay: int, name: str) -> None:
+    """Takes a delay; one below 0 is early."""
+    if delay < 0:
+        early.append(f"{name} {counted(-delay, 'frame')} early")
+    else:
+        counts[delay] += 1
+
+
+def begun(held: Timeline, one: Subtitle, letters: bytes, earlier: int) -> int | None:
+    """The first frame at whose end the letters of a subtitle are held, from so many before its TCI
+    on."""
+    return next((held.stretch(number).first for number in held.numbers(
+        max(one.begin - earlier, 0), one.end) if letters_on(held.pages[number]) == letters), None)
+
+
+def ended(held: Timeline, one: Subtitle, letters: bytes, limit: int) -> int:
+    """The last such frame up to some behind its TCO."""
+    end = min(one.end + MOST_WITHIN + 1, limit)
+    return max(held.stretch(number).last for number in held.numbers(one.begin, max(end, one.end))
+               if letters_on(held.pages[number]) == letters)
+
+
+def late_found(several: Sequence[Delays], is_known: bool) -> Iterator[Finding]:
+    """The bound, and the shares of each delay; none where no clock is given."""
+    if not is_known:
+        yield Finding("", ["within, late: no clock is given (--origin, --start), so nobody knows "
+                           "how late cues are"])
+        return
+    begins, ends = collections.Counter[int](), collections.Counter[int]()
+    for one in several:
+        begins, ends = begins + one.begins, ends + one.ends
+    lines = [f"within, late: begins {counts_text(begins)}; ends {counts_text(ends)} (frames late: "
+             "how many)"]
+    lines += named_lines("early, which nothing accepts", [
+        name for one in several for name in one.early])
+    lines += named_lines("whose letters were never sent", [
+        name for one in several for name in one.unseen])
+    longest = max([*begins, *ends], default=0)
+    if longest > MOST_WITHIN:
+        lines.append(f"within is {MOST_WITHIN} frames at most")
+    if not begins or not ends or not longest or longest > MOST_WITHIN:
+        yield Finding("", lines)
+        return
+    yield Finding(f"--within {longest}", lines)
+    shares = Lateness(*(dict(sorted(counts.items())) for counts in (begins, ends)))
+    yield Finding(f"--late {late_text(shares)}", [])
+
+
+def counts_text(counts: collections.Counter[int]) -> str:
+    """`0:31, 1:40`; `none` of none."""
+    return ", ".join(f"{delay}:{count}" for delay, count in sorted(counts.items())) or "none"
+
+
+def named_lines(what: str, names: Sequence[str]) -> list[str]:
+    """The first names of something, and how many there are."""
+    if not names:
+        return []
+    more = f", and {len(names) - NAMED} more" if len(names) > NAMED else ""
+    return [f"{what}: {'; '.join(names[:NAMED])}{more}"]
+
+
+# Whether headers that repeat the page keep it, and their national option.
+
+
+def keeping_of(headers: int, keeping: int, is_alone: bool) -> Finding:
+    """How many headers keep the page, of so many; with nothing else wrong in any."""
+    lines = [f"keeping: C4 (erase page) is clear in {keeping} of {counted(headers, 'header')}"]
+    if keeping and not is_alone:
+        lines.append("other control bits of a header are wrong, which no option accepts")
+    return Finding("--keeping" if keeping and is_alone else "", lines)
+
+
+def option_of(options: Iterable[str], judged: str) -> Finding:
+    """The national option of all headers."""
+    sent = sorted(options)
+    lines = [f"option: by C12 to C14 of its headers the page is {' and '.join(sent) or 'unknown'}; "
+             f"letters were read as {judged}"]
+    return Finding(f"--option {sent[0]}" if len(sent) == 1 else "", lines)
+
+
+# How the house draws.
+
+# Behind the codes that open a box, or before those that close it: spaces.
+SPACE_IN_BOX = re.compile(rb"^[\x00-\x1f]*\x0b[\x00-\x1f]* | [\x00-\x1f]*\x0a[\x00-\x1f]*$")
+
+
+def layout_found(sendings: Sequence[Sending], option: NationalOption) -> Finding:
+    """The layout that draws nearly all as they were sent, with those that speak against it; or why
+    there is none, with the nearest."""
+    closest, choice = choices_of([one.sent for one in sendings], option)
+    if closest.found < FEWEST:
+        return Finding("", [f"layout: {counted(closest.found, 'subtitle')} with their letters were "
+                            f"found, and {FEWEST} say how a house draws"])
+    text = layout_text(choice.layout)
+    if not choice.is_clear:
+        nearest = choice if closest.is_clear else closest
+        return Finding("", [*no_layout(nearest, sendings, option), *left_lines(choice)])
+    rests = [f"{one.text} rests on {one.decides}, of which {one.drawn} were sent so"
+             for one in choice.items]
+    lines = ["; ".join([f"layout: {counts_words(choice)}", *rests])]
+    return Finding(f"--layout {quoted(text)}" if text else "", [
+        *lines, *against_lines(choice, sendings, option), *left_lines(choice)])
+
+
+def left_lines(choice: Choice) -> list[str]:
+    """Which items are not proposed that would draw more, and why."""
+    return [f"{left_words(one, choice.found)}: {never_words(one.whole)}" for one in choice.left]
+
+
+def left_words(left: Left, found: int) -> str:
+    """How many more an item would draw."""
+    return f"{left.text} would draw {left.more} more of {found}"
+
+
+def against_lines(choice: Choice, sendings: Sequence[Sending], option: NationalOption) \
+        -> Iterator[str]:
+    """The subtitles that a layout draws otherwise than they were sent."""
+    others = [one for one in sendings if not draws(choice.layout, one.sent, option)]
+    for one in others[:NAMED]:
+        yield f"against it: {one.name}: sent {cells_text(one.sent.rows)}; drawn " \
+            f"{page_text(choice, one.sent, option)}"
+    if len(others) > NAMED:
+        yield f"against it: {len(others) - NAMED} more"
+
+
+def page_text(choice: Choice, one: Sent, option: NationalOption) -> str:
+    """What a layout draws of a subtitle."""
+    lines = drawn(one.text, one.row, one.justify, choice.layout, option)
+    return f"nothing: refused {lines.number}" if isinstance(lines, Refused) else \
+        cells_text(page_rows(lines))
+
+
+def no_layout(nearest: Choice, sendings: Sequence[Sending], option: NationalOption) \
+        -> Iterator[str]:
+    """Why no layout is proposed: what of the drawings none of them says, and the nearest."""
+    others = [one.sent for one in sendings if not draws(nearest.layout, one.sent, option)]
+    text = layout_text(nearest.layout)
+    yield f"layout: none is proposed. The nearest, {text or 'that without --layout'}, draws " \
+        f"{counts_words(nearest)}, and {TENTHS} in 10 have to be"
+    for words, is_one in KINDS:
+        count = sum(is_one(one, nearest, option) for one in others)
+        if count:
+            yield f"{words} in {count} of these {len(others)} others: no layout says that"
+    yield from against_lines(nearest, sendings, option)
+
+
+def is_spaced(one: Sent, _: Choice, option: NationalOption) -> bool:
+    """Whether spaces stand in a box at an end of a line, where its letters have none."""
+    return any(SPACE_IN_BOX.search(row.strip(b" ")) for row in one.rows)
+
+
+def is_block(one: Sent, nearest: Choice, option: NationalOption) -> bool:
+    """Whether lines begin in one column that a layout draws each in its own."""
+    lines = drawn(one.text, one.row, one.justify, nearest.layout, option)
+    if isinstance(lines, Refused):
+        return False
+    due, sent = first_letters(page_rows(lines)), first_letters(one.rows)
+    return len(sent) > 1 and len({*sent}) == 1 < len({*due})
+
+
+def first_letters(rows: Rows) -> list[int]:
+    """The column of the first letter of each row that has one."""
+    return [next(at for at, cell in enumerate(row) if cell > SPACE) for row in rows
+            if any(cell > SPACE for cell in row)]
+
+
+KINDS: Sequence[tuple[str, Callable[[Sent, Choice, NationalOption], bool]]] = (
+    ("a space stands in the box", is_spaced), ("lines are a block, aligned left,", is_block))
+
+
+def sendings_of(stl: str, subtitles: Iterable[Subtitle], held: Timeline, option: NationalOption) \
+        -> list[Sending]:
+    """The subtitles of a file at whose frames a page with their letters was held."""
+    return [Sending(stl, one, sent) for one in subtitles
+            for sent in sent_in([one], held, option)]
