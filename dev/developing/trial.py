@@ -16,7 +16,7 @@ LONGEST = 600  # seconds for it, on a machine that does other things too
 LONG_LOG = 1 << 20  # bytes of strace's log: a run with more of them does not end
 
 CALL = re.compile(r"^\d+ +(\w+)\((.*)\) += (-?\w+)(.*)$")
-CALLS = "trace=openat,read,write,close,statx,mmap,brk,rt_sigaction"
+CALLS = "trace=openat,read,write,fsync,close,statx,mmap,brk,rt_sigaction"
 STRACE = ["strace", "-f", "--seccomp-bpf", "-y", "-s", "0", "-e", CALLS]
 # What others say on standard error: the shell that starts a run, and strace.
 OTHERS = re.compile(r"(sh|strace): ")
@@ -317,6 +317,8 @@ def judge(trial: Trial, command: Command, ran: Ran) -> list[str]:
     elif first.name == "read":
         text = text_of_read(trial, command, first.file, handed(ran.calls, first))
         written = b"" if command.out else None
+    elif first.name == "fsync":
+        text = fault_of_write(command)
     elif first.on != "1":
         text = fault_of_write(command)
         written = (command.written or b"")[:handed(ran.calls, first)]
