@@ -96,7 +96,7 @@ fn counts_long_pes_packets(rt: HostRuntime) {
         &BEGINS_6, &SECOND,
     ];
     let want = "survey 1\nhead 47410110000001bd044a84\nsize 188\nteletext 257\nsub 257 888\n\
-        pes 257 0 1 3240000000 0 b/ 3 0\npes 257 1 1 3240180000 0 b/ 2 0\n\
+        pes 257 0 1 3240000000 0 b/ 3 38\npes 257 1 1 3240180000 0 b/ 2 0\n\
         subs 257 888 2\nend 257 2 0 7 0 0 0 3240180000\nover 0 7\n";
     assert_prints(&rt, &SURVEY, &stream, want);
 }
@@ -209,6 +209,47 @@ const SHOWN_LATE: [u8; 18] = [
     0x47, 0x41, 0x10, 0x16, 0x00, 0x00, 0x01, 0xE0, 0x00, 0x00, 0x80, 0x80, 0x05, 0x27, 0x04, 0x75,
     0xC7, 0xC1,
 ];
+
+#[test]
+fn tells_a_step_of_the_pictures_and_how_far_the_teletext_is_ahead(rt: HostRuntime) {
+    let fill = &FILL[..170];
+    let stream: [&[u8]; 22] = [
+        &PAT,
+        &FILL[..167],
+        &PMT,
+        &FILL[..157],
+        &FLAGGED,
+        &FILL[..163],
+        &SHOWN_1,
+        fill,
+        &SHOWN_2,
+        fill,
+        &SHOWN_3,
+        fill,
+        &SHOWN_4,
+        fill,
+        &SHOWN_5,
+        fill,
+        &BEGINS_0,
+        &FIRST,
+        &SHOWN_LATE,
+        fill,
+        &BEGINS_1,
+        &SECOND,
+    ];
+    let want = "survey 1\nhead 474000100000b00d0001c1\nsize 188\n\
+        programme 1 8176\nstream 272 2\nstream 257 6\n\
+        video 272 0\npicture 272 3239907200\npicture 272 3239903600\npicture 272 3239907200\n\
+        picture 272 3239910800\npicture 272 3239914400\npicture 272 3239918000\n\
+        teletext 257\nsub 257 888\npicture 272 3239928800\n\
+        apart 257 3240000000 82000 272\nstep 272 3239918000 3239928800 3600\n\
+        pes 257 0 1 3240000000 0 b/ 3 0\napart 257 3240180000 251200 272\n\
+        pes 257 1 1 3240180000 0 b/ 2 0\n\
+        group 272 3239907200 3239903600 unknown\npictures 272 0 0 0 1\nsteps 272 1 3600\n\
+        subs 257 888 2\n\
+        end 257 2 0 2 0 0 0 3240180000\nover 0 11\n";
+    assert_prints(&rt, &SURVEY, &stream, want);
+}
 
 #[test]
 fn tells_whether_the_group_of_the_first_picture_is_closed(rt: HostRuntime) {
@@ -363,11 +404,12 @@ fn tells_each_pcr_that_goes_back(rt: HostRuntime) {
         clock 257 3240000000 - -1000 1 0 0 unknown\n\
         pcr 8176 894000\n\
         clock 257 3240000000 - -1000 1 0 0 unknown\n\
+        pes 257 0 1 3240000000 0 b/ 3 0\n\
         clock 257 3240000000 - -1000 1 0 0 unknown\n\
         clock 257 3240000000 - -1000 1 0 0 unknown\n\
         clock 257 3240000000 - -1000 1 0 0 unknown\n\
         clock 257 3240000000 - -1000 1 0 0 unknown\n\
-        pes 257 0 1 3240000000 0 b/ 3 0\nsubs 257 888 1\n\
+        subs 257 888 1\n\
         end 257 1 0 1 0 0 0 3240000000\npcr 8176 894000\nover 0 10\n";
     assert_prints(&rt, &SURVEY, &stream, want);
 }
@@ -391,9 +433,9 @@ fn tells_no_pcr_that_goes_back_where_it_is_announced(rt: HostRuntime) {
     ];
     let want = "survey 1\nhead 474000100000b00d0001c1\nsize 188\n\
         programme 1 8176\nstream 272 2\nstream 257 6\nteletext 257\nsub 257 888\n\
-        pcr 8176 900000\npcr 8176 899000\npcr 8176 898000\n\
+        pcr 8176 900000\npcr 8176 899000\npcr 8176 898000\npes 257 0 1 3240000000 0 b/ 3 0\n\
         clock 257 3240000000 - -1000 1 0 0 unknown\n\
-        pes 257 0 1 3240000000 0 b/ 3 0\nsubs 257 888 1\n\
+        subs 257 888 1\n\
         end 257 1 0 1 0 0 0 3240000000\npcr 8176 898000\nover 0 6\n";
     assert_prints(&rt, &SURVEY, &stream, want);
 }

@@ -1,6 +1,6 @@
 -- Whether the pictures that are shown before the flagged one of a group can be decoded without the
 -- group before it: what the first bytes of the flagged one say.
-use Rattle.std.specs.Prelude.{ℕ, ◌+◌, ◌*◌, ◌/◌, ◌%◌, ◌==◌, ◌&&◌, ◌||◌, not, nat_le, Bool}
+use Rattle.std.specs.Prelude.{ℕ, ◌+◌, ◌*◌, ◌/◌, ◌%◌, ◌==◌, ◌&&◌, ◌||◌, not, nat_le}
 use Rattle.std.specs.Prelude.{if◌then◌else◌, List, Option, Some, None, codes}
 use Rattle.std.specs.List.{fold}
 use Rattle.ts_survey.specs.declared.forms.Form.{Form}

@@ -1,7 +1,7 @@
 -- Which PCR (ISO/IEC 13818-1, program_clock_reference_base) are strange, of whom they are told, and
 -- when (own).
-use Rattle.std.specs.Prelude.{◌≡◌, ℕ, ◌-◌, ◌==◌, ◌&&◌, Bool, true, false, if◌then◌else◌, List, []}
-use Rattle.std.specs.Prelude.{◌∷◌, Option, Some, None, is_some, map, min, slice_index_or, take}
+use Rattle.std.specs.Prelude.{◌≡◌, ℕ, ◌==◌, ◌&&◌, Bool, true, false, if◌then◌else◌, List, []}
+use Rattle.std.specs.Prelude.{◌∷◌, Option, Some, None, is_some, min, slice_index_or, take}
 use Rattle.ts_survey.specs.Intervals.{IsUsual}
 use Rattle.ts_survey.specs.Lines.{clock_told}
 use Rattle.ts_survey.specs.Text.{forward_ticks}

@@ -1,6 +1,6 @@
 -- The steps of the decoding times of a video PID (ISO/IEC 13818-1: the DTS of a PES packet, or else
 -- its PTS), and which of them are not as the others are (own).
-use Rattle.std.specs.Prelude.{ℕ, ◌+◌, ◌-◌, ◌==◌, ◌&&◌, nat_le, nat_lt, Bool, if◌then◌else◌}
+use Rattle.std.specs.Prelude.{ℕ, ◌-◌, ◌==◌, ◌&&◌, nat_le, nat_lt, Bool, if◌then◌else◌}
 use Rattle.std.specs.Prelude.{List, [], ◌∷◌, Option, Some, None, codes}
 use Rattle.ts_survey.specs.InStep.{counted_on}
 use Rattle.ts_survey.specs.Lines.{line_end, number_word}
