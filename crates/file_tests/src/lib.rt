@@ -24,3 +24,5 @@ mod recorded;
 mod recordings;
 #[cfg(test)]
 mod survey;
+#[cfg(test)]
+mod survey_lines;

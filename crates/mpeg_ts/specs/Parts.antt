@@ -7,7 +7,7 @@ use Rattle.std.specs.Prelude.{if◌then◌else◌, List, [], ◌∷◌, ◌++◌
 use Rattle.std.specs.List.{concat}
 use Rattle.ttx_pes.specs.Reading.{size_at}
 use Rattle.ttx_pes.specs.declared.fault.PesFault.{PesFault}
-use Rattle.mpeg_ts.specs.GoodPackets.{GoodPacket, GoodPackets, Link, Follows, Break}
+use Rattle.mpeg_ts.specs.GoodPackets.{GoodPacket, GoodPackets, Link, Follows, Seam, Break}
 use Rattle.mpeg_ts.specs.TransportPacket.{begins, payload}
 
 -- A part: whether a break stands before it, whether its first packet begins a PES packet, and the
@@ -21,6 +21,11 @@ pub record Part : Type 0 where
 abbrev pub is_break : Link → Bool
 is_break Break = true
 is_break _ = false
+
+-- A jump of the counter was announced between them, and nothing is known to be lost.
+abbrev pub is_seam : Link → Bool
+is_seam Seam = true
+is_seam _ = false
 
 -- A packet does not belong to the PES packet of the one before.
 abbrev pub is_unlinked : Link → Bool

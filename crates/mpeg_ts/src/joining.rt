@@ -6,7 +6,7 @@ ghost use Rattle.mpeg_ts.specs.Joining.{IsWithin, TakesFirst, TakesNext, after_n
 ghost use Rattle.mpeg_ts.specs.Joining.{begun, emptied, gave_packet, given_after, gone_on, grown};
 ghost use Rattle.mpeg_ts.specs.Joining.{has_ended, holding, is_complete, link_after, mark_alone};
 ghost use Rattle.mpeg_ts.specs.Joining.{nothing_joined, remembering, repeats, taken_bytes};
-ghost use Rattle.mpeg_ts.specs.Parts.{is_break, is_unlinked};
+ghost use Rattle.mpeg_ts.specs.Parts.{is_break, is_seam, is_unlinked};
 ghost use Rattle.mpeg_ts.specs.TransportPacket.{has_payload, is_wrong, payload};
 
 use crate::mark::mark_bytes;
@@ -246,6 +246,17 @@ impl Joining {
             return true;
         }
         counter_of(packet) != (self.header[3] % 0x10 + 1) % 0x10
+    }
+
+    /// Whether a jump of the counter was announced between the last good packet and this one
+    /// (discontinuity_indicator), and nothing is known to be lost.
+    pub fn is_behind_seam(&self, packet: &[u8; PACKET]) -> bool
+        ensures { result ≡ is_seam (link_after self.now self.now.last packet.now) }
+    {
+        if self.last_payload().is_empty() || self.has_break {
+            return false;
+        }
+        self.has_jump || announces_jump(packet)
     }
 
     // Makes the packet the last good one, but for its payload.

@@ -6,13 +6,14 @@
 --   6..11  where PCR_flag is set: program_clock_reference_base (33 bits), reserved (6),
 --          extension (9)
 --
--- And the PTS of a PES packet's header (ISO/IEC 13818-1, PES_packet):
+-- And the times of a PES packet's header (ISO/IEC 13818-1, PES_packet):
 --
---   7      PTS_DTS_flags (2 bits): the first says that there is a PTS
+--   7      PTS_DTS_flags (2 bits): the first says that there is a PTS, the second beside it a DTS
 --   9..13  four bits, PTS 32..30, a marker bit, PTS 29..15, a marker bit, PTS 14..0, a marker bit
+--   14..18 the DTS, in the same way
 use Rattle.std.specs.Prelude.{ℕ, ◌+◌, ◌*◌, ◌/◌, ◌%◌, ◌==◌, ◌&&◌, ◌||◌, not, nat_lt, Bool}
-use Rattle.std.specs.Prelude.{if◌then◌else◌, List, length, slice_index, Option, Some, None}
-use Rattle.mpeg_ts.specs.TransportPacket.{has_adaptation}
+use Rattle.std.specs.Prelude.{if◌then◌else◌, List, [], length, slice_index, Option, Some, None}
+use Rattle.mpeg_ts.specs.TransportPacket.{has_adaptation, has_payload, is_wrong, payload}
 
 -- random_access_indicator.
 abbrev pub begins_access : List ℕ → Bool
@@ -31,6 +32,10 @@ pcr_base p =
     else Some (slice_index p 6 * 0x200_0000 + slice_index p 7 * 0x2_0000 + slice_index p 8 * 0x200
     + slice_index p 9 * 2 + slice_index p 10 / 0x80)
 
+-- The payload of a packet: none where it has none, or nothing may be taken from it.
+abbrev pub payload_in : List ℕ → List ℕ
+payload_in p = if has_payload p && not (is_wrong p) then payload p else []
+
 -- The PTS that a PES packet says. In a mark byte 6 is FF.
 abbrev pub pts_said : List ℕ → Option ℕ
 pts_said pes =
@@ -38,3 +43,19 @@ pts_said pes =
     then None
     else Some (slice_index pes 9 / 2 % 8 * 0x4000_0000 + slice_index pes 10 * 0x40_0000
     + slice_index pes 11 / 2 * 0x8000 + slice_index pes 12 * 0x80 + slice_index pes 13 / 2)
+
+-- decoding_time_stamp. Where there is none, it is the PTS.
+abbrev pub dts_said : List ℕ → ℕ
+dts_said pes =
+    slice_index pes 14 / 2 % 8 * 0x4000_0000 + slice_index pes 15 * 0x40_0000
+    + slice_index pes 16 / 2 * 0x8000 + slice_index pes 17 * 0x80 + slice_index pes 18 / 2
+
+abbrev pub time_beside : List ℕ → Option ℕ → Option ℕ
+time_beside pes None = None
+time_beside pes (Some pts) =
+    if nat_lt (slice_index pes 7) 0xC0 then Some pts
+    else if nat_lt (length pes) 19 then None
+    else Some (dts_said pes)
+
+abbrev pub decoding_time : List ℕ → Option ℕ
+decoding_time pes = time_beside pes (pts_said pes)

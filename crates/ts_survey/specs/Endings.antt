@@ -1,13 +1,14 @@
 -- What is told at the end of a recording, of all of which something is kept until then (own;
 -- docs/manual/survey.md).
 use Rattle.std.specs.Prelude.{ℕ, zero, suc, ◌+◌, ◌/◌, ◌%◌, ◌==◌, if◌then◌else◌, List, []}
-use Rattle.std.specs.Prelude.{◌∷◌, ◌++◌, Option, Some, None, codes, map}
+use Rattle.std.specs.Prelude.{◌∷◌, ◌++◌, Option, Some, None, codes, is_some, map}
 use Rattle.std.specs.List.{slice_get}
+use Rattle.ts_survey.specs.Forms.{form_read, form_word}
 use Rattle.ts_survey.specs.InStep.{counted_on}
 use Rattle.ts_survey.specs.Lines.{end_line, gap_line, line_end, number_word, pending_words}
 use Rattle.ts_survey.specs.Lines.{run_words}
 use Rattle.ts_survey.specs.Missing.{ends_within_packet}
-use Rattle.ts_survey.specs.Text.{page_word}
+use Rattle.ts_survey.specs.Text.{page_word, time_word}
 use Rattle.ts_survey.specs.declared.carrier.Carrier.{Carrier}
 use Rattle.ts_survey.specs.declared.clock.Clock.{Clock}
 use Rattle.ts_survey.specs.declared.given.Given.{Given}
@@ -80,15 +81,31 @@ pictures_line p begun =
     codes "pictures" ∷ number_word p.pid ∷ number_word p.lost ∷ number_word p.scrambled
     ∷ number_word p.passed ∷ begun ∷ []
 
--- That of pictures that are not over, with whether one has begun.
+-- `group PID FLAGGED LEAST FORM`.
+abbrev pub group_line : Pictures → List (List ℕ)
+group_line p =
+    codes "group" ∷ number_word p.pid ∷ time_word p.flagged ∷ time_word p.first
+    ∷ form_word (form_read p.reader.form) ∷ []
+
+-- Those of pictures that are not over, with whether one has begun.
 abbrev pub reach_words : Pictures → Reach → List (List ℕ)
 reach_words p Over = []
 reach_words p Before = pictures_line p (codes " 0\n")
-reach_words p Within = pictures_line p (codes " 1\n")
+reach_words p Within = group_line p ++ pictures_line p (codes " 1\n")
 
--- That of a PID with pictures, by how far these have come.
+-- `steps PID COUNT USUAL`.
+abbrev pub steps_line : Pictures → List (List ℕ)
+steps_line p =
+    codes "steps" ∷ number_word p.pid ∷ number_word p.steps.strange ∷ time_word p.steps.usual
+    ∷ line_end ∷ []
+
+-- That of a PID with decoding times.
+abbrev pub steps_words : Pictures → List (List ℕ)
+steps_words p = if is_some p.steps.last then steps_line p else []
+
+-- Those of a PID with pictures, by how far these have come.
 abbrev pub pictures_words : Pictures → List (List ℕ)
-pictures_words p = reach_words p p.reach
+pictures_words p = reach_words p p.reach ++ steps_words p
 
 -- `pcr PID PCR`.
 abbrev pub pcr_line : ℕ → ℕ → List (List ℕ)

@@ -18,6 +18,10 @@ half_clock = 0x1_0000_0000
 abbrev pub whole_clock : ℕ
 whole_clock = 0x2_0000_0000
 
+-- So many ticks is a time after another, forward around the clock: times have 64 bits.
+abbrev pub forward_ticks : ℕ → ℕ → ℕ
+forward_ticks first second = (second + (0x1_0000_0000_0000_0000 - first)) % whole_clock
+
 -- Ticks, counted forward, as the distance on the nearest way.
 abbrev pub ticks_word : ℕ → List ℕ
 ticks_word forward =

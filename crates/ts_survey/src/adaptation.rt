@@ -1,7 +1,8 @@
 //! What an adaptation field says (ISO/IEC 13818-1, adaptation_field), and the PTS of a PES packet
 //! that begins.
 ghost use Rattle.std.specs.Prelude.{◌≡◌, ◌<◌, ◌^◌, IfSome};
-ghost use Rattle.ts_survey.specs.Adaptation.{begins_access, is_scrambled, pcr_base, pts_said};
+ghost use Rattle.ts_survey.specs.Adaptation.{begins_access, decoding_time, is_scrambled, pcr_base};
+ghost use Rattle.ts_survey.specs.Adaptation.{payload_in, pts_said};
 
 use mpeg_ts::{PACKET, has_adaptation, has_payload, is_wrong, payload_of};
 
@@ -37,7 +38,9 @@ pub fn pcr_base(packet: &[u8; PACKET]) -> Option<u64>
 }
 
 /// The payload of a packet, none where it has none or nothing may be taken from it.
-pub fn payload_in(packet: &[u8; PACKET]) -> &[u8] {
+pub fn payload_in(packet: &[u8; PACKET]) -> &[u8]
+    ensures { result.now ≡ payload_in packet.now }
+{
     if has_payload(packet) && !is_wrong(packet) {
         payload_of(packet)
     } else {
@@ -61,4 +64,36 @@ pub fn pts_said(pes: &[u8]) -> Option<u64>
             + pes[12] as u64 * 0x80
             + (pes[13] / 2) as u64,
     )
+}
+
+/// When the first picture of a PES packet is decoded: its DTS, or its PTS where it has no DTS.
+/// `None` where the first bytes do not say it.
+pub fn decoding_time(pes: &[u8]) -> Option<u64>
+    ensures value { result ≡ decoding_time pes.now }
+    ensures range { IfSome result (λ time. time < 2 ^ 33) }
+{
+    let pts = pts_said(pes)?;
+    if pes[7] < 0xC0 {
+        return Some(pts);
+    }
+    if pes.len() < 19 {
+        return None;
+    }
+    Some(
+        (pes[14] / 2 % 8) as u64 * 0x4000_0000
+            + pes[15] as u64 * 0x40_0000
+            + (pes[16] / 2) as u64 * 0x8000
+            + pes[17] as u64 * 0x80
+            + (pes[18] / 2) as u64,
+    )
+}
+
+/// What follows the header of a PES packet that begins; nothing where the header does not end in
+/// these bytes.
+pub fn behind_header(pes: &[u8]) -> &[u8] {
+    if pes.len() < 9 {
+        return &[];
+    }
+    let (_, behind) = pes.split_at(pes.len().min(9 + pes[8] as usize));
+    behind
 }

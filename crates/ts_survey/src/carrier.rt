@@ -1,14 +1,18 @@
 //! A PID with Teletext that is followed: what its packets carry, and what is missing.
 ghost use Rattle.std.specs.Prelude.{◌≡◌, ◌||◌, [], ◌∷◌, ◌++◌, drop, slice_index_or, IfNone, Some};
-ghost use Rattle.std.specs.Prelude.{None, codes, false, if◌then◌else◌, is_some, true};
+ghost use Rattle.std.specs.Prelude.{None, codes, false, if◌then◌else◌, is_some, map, true};
 ghost use Rattle.mpeg_ts.specs.GoodPackets.{Hole};
 ghost use Rattle.mpeg_ts.specs.Joining.{after_note};
 ghost use Rattle.mpeg_ts.specs.TransportPacket.{announces_jump, counter, has_payload, is_wrong};
 ghost use Rattle.ts_survey.specs.Endings.{carrier_line, carrier_words};
+ghost use Rattle.ts_survey.specs.Holes.{after_pcr, kept_with, known_after, pcr_told, pending_of};
+ghost use Rattle.ts_survey.specs.Holes.{told_for_room};
 ghost use Rattle.ts_survey.specs.Lines.{AddsWords, clock_line, clock_told, pending_words};
 ghost use Rattle.ts_survey.specs.Missing.{ends_within_packet, lost_before, lost_with, more_lost};
+ghost use Rattle.ts_survey.specs.Seams.{is_behind_seam};
 
 use crate::adaptation::{is_scrambled, pts_said};
+use crate::aparts::Aparts;
 use crate::clock::{SECOND, Strange};
 use crate::given::Given;
 use crate::pes_lines::PesLines;
@@ -49,6 +53,7 @@ pub struct Carrier {
     sampled: Option<u64>,
     before_pcr: Option<u64>,
     pending: [Option<Pending>; PENDING],
+    aparts: Aparts,
 }
 
 impl Carrier {
@@ -66,11 +71,14 @@ impl Carrier {
             sampled: None,
             before_pcr: None,
             pending: [None; PENDING],
+            aparts: Aparts::new(),
         })
     }
 
     /// Its PID.
-    pub fn pid(&self) -> u16 {
+    pub fn pid(&self) -> u16
+        ensures { result ≡ self.now.pid }
+    {
         self.pid
     }
 
@@ -87,8 +95,11 @@ impl Carrier {
         begun
     }
 
-    // Counts what is lost before a packet, and notes the PTS that begins in it.
+    // Counts what is lost before a packet, and notes a seam before it, and the PTS that begins in
+    // it.
     fn note(&mut self, packet: &[u8; PACKET]) -> Option<u64>
+        ensures seam { self.new.packets_of.to.has_seam ≡ (self.old.packets_of.to.has_seam
+            || is_behind_seam self.old.packets_of.joining packet.now) }
         ensures wrong { is_wrong packet.now ≡ true → self.new ≡ self.old }
         ensures empty { is_wrong packet.now ≡ false → has_payload packet.now ≡ false
             → self.new.has_jump ≡ (self.old.has_jump || announces_jump packet.now) }
@@ -103,9 +114,7 @@ impl Carrier {
             self.has_jump = self.has_jump || announces_jump(packet);
             return None;
         }
-        if !self.packets_of.is_repeat(packet) {
-            self.count_lost(packet);
-        }
+        self.note_good(packet);
         if !begins(packet) {
             return None;
         }
@@ -114,10 +123,29 @@ impl Carrier {
         Some(pts)
     }
 
+    // Counts what is lost before a packet with a payload, and notes a seam before it, where it does
+    // not repeat the last good one.
+    fn note_good(&mut self, packet: &[u8; PACKET])
+        requires payload { has_payload packet.now ≡ true }
+        requires valid { is_wrong packet.now ≡ false }
+        ensures seam { self.new.packets_of.to.has_seam ≡ (self.old.packets_of.to.has_seam
+            || is_behind_seam self.old.packets_of.joining packet.now) }
+        ensures lost { self.new.packets_of.to.lost ≡ lost_with self.old.packets_of.to.lost
+            self.old.packets_of.joining self.old.counter self.old.has_jump packet.now }
+    {
+        if self.packets_of.is_repeat(packet) {
+            return;
+        }
+        let is_seam = self.packets_of.is_behind_seam(packet);
+        self.packets_of.to.note_seam(is_seam);
+        self.count_lost(packet);
+    }
+
     // Counts what is lost before a good packet, by its counter.
     fn count_lost(&mut self, packet: &[u8; PACKET])
         ensures lost { self.new.packets_of.to.lost ≡ more_lost self.old.packets_of.to.lost
             (lost_before self.old.counter self.old.has_jump packet.now) }
+        ensures seam { self.new.packets_of.to.has_seam ≡ self.old.packets_of.to.has_seam }
         ensures counter { self.new.counter ≡ Some (counter packet.now) }
         ensures jump { self.new.has_jump ≡ false }
     {
@@ -135,7 +163,10 @@ impl Carrier {
     }
 
     /// A PCR of its programme came: the next one is held against what has begun.
-    pub fn note_pcr(&mut self, strange: Option<Strange>, pids: &Pids, text: &mut Text) {
+    pub fn note_pcr(&mut self, strange: Option<Strange>, pids: &Pids, text: &mut Text)
+        ensures state { self.new ≡ after_pcr strange self.old }
+        ensures told { AddsWords text.old (pcr_told pids.now strange self.old) text.new }
+    {
         if let Some(strange) = strange {
             self.add_pending(strange, pids, text);
         }
@@ -143,7 +174,13 @@ impl Carrier {
     }
 
     // Keeps a strange PCR. Where there is no room, the oldest is told at once.
-    fn add_pending(&mut self, strange: Strange, pids: &Pids, text: &mut Text) {
+    fn add_pending(&mut self, strange: Strange, pids: &Pids, text: &mut Text)
+        ensures state { self.new ≡ record self.old {
+          pending = kept_with self.old.pending (pending_of self.old strange);
+        } }
+        ensures told { AddsWords text.old
+            (told_for_room self.old.pid pids.now self.old.pending) text.new }
+    {
         let [first, second, third, fourth] = self.pending;
         let one = Some(Pending {
             strange,
@@ -166,7 +203,9 @@ impl Carrier {
 
     /// A PTS began in a packet: strange PCR before it know it, and where a second has gone by since
     /// the last such look, it is held against the clock.
-    pub fn note_begun(&mut self, pts: u64, pcr: Option<u64>, text: &mut Text) {
+    pub fn note_begun(&mut self, pts: u64, pcr: Option<u64>, text: &mut Text)
+        ensures { self.new.pending ≡ map (known_after pts) self.old.pending }
+    {
         let [first, second, third, fourth] = self.pending;
         self.pending = [
             known_after(first, pts),
@@ -197,6 +236,16 @@ impl Carrier {
             Some(last) => forward(last, pts) >= SECOND,
             None => true,
         }
+    }
+
+    /// A PTS began in a packet, behind a decoding time of the pictures of its programme.
+    pub fn hold_against(&mut self, pts: u64, video: u16, time: u64, text: &mut Text) {
+        self.aparts.take(self.pid, pts, video, time, text);
+    }
+
+    /// The decoding times of a video PID stepped otherwise than they do.
+    pub fn note_step(&mut self, video: u16, text: &mut Text) {
+        self.aparts.note_step(self.pid, video, text);
     }
 
     /// Tells the strange PCR of which all is known, by the number of the last packet; or all.
@@ -294,7 +343,9 @@ fn lost_before(counter: Option<u8>, has_jump: bool, packet: &[u8; PACKET]) -> u8
 }
 
 // A strange PCR, behind which a PTS has begun.
-fn known_after(pending: Option<Pending>, pts: u64) -> Option<Pending> {
+fn known_after(pending: Option<Pending>, pts: u64) -> Option<Pending>
+    ensures { result ≡ known_after pts pending }
+{
     let mut one = pending?;
     if one.after.is_none() {
         one.after = Some(pts);

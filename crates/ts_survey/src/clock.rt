@@ -1,8 +1,10 @@
 //! The clock of a programme: its PCR, and which of them are strange.
-ghost use Rattle.std.specs.Prelude.{◌≡◌, min, take};
+ghost use Rattle.std.specs.Prelude.{◌≡◌, ◌||◌, Some, false, min, take};
+ghost use Rattle.mpeg_ts.specs.TransportPacket.{announces_jump};
 ghost use Rattle.ts_survey.specs.Usual as specs;
 ghost use Rattle.ts_survey.specs.Usual.{IsMiddle};
 ghost use Rattle.ts_survey.specs.Endings.{clock_words, pcr_line};
+ghost use Rattle.ts_survey.specs.Holes.{IsCompared, IsStrange};
 ghost use Rattle.ts_survey.specs.Intervals.{IsUsual};
 ghost use Rattle.ts_survey.specs.Lines.{AddsWords};
 
@@ -117,18 +119,30 @@ impl Clock {
     }
 
     /// Its PID.
-    pub fn pid(&self) -> u16 {
+    pub fn pid(&self) -> u16
+        ensures { result ≡ self.now.pid }
+    {
         self.pid
     }
 
     /// A packet of the PID came: it may announce that the clock goes on elsewhere.
-    pub fn note(&mut self, packet: &[u8; PACKET]) {
+    pub fn note(&mut self, packet: &[u8; PACKET])
+        ensures { self.new ≡ record self.old {
+          is_announced = self.old.is_announced || announces_jump packet.now;
+        } }
+    {
         self.is_announced = self.is_announced || announces_jump(packet);
     }
 
     /// A PCR came in the packet with that number; it is told once a second. Where it is strange,
     /// how.
-    pub fn take(&mut self, pcr: u64, number: u64, text: &mut Text) -> Option<Strange> {
+    pub fn take(&mut self, pcr: u64, number: u64, text: &mut Text) -> Option<Strange>
+        // Exactly where a last one is known, no jump is announced, and it is not usual.
+        ensures strange { IsStrange self.old pcr number result }
+        ensures last { self.new.last ≡ Some (pcr, number) }
+        ensures announced { self.new.is_announced ≡ false }
+        ensures pid { self.new.pid ≡ self.old.pid }
+    {
         let is_due = match self.told {
             None => true,
             Some(told) => forward(told, pcr) >= SECOND,
@@ -147,7 +161,13 @@ impl Clock {
     }
 
     // Compares a PCR with the one before.
-    fn compare(&mut self, last: u64, at: u64, pcr: u64, number: u64) -> Option<Strange> {
+    fn compare(&mut self, last: u64, at: u64, pcr: u64, number: u64) -> Option<Strange>
+        ensures strange { IsCompared self.old.ticks self.old.packets last at pcr number result }
+        ensures same { self.new ≡ record self.old {
+          ticks = self.new.ticks;
+          packets = self.new.packets;
+        } }
+    {
         let ticks = forward(last, pcr);
         let packets = number.saturating_sub(at);
         if self.is_usual(ticks) {

@@ -1,6 +1,7 @@
 //! What the packets of a PID carry, piece after piece: PES packets, marks, and what is none.
-ghost use Rattle.std.specs.Prelude.{◌≡◌, []};
+ghost use Rattle.std.specs.Prelude.{◌≡◌, ◌||◌, [], false};
 ghost use Rattle.ts_survey.specs.Endings.{given_words, with_due_mark};
+ghost use Rattle.ts_survey.specs.Seams.{seam_words};
 ghost use Rattle.ts_survey.specs.Lines.{AddsWords};
 ghost use Rattle.ts_survey.specs.Missing.{more_lost};
 
@@ -21,6 +22,8 @@ pub struct Given {
     has_mark: bool,
     lost: u64,
     scrambled: u64,
+    // Whether a seam stands behind the last PES packet.
+    has_seam: bool,
     // The PTS of the last PES packet.
     last: Option<u64>,
     // Why nothing comes any more; 0 where something may.
@@ -36,6 +39,7 @@ impl Given {
             has_mark: false,
             lost: 0,
             scrambled: 0,
+            has_seam: false,
             last: None,
             refusal: 0,
         }
@@ -46,6 +50,13 @@ impl Given {
         ensures { self.new ≡ record self.old { lost = more_lost self.old.lost count } }
     {
         self.lost = self.lost.saturating_add(count);
+    }
+
+    /// A packet came behind a seam, or behind none.
+    pub fn note_seam(&mut self, is_seam: bool)
+        ensures { self.new ≡ record self.old { has_seam = self.old.has_seam || is_seam } }
+    {
+        self.has_seam = self.has_seam || is_seam;
     }
 
     /// A packet came that is scrambled.
@@ -83,6 +94,18 @@ impl Given {
             self.has_mark = false;
             self.lines.mark(self.lost, self.scrambled, text);
         }
+    }
+
+    // Tells the seams before a PES packet, where there are any.
+    fn tell_seam(&mut self, text: &mut Text)
+        ensures told { AddsWords text.old (seam_words self.old) text.new }
+        ensures state { self.new ≡ record self.old { has_seam = false } }
+    {
+        if !self.has_seam {
+            return;
+        }
+        self.has_seam = false;
+        self.lines.tell_seam(text);
     }
 
     /// Tells what is not told yet of the PES packets.
@@ -127,6 +150,7 @@ impl TakesPieces for Given {
             self.is_broken = true;
         } else {
             self.tell_mark(text);
+            self.tell_seam(text);
             self.lines.take(piece, text);
             self.last = pts_said(piece).or(self.last);
             self.lost = 0;

@@ -11,9 +11,11 @@
 #![tactic(auto)]
 
 mod adaptation;
+mod aparts;
 mod carrier;
 mod character_set;
 mod clock;
+mod forms;
 mod given;
 mod heard;
 mod laws;
@@ -31,6 +33,7 @@ mod recording;
 mod room;
 mod rows;
 mod section;
+mod steps;
 mod tables;
 mod telling;
 mod text;

@@ -1,14 +1,19 @@
 //! All that is followed in a transport stream, one packet after another.
+ghost use Rattle.std.specs.List.{slice_get};
 ghost use Rattle.std.specs.Prelude.{◌≡◌, ◌≢◌, ◌<◌, IfSome, map};
 ghost use Rattle.ts_survey.specs.Endings.{carrier_words, clock_words, end_words, pictures_words};
 ghost use Rattle.ts_survey.specs.Endings.{pid_words, pids_words, waiting_words, words_of};
+ghost use Rattle.ts_survey.specs.Adaptation.{pcr_base};
+ghost use Rattle.ts_survey.specs.Holes.{after_pcr_of, pcr_told_of};
+ghost use Rattle.ts_survey.specs.Clocks.{ReadsPcr};
 ghost use Rattle.ts_survey.specs.Lines.{AddsWords};
 ghost use Rattle.ts_survey.specs.Missing.{NoteHoles};
 ghost use Rattle.ts_survey.specs.Payload as specs;
+ghost use Rattle.ts_survey.specs.Steps.{step_line};
 
 use crate::adaptation::{payload_in, pcr_base};
 use crate::carrier::{Carrier, LOOKED_AT};
-use crate::clock::Clock;
+use crate::clock::{Clock, Strange};
 use crate::packets_in_step::TakesPackets;
 use crate::pictures::Pictures;
 use crate::pid_state::{NONE, NULL_PID, PidState, Pids};
@@ -16,6 +21,7 @@ use crate::section::{
     Announced, FIRST_PMT, Stream, descriptor_at, names_pages, page_at, pmt_pid_at, programme_of,
     stream_at,
 };
+use crate::steps::Step;
 use crate::tables::{SECTION_ROOM, Section, Tables, parts_of};
 use crate::text::Text;
 use mpeg_ts::{PACKET, announces_jump, begins, pid_of};
@@ -157,13 +163,25 @@ impl Multiplex {
 
     // A packet of a PID with Teletext came.
     fn carry(&mut self, state: &PidState, packet: &[u8; PACKET], text: &mut Text) {
-        let number = self.number;
         let Some(carrier) = self.carriers.get_mut(state.carrier as usize) else {
             return;
         };
         let Some(pts) = carrier.take(packet, text) else {
             return;
         };
+        self.begin(state, pts, text);
+    }
+
+    // A PTS began in a packet of a PID with Teletext.
+    fn begin(&mut self, state: &PidState, pts: u64, text: &mut Text) {
+        let number = self.number;
+        let shown = self.last_time(state.clock_pid);
+        let Some(carrier) = self.carriers.get_mut(state.carrier as usize) else {
+            return;
+        };
+        if let Some((video, time)) = shown {
+            carrier.hold_against(pts, video, time, text);
+        }
         let clock = self.pids.get(state.clock_pid).clock;
         let pcr = if carrier.is_due(pts) {
             match self.clocks.get(clock as usize) {
@@ -176,8 +194,53 @@ impl Multiplex {
         carrier.note_begun(pts, pcr, text);
     }
 
+    // A packet of a PID with pictures came.
+    #[inline(always)]
+    fn show(&mut self, state: &PidState, packet: &[u8; PACKET], text: &mut Text) {
+        let Some(pictures) = self.videos.get_mut(state.video as usize) else {
+            return;
+        };
+        pictures.take(packet, state.kind, text);
+        if !begins(packet) {
+            return;
+        }
+        if let Some(step) = pictures.step(packet) {
+            let video = pictures.pid();
+            self.tell_step(video, &step, text);
+        }
+    }
+
+    // Tells a step of the decoding times of a video PID, and before it how far the PES packets of
+    // Teletext before it are ahead.
+    fn tell_step(&mut self, video: u16, step: &Step, text: &mut Text) {
+        for carrier in self.carriers.iter_mut() {
+            carrier.note_step(video, text);
+        }
+        tell_step(video, step, text);
+    }
+
+    // The first PID of pictures of the programme with that PCR_PID, and their last decoding time.
+    fn last_time(&self, clock_pid: u16) -> Option<(u16, u64)> {
+        if clock_pid == NULL_PID {
+            return None;
+        }
+        for video in self.videos.iter() {
+            let pid = video.pid();
+            if self.pids.get(pid).clock_pid == clock_pid {
+                let time = video.last_time()?;
+                return Some((pid, time));
+            }
+        }
+        None
+    }
+
     // A packet of a PID with a clock came.
-    fn read_clock(&mut self, place: u8, packet: &[u8; PACKET], text: &mut Text) {
+    fn read_clock(&mut self, place: u8, packet: &[u8; PACKET], text: &mut Text)
+        // A PCR that is strange is told to each PID of its programme.
+        ensures { IfSome (slice_get self.old.clocks.items place) (λ clock.
+            IfSome (pcr_base packet.now) (λ pcr. ReadsPcr clock packet.now pcr self.old
+            self.new)) }
+    {
         let Some(clock) = self.clocks.get_mut(place as usize) else {
             return;
         };
@@ -191,10 +254,20 @@ impl Multiplex {
             let at = self.number.saturating_add(LOOKED_AT + 1);
             self.settle_at = self.settle_at.min(at);
         }
+        self.note_pcr(pid, strange, text);
+    }
+
+    // A PCR came of that PCR_PID: it is told to each PID of its programme.
+    fn note_pcr(&mut self, clock_pid: u16, strange: Option<Strange>, text: &mut Text)
+        ensures carriers { self.new.carriers.items
+            ≡ map (after_pcr_of self.old.pids clock_pid strange) self.old.carriers.items }
+        ensures told { AddsWords text.old
+            (words_of (pcr_told_of self.old.pids clock_pid strange) self.old.carriers.items)
+            text.new }
+        ensures same { self.new ≡ record self.old { carriers = self.new.carriers } }
+    {
         for carrier in self.carriers.iter_mut() {
-            if self.pids.get(carrier.pid()).clock_pid == pid {
-                carrier.note_pcr(strange, &self.pids, text);
-            }
+            note_pcr_of(carrier, &self.pids, clock_pid, strange, text);
         }
     }
 
@@ -329,6 +402,7 @@ impl Multiplex {
         text.put(b"\n");
         let mut state = self.pids.get(stream.pid);
         state.clock_pid = clock_pid;
+        state.kind = stream.kind;
         self.pids.set(stream.pid, state);
         if tell_pages(section, stream, text) {
             self.follow(stream.pid, text);
@@ -408,8 +482,8 @@ impl TakesPackets for Multiplex {
             self.look(pid, packet, text);
         }
         let state = self.pids.get(pid);
-        if let Some(pictures) = self.videos.get_mut(state.video as usize) {
-            pictures.take(packet, text);
+        if state.video != NONE {
+            self.show(&state, packet, text);
         }
         if state.carrier != NONE {
             self.carry(&state, packet, text);
@@ -426,6 +500,23 @@ impl TakesPackets for Multiplex {
         for carrier in self.carriers.iter_mut() {
             carrier.note_hole();
         }
+    }
+}
+
+// Tells a PID of a PCR of that PCR_PID, where it is that of its programme.
+fn note_pcr_of(
+    carrier: &mut Carrier,
+    pids: &Pids,
+    clock_pid: u16,
+    strange: Option<Strange>,
+    text: &mut Text,
+)
+    ensures state { carrier.new ≡ after_pcr_of pids.now clock_pid strange carrier.old }
+    ensures told { AddsWords text.old (pcr_told_of pids.now clock_pid strange carrier.old)
+        text.new }
+{
+    if pids.get(carrier.pid()).clock_pid == clock_pid {
+        carrier.note_pcr(strange, pids, text);
     }
 }
 
@@ -469,6 +560,18 @@ fn tell_pages(section: &[u8], stream: &Stream, text: &mut Text) -> bool {
         place = descriptor.end;
     }
     has_pages
+}
+
+// Tells a step of the decoding times of a PID.
+fn tell_step(pid: u16, step: &Step, text: &mut Text)
+    ensures { AddsWords text.old (step_line pid step.now) text.new }
+{
+    text.put(b"step");
+    text.number(pid as u64);
+    text.number(step.before);
+    text.number(step.after);
+    text.number(step.usual);
+    text.put(b"\n");
 }
 
 // Tells a page that is announced.

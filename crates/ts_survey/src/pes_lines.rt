@@ -2,6 +2,7 @@
 ghost use Rattle.std.specs.Prelude.{◌≡◌, ◌++◌};
 ghost use Rattle.ts_survey.specs.Endings.{counts_words};
 ghost use Rattle.ts_survey.specs.Lines.{AddsWords, gap_line, run_line, run_words};
+ghost use Rattle.ts_survey.specs.Seams.{seam_line};
 
 use crate::adaptation::pts_said;
 use crate::heard::Heard;
@@ -156,6 +157,16 @@ impl PesLines {
             text.number(number);
             self.page.notes_mut().tell_strays(text);
         }
+    }
+
+    /// A jump of the counter was announced before the next PES packet.
+    pub fn tell_seam(&self, text: &mut Text)
+        ensures { AddsWords text.old (seam_line self.now.pid self.now.count) text.new }
+    {
+        text.put(b"seam");
+        text.number(self.pid as u64);
+        text.number(self.count);
+        text.put(b"\n");
     }
 
     /// A mark came: so many packets were lost and scrambled.

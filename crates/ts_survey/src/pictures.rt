@@ -1,10 +1,20 @@
-//! The first pictures of a video PID: from one that can be shown alone to the next such one.
-ghost use Rattle.std.specs.Prelude.{◌≡◌};
-ghost use Rattle.ts_survey.specs.Endings.{pictures_line, pictures_words};
+//! The pictures of a video PID: the first ones, from one that can be shown alone to the next such
+//! one, and the steps of all their decoding times.
+ghost use Rattle.std.specs.Prelude.{◌≡◌, Some};
+ghost use Rattle.ts_survey.specs.Adaptation.{decoding_time, payload_in, pts_said};
+ghost use Rattle.ts_survey.specs.Endings.{group_line, pictures_line, pictures_words, reach_words};
+ghost use Rattle.ts_survey.specs.Endings.{steps_line, steps_words};
+ghost use Rattle.ts_survey.specs.Forms as forms;
+ghost use Rattle.ts_survey.specs.Groups.{least_of, least_with};
+ghost use Rattle.ts_survey.specs.Steps.{step_to, steps_to};
 ghost use Rattle.ts_survey.specs.Lines.{AddsWords};
 
-use crate::adaptation::{begins_access, is_scrambled, payload_in, pts_said};
+use crate::adaptation::{
+    begins_access, behind_header, decoding_time, is_scrambled, payload_in, pts_said,
+};
 use crate::clock::SECOND;
+use crate::forms::{Form, FormReader};
+use crate::steps::{Step, Steps};
 use crate::text::{CLOCK, Text, forward};
 use mpeg_ts::{PACKET, begins, counter_of, has_payload};
 
@@ -25,11 +35,17 @@ pub struct Pictures {
     pid: u16,
     reach: Reach,
     is_flagged: bool,
+    // Whether the flagged picture goes on.
+    is_first: bool,
     passed: u64,
     lost: u64,
     scrambled: u64,
     counter: Option<u8>,
+    // Of the group: the PTS of the flagged picture, the least one, and what its bytes say.
+    flagged: Option<u64>,
     first: Option<u64>,
+    reader: FormReader,
+    steps: Steps,
 }
 
 impl Pictures {
@@ -39,25 +55,56 @@ impl Pictures {
             pid,
             reach: Reach::Before,
             is_flagged: false,
+            is_first: false,
             passed: 0,
             lost: 0,
             scrambled: 0,
             counter: None,
+            flagged: None,
             first: None,
+            reader: FormReader::new(0),
+            steps: Steps::new(),
         }
     }
 
-    /// A packet of the PID came.
+    /// Its PID.
+    pub fn pid(&self) -> u16
+        ensures { result ≡ self.now.pid }
+    {
+        self.pid
+    }
+
+    /// The last decoding time.
+    pub fn last_time(&self) -> Option<u64>
+        ensures { result ≡ self.now.steps.last }
+    {
+        self.steps.last()
+    }
+
+    /// A packet of the PID came, which the PMT says is of that stream_type.
     #[inline(always)]
-    pub fn take(&mut self, packet: &[u8; PACKET], text: &mut Text) {
+    pub fn take(&mut self, packet: &[u8; PACKET], kind: u8, text: &mut Text) {
         match self.reach {
             Reach::Over => {}
-            _ => self.follow(packet, text),
+            _ => self.follow(packet, kind, text),
         }
+    }
+
+    /// A packet came in which a PES packet begins. The step of the decoding times, where it is to
+    /// be told.
+    pub fn step(&mut self, packet: &[u8; PACKET]) -> Option<Step>
+        ensures told { result
+            ≡ step_to (decoding_time (payload_in packet.now)) self.old.steps }
+        ensures state { self.new ≡ record self.old {
+          steps = steps_to (decoding_time (payload_in packet.now)) self.old.steps;
+        } }
+    {
+        let time = decoding_time(payload_in(packet))?;
+        self.steps.take(time)
     }
 
     // A packet came that is of interest.
-    fn follow(&mut self, packet: &[u8; PACKET], text: &mut Text) {
+    fn follow(&mut self, packet: &[u8; PACKET], kind: u8, text: &mut Text) {
         if begins_access(packet) && (begins(packet) || !has_payload(packet)) {
             self.is_flagged = true;
         }
@@ -66,13 +113,40 @@ impl Pictures {
         }
         self.count(packet);
         if !begins(packet) {
+            self.read_on(packet);
             return;
         }
         match self.reach {
             Reach::Before if !self.is_flagged => self.passed = self.passed.saturating_add(1),
+            Reach::Before => self.begin(packet, kind, text),
             Reach::Within if self.is_flagged => self.close(text),
             _ => self.show(packet, text),
         }
+    }
+
+    // The flagged picture goes on in a packet, where no other one has begun.
+    fn read_on(&mut self, packet: &[u8; PACKET]) {
+        if self.is_first {
+            self.reader.read(payload_in(packet));
+        }
+    }
+
+    // The flagged picture begins: it is told.
+    fn begin(&mut self, packet: &[u8; PACKET], kind: u8, text: &mut Text)
+        ensures flagged { self.new.flagged ≡ pts_said (payload_in packet.now) }
+        ensures first { self.new.first
+            ≡ least_with self.old.first (pts_said (payload_in packet.now)) }
+    {
+        let payload = payload_in(packet);
+        text.put(b"video");
+        text.number(u64::from(self.pid));
+        text.number(self.passed);
+        text.put(b"\n");
+        self.show(packet, text);
+        self.flagged = pts_said(payload);
+        self.reader = FormReader::new(kind);
+        self.reader.read(behind_header(payload));
+        self.is_first = true;
     }
 
     // Counts what is lost by its counter, and what is scrambled, among the pictures.
@@ -95,15 +169,14 @@ impl Pictures {
     }
 
     // A picture begins: it is told.
-    fn show(&mut self, packet: &[u8; PACKET], text: &mut Text) {
-        if self.reach == Reach::Before {
-            text.put(b"video");
-            text.number(u64::from(self.pid));
-            text.number(self.passed);
-            text.put(b"\n");
-        }
+    fn show(&mut self, packet: &[u8; PACKET], text: &mut Text)
+        ensures first { self.new.first
+            ≡ least_with self.old.first (pts_said (payload_in packet.now)) }
+        ensures flagged { self.new.flagged ≡ self.old.flagged }
+    {
         self.reach = Reach::Within;
         self.is_flagged = false;
+        self.is_first = false;
         let pts = pts_said(payload_in(packet));
         text.put(b"picture");
         text.number(u64::from(self.pid));
@@ -115,11 +188,11 @@ impl Pictures {
     }
 
     // Keeps the least PTS, and ends ten seconds behind it.
-    fn move_to(&mut self, now: u64, text: &mut Text) {
-        let first = match self.first {
-            Some(first) if forward(first, now) < CLOCK / 2 => first,
-            _ => now,
-        };
+    fn move_to(&mut self, now: u64, text: &mut Text)
+        ensures first { self.new.first ≡ Some (least_of self.old.first now) }
+        ensures flagged { self.new.flagged ≡ self.old.flagged }
+    {
+        let first = least_of(self.first, now);
         self.first = Some(first);
         if forward(first, now) > 10 * SECOND {
             self.close(text);
@@ -127,28 +200,69 @@ impl Pictures {
     }
 
     // They are over.
-    fn close(&mut self, text: &mut Text) {
+    fn close(&mut self, text: &mut Text)
+        ensures { self.new ≡ record self.old { reach = Reach.Over } }
+    {
         self.reach = Reach::Over;
-        self.tell(text);
-        text.put(b"\n");
-    }
-
-    fn tell(&self, text: &mut Text) {
+        self.tell_group(text);
         text.put(b"pictures");
         text.number(u64::from(self.pid));
         text.number(self.lost);
         text.number(self.scrambled);
+        text.put(b"\n");
     }
 
-    /// The recording is over: what is not over is told.
+    // Tells the group of the flagged picture.
+    fn tell_group(&self, text: &mut Text)
+        ensures { AddsWords text.old (group_line self.now) text.new }
+    {
+        text.put(b"group");
+        text.number(self.pid as u64);
+        text.time(self.flagged);
+        text.time(self.first);
+        text.put(form_word(self.reader.form()));
+    }
+
+    /// The recording is over: what is not over is told, and what the steps were like.
     pub fn end(&self, text: &mut Text)
         ensures { AddsWords text.old (pictures_words self.now) text.new }
+    {
+        self.end_group(text);
+        self.end_steps(text);
+    }
+
+    // Tells what is not over of the group.
+    fn end_group(&self, text: &mut Text)
+        ensures { AddsWords text.old (reach_words self.now self.now.reach) text.new }
     {
         match self.reach {
             Reach::Over => {}
             Reach::Before => self.tell_end(b" 0\n", text),
-            Reach::Within => self.tell_end(b" 1\n", text),
+            Reach::Within => {
+                self.tell_group(text);
+                self.tell_end(b" 1\n", text);
+            }
         }
+    }
+
+    // Tells what the steps were like, where there are decoding times.
+    fn end_steps(&self, text: &mut Text)
+        ensures { AddsWords text.old (steps_words self.now) text.new }
+    {
+        if self.steps.last().is_none() {
+            return;
+        }
+        self.tell_steps(text);
+    }
+
+    fn tell_steps(&self, text: &mut Text)
+        ensures { AddsWords text.old (steps_line self.now) text.new }
+    {
+        text.put(b"steps");
+        text.number(self.pid as u64);
+        text.number(self.steps.strange());
+        text.time(self.steps.usual());
+        text.put(b"\n");
     }
 
     fn tell_end(&self, begun: &[u8], text: &mut Text)
@@ -160,5 +274,32 @@ impl Pictures {
         text.number(self.scrambled);
         text.number(self.passed);
         text.put(begun);
+    }
+}
+
+// The least PTS, with one more: one is less where it is behind on the nearest way.
+fn least_of(first: Option<u64>, now: u64) -> u64
+    ensures { result ≡ Rattle.ts_survey.specs.Groups.least_of first now }
+{
+    match first {
+        Some(first) => {
+            if forward(first, now) < CLOCK / 2 {
+                first
+            } else {
+                now
+            }
+        }
+        None => now,
+    }
+}
+
+// The form of a group, as a word.
+fn form_word(form: Form) -> &'static [u8]
+    ensures { result.now ≡ forms.form_word form }
+{
+    match form {
+        Form::Closed => b" closed\n",
+        Form::Open => b" open\n",
+        Form::Unknown => b" unknown\n",
     }
 }

@@ -2,7 +2,8 @@
 ghost use Rattle.std.specs.Prelude.{◌≡◌, List, ℕ, [], false, true};
 ghost use Rattle.mpeg_ts.specs.GoodPackets.{Hole, note_of};
 ghost use Rattle.mpeg_ts.specs.Joining.{after_note, handed_over, has_ended, nothing_joined};
-ghost use Rattle.mpeg_ts.specs.Joining.{repeats};
+ghost use Rattle.mpeg_ts.specs.Joining.{link_after, repeats};
+ghost use Rattle.mpeg_ts.specs.Parts.{is_seam};
 ghost use Rattle.mpeg_ts.specs.TransportPacket.{has_payload, is_wrong};
 ghost use Rattle.ts_survey.specs.Following.{GivesNext, TakesBytes, any_piece};
 
@@ -48,6 +49,14 @@ impl<T: TakesPieces> PidPackets<T> {
         ensures { result ≡ repeats self.now.joining packet.now }
     {
         self.joining.is_repeat(packet)
+    }
+
+    /// Whether a jump of the counter was announced between the last good packet and this one, and
+    /// nothing is known to be lost.
+    pub fn is_behind_seam(&self, packet: &[u8; PACKET]) -> bool
+        ensures { result ≡ is_seam (link_after self.now.joining self.now.joining.last packet.now) }
+    {
+        self.joining.is_behind_seam(packet)
     }
 
     /// So many bytes were skipped that packets may be missing.

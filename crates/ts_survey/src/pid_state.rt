@@ -3,6 +3,7 @@ ghost use Rattle.std.specs.Prelude.{◌≡◌, ◌<◌, length};
 ghost use Rattle.std.specs.List.{list_any};
 ghost use Rattle.ts_survey.specs.Counters as specs;
 ghost use Rattle.ts_survey.specs.Endings.{carrier_place};
+ghost use Rattle.ts_survey.specs.Holes.{clock_pid_of};
 ghost use Rattle.ts_survey.specs.Counters.{is_break_between, others_of, told_between};
 
 use mpeg_ts::{PACKET, announces_jump, counter_of, has_payload};
@@ -25,8 +26,9 @@ pub struct PidState {
     pub counter: u8,
     pub first: u64,
     pub last: u64,
-    /// The PCR_PID of the programme that names it last.
+    /// The PCR_PID of the programme that names it last, and stream_type there: 0 for none.
     pub clock_pid: u16,
+    pub kind: u8,
     /// The places of its sections, its clock, its pictures and its PES packets; `NONE` for none.
     pub table: u8,
     pub clock: u8,
@@ -57,13 +59,15 @@ pub struct Pids {
 
 // Nothing is known of a PID.
 fn unknown() -> PidState
-    ensures { result.carrier ≡ 0xFF }
+    ensures carrier { result.carrier ≡ 0xFF }
+    ensures clock { result.clock_pid ≡ 0x1FFF }
 {
     PidState {
         counter: 0,
         first: 0,
         last: 0,
         clock_pid: NULL_PID,
+        kind: 0,
         table: NONE,
         clock: NONE,
         video: NONE,
@@ -97,7 +101,8 @@ impl Pids {
     /// What is known of a PID.
     #[inline(always)]
     pub fn get(&self, pid: u16) -> PidState
-        ensures { result.carrier ≡ carrier_place self.now pid }
+        ensures carrier { result.carrier ≡ carrier_place self.now pid }
+        ensures clock { result.clock_pid ≡ clock_pid_of self.now pid }
     {
         match self.states.get(pid as usize) {
             Some(state) => *state,

@@ -1,6 +1,7 @@
 //! The lines that are made and not yet handed on.
 ghost use Rattle.std.specs.Prelude.{◌≡◌, ◌≤◌, ◌<◌, ◌++◌, ◌∷◌, codes, decimal, false, length, true};
-ghost use Rattle.ts_survey.specs.Text.{Adds, hex_word, page_word, ticks_word, time_word};
+ghost use Rattle.ts_survey.specs.Text.{Adds, forward_ticks, hex_word, page_word, ticks_word};
+ghost use Rattle.ts_survey.specs.Text.{time_word};
 
 use arrayvec::ArrayVec;
 use std::alloc::Global;
@@ -146,7 +147,8 @@ pub fn upper_digit(number: u8) -> u8
 
 /// How many ticks a time is after another, forward around the clock.
 pub fn forward(first: u64, second: u64) -> u64
-    ensures { result < CLOCK }
+    ensures value { result ≡ forward_ticks first second }
+    ensures range { result < CLOCK }
 {
     second.wrapping_sub(first) % CLOCK
 }

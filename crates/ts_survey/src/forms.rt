@@ -1,0 +1,152 @@
+//! Whether the pictures that are shown before the flagged one of a group can be decoded without
+//! the group before it, by the first bytes of the flagged one.
+ghost use Rattle.std.specs.Prelude.{◌≡◌};
+ghost use Rattle.ts_survey.specs.Forms as specs;
+
+/// stream_type (ISO/IEC 13818-1, table 2-34) of MPEG-1, MPEG-2, H.264 and HEVC.
+const MPEG_1: u8 = 0x01;
+
+const MPEG_2: u8 = 0x02;
+
+const H_264: u8 = 0x1B;
+
+const HEVC: u8 = 0x24;
+
+/// Of a group of pictures.
+#[derive(Clone, Copy, PartialEq, Eq)]
+pub enum Form {
+    /// They can be decoded, if there are any.
+    Closed,
+    /// They can't.
+    Open,
+    /// Nothing tells it.
+    Unknown,
+}
+
+/// The bytes of a picture are read up to what tells the form of its group.
+#[derive(Clone, Copy, Drop)]
+pub struct FormReader {
+    kind: u8,
+    // The last eight bytes.
+    window: u64,
+    // What was found.
+    form: Option<Form>,
+}
+
+impl FormReader {
+    /// Before the first byte of a picture of that stream_type: 0 where none is known.
+    pub fn new(kind: u8) -> FormReader
+        ensures { result ≡ specs.first_reader kind }
+    {
+        FormReader {
+            kind,
+            window: u64::MAX,
+            form: known_form(kind),
+        }
+    }
+
+    /// The form.
+    pub fn form(&self) -> Form
+        ensures { result ≡ specs.form_read self.now.form }
+    {
+        match self.form {
+            Some(form) => form,
+            None => Form::Unknown,
+        }
+    }
+
+    /// Reads on.
+    pub fn read(&mut self, bytes: &[u8])
+        ensures { self.new ≡ specs.read_on self.old bytes.now }
+    {
+        let start = *self;
+        *self = bytes
+            .iter()
+            .fold(start, |reader, byte| reader_after(reader, *byte));
+    }
+}
+
+// The form that stream_type alone tells: in H.264 nothing says that a group is closed.
+fn known_form(kind: u8) -> Option<Form>
+    ensures { result ≡ specs.known_form kind }
+{
+    match kind {
+        MPEG_1 | MPEG_2 | HEVC => None,
+        H_264 => Some(Form::Open),
+        _ => Some(Form::Unknown),
+    }
+}
+
+// The reader after one more byte.
+#[tactic(auto, unfolding(crate::specs::Forms::reader_after))]
+fn reader_after(reader: FormReader, byte: u8) -> FormReader
+    ensures { result ≡ specs.reader_after reader byte }
+{
+    if reader.form.is_some() {
+        return reader;
+    }
+    let window = (reader.window % 0x100_0000_0000_0000) * 0x100 + byte as u64;
+    FormReader {
+        kind: reader.kind,
+        window,
+        form: form_at(reader.kind, window),
+    }
+}
+
+// The form that the last eight bytes tell.
+fn form_at(kind: u8, window: u64) -> Option<Form>
+    ensures { result ≡ specs.form_at kind window }
+{
+    if kind == HEVC {
+        form_of_unit(window)
+    } else {
+        form_of_group(window)
+    }
+}
+
+// MPEG-1 and MPEG-2 (ISO/IEC 13818-2, 6.2.2.6): group_start_code 00 00 01 B8, time_code (25 bits),
+// closed_gop. A picture without it before tells nothing: picture_start_code is 00 00 01 00.
+fn form_of_group(window: u64) -> Option<Form>
+    ensures { result ≡ specs.form_of_group window }
+{
+    if window / 0x1_0000_0000 == 0x1B8 {
+        return Some(if window / 0x40 % 2 == 1 {
+            Form::Closed
+        } else {
+            Form::Open
+        });
+    }
+    if window / 0x1_0000_0000 == 0x100 {
+        return Some(Form::Unknown);
+    }
+    None
+}
+
+// HEVC (ISO/IEC 23008-2, 7.3.1.2): 00 00 01, forbidden_zero_bit, nal_unit_type (6 bits): of the
+// first slice, a number below 32.
+fn form_of_unit(window: u64) -> Option<Form>
+    ensures { result ≡ specs.form_of_unit window }
+{
+    if window / 0x100 % 0x100_0000 != 1 {
+        return None;
+    }
+    let kind = window / 2 % 0x40;
+    if kind >= 32 {
+        return None;
+    }
+    Some(form_of_slice(kind))
+}
+
+// BLA_W_RADL, BLA_N_LP, IDR_W_RADL and IDR_N_LP (17 to 20) have no pictures before them that need
+// others; BLA_W_LP (16) and CRA_NUT (21) may.
+fn form_of_slice(kind: u64) -> Form
+    ensures { result ≡ specs.form_of_slice kind }
+{
+    if kind >= 17 && kind <= 20 {
+        Form::Closed
+    } else if kind == 16 || kind == 21 {
+        Form::Open
+    } else {
+        Form::Unknown
+    }
+}
