@@ -3,7 +3,7 @@ ghost use Rattle.sub_io.specs.Device.{CanFail};
 
 use std::alloc::Global;
 use sub_answer::{Status, answer, say};
-use sub_io::{Flush, MemSink, MemSource, Source};
+use sub_io::{Close, Flush, MemSink, MemSource, Source};
 use sub_request::Request;
 use sub_words::ParseWords;
 
@@ -20,7 +20,7 @@ pub const ACCEPTED: &str = "accepted 51 frames 2 transmissions\n";
 pub const SCHEDULE: [&str; 4] = ["subttx", "schedule", "a", "b"];
 
 /// Answers words over two sources, a file that is written, and an output.
-pub fn answer_words<'a, S: Source, T: Source, F: Flush, K: Flush>(
+pub fn answer_words<'a, S: Source, T: Source, F: Close, K: Flush>(
     alloc: Global,
     words: &'a [&'a str],
     first: &mut S,

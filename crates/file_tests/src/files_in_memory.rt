@@ -1,6 +1,7 @@
 //! A device in memory that is asked for files: its files are a list.
 ghost use Rattle.std.specs.Prelude.{None};
 
+use std::fs::{Metadata, OpenFile};
 use std::io::{self, ErrorKind, Read, Write};
 use sub_files::{FileSystem, Found};
 use sub_io::{FromRead, IntoFile};
@@ -148,6 +149,24 @@ impl Write for MemoryFile<'_> {
     }
 
     fn flush(&mut self) -> io::Result<()> {
+        Ok(())
+    }
+}
+
+impl OpenFile for MemoryFile<'_> {
+    fn metadata(&self) -> io::Result<Metadata> {
+        Err(ErrorKind::Unsupported.into())
+    }
+
+    fn set_len(&self, _size: u64) -> io::Result<()> {
+        Err(ErrorKind::Unsupported.into())
+    }
+
+    fn sync_all(&self) -> io::Result<()> {
+        Ok(())
+    }
+
+    fn sync_data(&self) -> io::Result<()> {
         Ok(())
     }
 }

@@ -8,10 +8,10 @@ use fixtures::{Watched, commented, file_of_hi, normal_form, schedule_of_hi};
 use std::alloc::Global;
 use std::process::Abort;
 use sub_answer::Status;
-use sub_io::{FailAt, Flush, MemSink, MemSource, Sink};
+use sub_io::{Close, FailAt, MemSink, MemSource, Sink};
 
 // Asserts the line that is printed where a file is written, and the status.
-fn assert_writes<'a, F: Flush>(
+fn assert_writes<'a, F: Close>(
     rt: &(impl Abort + Alloc<A = Global>),
     words: &'a [&'a str],
     input: &[u8],
@@ -97,14 +97,14 @@ fn assert_devices<'a>(
 
 #[test]
 fn normal_writes_a_prefix_where_a_device_fails(rt: HostRuntime) {
-    // The calls: the GSI block, a push of the subtitle, and the flush.
+    // The calls: the GSI block, a push of the subtitle, and the store.
     let (line, fault) = (b"written 1 subtitles\n", b"fault 29 Write\n");
     assert_devices(&rt, &NORMAL, &commented(), &normal_form(), line, fault);
 }
 
 #[test]
 fn schedule_writes_a_prefix_where_a_device_fails(rt: HostRuntime) {
-    // The calls: two pushes of the file and its flush.
+    // The calls: two pushes of the file and its store.
     let (line, fault) = (b"written 2 transmissions\n", b"fault 42 Write\n");
     assert_devices(
         &rt,

@@ -238,6 +238,11 @@ abbrev pub HandsOnWritten : Request → Status → ℕ → Type 0
 HandsOnWritten request status held =
     writes_one (files_of request) ≡ true → status ≡ Done → held ≡ 0
 
+-- Then it is stored.
+abbrev pub StoresWritten : Request → Status → Bool → Type 0
+StoresWritten request status is_stored =
+    writes_one (files_of request) ≡ true → status ≡ Done → is_stored ≡ true
+
 -- A request whose answer is followed while its PES file or recording is sent: where the source of
 -- that failed, this is so. It is the first source of `packets` and `survey`, and the second of
 -- `check --all`.

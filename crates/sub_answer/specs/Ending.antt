@@ -1,7 +1,7 @@
 -- How a run ends that answers a request over its files: what was answered, what was handed on, and
 -- the status.
 use Rattle.std.specs.Prelude.{◌≡◌, ◌⊎◌, ℕ, ◌+◌, ◌<◌, List, [], ◌∷◌, ◌++◌, length, Option, Some}
-use Rattle.std.specs.Prelude.{None, false}
+use Rattle.std.specs.Prelude.{Bool, None, false}
 use Rattle.std.specs.Io.KnownBytes.{Keeps, append_known, prepend_known}
 use Rattle.sub_io.specs.Buffered.{HandsOn, HeldBack, ReadAhead, failures_and_refused}
 use Rattle.sub_io.specs.Calls.{HoldsBack}
@@ -22,7 +22,8 @@ use Rattle.sub_listing.specs.LastLine.{HoldsLastLine}
 use Rattle.sub_listing.specs.Listing.{PrintsOrFails, fault_listing}
 use Rattle.sub_listing.specs.declared.status.Status.{Status}
 use Rattle.sub_listing.specs.declared.status.Status.TheVariants.{Done, Fault}
-use Rattle.sub_answer.specs.Answering.{Answers, HandsOnBefore, InputCall, WritesBefore, fails}
+use Rattle.sub_answer.specs.Answering.{Answers, HandsOnBefore, InputCall, StoresWritten}
+use Rattle.sub_answer.specs.Answering.{WritesBefore, fails}
 use Rattle.sub_answer.specs.Part.{IsPartOf, part_asked, whole_file}
 use Rattle.sub_answer.specs.declared.part.Part.{Part}
 
@@ -174,11 +175,12 @@ pub record IsReadFrom
 
 -- A file that is written, in the calls of the answer to a request, beside those of its first
 -- source, and was closed as they left it; so it is then: there is a buffer before it, which held
--- nothing, and no other device. Where the run ends with `Done` the buffer holds nothing back, and
--- no call has failed.
+-- nothing, and no other device. Where the run ends with `Done` the buffer holds nothing back, no
+-- call has failed, and the file is stored.
 pub record IsWrittenTo
-    {O : Type 0} (contents : O → Option (List ℕ)) (failure_count : O → ℕ) (IsClose : O → O → Type 0)
-    (request : Request) (result : Status) (file left : O) (first : InputCall) (call : SinkCall)
+    {O : Type 0} (contents : O → Option (List ℕ)) (failure_count : O → ℕ) (is_stored : O → Bool)
+    (IsClose : O → O → Type 0) (request : Request) (result : Status) (file left : O)
+    (first : InputCall) (call : SinkCall)
     : Type 0 where
   pub room : ℕ
   pub new : HeldBack O
@@ -190,24 +192,29 @@ pub record IsWrittenTo
       result ≡ Done
       → HandsOn failure_count
       (record { device = file; held = []; room = room; failed = false; refused = 0 }) new
+  pub stored : StoresWritten request result (is_stored new.device)
 
 -- What is told of files that are read and of those that are written: the bytes that they have still
--- to give, and those that they have taken; and how often they have failed.
+-- to give, and those that they have taken; how often they have failed; and whether the system has
+-- stored what it took.
 pub record KnownOfFiles (I O : Type 0) : Type 0 where
   pub remaining : I → Option (List ℕ)
   pub reads_failed : I → ℕ
   pub contents : O → Option (List ℕ)
   pub writes_failed : O → ℕ
+  pub stored : O → Bool
 
 -- What is told of them, one after another.
 abbrev pub known_of_files :
     {I O : Type 0}
-    → (I → Option (List ℕ)) → (I → ℕ) → (O → Option (List ℕ)) → (O → ℕ) → KnownOfFiles I O
-known_of_files remaining reads_failed contents writes_failed = record {
+    → (I → Option (List ℕ)) → (I → ℕ) → (O → Option (List ℕ)) → (O → ℕ) → (O → Bool)
+    → KnownOfFiles I O
+known_of_files remaining reads_failed contents writes_failed stored = record {
   remaining = remaining;
   reads_failed = reads_failed;
   contents = contents;
   writes_failed = writes_failed;
+  stored = stored;
 }
 
 -- A source is this part of this file, which is left so, or an empty one where none was opened for
@@ -226,7 +233,7 @@ abbrev pub IsSinkOf :
     → KnownOfFiles I O → (O → O → Type 0) → Request → Status → (created left : Option O) → InputCall
     → SinkCall → Type 0
 IsSinkOf known IsClose request result (Some file) (Some left) =
-    IsWrittenTo known.contents known.writes_failed IsClose request result file left
+    IsWrittenTo known.contents known.writes_failed known.stored IsClose request result file left
 IsSinkOf known IsClose request result None None = IsEmptyFile
 IsSinkOf known IsClose request result created left = λ first call. ⊥
 

@@ -1,5 +1,5 @@
 -- What the status of `check` tells of files in memory: a law of what is said of runs over files.
-use Rattle.std.specs.Prelude.{◌≡◌, ◌≢◌, ◌↔◌, ⊤, ℕ, List, Some}
+use Rattle.std.specs.Prelude.{◌≡◌, ◌≢◌, ◌↔◌, ⊤, ℕ, List, Some, true}
 use Rattle.sub_io.specs.Memory.{Written}
 use Rattle.stl_rows.specs.Layout.{drawing_within}
 use Rattle.sub_request.specs.declared.request.Request.{Request}
@@ -16,7 +16,7 @@ use Rattle.sub_answer.specs.Part.{through_range, through_stream}
 abbrev pub known_of_memory : KnownOfFiles (List ℕ) Written
 known_of_memory =
     known_of_files (λ left. Some left) (λ left. 0) (λ file. Some file.bytes)
-    (λ file. file.failure_count)
+    (λ file. file.failure_count) (λ file. true)
 
 -- The status of a check is `Done` exactly where the bytes of the subtitle file that it names, and
 -- those that it reads of the PES file, are accepted.

@@ -11,8 +11,8 @@ mod survey;
 ghost use Rattle.std.specs.Prelude.{◌≡◌, ◌<◌, false};
 ghost use Rattle.sub_answer.specs.Answering.{Answers, AnswersOver, CountsFaults, HandsOnBefore};
 ghost use Rattle.sub_answer.specs.Answering.{HandsOnWritten, WritesBefore, drawing_of, pieces_call};
-ghost use Rattle.sub_answer.specs.Answering.{reads_pieces, reads_some_pieces, reads_source};
-ghost use Rattle.sub_answer.specs.Answering.{whole_call};
+ghost use Rattle.sub_answer.specs.Answering.{StoresWritten, reads_pieces, reads_some_pieces};
+ghost use Rattle.sub_answer.specs.Answering.{reads_source, whole_call};
 ghost use Rattle.sub_listing.specs.DeviceCall.{CanFail, CountsFault, read_call, sink_call};
 ghost use Rattle.sub_listing.specs.DeviceCall.{source_call};
 ghost use Rattle.sub_listing.specs.Faults.{usage_line};
@@ -26,7 +26,7 @@ use listen::print_listening;
 use std::alloc::Global;
 use stl_file::Scope;
 use stl_rows::{Drawing, Layout, National};
-use sub_io::{Flush, MemSource, Sink, Source};
+use sub_io::{Close, Flush, MemSource, Sink, Source};
 use sub_listing::{
     Status, extract_packets, line_of_usage, list_packets, list_subtitles, print_fault_line,
     print_help, show_packet, write_normal, write_schedule,
@@ -41,7 +41,7 @@ use ttx_pes::{FilePieces, NumberedPieces};
 /// file to be written and `out` the standard output. Of PES packets the source gives those of a
 /// file, all of them. Devices that the request does not name are not touched. `Fault` where a
 /// device failed, or where memory ran out; what was printed until then stays.
-pub fn answer<S: Source, T: Source, F: Flush, K: Flush>(
+pub fn answer<S: Source, T: Source, F: Close, K: Flush>(
     alloc: Global,
     request: &Request<'_>,
     first: &mut S,
@@ -75,8 +75,9 @@ pub fn answer<S: Source, T: Source, F: Flush, K: Flush>(
         (sink_call F.contents F.failure_count file.old file.new)
         (sink_call K.contents K.failure_count out.old out.new) result }
 
-    // Where the status is `Done`, a file that is named holds no byte back.
+    // Where the status is `Done`, a file that is named holds no byte back, and is stored.
     ensures held { HandsOnWritten request.now result (F.held file.new) }
+    ensures stored { StoresWritten request.now result (F.is_stored file.new) }
 
     // Where the source of the PES file or recording may have to ask its device, all that was told
     // before is with the device of `out`: each such call may fail, and where one did the line of
@@ -117,7 +118,7 @@ pub fn reads_pieces(request: &Request<'_>) -> bool
 /// packets that are listed, heard, checked or written. Devices that the request does not name are
 /// not touched. `Fault` where a device failed, or where memory ran out; what was printed until then
 /// stays.
-pub fn answer_over<S: Source, P: NumberedPieces, F: Flush, K: Flush>(
+pub fn answer_over<S: Source, P: NumberedPieces, F: Close, K: Flush>(
     alloc: Global,
     request: &Request<'_>,
     first: &mut S,
@@ -153,8 +154,9 @@ pub fn answer_over<S: Source, P: NumberedPieces, F: Flush, K: Flush>(
         (sink_call F.contents F.failure_count file.old file.new)
         (sink_call K.contents K.failure_count out.old out.new) result }
 
-    // Where the status is `Done`, a file that is named holds no byte back.
+    // Where the status is `Done`, a file that is named holds no byte back, and is stored.
     ensures held { HandsOnWritten request.now result (F.held file.new) }
+    ensures stored { StoresWritten request.now result (F.is_stored file.new) }
 {
     let drawing = drawing_of(request);
     match request {

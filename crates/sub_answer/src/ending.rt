@@ -5,7 +5,8 @@
 ghost use Rattle.std.specs.Prelude.{◌≡◌, ⊤, false, true, []};
 ghost use Rattle.sub_io.specs.Buffered.{HandsOn, failures_and_refused};
 ghost use Rattle.sub_io.specs.Device.{CanFail};
-ghost use Rattle.sub_answer.specs.Answering.{first_input, pieces_call, reads_pieces, whole_call};
+ghost use Rattle.sub_answer.specs.Answering.{StoresWritten, first_input, pieces_call};
+ghost use Rattle.sub_answer.specs.Answering.{reads_pieces, whole_call};
 ghost use Rattle.sub_answer.specs.Ending.{BufferHoldsLineAlone, EndsWith, HandsOnBeside};
 ghost use Rattle.sub_answer.specs.Ending.{HoldsLineAlone, HoldsNothing, IsClosedAfter};
 ghost use Rattle.sub_answer.specs.Ending.{IsEmptyFile, IsEmptySource, Says, lines_in, lines_of};
@@ -87,6 +88,7 @@ pub fn answer_source<S: Source, F: Close, O: HandOn<F>>(
         (lines_in O.contents O.held_back O.failure_count out.new) result }
     ensures done { result ≡ Status.Done → HandsOn F.failure_count file.old file.new
         × HoldsNothing O.held_back O.failure_count out.old out.new }
+    ensures stored { StoresWritten request.now result (F.is_stored file.new.device) }
 {
     let mut nothing = MemSource::new(&[]);
     let mut pes = FilePieces::new(&mut nothing);
@@ -119,6 +121,7 @@ pub fn answer_pieces<P: NumberedPieces, F: Close, O: HandOn<F>>(
     ensures device { P.device pes.new ≡ P.device pes.old }
     ensures done { result ≡ Status.Done → HandsOn F.failure_count file.old file.new
         × HoldsNothing O.held_back O.failure_count out.old out.new }
+    ensures stored { StoresWritten request.now result (F.is_stored file.new.device) }
 {
     let mut nothing = MemSource::new(&[]);
     answer_and_hand_on(alloc, request, &mut nothing, pes, file, out)
@@ -128,7 +131,8 @@ pub fn answer_pieces<P: NumberedPieces, F: Close, O: HandOn<F>>(
 // lines.
 //
 // Where the status is 0, neither the file nor the lines are held back, and no call of either sink
-// has failed: the devices below them have taken all bytes, by calls that did not fail.
+// has failed: the devices below them have taken all bytes, by calls that did not fail, and a file
+// that the request names is stored.
 fn answer_and_hand_on<S: Source, P: NumberedPieces, F: Close, O: HandOn<F>>(
     alloc: Global,
     request: &Request<'_>,
@@ -156,6 +160,7 @@ fn answer_and_hand_on<S: Source, P: NumberedPieces, F: Close, O: HandOn<F>>(
     ensures device { P.device pes.new ≡ P.device pes.old }
     ensures done { result ≡ Status.Done → HandsOn F.failure_count file.old file.new
         × HoldsNothing O.held_back O.failure_count out.old out.new }
+    ensures stored { StoresWritten request.now result (F.is_stored file.new.device) }
     ensures closed { F.is_closed file.new.device ≡ true }
     // The lines were handed on beside the file as it is in the end, and so after it was closed.
     ensures after { HandsOnBeside O.is_handed_on file.new out.new result }

@@ -37,7 +37,7 @@ pub fn open_and_answer<D: FileSystem, K: Sink>(
     requires { failures_and_refused (K.failure_count out.old.device) out.old.refused ≡ 0 }
     ensures ends { IfOk result (Ends (CallsInTurn D.is_call files.old files.new)
         (known_of_files D.Input.remaining D.Input.failure_count
-        D.Output.contents D.Output.failure_count)
+        D.Output.contents D.Output.failure_count D.Output.is_stored)
         D.Output.is_close request.now
         (BufferHoldsLineAlone K.contents K.failure_count K.is_push)
         (lines_of K.contents K.failure_count out.old)
@@ -75,7 +75,7 @@ fn answer_opened<D: FileSystem, K: Sink>(
     requires fits { Fits (files_of request.now) opened }
     ensures { EndsAndLetsGo (CallsInTurn D.is_call files.old files.new)
         (known_of_files D.Input.remaining D.Input.failure_count
-        D.Output.contents D.Output.failure_count)
+        D.Output.contents D.Output.failure_count D.Output.is_stored)
         D.Output.is_close request.now (devices_of (specs.part_asked request.now) opened)
         (BufferHoldsLineAlone K.contents K.failure_count K.is_push)
         (lines_of K.contents K.failure_count out.old)
@@ -132,7 +132,7 @@ fn read_one<D: FileSystem, K: Sink>(
     requires unused { D.Input.failure_count file ≡ 0 }
     ensures { EndsAndLetsGo (CallsInTurn D.is_call files.old files.new)
         (known_of_files D.Input.remaining D.Input.failure_count
-        D.Output.contents D.Output.failure_count)
+        D.Output.contents D.Output.failure_count D.Output.is_stored)
         D.Output.is_close request.now (sources part (Some file) None)
         (BufferHoldsLineAlone K.contents K.failure_count K.is_push)
         (lines_of K.contents K.failure_count out.old)
@@ -162,7 +162,7 @@ fn read_both<D: FileSystem, K: Sink>(
     requires unused { (D.Input.failure_count stl ≡ 0) × (D.Input.failure_count pes ≡ 0) }
     ensures { EndsAndLetsGo (CallsInTurn D.is_call files.old files.new)
         (known_of_files D.Input.remaining D.Input.failure_count
-        D.Output.contents D.Output.failure_count)
+        D.Output.contents D.Output.failure_count D.Output.is_stored)
         D.Output.is_close request.now (sources specs.whole_file (Some stl) (Some pes))
         (BufferHoldsLineAlone K.contents K.failure_count K.is_push)
         (lines_of K.contents K.failure_count out.old)
@@ -201,7 +201,7 @@ fn read_and_write<D: FileSystem, K: Sink>(
     requires unused { (D.Input.failure_count stl ≡ 0) × (D.Output.failure_count output ≡ 0) }
     ensures { EndsAndLetsGo (CallsInTurn D.is_call files.old files.new)
         (known_of_files D.Input.remaining D.Input.failure_count
-        D.Output.contents D.Output.failure_count)
+        D.Output.contents D.Output.failure_count D.Output.is_stored)
         D.Output.is_close request.now (source_and_file specs.whole_file stl output)
         (BufferHoldsLineAlone K.contents K.failure_count K.is_push)
         (lines_of K.contents K.failure_count out.old)
@@ -233,7 +233,7 @@ fn read_and_extract<D: FileSystem, K: Sink>(
     requires unused { (D.Input.failure_count recording ≡ 0) × (D.Output.failure_count output ≡ 0) }
     ensures { EndsAndLetsGo (CallsInTurn D.is_call files.old files.new)
         (known_of_files D.Input.remaining D.Input.failure_count
-        D.Output.contents D.Output.failure_count)
+        D.Output.contents D.Output.failure_count D.Output.is_stored)
         D.Output.is_close request.now
         (source_and_file (specs.part_asked request.now) recording output)
         (BufferHoldsLineAlone K.contents K.failure_count K.is_push)

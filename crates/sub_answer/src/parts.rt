@@ -3,7 +3,7 @@
 ghost use Rattle.std.specs.Prelude.{◌≡◌, ◌⊎◌, ⊤, None, Some, [], false, true};
 ghost use Rattle.sub_io.specs.Buffered.{HandsOn, failures_and_refused};
 ghost use Rattle.sub_io.specs.Device.{CanFail};
-ghost use Rattle.sub_answer.specs.Answering.{reads_pieces, whole_call};
+ghost use Rattle.sub_answer.specs.Answering.{StoresWritten, reads_pieces, whole_call};
 ghost use Rattle.sub_answer.specs.Ending.{BufferHoldsLineAlone, EndsWith, HoldsLineAlone};
 ghost use Rattle.sub_answer.specs.Ending.{IsClosedAfter, IsEmptyFile, IsEmptySource, lines_in};
 ghost use Rattle.sub_answer.specs.Ending.{lines_of};
@@ -42,6 +42,7 @@ pub fn answer_part<S: Source + Drop, F: Close, O: HandOn<F>>(
         (lines_in O.contents O.held_back O.failure_count out.old)
         (lines_in O.contents O.held_back O.failure_count out.new) result.0 }
     ensures done { result.0 ≡ Status.Done → HandsOn F.failure_count file.old file.new }
+    ensures stored { StoresWritten request.now result.0 (F.is_stored file.new.device) }
 {
     let Part { stream, range } = part;
     let mut whole = whole;
@@ -87,6 +88,7 @@ fn answer_range<P: NumberedPieces, F: Close, O: HandOn<F>>(
         (lines_in O.contents O.held_back O.failure_count out.new) result }
     ensures device { P.device pieces.new ≡ P.device pieces.old }
     ensures done { result ≡ Status.Done → HandsOn F.failure_count file.old file.new }
+    ensures stored { StoresWritten request.now result (F.is_stored file.new.device) }
 {
     match range {
         None => answer_pieces(alloc, request, pieces, file, out),

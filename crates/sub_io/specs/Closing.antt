@@ -1,7 +1,31 @@
--- What is let go when a sink is closed.
-use Rattle.std.specs.Prelude.{◌≡◌, Option, Some, None}
+-- What is stored, and what is let go when a sink is closed.
+use Rattle.std.specs.Prelude.{◌≡◌, Bool, true, false, Some, None, Result, Ok, Err}
+use Rattle.std.specs.IoError.{error_kind}
+use Rattle.std.specs.declared.io.Error.{Error}
+use Rattle.std.specs.declared.io.ErrorKind.{ErrorKind}
+use Rattle.std.specs.declared.io.ErrorKind.TheVariants.{InvalidInput, Unsupported}
 use Rattle.sub_io.specs.Buffered.{HeldBack}
-use Rattle.sub_io.specs.Counted.{Counted}
+use Rattle.sub_io.specs.Counted.{FileValue}
+
+-- The system can't store what is there at all, as a pipe, a terminal or a device: EINVAL, or
+-- ENOTSUP and ENOSYS.
+abbrev pub is_never_stored : ErrorKind → Bool
+is_never_stored InvalidInput = true
+is_never_stored Unsupported = true
+is_never_stored _ = false
+
+-- Nothing is lost, by what the system answered where it was asked to store a file.
+abbrev pub is_kept : {X : Type 0} → Result X Error → Bool
+is_kept (Ok done) = true
+is_kept (Err error) = is_never_stored (error_kind error)
+
+-- Any state in which something is stored, and any answer.
+abbrev pub any_store : {D : Type 0} → D → Bool → Type 0
+any_store device answer = Unit {0}
+
+-- What is handed to memory is not lost.
+abbrev pub needs_no_store : {D : Type 0} → D → Bool
+needs_no_store device = true
 
 -- Any state in which something is let go.
 abbrev pub any_end : {D : Type 0} → D → Type 0
@@ -10,9 +34,11 @@ any_end device = Unit {0}
 -- A device over a writer is closed: the writer was let go as it was, where it was still there, and
 -- no failure is counted.
 pub record LetsGo
-    {D : Type 0} (IsLetGo : D → Type 0) (old new : Counted (Option D)) : Type 0 where
+    {D : Type 0} (IsLetGo : D → Type 0) (old new : FileValue D) : Type 0 where
   pub writer : (device : D) → old.device ≡ Some device → IsLetGo device
   pub none : new.device ≡ None
+  pub taken : new.taken ≡ old.taken
+  pub stored : new.is_stored ≡ old.is_stored
   pub count : new.failure_count ≡ old.failure_count
 
 -- A buffer is closed by closing the device inside, which is handed nothing of what is held back.

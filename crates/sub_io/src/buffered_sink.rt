@@ -263,14 +263,43 @@ impl<K: Sink> Flush for BufferedSink<'_, K> {
 }
 
 impl<K: Close> Close for BufferedSink<'_, K> {
+    ghost is_stored = { λ k. K.is_stored k.device };
+
     ghost is_closed = { λ k. K.is_closed k.device };
 
     ghost is_close = { ClosesInside K.is_close };
+
+    /// Hands on all bytes that are held back, and has the sink inside stored.
+    ///
+    /// # Errors
+    ///
+    /// `Failed` where the sink inside fails, and at each call after that.
+    fn store(&mut self) -> Result<(), Failed>
+        requires { CanFail (failures_and_refused
+            (K.failure_count self.old.device) self.old.refused) }
+        ensures failed { IsErr result ↔ (self.new.failed ≡ true) }
+        ensures room { self.new.room ≡ self.old.room }
+        ensures bytes { Keeps
+            (append_known (K.contents self.old.device) self.old.held)
+            (append_known (K.contents self.new.device) self.new.held) }
+        ensures held { OnOk result (length self.new.held ≡ 0) }
+        ensures stored { OnOk result (K.is_stored self.new.device ≡ true) }
+        ensures count { CountsFailure
+            (failures_and_refused (K.failure_count self.old.device) self.old.refused)
+            result
+            (failures_and_refused (K.failure_count self.new.device) self.new.refused) }
+    {
+        self.flush()?;
+        let answer = self.inner.store();
+        self.failed = answer.is_err();
+        answer
+    }
 
     /// Closes the sink inside. Bytes that are held back are not handed on.
     fn close(&mut self)
         ensures call { ClosesInside K.is_close self.old self.new }
         ensures closed { K.is_closed self.new.device ≡ true }
+        ensures stored { K.is_stored self.new.device ≡ K.is_stored self.old.device }
         ensures device { K.failure_count self.new.device ≡ K.failure_count self.old.device }
         ensures count { failures_and_refused (K.failure_count self.new.device) self.new.refused
             ≡ failures_and_refused (K.failure_count self.old.device) self.old.refused }

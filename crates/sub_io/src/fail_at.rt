@@ -8,13 +8,13 @@ ghost use Rattle.sub_io.specs.Calls.{PassesOn, answered};
 ghost use Rattle.sub_io.specs.Countdown.{CountingDown, failures_with, fails_next, countdown_after};
 ghost use Rattle.sub_io.specs.Device.{CanFail, CountsFailure, Pulls, Pushes};
 
-use crate::{Failed, Flush, Sink, Source};
+use crate::{Close, Failed, Flush, Sink, Source};
 use std::marker::Model;
 
 /// A device that passes all calls but one on to the device inside; that one fails and does nothing.
 ///
 /// It is a source where the device inside is one, and a sink where that is one; a flush is a call
-/// too. Contracts see it as the device inside and its countdown.
+/// too, and so is a store. Contracts see it as the device inside and its countdown.
 #[derive(Drop)]
 pub struct FailAt<D> {
     inner: D,
@@ -192,5 +192,54 @@ impl<K: Flush> Flush for FailAt<K> {
             return Err(Failed);
         }
         self.inner.flush()
+    }
+}
+
+impl<K: Close> Close for FailAt<K> {
+    ghost is_stored = { λ d. K.is_stored d.device };
+
+    ghost is_closed = { λ d. K.is_closed d.device };
+
+    ghost is_close = { λ old new.
+        K.is_close old.device new.device × (new.left ≡ old.left) };
+
+    /// Stores the device inside.
+    ///
+    /// # Errors
+    ///
+    /// `Failed` at the call that is to fail, which does nothing, and where the device inside fails.
+    fn store(&mut self) -> Result<(), Failed>
+        requires { CanFail (failures_with self.old.left (K.failure_count self.old.device)) }
+
+        // The call that fails does nothing, each other is the inner device's, and all are counted.
+        ensures fails { fails_next self.old.left ≡ true →
+            IsErr result × (self.new.device ≡ self.old.device) }
+        ensures passed { fails_next self.old.left ≡ false → CountsFailure
+            (K.failure_count self.old.device) result (K.failure_count self.new.device) }
+        ensures left { self.new.left ≡ countdown_after self.old.left }
+
+        ensures bytes { Keeps (K.contents self.old.device) (K.contents self.new.device) }
+        ensures held { OnOk result (K.held self.new.device ≡ 0) }
+        ensures stored { OnOk result (K.is_stored self.new.device ≡ true) }
+        ensures count { CountsFailure
+            (failures_with self.old.left (K.failure_count self.old.device))
+            result
+            (failures_with self.new.left (K.failure_count self.new.device)) }
+    {
+        if self.trips() {
+            return Err(Failed);
+        }
+        self.inner.store()
+    }
+
+    /// Closes the device inside. It is no call that can fail.
+    fn close(&mut self)
+        ensures call { K.is_close self.old.device self.new.device × (self.new.left ≡ self.old.left) }
+        ensures closed { K.is_closed self.new.device ≡ true }
+        ensures stored { K.is_stored self.new.device ≡ K.is_stored self.old.device }
+        ensures count { failures_with self.new.left (K.failure_count self.new.device)
+            ≡ failures_with self.old.left (K.failure_count self.old.device) }
+    {
+        self.inner.close();
     }
 }

@@ -1,51 +1,68 @@
-//! A file of std that is written, and closed before its value ends.
+//! A file of std that is written, stored, and closed before its value ends.
 
-ghost use Rattle.std.specs.Prelude.{◌≡◌, ◌+◌, ◌<◌, ◌≤◌, IfOk, IsErr, None, Option, Some, length};
-ghost use Rattle.std.specs.Prelude.{is_none};
+ghost use Rattle.std.specs.Prelude.{◌≡◌, ◌+◌, ◌<◌, ◌≤◌, IfOk, IfSome, IsErr, None, Option, Some, [], length};
+ghost use Rattle.std.specs.Prelude.{OnOk, false, is_none, true};
+ghost use Rattle.std.specs.Io.KnownBytes.{Keeps};
 ghost use Rattle.sub_io.specs.Closing.{LetsGo};
-ghost use Rattle.sub_io.specs.Counted.{Counted, known_while_open};
-ghost use Rattle.sub_io.specs.Device.{CanFail, CountsFailure, Pushes};
+ghost use Rattle.sub_io.specs.Counted.{FileValue, known_while_open};
+ghost use Rattle.sub_io.specs.Device.{CanFail, CountsFailure, Pushes, holds_nothing};
 
-use crate::{Close, Failed, LetGo, Sink};
+use crate::taken::{Piece, Taken};
+use crate::{Close, Failed, Flush, LetGo, Sink, Store};
 use std::io::Write;
 use std::marker::Model;
 
-/// A sink over a writer of std that can be closed, as a file. One push is one `write`.
+/// A sink over a writer of std that can be stored and closed, as a file. One push is one `write`.
 ///
-/// Each error of the writer is a failure, `Interrupted` too, and so is a write that takes no byte
-/// and each push once it is closed.
+/// Each error of the writer is a failure, `Interrupted` too, and so is a write that takes no byte,
+/// a store in which something is lost, and each call once it is closed.
 ///
-/// Contracts see it as the writer, until it is closed, and its count of failures.
+/// Contracts see it as the writer, until it is closed, the bytes that this said that it took,
+/// whether it is stored, and its count of failures.
 #[derive(Drop)]
 pub struct IntoFile<W> {
     inner: Option<W>,
+    taken: Taken,
+    is_stored: bool,
     failures: u64,
 }
 
 impl<W> Model for IntoFile<W> {
-    ghost Value = { Counted (Option W) };
+    ghost Value = { FileValue W };
 
-    ghost view = { λ s. record { device = s.inner; failure_count = s.failures } };
+    ghost view = { λ s. record {
+      device = s.inner;
+      taken = s.taken.bytes;
+      is_stored = s.is_stored;
+      failure_count = s.failures;
+    } };
 }
 
 impl<W: Write> IntoFile<W> {
     /// A sink that hands the writer what it takes, with no failure yet.
     pub fn new(inner: W) -> Self
-        ensures { result ≡ record { device = Some inner; failure_count = 0 } }
+        ensures { result ≡ record {
+          device = Some inner;
+          taken = [];
+          is_stored = false;
+          failure_count = 0;
+        } }
     {
         IntoFile {
             inner: Some(inner),
+            taken: Taken::nothing(),
+            is_stored: false,
             failures: 0,
         }
     }
 }
 
 impl<W: Write> Sink for IntoFile<W> {
-    ghost contents = { λ s. known_while_open W.contents s.device };
+    ghost contents = { λ s. Some s.taken };
 
     ghost failure_count = { λ s. s.failure_count };
 
-    /// Writes once.
+    /// Writes once. What is written so is not stored yet.
     ///
     /// # Errors
     ///
@@ -54,10 +71,13 @@ impl<W: Write> Sink for IntoFile<W> {
         requires nonempty { 0 < length from.now }
         requires count { CanFail self.old.failure_count }
         ensures closed { self.old.device ≡ None → IsErr result × (self.new.device ≡ None) }
+        // What the writer said that it took is what it tells, if it does.
+        ensures writer { Pushes (known_while_open W.contents self.old.device)
+            (known_while_open W.contents self.new.device) from.now result }
+        ensures stored { OnOk result (self.new.is_stored ≡ false) }
         ensures some { IfOk result (λ n. 0 < n) }
         ensures bound { IfOk result (λ n. n ≤ length from.now) }
-        ensures bytes { Pushes (known_while_open W.contents self.old.device)
-            (known_while_open W.contents self.new.device) from.now result }
+        ensures bytes { Pushes (Some self.old.taken) (Some self.new.taken) from.now result }
         ensures count { CountsFailure self.old.failure_count result self.new.failure_count }
     {
         let Some(writer) = &mut self.inner else {
@@ -65,7 +85,12 @@ impl<W: Write> Sink for IntoFile<W> {
             return Err(Failed);
         };
         match writer.write(from) {
-            Ok(n) if n > 0 => Ok(n),
+            Ok(n) if n > 0 => {
+                let (bytes, _) = from.split_at(n);
+                self.taken = self.taken.and(&Piece { bytes });
+                self.is_stored = false;
+                Ok(n)
+            }
             _ => {
                 self.failures += 1;
                 Err(Failed)
@@ -73,24 +98,84 @@ impl<W: Write> Sink for IntoFile<W> {
         }
     }
 
-    /// How many writes have failed or taken no byte, and how many came after it was closed.
+    /// How many calls have failed, taken no byte or lost something, and how many came after it was
+    /// closed.
     fn failures(&self) -> u64 {
         self.failures
     }
 }
 
-impl<W: Write + LetGo> Close for IntoFile<W> {
+impl<W: Write> Flush for IntoFile<W> {
+    // What it takes it hands to the writer at once.
+    ghost held = { holds_nothing };
+
+    /// Flushes the writer.
+    ///
+    /// # Errors
+    ///
+    /// `Failed` at each error of the writer, and once it is closed.
+    fn flush(&mut self) -> Result<(), Failed>
+        requires { CanFail self.old.failure_count }
+        ensures closed { self.old.device ≡ None → IsErr result × (self.new.device ≡ None) }
+        ensures writer { Keeps (known_while_open W.contents self.old.device)
+            (known_while_open W.contents self.new.device) }
+        ensures stored { self.new.is_stored ≡ self.old.is_stored }
+        ensures taken { self.new.taken ≡ self.old.taken }
+        ensures bytes { Keeps (Some self.old.taken) (Some self.new.taken) }
+        ensures held { OnOk result (holds_nothing self.new ≡ 0) }
+        ensures count { CountsFailure self.old.failure_count result self.new.failure_count }
+    {
+        let Some(writer) = &mut self.inner else {
+            self.failures += 1;
+            return Err(Failed);
+        };
+        if writer.flush().is_err() {
+            self.failures += 1;
+            return Err(Failed);
+        }
+        Ok(())
+    }
+}
+
+impl<W: Write + LetGo + Store> Close for IntoFile<W> {
+    ghost is_stored = { λ s. s.is_stored };
+
     ghost is_closed = { λ s. is_none s.device };
 
     ghost is_close = { LetsGo W.is_let_go };
 
+    /// Flushes the writer, and has it stored.
+    ///
+    /// # Errors
+    ///
+    /// `Failed` at each error of the writer, where something is lost, and once it is closed.
+    fn store(&mut self) -> Result<(), Failed>
+        requires { CanFail self.old.failure_count }
+        ensures closed { self.old.device ≡ None → IsErr result × (self.new.device ≡ None) }
+        // The writer answered, as it then is, that nothing is lost.
+        ensures call { OnOk result (IfSome self.new.device (λ writer. W.is_store writer true)) }
+        ensures bytes { Keeps (Some self.old.taken) (Some self.new.taken) }
+        ensures held { OnOk result (holds_nothing self.new ≡ 0) }
+        ensures stored { OnOk result (self.new.is_stored ≡ true) }
+        ensures count { CountsFailure self.old.failure_count result self.new.failure_count }
+    {
+        self.flush()?;
+        let is_kept = match &self.inner {
+            Some(writer) => writer.store(),
+            None => false,
+        };
+        if !is_kept {
+            self.failures += 1;
+            return Err(Failed);
+        }
+        self.is_stored = true;
+        Ok(())
+    }
+
     /// Lets go of the writer as it is, which closes a file.
     fn close(&mut self)
         ensures call { LetsGo W.is_let_go self.old self.new }
-        ensures closed { self.new ≡ record {
-          device = None;
-          failure_count = self.old.failure_count;
-        } }
+        ensures closed { self.new ≡ record self.old { device = None } }
     {
         if let Some(writer) = self.inner.take() {
             writer.let_go();

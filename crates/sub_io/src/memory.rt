@@ -4,6 +4,7 @@ ghost use Rattle.std.specs.Prelude.{◌≡◌, ℕ, ◌+◌, ◌-◌, ◌<◌, �
 ghost use Rattle.std.specs.Prelude.{IfOk, IsErr, OnOk, Some, false, true, ◌↔◌, drop};
 ghost use Rattle.std.specs.Io.{ReadsAtMost};
 ghost use Rattle.std.specs.Io.KnownBytes.{Keeps};
+ghost use Rattle.sub_io.specs.Closing.{needs_no_store};
 ghost use Rattle.sub_io.specs.Device.{CanFail, CountsFailure, PassesOver, Pulls, Pushes};
 ghost use Rattle.sub_io.specs.Device.{holds_nothing};
 ghost use Rattle.sub_io.specs.Lent.{BeginLent, GivesLent};
@@ -187,9 +188,23 @@ impl Flush for MemSink<'_> {
 }
 
 impl Close for MemSink<'_> {
+    ghost is_stored = { needs_no_store };
+
     ghost is_closed = { λ _. true };
 
     ghost is_close = { λ old new. new ≡ old };
+
+    /// Does nothing: memory is not stored. It never fails.
+    fn store(&mut self) -> Result<(), Failed>
+        ensures ok { result ≡ Ok tt }
+        ensures same { self.new ≡ self.old }
+        ensures bytes { Keeps (Some self.old.bytes) (Some self.new.bytes) }
+        ensures held { OnOk result (holds_nothing self.new ≡ 0) }
+        ensures stored { OnOk result (needs_no_store self.new ≡ true) }
+        ensures count { CountsFailure self.old.failure_count result self.new.failure_count }
+    {
+        Ok(())
+    }
 
     /// Does nothing: memory is not closed.
     fn close(&mut self)

@@ -1,9 +1,12 @@
 //! Devices over std's readers and writers: files, standard input and output.
 
-ghost use Rattle.std.specs.Prelude.{◌≡◌, ◌+◌};
-ghost use Rattle.sub_io.specs.Counted.{Counted};
-ghost use Rattle.sub_io.specs.Device.{holds_nothing};
+ghost use Rattle.std.specs.Prelude.{◌≡◌, ◌+◌, ◌<◌, ◌≤◌, [], ◌++◌, IfOk, OnOk, Some, length, take};
+ghost use Rattle.std.specs.Prelude.{IsErr};
+ghost use Rattle.std.specs.Io.KnownBytes.{Keeps};
+ghost use Rattle.sub_io.specs.Counted.{Counted, WriterValue};
+ghost use Rattle.sub_io.specs.Device.{CanFail, CountsFailure, Pushes, holds_nothing};
 
+use crate::taken::{Piece, Taken};
 use crate::{Failed, Flush, Sink, Source};
 use std::io::{Read, Write};
 use std::marker::Model;
@@ -69,30 +72,39 @@ impl<R: Read> Source for FromRead<R> {
 ///
 /// Each error of the writer is a failure, `Interrupted` too, and so is a write that takes no byte.
 ///
-/// Contracts see it as the writer and its count of failures.
+/// Contracts see it as the writer, the bytes that this said that it took, and its count of failures.
 #[derive(Drop)]
 pub struct IntoWrite<W> {
     inner: W,
+    taken: Taken,
     failures: u64,
 }
 
 impl<W> Model for IntoWrite<W> {
-    ghost Value = { Counted W };
+    ghost Value = { WriterValue W };
 
-    ghost view = { λ s. record { device = s.inner; failure_count = s.failures } };
+    ghost view = { λ s. record {
+      device = s.inner;
+      taken = s.taken.bytes;
+      failure_count = s.failures;
+    } };
 }
 
 impl<W: Write> IntoWrite<W> {
     /// A sink that hands the writer what it takes, with no failure yet.
     pub fn new(inner: W) -> Self
-        ensures { result ≡ record { device = inner; failure_count = 0 } }
+        ensures { result ≡ record { device = inner; taken = []; failure_count = 0 } }
     {
-        IntoWrite { inner, failures: 0 }
+        IntoWrite {
+            inner,
+            taken: Taken::nothing(),
+            failures: 0,
+        }
     }
 }
 
 impl<W: Write> Sink for IntoWrite<W> {
-    ghost contents = { λ s. W.contents s.device };
+    ghost contents = { λ s. Some s.taken };
 
     ghost failure_count = { λ s. s.failure_count };
 
@@ -101,9 +113,23 @@ impl<W: Write> Sink for IntoWrite<W> {
     /// # Errors
     ///
     /// `Failed` at each error of the writer, and where it takes no byte.
-    fn push(&mut self, from: &[u8]) -> Result<usize, Failed> {
+    fn push(&mut self, from: &[u8]) -> Result<usize, Failed>
+        requires nonempty { 0 < length from.now }
+        requires count { CanFail self.old.failure_count }
+        // What the writer said that it took is what it tells, if it does.
+        ensures writer { Pushes (W.contents self.old.device) (W.contents self.new.device)
+            from.now result }
+        ensures some { IfOk result (λ n. 0 < n) }
+        ensures bound { IfOk result (λ n. n ≤ length from.now) }
+        ensures bytes { Pushes (Some self.old.taken) (Some self.new.taken) from.now result }
+        ensures count { CountsFailure self.old.failure_count result self.new.failure_count }
+    {
         match self.inner.write(from) {
-            Ok(n) if n > 0 => Ok(n),
+            Ok(n) if n > 0 => {
+                let (bytes, _) = from.split_at(n);
+                self.taken = self.taken.and(&Piece { bytes });
+                Ok(n)
+            }
             _ => {
                 self.failures += 1;
                 Err(Failed)
@@ -127,7 +153,13 @@ impl<W: Write> Flush for IntoWrite<W> {
     /// # Errors
     ///
     /// `Failed` at each error of the writer.
-    fn flush(&mut self) -> Result<(), Failed> {
+    fn flush(&mut self) -> Result<(), Failed>
+        requires { CanFail self.old.failure_count }
+        ensures writer { Keeps (W.contents self.old.device) (W.contents self.new.device) }
+        ensures bytes { Keeps (Some self.old.taken) (Some self.new.taken) }
+        ensures held { OnOk result (holds_nothing self.new ≡ 0) }
+        ensures count { CountsFailure self.old.failure_count result self.new.failure_count }
+    {
         if self.inner.flush().is_err() {
             self.failures += 1;
             return Err(Failed);

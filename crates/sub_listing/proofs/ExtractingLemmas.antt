@@ -2,21 +2,23 @@
 use Rattle.std.proofs.lemmas.Bool.Decides.{nat_tests}
 use Rattle.std.proofs.Common.{◌≡◌, ◌∙◌, ap, refl, sym, subst, arith, ℕ, zero, suc, ◌+◌, ◌<◌, ◌≤◌}
 use Rattle.std.proofs.Common.{◌++◌, List, [], Option, Some, None, length, take, drop}
-use Rattle.std.proofs.Common.{append_assoc, if◌then◌else◌, take-append-drop, length-append, Ok}
+use Rattle.std.proofs.Common.{append_assoc, if◌then◌else◌, take-append-drop, length-append, Ok, Err}
 use Rattle.std.proofs.Common.{inr}
 use Rattle.std.proofs.KnownBytes.{Appends-kept, Appends-nil, Appends-trans}
 use Rattle.std.specs.Io.KnownBytes.{Appends, Keeps}
 use Rattle.sub_io.specs.Device.{AppendsPrefix}
-use Rattle.sub_io.proofs.DeviceLemmas.{AppendsPrefix-second}
+use Rattle.sub_io.proofs.DeviceLemmas.{AppendsPrefix-second, AppendsPrefix-whole}
 use Rattle.ttx_pes.specs.declared.fault.PesFault.{PesFault}
 use Rattle.std.proofs.lemmas.List.{append-nil, length-drop}
 use Rattle.ttx_pes.specs.PieceRange.{behind_pieces, count_pieces, first_pieces, piece_size}
 use Rattle.ttx_pes.proofs.PieceRangeLemmas.{behind_none, behind_one, count_none, count_one}
 use Rattle.ttx_pes.proofs.PieceRangeLemmas.{first_one, piece_stated}
 use Rattle.sub_listing.specs.Copying.{CopiesRest, HasCopied, HasCopiedPieces}
-use Rattle.sub_listing.specs.Extracting.{AreCut, AreGiven, AreRefused, begins_with_mark}
+use Rattle.sub_listing.specs.Extracting.{AreCut, AreGiven, AreRefused, Extracts, begins_with_mark}
 use Rattle.sub_listing.specs.Extracting.{count_marks}
 use Rattle.sub_listing.specs.Extracting.{most_pieces, refusal_at}
+use Rattle.sub_listing.specs.declared.extract.ExtractFault.TheVariants.{Write}
+use Rattle.sub_listing.specs.declared.extract.Extracted.{Extracted}
 
 marks_one : (n : ℕ) (b : List ℕ) (size : ℕ) → piece_size b ≡ Some size
     → count_marks (suc n) b
@@ -258,3 +260,25 @@ cut_in_rest bytes left old mid new k gaps f so_far is part = record {
   given = so_far.written;
   rest = inr (f, is, part);
 }
+
+-- Storing leaves what was taken as it is.
+pub extracted-stored : (known old mid new : Option (List ℕ)) (e : Extracted)
+    → Extracts known old mid (Ok e)
+    → Keeps mid new
+    → Extracts known old new (Ok e)
+extracted-stored known old mid new e given kept = λ bytes is.
+    let g = given bytes is in record {
+      pieces = g.pieces;
+      whole = g.whole;
+      marks = g.marks;
+      some = g.some;
+      written = Appends-kept _ _ _ _ g.written kept;
+    }
+
+-- Where it is not stored, that is a prefix of the whole.
+pub extracted-lost : (known old mid new : Option (List ℕ)) (e : Extracted)
+    → Extracts known old mid (Ok e)
+    → Keeps mid new
+    → Extracts known old new (Err Write)
+extracted-lost known old mid new e given kept = λ bytes is.
+    AppendsPrefix-whole old new bytes (Appends-kept _ _ _ _ (given bytes is).written kept)

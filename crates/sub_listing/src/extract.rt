@@ -1,5 +1,5 @@
 //! `extract TS PES`: writes the PES packets that the packets of a PID of a recording carry.
-ghost use Rattle.std.specs.Prelude.{◌≡◌, ◌+◌, ◌<◌, IfErr, OnOk, false, if◌then◌else◌};
+ghost use Rattle.std.specs.Prelude.{◌≡◌, ◌+◌, ◌<◌, IfErr, OnOk, false, true, if◌then◌else◌};
 ghost use Rattle.sub_io.specs.Device.{CountsIf, failed};
 ghost use Rattle.sub_listing.specs.DeviceCall.{CanFail, CountsFault, read_call, sink_call};
 ghost use Rattle.sub_listing.specs.Extracting.{EndsExtract, Extracts, extract_line};
@@ -15,7 +15,7 @@ use crate::faults::{line_of_check, line_of_file_write};
 use crate::lines::{Line, push_number, push_text};
 use crate::printing::{print_done, print_fault_line};
 use crate::status::Status;
-use sub_io::{Flush, Sink};
+use sub_io::{Close, Flush, Sink};
 use sub_rules::CheckFault;
 use ttx_pes::{Came, PesFault, Pieces};
 
@@ -53,9 +53,9 @@ pub enum ExtractFault {
 /// recording (ISO/IEC 13818-1; `RecordingPieces` of `mpeg_ts`), and prints how many there are, and
 /// how many of them are marks; or why what was written is no file of PES packets.
 ///
-/// Each is handed on as soon as it has come. Bytes that no piece begins are written too. `Fault`
-/// where a device failed.
-pub fn extract_packets<P: Pieces, F: Flush, K: Sink>(
+/// Each is handed on as soon as it has come, and the line comes once the system has stored the file.
+/// Bytes that no piece begins are written too. `Fault` where a device failed.
+pub fn extract_packets<P: Pieces, F: Close, K: Sink>(
     pieces: &mut P,
     file: &mut F,
     out: &mut K,
@@ -75,13 +75,14 @@ pub fn extract_packets<P: Pieces, F: Flush, K: Sink>(
         → P.failure_count pieces.old + F.failure_count file.old + K.failure_count out.old
         < P.failure_count pieces.new + F.failure_count file.new + K.failure_count out.new }
     ensures held { result ≡ Status.Done → F.held file.new ≡ 0 }
+    ensures stored { result ≡ Status.Done → F.is_stored file.new ≡ true }
     // Where a device may be asked, all that was written before is handed on: each such call may
     // fail, and where one did nothing is held back.
     ensures followed { F.held file.old ≡ 0
         → P.failure_count pieces.old < P.failure_count pieces.new
         → F.held file.new ≡ 0 }
 {
-    match copy_pieces(pieces, file) {
+    match write_pieces(pieces, file) {
         Ok(extracted) => {
             let mut line = Line::new();
             push_number(&mut line, b"written ", extracted.pes);
@@ -90,6 +91,32 @@ pub fn extract_packets<P: Pieces, F: Flush, K: Sink>(
             print_done(line.as_slice(), out)
         }
         Err(fault) => print_fault_line(&line_of_extract(fault), out),
+    }
+}
+
+// Copies all pieces, and has the file stored.
+fn write_pieces<P: Pieces, F: Close>(pieces: &mut P, file: &mut F) -> Result<Extracted, ExtractFault>
+    requires pieces { CanFail (P.failure_count pieces.old) }
+    requires file { CanFail (F.failure_count file.old) }
+    ensures extracts { Extracts (P.remaining pieces.old) (F.contents file.old)
+        (F.contents file.new) result }
+    ensures device { P.device pieces.new ≡ P.device pieces.old }
+    ensures pieces_count { CountsIf P.failure_count pieces.old (failed is_extract_read result)
+        pieces.new }
+    ensures file_count { CountsIf F.failure_count file.old (failed is_extract_write result)
+        file.new }
+    ensures held { F.held file.old ≡ 0 → failed is_extract_write result ≡ false
+        → F.held file.new ≡ 0 }
+    ensures own { IfErr result (λ f. tells_refused_read f ≡ false) }
+    ensures done { OnOk result (F.held file.new ≡ 0) }
+    ensures stored { OnOk result (F.is_stored file.new ≡ true) }
+{
+    match copy_pieces(pieces, file) {
+        Ok(extracted) => match file.store() {
+            Ok(()) => Ok(extracted),
+            Err(_) => Err(ExtractFault::Write),
+        },
+        Err(fault) => Err(fault),
     }
 }
 

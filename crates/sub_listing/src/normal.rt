@@ -1,5 +1,5 @@
 //! `normal IN OUT`: writes the normal form of a subtitle file.
-ghost use Rattle.std.specs.Prelude.{◌≡◌, ◌<◌, IfErr, IfOk, List, OnOk, codes, take, ℕ};
+ghost use Rattle.std.specs.Prelude.{◌≡◌, ◌<◌, IfErr, IfOk, List, OnOk, codes, take, true, ℕ};
 ghost use Rattle.sub_io.specs.Device.{CanFail, CountsIf, failed};
 ghost use Rattle.sub_io.specs.Reading.{IfKnown};
 ghost use Rattle.stl_file.specs.Fault.{is_normal_write};
@@ -13,7 +13,7 @@ use crate::status::Status;
 use crate::writing::{Work, WriteFault, write};
 use std::alloc::{Allocator, Global};
 use stl_file::{NormalFault, normal};
-use sub_io::{Flush, Sink, Source};
+use sub_io::{Close, Sink, Source};
 
 /// One byte more than the longest subtitle file has: a GSI block and 99,999 TTI blocks. No byte
 /// after it can change the answer.
@@ -37,9 +37,9 @@ pub enum InputFault {
 /// Writes the normal form of a subtitle file (own), and prints how many subtitles it has, or why
 /// there is none.
 ///
-/// The input is read to its end before anything is written. `Fault` where a device failed or memory
-/// ran out.
-pub fn write_normal<S: Source, F: Flush, K: Sink>(
+/// The input is read to its end before anything is written, and the line comes once the system has
+/// stored the file. `Fault` where a device failed or memory ran out.
+pub fn write_normal<S: Source, F: Close, K: Sink>(
     alloc: Global,
     input: &mut S,
     file: &mut F,
@@ -57,6 +57,7 @@ pub fn write_normal<S: Source, F: Flush, K: Sink>(
     ensures file_count { CountsFault F.failure_count file.old result file.new }
     ensures out_count { CountsFault K.failure_count out.old result out.new }
     ensures held { result ≡ Status.Done → F.held file.new ≡ 0 }
+    ensures stored { result ≡ Status.Done → F.is_stored file.new ≡ true }
 {
     write(alloc, &NormalWork, b" subtitles\n", input, file, out)
 }
@@ -68,7 +69,7 @@ pub struct NormalWork;
 impl Work for NormalWork {
     ghost works = { λ w. Normalizes };
 
-    fn work<S: Source, F: Flush>(
+    fn work<S: Source, F: Close>(
         &self,
         alloc: Global,
         input: &mut S,
@@ -85,16 +86,17 @@ impl Work for NormalWork {
     }
 }
 
-// Writes the normal form of the file that has these first bytes, and flushes it.
-fn put_normal<F: Flush>(bytes: &[u8], file: &mut F) -> Result<u32, NormalFault>
+// Writes the normal form of the file that has these first bytes, and has it stored.
+fn put_normal<F: Close>(bytes: &[u8], file: &mut F) -> Result<u32, NormalFault>
     requires { CanFail (F.failure_count file.old) }
     ensures answer { (s : List ℕ) → bytes.now ≡ take most_read s
         → NormalAnswers s (F.contents file.old) (F.contents file.new) result }
     ensures count { CountsIf F.failure_count file.old (failed is_normal_write result) file.new }
     ensures held { OnOk result (F.held file.new ≡ 0) }
+    ensures stored { OnOk result (F.is_stored file.new ≡ true) }
 {
     match normal(bytes, file) {
-        Ok(count) => match file.flush() {
+        Ok(count) => match file.store() {
             Ok(()) => Ok(count),
             Err(_) => Err(NormalFault::Write),
         },

@@ -1,5 +1,5 @@
 //! `schedule STL PES`: writes the schedule of a subtitle file.
-ghost use Rattle.std.specs.Prelude.{◌≡◌, OnOk, codes};
+ghost use Rattle.std.specs.Prelude.{◌≡◌, OnOk, codes, true};
 ghost use Rattle.sub_io.specs.Device.{CanFail, CountsIf, failed};
 ghost use Rattle.stl_rows.specs.Layout.{drawing_within};
 ghost use Rattle.sub_plan.specs.Fault.{is_plan_write};
@@ -11,15 +11,15 @@ use crate::writing::{Work, WriteFault, write};
 use std::alloc::Global;
 use stl_file::Scope;
 use stl_rows::{Drawing, Layout, National, Programme, load};
-use sub_io::{Flush, Sink, Source};
+use sub_io::{Close, Sink, Source};
 use sub_plan::{Options, PlanFault, schedule};
 
 /// Writes the schedule of a subtitle file, one PES packet for each sending (EN 300 472), and prints
 /// how many there are, or why there is none.
 ///
-/// The input is read to its end before anything is written. `Fault` where a device failed or memory
-/// ran out.
-pub fn write_schedule<S: Source, F: Flush, K: Sink>(
+/// The input is read to its end before anything is written, and the line comes once the system has
+/// stored the file. `Fault` where a device failed or memory ran out.
+pub fn write_schedule<S: Source, F: Close, K: Sink>(
     alloc: Global,
     drawing: Drawing,
     options: &Options,
@@ -41,6 +41,7 @@ pub fn write_schedule<S: Source, F: Flush, K: Sink>(
     ensures file_count { CountsFault F.failure_count file.old result file.new }
     ensures out_count { CountsFault K.failure_count out.old result out.new }
     ensures held { result ≡ Status.Done → F.held file.new ≡ 0 }
+    ensures stored { result ≡ Status.Done → F.is_stored file.new ≡ true }
 {
     let Drawing {
         national,
@@ -76,7 +77,7 @@ impl<'a> Work for ScheduleWork<'a> {
     ghost works = { λ w. Schedules (drawing_within w.national w.layout w.scope) w.options.now
         w.serial };
 
-    fn work<S: Source, F: Flush>(
+    fn work<S: Source, F: Close>(
         &self,
         alloc: Global,
         input: &mut S,
@@ -91,8 +92,8 @@ impl<'a> Work for ScheduleWork<'a> {
     }
 }
 
-// Writes the schedule of a programme, and flushes it.
-fn put_schedule<F: Flush>(
+// Writes the schedule of a programme, and has it stored.
+fn put_schedule<F: Close>(
     programme: &Programme,
     options: &Options,
     serial: bool,
@@ -103,9 +104,10 @@ fn put_schedule<F: Flush>(
         (F.contents file.old) (F.contents file.new) result }
     ensures count { CountsIf F.failure_count file.old (failed is_plan_write result) file.new }
     ensures held { OnOk result (F.held file.new ≡ 0) }
+    ensures stored { OnOk result (F.is_stored file.new ≡ true) }
 {
     let count = schedule(programme, options, serial, file)?;
-    match file.flush() {
+    match file.store() {
         Ok(()) => Ok(count),
         Err(_) => Err(PlanFault::Write),
     }

@@ -1,5 +1,5 @@
 //! How a file is written: the work is done, and the line that tells of it is printed.
-ghost use Rattle.std.specs.Prelude.{◌≡◌, ◌≤◌, OnOk, length};
+ghost use Rattle.std.specs.Prelude.{◌≡◌, ◌≤◌, OnOk, length, true};
 ghost use Rattle.sub_io.specs.Device.{CountsIf, failed};
 ghost use Rattle.sub_listing.specs.Writing.{EndsWork, is_file_failure, is_input_failure};
 ghost use Rattle.sub_listing.specs.DeviceCall.{CanFail, CountsFault, sink_call, source_call};
@@ -13,7 +13,7 @@ use crate::status::Status;
 use std::alloc::Global;
 use stl_file::NormalFault;
 use stl_rows::LoadFault;
-use sub_io::{Flush, Sink, Source};
+use sub_io::{Close, Sink, Source};
 use sub_plan::PlanFault;
 
 /// Why a file is not written whole.
@@ -35,8 +35,8 @@ pub trait Work {
     ghost works: { Self → writing.Work };
 
     /// Does the work, and answers how many things were written. The input is read to its end before
-    /// anything is written, and what the file holds back is flushed.
-    fn work<S: Source, F: Flush>(
+    /// anything is written, and then the file is stored.
+    fn work<S: Source, F: Close>(
         &self,
         alloc: Global,
         input: &mut S,
@@ -50,12 +50,13 @@ pub trait Work {
             input.new }
         ensures file_count { CountsIf F.failure_count file.old (failed is_file_failure result)
             file.new }
-        ensures held { OnOk result (F.held file.new ≡ 0) };
+        ensures held { OnOk result (F.held file.new ≡ 0) }
+        ensures stored { OnOk result (F.is_stored file.new ≡ true) };
 }
 
 /// Does the work of a command, and prints the line of it: the number of things that were written,
 /// or the fault.
-pub fn write<W: Work, S: Source, F: Flush, K: Sink>(
+pub fn write<W: Work, S: Source, F: Close, K: Sink>(
     alloc: Global,
     work: &W,
     things: &[u8],
@@ -76,6 +77,7 @@ pub fn write<W: Work, S: Source, F: Flush, K: Sink>(
     ensures file_count { CountsFault F.failure_count file.old result file.new }
     ensures out_count { CountsFault K.failure_count out.old result out.new }
     ensures held { result ≡ Status.Done → F.held file.new ≡ 0 }
+    ensures stored { result ≡ Status.Done → F.is_stored file.new ≡ true }
 {
     match work.work(alloc, input, file) {
         Ok(count) => {

@@ -60,7 +60,7 @@ fn run<D: FileSystem, K: Sink>(
     requires { K.failure_count standard_output ≡ 0 }
     ensures { RunsProgram (CallsInTurn D.is_call files.old files.new)
         (known_of_files D.Input.remaining D.Input.failure_count
-        D.Output.contents D.Output.failure_count)
+        D.Output.contents D.Output.failure_count D.Output.is_stored)
         D.Output.is_close (words_given given)
         K.contents K.failure_count K.is_push
         standard_output result.standard_output result.code }
@@ -97,7 +97,7 @@ fn answer_or_say<D: FileSystem, K: Sink>(
     requires { failures_and_refused (K.failure_count out.old.device) out.old.refused ≡ 0 }
     ensures { EndsRun (CallsInTurn D.is_call files.old files.new)
         (known_of_files D.Input.remaining D.Input.failure_count
-        D.Output.contents D.Output.failure_count)
+        D.Output.contents D.Output.failure_count D.Output.is_stored)
         D.Output.is_close (words_given given)
         (BufferHoldsLineAlone K.contents K.failure_count K.is_push)
         (lines_of K.contents K.failure_count out.old)
@@ -119,7 +119,7 @@ fn answer_given<D: FileSystem, K: Sink>(
     requires { failures_and_refused (K.failure_count out.old.device) out.old.refused ≡ 0 }
     ensures ends { IfOk result (Answered (CallsInTurn D.is_call files.old files.new)
         (known_of_files D.Input.remaining D.Input.failure_count
-        D.Output.contents D.Output.failure_count)
+        D.Output.contents D.Output.failure_count D.Output.is_stored)
         D.Output.is_close (words_given given)
         (BufferHoldsLineAlone K.contents K.failure_count K.is_push)
         (lines_of K.contents K.failure_count out.old)

@@ -4,7 +4,7 @@ ghost use Rattle.sub_io.specs.Device.{CanFail};
 
 use crate::asserting::assert_same;
 use std::process::Abort;
-use sub_io::{Failed, Flush, Sink, Source, fill, put_all};
+use sub_io::{Close, Failed, Flush, Sink, Source, fill, put_all};
 
 /// Asserts what a pull into a slice of zeros answers, and what then stands in the slice.
 pub fn assert_pulls<S: Source>(
@@ -84,5 +84,19 @@ pub fn assert_flushes<F: Flush>(
     ensures { CanFail (F.failure_count sink.new) }
 {
     assert_same(rt, &sink.flush(), &answer);
+    assert!(rt; sink.failures() == failures && failures < 9);
+}
+
+/// Asserts what a store answers.
+pub fn assert_stores<F: Close>(
+    rt: &impl Abort,
+    sink: &mut F,
+    answer: Result<(), Failed>,
+    failures: u64,
+)
+    requires { CanFail (F.failure_count sink.old) }
+    ensures { CanFail (F.failure_count sink.new) }
+{
+    assert_same(rt, &sink.store(), &answer);
     assert!(rt; sink.failures() == failures && failures < 9);
 }

@@ -1,7 +1,8 @@
 //! A reader and a writer of which the first calls are interrupted.
 ghost use Rattle.std.specs.Prelude.{◌≤◌, IfOk, None, length};
 
-use std::io::{self, Read, Write};
+use std::fs::{Metadata, OpenFile};
+use std::io::{self, ErrorKind, Read, Write};
 
 /// A reader and a writer of which the first calls are interrupted, a flush too.
 #[derive(Drop)]
@@ -39,6 +40,24 @@ impl Write for Interrupted {
 
     fn flush(&mut self) -> io::Result<()> {
         self.call(0)?;
+        Ok(())
+    }
+}
+
+impl OpenFile for Interrupted {
+    fn metadata(&self) -> io::Result<Metadata> {
+        Err(ErrorKind::Unsupported.into())
+    }
+
+    fn set_len(&self, _size: u64) -> io::Result<()> {
+        Err(ErrorKind::Unsupported.into())
+    }
+
+    fn sync_all(&self) -> io::Result<()> {
+        Ok(())
+    }
+
+    fn sync_data(&self) -> io::Result<()> {
         Ok(())
     }
 }

@@ -1,4 +1,4 @@
--- The first bytes decide it, answers_first, and a flush leaves what was taken as it is.
+-- The first bytes decide it, answers_first, and storing leaves what was taken as it is.
 use Rattle.std.proofs.Common.{Ok, Err}
 use Rattle.std.proofs.KnownBytes.{Appends-kept}
 use Rattle.sub_io.proofs.DeviceLemmas.{AppendsPrefix-whole}
@@ -6,23 +6,23 @@ use Rattle.stl_file.specs.declared.fault.NormalFault.TheVariants.{Write}
 use Rattle.sub_listing.proofs.NormalLemmas.{answers_first}
 use Rattle.sub_listing.proofs.normal.put_normal.Goals as goal
 
-pub returns-in-Ok-flush-clause-answer : goal.returns-in-Ok-flush-clause-answer
-returns-in-Ok-flush-clause-answer g c = λ s first.
+pub returns-in-Ok-store-clause-answer : goal.returns-in-Ok-store-clause-answer
+returns-in-Ok-store-clause-answer g c = λ s first.
     let w = c.in-Ok.ensures.answer in
     answers_first s _ _ _ (Ok c.in-Ok.count) first (record {
       subtitles = w.subtitles;
       is_file = w.is_file;
       count = w.count;
-      wrote = Appends-kept _ _ _ _ w.wrote c.in-Ok-flush.ensures.bytes;
+      wrote = Appends-kept _ _ _ _ w.wrote c.in-Ok-store.ensures.bytes;
     })
 
-pub returns-in-Err-flush-clause-answer : goal.returns-in-Err-flush-clause-answer
-returns-in-Err-flush-clause-answer g c = λ s first.
+pub returns-in-Err-store-clause-answer : goal.returns-in-Err-store-clause-answer
+returns-in-Err-store-clause-answer g c = λ s first.
     let w = c.in-Ok.ensures.answer in
     answers_first s _ _ _ (Err Write) first (record {
       subtitles = w.subtitles;
       is_file = w.is_file;
-      wrote = AppendsPrefix-whole _ _ _ (Appends-kept _ _ _ _ w.wrote c.in-Err-flush.ensures.bytes);
+      wrote = AppendsPrefix-whole _ _ _ (Appends-kept _ _ _ _ w.wrote c.in-Err-store.ensures.bytes);
     })
 
 pub returns-in-Err-clause-answer : goal.returns-in-Err-clause-answer
