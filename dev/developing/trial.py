@@ -16,7 +16,7 @@ LONGEST = 600  # seconds for it, on a machine that does other things too
 LONG_LOG = 1 << 20  # bytes of strace's log: a run with more of them does not end
 
 CALL = re.compile(r"^\d+ +(\w+)\((.*)\) += (-?\w+)(.*)$")
-CALLS = "trace=openat,read,write,close,statx,mmap,brk,rt_sigaction"
+CALLS = "trace=openat,read,write,fsync,close,statx,mmap,brk,rt_sigaction"
 STRACE = ["strace", "-f", "--seccomp-bpf", "-y", "-s", "0", "-e", CALLS]
 # What others say on standard error: the shell that starts a run, and strace.
 OTHERS = re.compile(r"(sh|strace): ")
@@ -285,9 +285,9 @@ def text_of_read(trial: Trial, command: Command, name: str, offset: int) -> byte
     starts = [at for at, line in enumerate(lines) if line.startswith(b"pes ")] + [len(lines) - 1]
     before = lines[:starts[index]] if command.words[0] == "packets" else []
     if "--all" in command.words:
-        # What is told of the subtitle file stands first. Of each PES packet as many faults are
-        # told, beside those of frames at which it is not known what is due; what may be trusted is
-        # at the end.
+        # What is told of the subtitle file stands first. Of each PES packet as many faults are told,
+        # beside those of frames at which it is not known what is due; what may be trusted is at
+        # the end.
         told = TOLD_OF_EACH[name] * index
         for line in lines:
             if line.startswith(b"refused ") and b" block " not in line and b" 78 " not in line:
@@ -317,6 +317,8 @@ def judge(trial: Trial, command: Command, ran: Ran) -> list[str]:
     elif first.name == "read":
         text = text_of_read(trial, command, first.file, handed(ran.calls, first))
         written = b"" if command.out else None
+    elif first.name == "fsync":
+        text = fault_of_write(command)
     elif first.on != "1":
         text = fault_of_write(command)
         written = (command.written or b"")[:handed(ran.calls, first)]

@@ -21,8 +21,11 @@ HELD = [
     "impl<W: Write> Flush for IntoWrite<W>",
     "impl<W: Write> IntoFile<W>",
     "impl<W: Write> Sink for IntoFile<W>",
-    "impl<W: Write + LetGo> Close for IntoFile<W>",
+    "impl<W: Write> Flush for IntoFile<W>",
+    "impl<W: Write + LetGo + Store> Close for IntoFile<W>",
+    "impl<T: OpenFile> Store for T",
     "impl<T: Drop> LetGo for T",
+    "impl Taken",
 ]
 # An impl of Drop, at any indent and over several lines, or another name for it. Comments are none.
 DROP = re.compile(r"\bimpl\b[^{};]*\bDrop\s+for\b|\bDrop\s+as\b")
