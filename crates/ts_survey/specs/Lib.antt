@@ -8,6 +8,7 @@ pub mod Intervals
 pub mod Lines
 pub mod Missing
 pub mod Payload
+pub mod Room
 pub mod Section
 pub mod Stream
 pub mod Survey
