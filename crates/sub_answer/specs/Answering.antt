@@ -33,7 +33,7 @@ use Rattle.sub_answer.specs.ListenListing.{listen_line, Listens}
 use Rattle.sub_listing.specs.Listing.{Listing, PrintsListing, PrintsOrFails, done, packet_listing}
 use Rattle.sub_listing.specs.Listing.{fault_listing}
 use Rattle.sub_listing.specs.PacketsListing.{ListsPackets}
-use Rattle.sub_answer.specs.SurveyListing.{PrintsSurvey}
+use Rattle.sub_answer.specs.SurveyListing.{Surveys}
 use Rattle.sub_listing.specs.FaultLine.{counted_from}
 use Rattle.sub_listing.specs.ShowListing.{ListsSubtitles}
 use Rattle.sub_listing.specs.Writing.{EndsWork, Normalizes, PrintsMemory, Schedules}
@@ -216,7 +216,7 @@ Answers (ask.Listen pes listening) first second Untouched file out status =
 Answers (ask.Extract recording pes stream) first second Untouched file out status =
     EndsExtract first.call file out status
 Answers (ask.Survey recording options) first second Untouched file out status =
-    PrintsSurvey out status
+    Surveys first.call out status
 
 -- Each device of an answer fails once at most, and not where the status is another than `Fault`.
 -- That of a command that takes no memory is `Fault` only where a device failed.

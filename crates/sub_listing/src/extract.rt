@@ -95,7 +95,10 @@ pub fn extract_packets<P: Pieces, F: Close, K: Sink>(
 }
 
 // Copies all pieces, and has the file stored.
-fn write_pieces<P: Pieces, F: Close>(pieces: &mut P, file: &mut F) -> Result<Extracted, ExtractFault>
+fn write_pieces<P: Pieces, F: Close>(
+    pieces: &mut P,
+    file: &mut F,
+) -> Result<Extracted, ExtractFault>
     requires pieces { CanFail (P.failure_count pieces.old) }
     requires file { CanFail (F.failure_count file.old) }
     ensures extracts { Extracts (P.remaining pieces.old) (F.contents file.old)

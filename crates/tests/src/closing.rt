@@ -71,8 +71,7 @@ fn what_is_held_back_is_not_written_by_closing(rt: HostRuntime) {
 }
 
 // Asserts what a store answers by what the system does, of a file behind a buffer too.
-fn assert_stored(rt: &impl Abort, errno: i32, answer: Result<(), Failed>, failures: u64)
-{
+fn assert_stored(rt: &impl Abort, errno: i32, answer: Result<(), Failed>, failures: u64) {
     let mut sink = IntoFile::new(Answering { errno });
     assert_puts(rt, &mut sink, b"sub", Ok(()), 0);
     assert_stores(rt, &mut sink, answer, failures);

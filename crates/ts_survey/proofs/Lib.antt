@@ -5,5 +5,6 @@ pub mod FollowingLemmas
 pub mod HeardLemmas
 pub mod InStepLemmas
 pub mod PendingLemmas
+pub mod RoomLemmas
 pub mod SurveyLemmas
 pub mod TextLemmas

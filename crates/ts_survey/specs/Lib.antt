@@ -13,6 +13,7 @@ pub mod Intervals
 pub mod Lines
 pub mod Missing
 pub mod Payload
+pub mod Room
 pub mod Seams
 pub mod Section
 pub mod Steps

@@ -7,6 +7,7 @@ ghost use Rattle.mpeg_ts.specs.PacketsInStep.{Skipped, begins_packet, bytes_need
 ghost use Rattle.ttx_page.specs.Receiver.{RunsBy};
 ghost use Rattle.ts_survey.specs.Following.{any_piece};
 ghost use Rattle.ts_survey.specs.InStep.{AreFound, TakesAll, counted_on, items_from, told_of};
+ghost use Rattle.ts_survey.specs.Room.{most_kept};
 
 use crate::text::Text;
 use mpeg_ts::{PACKET, PacketSize, SYNC_BYTE};
@@ -152,6 +153,7 @@ impl PacketsInStep {
         // What is taken are the packets that stand there, in order, each once, and holes; they and
         // the bytes that are skipped are counted.
         ensures all { TakesAll M.is_taken self.old to.old bytes.now is_end result self.new to.new }
+        ensures kept { length bytes.now ≤ result + most_kept }
     {
         let at = self.find(bytes, is_end, to, text);
         self.lead = at.saturating_sub(bytes.len());

@@ -1,5 +1,6 @@
 //! A file of PES packets.
-ghost use Rattle.std.specs.Prelude.{◌≡◌, ◌≤◌, ℕ, length};
+ghost use Rattle.std.specs.Prelude.{◌≡◌, ◌≤◌, ◌<◌, ◌+◌, ℕ, length};
+ghost use Rattle.ts_survey.specs.Room.{most_kept};
 
 use crate::adaptation::pts_said;
 use crate::pes_lines::PesLines;
@@ -29,7 +30,9 @@ enum Piece {
 
 // The PES packet that the bytes begin with, by its length.
 fn piece_of(bytes: &[u8]) -> Piece
-    ensures { (size : ℕ) → result ≡ Piece.Whole size → size ≤ length bytes.now }
+    ensures whole { (size : ℕ) → result ≡ Piece.Whole size
+        → (6 ≤ size) × (size ≤ length bytes.now) }
+    ensures unfinished { result ≡ Piece.Unfinished → length bytes.now < most_kept }
 {
     if bytes.len() < 6 {
         return Piece::Unfinished;
@@ -58,7 +61,8 @@ impl PesFile {
     /// Takes the PES packets that the bytes have, and answers how many bytes are not needed any
     /// more.
     pub fn take(&mut self, bytes: &[u8], is_end: bool, text: &mut Text) -> usize
-        ensures { result ≤ length bytes.now }
+        ensures within { result ≤ length bytes.now }
+        ensures kept { length bytes.now ≤ result + most_kept }
     {
         if self.is_damaged {
             return bytes.len();

@@ -1,7 +1,8 @@
 //! A recording, whatever it is: bytes come, and lines are made.
-ghost use Rattle.std.specs.Prelude.{◌≡◌, ◌≤◌, IfSome, Some, false, length};
+ghost use Rattle.std.specs.Prelude.{◌≡◌, ◌≤◌, ◌+◌, IfSome, Some, false, length, true};
 ghost use Rattle.mpeg_ts.specs.PacketSize.{bytes_of};
-ghost use Rattle.ts_survey.specs.Stream.{IsAsked};
+ghost use Rattle.ts_survey.specs.Room.{most_kept};
+ghost use Rattle.ts_survey.specs.Stream.{IsAsked, is_unknown};
 
 use crate::multiplex::Multiplex;
 use crate::packet_sizes::find_size;
@@ -60,7 +61,9 @@ impl Recording {
     }
 
     /// Whether memory ran out.
-    pub fn is_short(&self) -> bool {
+    pub fn is_short(&self) -> bool
+        ensures { result ≡ false → self.now.is_short ≡ false }
+    {
         self.is_short
             || match &self.kind {
                 Kind::Stream(_, multiplex) => multiplex.is_short(),
@@ -71,7 +74,9 @@ impl Recording {
     /// Takes bytes: those that were not needed before, and what has come. Answers how many are not
     /// needed any more.
     pub fn take(&mut self, bytes: &[u8], is_end: bool, text: &mut Text) -> usize
-        ensures { result ≤ length bytes.now }
+        ensures within { result ≤ length bytes.now }
+        // Few bytes are kept, so there is room for more.
+        ensures kept { self.new.is_short ≡ false → length bytes.now ≤ result + most_kept }
     {
         if !self.has_head {
             if bytes.len() < HEAD && !is_end {
@@ -118,6 +123,8 @@ impl Recording {
     // Looks for the distance of packets. Answers how many bytes need not be looked at again.
     fn look(&mut self, bytes: &[u8], is_end: bool, text: &mut Text) -> usize
         ensures within { result ≤ length bytes.now }
+        ensures kept { is_unknown self.new.kind ≡ true → self.new.is_short ≡ false
+            → length bytes.now ≤ result + most_kept }
         ensures asked { IfSome self.old.asked.packet_size (λ size. self.new.is_short ≡ false
             → IsAsked self.old.asked (bytes_of size) self.new.kind) }
     {
@@ -159,7 +166,9 @@ impl Recording {
     }
 
     /// Tells what is not told yet, since nothing more is there for now.
-    pub fn flush(&mut self, text: &mut Text) {
+    pub fn flush(&mut self, text: &mut Text)
+        ensures { self.new.is_short ≡ self.old.is_short }
+    {
         match &mut self.kind {
             Kind::Pes(file) => file.flush(text),
             Kind::Stream(_, multiplex) => multiplex.flush(text),

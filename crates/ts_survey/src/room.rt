@@ -1,6 +1,9 @@
 //! Room for bytes of a recording that are to be looked at.
-ghost use Rattle.std.specs.Prelude.{◌≡◌, ◌≤◌, ◌+◌, length, vec_len, slice_range, take, IfOk, false};
+ghost use Rattle.std.specs.Prelude.{◌≡◌, ◌≤◌, ◌<◌, ◌-◌, length, vec_len, take, drop, IfOk, IfSome};
+ghost use Rattle.std.specs.Prelude.{true};
+ghost use Rattle.std.specs.Io.KnownBytes.{IsAtEnd};
 ghost use Rattle.sub_io.specs.Device.{CanFail, CountsFailure};
+ghost use Rattle.ts_survey.specs.Room.{HoldsMore, room_size};
 
 use crate::text::Text;
 use std::alloc::Global;
@@ -33,7 +36,9 @@ pub struct Room {
 
 impl Room {
     /// None. `None` where memory runs out.
-    pub fn new(alloc: Global) -> Option<Room> {
+    pub fn new(alloc: Global) -> Option<Room>
+        ensures { IfSome result (λ room. (room.len ≡ 0) × (vec_len room.bytes ≡ room_size)) }
+    {
         match vec![in alloc; 0; ROOM] {
             Ok(bytes) => Some(Room { bytes, len: 0 }),
             Err(_) => None,
@@ -50,6 +55,14 @@ impl Room {
         requires none { length _text.now.bytes.items ≡ 0 }
         ensures count { CountsFailure (S.failure_count source.old) result
             (S.failure_count source.new) }
+        // What came stands behind what was held.
+        ensures held { IfOk result (λ _. HoldsMore
+            (take self.old.len self.old.bytes.items) (take self.new.len self.new.bytes.items)
+            (S.remaining source.old) (S.remaining source.new)) }
+        // It is the end only where nothing is left to be read.
+        ensures end { IfOk result (λ came. came.is_end ≡ true
+            → self.old.len < vec_len self.old.bytes → IsAtEnd (S.remaining source.new)) }
+        ensures size { vec_len self.new.bytes ≡ vec_len self.old.bytes }
     {
         let len = self.len;
         let bytes = self.bytes.as_mut_slice();
@@ -64,7 +77,8 @@ impl Room {
 
     /// The bytes.
     pub fn held(&self) -> &[u8]
-        ensures { length result.now ≡ self.now.len }
+        ensures bytes { result.now ≡ take self.now.len self.now.bytes.items }
+        ensures len { length result.now ≡ self.now.len }
     {
         let (held, _) = self.bytes.as_slice().split_at(self.len);
         held
@@ -73,6 +87,10 @@ impl Room {
     /// The first so many are not needed any more.
     pub fn pass(&mut self, count: usize)
         requires { count ≤ self.old.len }
+        ensures held { take self.new.len self.new.bytes.items
+            ≡ drop count (take self.old.len self.old.bytes.items) }
+        ensures len { self.new.len ≡ self.old.len - count }
+        ensures size { vec_len self.new.bytes ≡ vec_len self.old.bytes }
     {
         let len = self.len;
         self.bytes.as_mut_slice().copy_within(count..len, 0);

@@ -1,5 +1,6 @@
 //! `survey`: a recording is read once, and a line told for each fact.
 ghost use Rattle.std.specs.Prelude.{◌≡◌, IfErr, OnOk, false, length};
+ghost use Rattle.std.specs.Io.KnownBytes.{IsAtEnd};
 ghost use Rattle.sub_io.specs.Device.{CanFail, CountsIf, failed};
 ghost use Rattle.ts_survey.specs.Survey.{Grows, is_survey_read, is_survey_write};
 
@@ -48,6 +49,8 @@ pub fn survey<S: Source, K: Flush>(
     ensures followed { K.held out.old ≡ 0
         → failed is_survey_write result ≡ false
         → K.held out.new ≡ 0 }
+    // It is read to its end: nothing is left that is not looked at.
+    ensures ended { OnOk result (IsAtEnd (S.remaining source.new)) }
 {
     let Some(mut room) = Room::new(alloc) else {
         return Err(SurveyFault::Memory);
@@ -73,7 +76,8 @@ pub fn survey<S: Source, K: Flush>(
             return Ok(());
         }
     }
-    Ok(())
+    // No recording is read so often.
+    Err(SurveyFault::Memory)
 }
 
 // Puts all lines, and has them handed on.

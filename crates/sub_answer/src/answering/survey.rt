@@ -1,5 +1,6 @@
 //! `survey RECORDING`: tells what there is in a recording.
 ghost use Rattle.std.specs.Prelude.{◌≡◌, ◌<◌};
+ghost use Rattle.std.specs.Io.KnownBytes.{IsAtEnd};
 ghost use Rattle.sub_listing.specs.DeviceCall.{CanFail, CountsFault, sink_call};
 ghost use Rattle.sub_listing.specs.LastLine.{HoldsLastLine};
 ghost use Rattle.sub_answer.specs.SurveyListing.{PrintsSurvey};
@@ -25,6 +26,8 @@ pub fn print_survey<S: Source, K: Flush>(
     requires source { CanFail (S.failure_count source.old) }
     requires out { CanFail (K.failure_count out.old) }
     ensures printed { PrintsSurvey (sink_call K.contents K.failure_count out.old out.new) result }
+    // It is read to its end.
+    ensures ended { result ≡ Status.Done → IsAtEnd (S.remaining source.new) }
     ensures source_count { CountsFault S.failure_count source.old result source.new }
     ensures out_count { CountsFault K.failure_count out.old result out.new }
     // Where the source may have to ask its device, all that was printed before is handed on: each

@@ -44,7 +44,10 @@ returns-in-Extract-clause-answers g c =
 pub returns-in-Survey-clause-answers : goal.returns-in-Survey-clause-answers
 returns-in-Survey-clause-answers g c =
     rw c.in-Survey.is (record {
-      answers = c.print_survey.ensures.printed;
+      answers = record {
+        printed = c.print_survey.ensures.printed;
+        ended = c.print_survey.ensures.ended;
+      };
       written = tt;
       followed = λ fails none. c.print_survey.ensures.followed none fails;
     })

@@ -17,5 +17,7 @@ reads-preserved g c = record {
   out = search rules;
   grows = grows-more _ _ _ c.reads.invariant.grows c.hand_on.ensures.grows;
   none = search rules;
+  kept = search rules;
+  room = search rules;
   holds = search rules;
 }

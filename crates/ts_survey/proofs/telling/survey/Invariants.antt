@@ -1,5 +1,6 @@
 -- Nothing has failed, what was told stands in the sink, and is handed on.
-use Rattle.std.proofs.Common.{◌≡◌, length}
+use Rattle.std.proofs.Common.{◌≡◌, ◌≤◌, length, vec_len}
+use Rattle.ts_survey.specs.Room.{most_kept, room_size}
 use Rattle.ts_survey.specs.Survey.{Grows}
 use Rattle.ts_survey.proofs.telling.survey.Given as goal
 
@@ -9,5 +10,7 @@ invariant-reads g l = record {
   out : g.K.Sink.failure_count l.out ≡ g.K.Sink.failure_count l.fn.out;
   grows : Grows (g.K.Sink.contents l.fn.out) (g.K.Sink.contents l.out);
   none : length l.text.bytes.items ≡ 0;
+  kept : l.room.len ≤ most_kept;
+  room : vec_len l.room.bytes ≡ room_size;
   holds : g.K.Flush.held l.fn.out ≡ 0 → g.K.Flush.held l.out ≡ 0;
 }

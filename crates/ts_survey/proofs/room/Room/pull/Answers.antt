@@ -1,0 +1,10 @@
+-- What came stands behind what was held: holds_more.
+use Rattle.std.proofs.Common.{rules}
+use Rattle.ts_survey.proofs.RoomLemmas.{holds_more}
+use Rattle.ts_survey.proofs.room.Room.pull.Goals as goal
+
+pub returns-clause-held : goal.returns-clause-held
+returns-clause-held g c =
+    holds_more c.args.self.now.bytes.items c.as_mut_slice-bytes.result.now c.pull.new.to _ _
+    c.args.self.now.bytes.len c.args.self.now.len c.in_ok-count.count _ _
+    c.as_mut_slice-bytes.ensures.value (search rules) (search rules) (search rules) (search rules)

@@ -1,0 +1,18 @@
+-- Room for bytes of a recording that are to be looked at.
+use Rattle.std.specs.Prelude.{◌≡◌, ℕ, List, ◌++◌, Option}
+use Rattle.std.specs.Io.KnownBytes.{Consumes}
+
+-- For the longest PES packet of a file, 65,541 bytes, and for what is read at once.
+abbrev pub room_size : ℕ
+room_size = 135168
+
+-- So many bytes are kept at most of those that were looked at: the longest PES packet of a file but
+-- its last byte, or more.
+abbrev pub most_kept : ℕ
+most_kept = 65541
+
+-- Bytes came from a source, and are held behind those that were.
+pub record HoldsMore (old new : List ℕ) (left next : Option (List ℕ)) : Type 0 where
+  pub came : List ℕ
+  pub held : new ≡ old ++ came
+  pub consumed : Consumes left next came
