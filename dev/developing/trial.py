@@ -285,9 +285,9 @@ def text_of_read(trial: Trial, command: Command, name: str, offset: int) -> byte
     starts = [at for at, line in enumerate(lines) if line.startswith(b"pes ")] + [len(lines) - 1]
     before = lines[:starts[index]] if command.words[0] == "packets" else []
     if "--all" in command.words:
-        # What is told of the subtitle file stands first. Of each PES packet as many faults are told,
-        # beside those of frames at which it is not known what is due; what may be trusted is at
-        # the end.
+        # What is told of the subtitle file stands first. Of each PES packet as many faults are
+        # told, beside those of frames at which it is not known what is due; what may be trusted is
+        # at the end.
         told = TOLD_OF_EACH[name] * index
         for line in lines:
             if line.startswith(b"refused ") and b" block " not in line and b" 78 " not in line:

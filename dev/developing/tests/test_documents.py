@@ -95,19 +95,6 @@ class Documents(Case):
             "docs/B.md", "README.md#x", "docs/A.md#y")] == ["(B.md", "(../README.md#x)", "(#y)"])
         self.must("a page", page("B.md#the-answer", self.folder).startswith("## The answer"))
 
-    def test_tell_one_speed(self) -> None:
-        """What README says of speed is what PERFORMANCE says, of one version."""
-        readme = read(os.path.join(TOP, "README.md")) or ""
-        measured = read(os.path.join(TOP, "docs", "PERFORMANCE.md")) or ""
-        rates = [re.search(rf"^\| {name} \|.*?\| (\d+) MB/s", measured, re.M)
-                 for name in ("day", "mixed")]
-        told = [f"{int(rate[1]) // 100 / 10} GB/s" for rate in rates if rate]
-        seconds = re.findall(r"takes (\d\.\d) s of a processor.*?of\s+it (\d\.\d)", measured, re.S)
-        version = re.findall(r"version (\d+\.\d+\.\d+)", measured)[:1]
-        self.must("rates", len(told) == 2 and all(one in readme for one in told), told)
-        self.must("seconds", len(seconds) == 1 and f"takes {seconds[0][0]} s" in readme, seconds)
-        self.must("version", version and f"version {version[0]}" in readme, version)
-
     def test_have_a_picture(self) -> None:
         """dev/make-picture makes README's picture of a report: PNG, 800 wide."""
         if not shutil.which("rsvg-convert"):
