@@ -204,7 +204,8 @@ class ProgramMap:
 @dataclasses.dataclass
 class Video:
     """The PTS of pictures from the first that can be shown to the next such one, or up to the end
-    of the recording, where they are cut."""
+    of the recording, where they are cut. `form` is what that group is: closed, where what is shown
+    before its first picture can be decoded, open, unknown, or nothing where that was not told."""
 
     passed: int = 0
     pictures: list[int | None] = dataclasses.field(default_factory=list)
@@ -212,6 +213,7 @@ class Video:
     scrambled: int = 0
     is_over: bool = False
     is_cut: bool = False
+    form: str = ""
 
 
 def pid_line(packets: Packets, programmes: Iterable[ProgramMap]) -> str:
@@ -349,6 +351,9 @@ class Survey:
 
     def take_picture(self, pid: str, pts: str, *_: str) -> None:
         self.videos[int(pid)].pictures.append(number_of(pts))
+
+    def take_group(self, pid: str, flagged: str, least: str, form: str, *_: str) -> None:
+        self.videos[int(pid)].form = form
 
     def take_pictures(self, pid: str, lost: str, scrambled: str, passed: str = "",
                       *_: str) -> None:
