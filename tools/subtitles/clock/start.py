@@ -129,8 +129,8 @@ class First(NamedTuple):
         more = "" if self.other is None else \
             f"; the one with the random_access_indicator has PTS {self.other}, {frames} later" \
             if self.away > 0 else \
-            f"; those of its group that come before it, from PTS {self.other} on, {frames}, can't " \
-            "be decoded"
+            f"; those of its group that come before it, from PTS {self.other} on, {frames}, " \
+            "can't be decoded"
         return (f"the first picture has PTS {self.pts}, {NAMES[self.kind]} of "
                 f"{pid_name(self.pid)}; {counted(self.passed, 'PES packet')} of video before it "
                 f"skipped{more}")
