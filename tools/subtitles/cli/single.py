@@ -13,7 +13,8 @@ import stat
 import time
 from typing import Callable, Iterator, NamedTuple, Sequence
 
-from ..common.command_line import Stop, counted, error_line, escaped, shown, silence, tell
+from ..common.command_line import (
+    Stop, Unanswered, counted, error_line, escaped, shown, silence, tell)
 from ..common.files import (
     Inputs, OWN_OUTPUT, first_bytes, is_replaced, kind_of, naming, refuse_name, result_file,
     temporary_folder, whole_file)
@@ -31,7 +32,7 @@ from ..report.page import overview
 from ..request.commands import (
     CommandWords, LOCK, Listener, Names, Progress, Speech, files_in, index_in, lock_of, pair_name,
     profile_line)
-from ..request.request import AUTO_OF_FEED, Request, Unclear, keep_stl, request_of
+from ..request.request import AUTO_OF_FEED, Request, Unclear, Unsaid, keep_stl, request_of
 from ..results import objects, tables
 from ..results.objects import found, object_text, unjudged
 from ..stream.gaps import first_lines
@@ -173,8 +174,8 @@ class PairCall(NamedTuple):
     """A call for a pair, beside what is asked of it: the program, and the files that are written.
     `name` is that of the pair, where it is not that of its subtitle file, and `here` the folder in
     which its files stand until somebody gives them their place. `is_claimed`: its files are the
-    caller's; `is_fitted`: its origin was found by the caller; `is_cut`: all that is read may be
-    judged."""
+    caller's; `is_fitted`: its origin was found by the caller. `given` is a file with all that
+    came of a feed, which may be judged."""
 
     program: str | None
     out: str | None = None
@@ -187,7 +188,7 @@ class PairCall(NamedTuple):
     here: str | None = None
     is_claimed: bool = False
     is_fitted: bool = False
-    is_cut: bool = False
+    given: str | None = None
 
 
 def judge_call(words: argparse.Namespace, called: str) -> int:
@@ -199,6 +200,11 @@ def judge_call(words: argparse.Namespace, called: str) -> int:
 
 def judge_request(asked: Request, call: PairCall, called: str) -> int:
     """Judges a pair; answers its status."""
+    return judged(asked, call, called).status
+
+
+def judged(asked: Request, call: PairCall, called: str) -> Verdict:
+    """Judges a pair; answers its verdict, which is said and written by then."""
     refuse_auto(asked)
     out, here = call.out, call.here or call.out
     is_output_taken = any(path in OWN_OUTPUT for path in (call.json, call.csv, call.junit))
@@ -221,12 +227,12 @@ def judge_request(asked: Request, call: PairCall, called: str) -> int:
         names.give(asked.stl_path)
         files = Files(call, verdict, typed, names)
         verdict.found = found(asked)
-        pair = Pair(verdict, typed, names, listener, files.are_any(), call.stall, call.is_cut)
+        pair = Pair(verdict, typed, names, listener, files.are_any(), call.stall, call.given)
         if out is not None:
             pair.draw = functools.partial(draw, pair)
         judge_pair(pair, files)
         end_pair(verdict, speech, files)
-    return verdict.status
+    return verdict
 
 
 def verdict_of(asked: Request, listener: Listener, is_fitted: bool = False) -> Verdict:
@@ -273,7 +279,8 @@ def draw(pair: Pair, part: Part, gaps: Sequence[Gap], count: int) -> None:
     try:
         made = report_page.report_page(report.Report(subject))
     except transmission.NoReport as reason:
-        raise Unclear(f"no report was made: {reason}") from None
+        kind = Unsaid if isinstance(reason, transmission.NoAnswer) else Unclear
+        raise kind(f"no report was made: {reason}") from None
     with result_file(part.names.report) as file:
         file.write(made.page())
 
@@ -286,8 +293,10 @@ def judge_pair(pair: Pair, files: Files) -> None:
         verdict.hints = [*dict.fromkeys(hints_of(verdict))]  # parts may have the same
     except Unclear as unclear:
         verdict.reason, verdict.to_type = unclear.reason, unclear.to_type
+        verdict.is_passing = isinstance(unclear, Unsaid)
     except Exception as reason:  # whatever it is, nothing is judged
         verdict.reason = error_line(reason)
+        verdict.is_passing = isinstance(reason, (Unanswered, OSError, MemoryError))
     except KeyboardInterrupt:
         ignore_signals()  # what is known is written now
         verdict.is_stopped = True

@@ -14,7 +14,7 @@ from ..common.times import FRAMES_OF_A_DAY, Spans
 from ..formats.listing import (
     ENDED, FaultLine, ON_SCREEN, PASSED_OVER, REFUSED, STL_FAULTS, UNDECIDED, accepted_of, count_of,
     fault_of_line, frame_of_place, is_line, line_words, number_of, trusted_of)
-from ..request.request import Unclear
+from ..request.request import Unsaid
 from .status import NOT_JUDGED, Said, UNSAID, word_of
 
 
@@ -157,13 +157,13 @@ class Answer(FaultCounts):
             self.strange = line
 
     def end(self, status: int) -> None:
-        """Takes the status; what is no answer is `Unclear`."""
+        """Takes the status; what is no answer is `Unsaid`."""
         with naming(self.path):
             self.file.close()
         self.status = status
         if self.verdict == NOT_JUDGED:
             line = self.last if self.strange is None else self.strange
-            raise Unclear(f"{UNSAID}: {line or 'it printed nothing'}, status {status}")
+            raise Unsaid(f"{UNSAID}: {line or 'it printed nothing'}, status {status}")
 
     def stop(self) -> None:
         """Takes that nothing more is told: what was told so far is no answer."""

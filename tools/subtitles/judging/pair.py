@@ -17,7 +17,7 @@ from ..recording.feed import Ending
 from ..recording.recording import Notice, Recording, refuse_files
 from ..request import commands, request
 from ..request.commands import CommandWords, Listener, Names
-from ..request.request import Request, Selection, Unclear, option_line
+from ..request.request import Request, Selection, Unclear, Unsaid, option_line
 from ..stream.layout import BY_LAYOUT, choices_of, layout_line, left_lines, sent_in, why_none
 from ..stream.receiver import timeline_near
 from ..stream.survey import HEADER
@@ -47,13 +47,14 @@ class Located(NamedTuple):
 
 class Pair:
     """A pair that is judged step by step; what is known so far stands in the verdict. `draw` draws
-    the report of a part, where that is asked for. `is_cut`: all that is read may be judged."""
+    the report of a part, where that is asked for. `given` is a file with all that came of a feed,
+    which may be judged."""
 
     def __init__(self, verdict: Verdict, typed: CommandWords, names: Names, listener: Listener,
-                 is_summed: bool, stalled_after: int = 10, is_cut: bool = False) -> None:
+                 is_summed: bool, stalled_after: int = 10, given: str | None = None) -> None:
         self.verdict, self.asked = verdict, verdict.asked
         self.typed, self.names, self.listener = typed, names, listener
-        self.is_summed, self.stalled_after, self.is_cut = is_summed, stalled_after, is_cut
+        self.is_summed, self.stalled_after, self.given = is_summed, stalled_after, given
         self.draw: Callable[[Part, Sequence[Gap], int], None] = lambda *_: None
         self.recording: Recording | None = None
         self.begun: Part | None = None  # that is being judged, or was last
@@ -117,7 +118,7 @@ class Pair:
         """What is wrong with the subtitle file; at least there is no PES packet."""
         answer = check_alone(self.asked, self.typed.program_path, self.names)
         if answer.verdict != REFUSED:
-            raise Unclear(f"{UNSAID}: {answer.last}, where there is no PES packet")
+            raise Unsaid(f"{UNSAID}: {answer.last}, where there is no PES packet")
         return answer
 
     def take_beside(self, answer: Answer) -> Answer:
@@ -199,9 +200,9 @@ class Pair:
             raise Unclear(f"{asked.stl} has no subtitle")
         clock = given_clock(asked, self.verdict.was_fitted) or NO_CLOCK
         programme = Programme(asked, Found(subtitles[0].begin, subtitles[-1].end, clock),
-                              asked.pes, self.left_out, self.verdict.was_fitted, self.is_cut)
+                              asked.pes, self.left_out, self.verdict.was_fitted, self.given is not None)
         self.recording = recording = Recording(asked, self.typed, self.names, self.listener,
-                                               self.stalled_after, self.is_cut)
+                                               self.stalled_after, self.given)
         recording.read(self.is_summed, Ending(
             asked, programme.whole.begin, programme.whole.end,
             lambda packets: origin_in(packets, search_in(programme, recording.shown))))

@@ -15,7 +15,7 @@ from ..formats.stl import Subtitle, SubtitleList, stl_bytes, subtitles_read, sub
 from ..formats.teletext import (
     BY_BITS, BY_WORD, ERASE, INHIBIT, NEWSFLASH, Page, RESERVED, SUBTITLE, SUPPRESS, has_bit,
     letters, page_name)
-from ..request.request import Request, Unclear
+from ..request.request import Request, Unclear, Unsaid
 from ..stream.receiver import BLANK_PAGE, LEAST, Rows, State, Timeline, national_option, subcode_of
 from ..stream.survey import CLOSED, HEADER, PES, Packets, Run, survey
 from .check import Answer, End
@@ -365,7 +365,7 @@ def program_answer(program: str, *words: str) -> list[str]:
                           stdout=subprocess.PIPE, encoding="utf-8", errors="replace")
     lines = done.stdout.splitlines()
     if done.returncode and f"refused {NOTHING} " not in "".join(lines[-1:]):
-        raise Unclear(f"{words[0]} was not answered: {''.join(lines[-1:])}")
+        raise Unsaid(f"{words[0]} was not answered: {''.join(lines[-1:])}")
     return lines
 
 

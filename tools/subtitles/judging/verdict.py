@@ -125,6 +125,7 @@ class Verdict:
     is_kept: bool = False  # what was judged stays in the folder
     is_stopped: bool = False  # by a signal
     reason: str | None = None  # why it is not judged
+    is_passing: bool = False  # that is a failure of the machine: another time it may be judged
     failed: list[str] = dataclasses.field(default_factory=list)  # why outputs are not written
     to_type: tuple[str, ...] = ()
     found: dict[str, object] = dataclasses.field(default_factory=dict)
@@ -173,6 +174,11 @@ class Verdict:
     def decision(self) -> Decision:
         """What comes of that."""
         return decide(self.seen())
+
+    @property
+    def is_final(self) -> bool:
+        """Whether it would be the same another time: the machine did what was asked of it."""
+        return not (self.is_passing or self.is_stopped or self.failed)
 
     @property
     def word(self) -> str:

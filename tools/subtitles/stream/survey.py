@@ -7,7 +7,7 @@ import os
 import subprocess
 from typing import BinaryIO, Callable, IO, Iterable, Iterator, NamedTuple
 
-from ..common.command_line import Stop, page_in, pid_name, shown, stream_words
+from ..common.command_line import Unanswered, page_in, pid_name, shown, stream_words
 from ..common.times import TICKS, ticks_between, wrapped
 from ..formats.teletext import Page, page_name
 
@@ -390,10 +390,10 @@ class Survey:
         return [pid_line(self.by_pid[pid], self.programmes_of(pid)) for pid in sorted(self.by_pid)]
 
     def refuse(self, status: int) -> None:
-        """`Stop` where the program could not tell it all."""
+        """`Unanswered` where the program could not tell it all."""
         if self.strange or status or not self.is_whole:
-            raise Stop(f"survey was not answered: {self.strange or 'it did not end'}, status "
-                       f"{status}")
+            raise Unanswered("survey was not answered: "
+                             f"{self.strange or 'it did not end'}, status {status}")
 
 
 def survey_call(program: str, name: str, page: Page, pid: int | None = None,
