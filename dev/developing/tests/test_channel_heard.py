@@ -72,7 +72,7 @@ class Pids(Case):
                 f"the PMT moves page 888 from PID 0x101 to PID 0x102, before PTS "
                 f"{(21 if is_early else 22) * SECOND}"], heard.said)
             self.must(f"{is_early}: on", (heard.pid, heard.now) == (OTHER, 22 * SECOND))
-            self.must(f"{is_early}: when", [one.time for one in heard.moves] == [20 * SECOND], heard.moves)
+            self.must(f"{is_early}: when", [one.time for one in heard.moves] == [20 * SECOND])
         stays = heard_of([*TABLE, Lines(PID).pes(0), *MOVED, *MOVED], PID)
         self.must("one that is asked for", stays.pid == PID and not stays.said)
 

@@ -200,7 +200,8 @@ class Pair:
             raise Unclear(f"{asked.stl} has no subtitle")
         clock = given_clock(asked, self.verdict.was_fitted) or NO_CLOCK
         programme = Programme(asked, Found(subtitles[0].begin, subtitles[-1].end, clock),
-                              asked.pes, self.left_out, self.verdict.was_fitted, self.given is not None)
+                              asked.pes, self.left_out, self.verdict.was_fitted,
+                              self.given is not None)
         self.recording = recording = Recording(asked, self.typed, self.names, self.listener,
                                                self.stalled_after, self.given)
         recording.read(self.is_summed, Ending(

@@ -470,8 +470,8 @@ class Channel:
     def say_ended(self) -> None:
         """The last line: how it ended, and what came of the list."""
         one = self.lines()
-        self.say(f"{self.machine.state}: {counted(one.judged, 'line')} judged, {one.not_judged} not "
-                 f"judged, {one.open} open")
+        self.say(f"{self.machine.state}: {counted(one.judged, 'line')} judged, {one.not_judged} "
+                 f"not judged, {one.open} open")
 
     def end_due(self) -> None:
         """Tries a few more times what could not be judged; then it is open."""

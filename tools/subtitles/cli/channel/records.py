@@ -87,7 +87,8 @@ def record_of(number: int, head: bytes) -> Record:
                  known["since"], due, row and Row(*row), known["size"], bool(known["told"]))
     is_right = is_name(one.name) and are((one.out, one.stl), str, str) and \
         all(map(is_number, (one.over, one.since, one.size))) and \
-        (one.due is None) != (one.row is None) and (one.found is None or are(one.found.values(), int, str))
+        (one.due is None) != (one.row is None) and \
+        (one.found is None or are(one.found.values(), int, str))
     if one.due:
         is_right &= all(isinstance(word, str) for word in one.due.words) and is_number(
             one.due.origin) and all(map(is_number, sum(one.due.parts, ())))

@@ -20,7 +20,7 @@ from ...results.schema import FORMAT, misfit
 from ..batch import Forked, ended_of, signals_held
 from ..single import refuse_file
 from .records import Read, Record, Records
-from .spool import opened, path_of
+from .spool import Journal, OLD_FOLDER, are, opened, path_of
 
 # What came of a programme is judged by a process of its own, which makes one file of the segments.
 # What it says is final where the program said it; what the machine did to it is not, and it is
@@ -146,6 +146,38 @@ class Results:
         self.failed: dict[str, str] = {}  # what could not be written, and why
         self.open: dict[str, dict[str, Any]] = {}  # results that don't stay
         self.tries: dict[int, Tries] = {}  # of those that are due
+        self.mended = set[int]()  # of which somebody was told before
+        self.old_overs: dict[str, int] = {}  # when programmes were over, by version 1.9
+        self.take_over()
+
+    def take_over(self) -> None:
+        """Takes what version 1.9 has left: results that have not got their place, and when
+        programmes were over."""
+        done, journal = (os.path.join(self.folder, name) for name in ("done", "journal"))
+        if not os.path.isdir(done) and not os.path.isfile(journal):
+            return
+        old = Journal(self.folder, "journal", lambda entry: are(entry, str, int))
+        self.old_overs.update((name, max(over, 0)) for name, over in old.entries())
+        for name in sorted(os.listdir(done)) if os.path.isdir(done) else ():
+            folder, over = os.path.join(done, name), self.old_overs.get(name, 0)
+            known = result_at(os.path.join(folder, name + ENDING))
+            if known is not None and not known.get("open") and name not in self.records.by_name:
+                one = self.records.new(name, "", over, over)
+                self.take_inputs_of(one, known)
+                self.records.put(one, known, folder)
+                os.rename(folder, self.records.work(one.number))
+        for name in os.listdir(self.folder):
+            if OLD_FOLDER.fullmatch(name):
+                shutil.rmtree(os.path.join(self.folder, name), ignore_errors=True)
+        with contextlib.suppress(OSError):
+            os.unlink(journal)
+        self.records.said.append(f"{self.folder} was a folder of version 1.9, and is taken over")
+
+    @staticmethod
+    def take_inputs_of(one: Record, known: dict[str, Any]) -> None:
+        """Takes which subtitle file a result is of, where it says so."""
+        if "asked" in known:
+            one.stl, one.found = known["asked"]["stl"], known["found"]["stl"]
 
     # ---- what is judged
 
@@ -189,9 +221,9 @@ class Results:
         known = result_at(os.path.join(self.out, name + ENDING))
         if known is None or known.get("open"):
             return None
-        one = self.records.new(name, stl, self.records.over(), self.records.since())
-        if "asked" in known:
-            one.stl, one.found = known["asked"]["stl"], known["found"]["stl"]
+        over = self.old_overs.get(name, self.records.over())
+        one = self.records.new(name, stl, over, max(over, self.records.since()))
+        self.take_inputs_of(one, known)
         self.records.put(one, known, self.out)
         self.records.tell(one)
         return one
@@ -202,6 +234,7 @@ class Results:
         for one in self.records.by_name.values():
             if one.is_told and self.out is not None and not self.is_written(one):
                 one.is_told = False
+                self.mended.add(one.number)
                 lost.append(one.name)
         return lost
 
@@ -256,7 +289,8 @@ class Results:
         refuse_file(path, self.inputs)
         with result_file(path) as written:
             written.writelines(self.records.result(one))
-        self.told(path, one.row.verdict)
+        if one.number not in self.mended:
+            self.told(path, one.row.verdict)
         self.records.tell(one)
 
     def write_open(self, name: str, known: dict[str, Any]) -> None:

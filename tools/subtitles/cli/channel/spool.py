@@ -1,4 +1,4 @@
-"""The folder of a channel: what may stand in it, and the small files by which its processes talk."""
+"""The folder of a channel: what may stand in it, and the small files by which processes talk."""
 from __future__ import annotations
 
 import contextlib
@@ -37,8 +37,8 @@ def claim(folder: str, inputs: Inputs) -> None:
     strange = [name for name in names if not is_own(folder, name)]
     is_known = MARK in names or not {*names} - {".lock", ".recorder.lock"} or is_old(folder, names)
     if strange or not is_known:
-        raise Stop(f"{folder} holds {(strange or names)[0]}, which no channel made: move that away, "
-                   "or give another folder by --spool")
+        raise Stop(f"{folder} holds {(strange or names)[0]}, which no channel made: move that "
+                   "away, or give another folder by --spool")
     if MARK not in names:  # it is empty, so that a full disk has room for it
         os.close(opened(os.path.join(folder, MARK), os.O_WRONLY | os.O_CREAT))
 
@@ -169,8 +169,8 @@ MOST_OF_JOURNAL = 64 << 20  # bytes of one that is read
 
 class Journal:
     """A file of entries, each a list that `fits`. What can't be written to it now is left out:
-    whoever reads it has to do with what is there. A whole entry that does not fit says that the file
-    is damaged: it is set aside, and `said` says so."""
+    whoever reads it has to do with what is there. A whole entry that does not fit says that the
+    file is damaged: it is set aside, and `said` says so."""
 
     def __init__(self, folder: str, name: str, fits: Callable[[list[Any]], bool]) -> None:
         self.folder, self.name, self.fits = folder, name, fits
