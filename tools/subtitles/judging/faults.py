@@ -7,10 +7,11 @@ from typing import Iterator, NamedTuple, Sequence
 from ..clock.start import most_off, off_words
 from ..common.command_line import MOST_EVERY, counted, pid_name
 from ..common.shapes import Members
-from ..common.times import frame_at, time_of
+from ..common.times import frame_at, frame_of, time_of
 from ..formats.listing import (
     BEGIN, CHARACTER, CONTENT, CONTROL, DISPLAY, EMPTY_TIME, END, FaultLine, GAP, LETTERS,
-    OFF_FRAME, OUT_OF_ORDER, PASSED_OVER, SILENT, STL_FAULTS, WITH_CAUSE, meanings, plain)
+    NamedFault, OFF_FRAME, OUT_OF_ORDER, PASSED_OVER, SILENT, STL_FAULTS, WITH_CAUSE, meanings,
+    named_meanings, plain)
 from ..formats.stl import NamedSubtitle, SubtitleFile
 from ..formats.teletext import BY_WORD, letters
 from ..request.request import Request
@@ -279,14 +280,36 @@ class PartFaults:
         return {"code": f"{code:02X}", "character": self.letters[code] if code >= 0x20 else None}
 
 
+# What a fault without a number does not have.
+NO_NUMBER = ("number", "byte", "character", "text_at", "pes", "pes_pts", "pes_time", "packet",
+             "row", "column", "due", "held", "until_pes", "cause")
+
+
 def words_of_subtitle(subtitle: NamedSubtitle) -> Members:
     """A subtitle for machines."""
     return {"position": subtitle.position, "number": subtitle.number, "begin": subtitle.begin,
             "end": subtitle.end}
 
 
+def named_fault(verdict: Verdict, fault: NamedFault) -> Members:
+    """All that is known of a fault without a number."""
+    part = next((part for part in verdict.parts if part.number == fault.part), None)
+    file = part.subtitle_file() if part else None
+    frame = frame_of(fault.time) if fault.time else None
+    subtitle = None if file is None else file.at_block(fault.block) \
+        if fault.block is not None else file.at_frame(frame) if frame is not None else None
+    meaning = named_meanings().get(fault.name)
+    return {**dict.fromkeys(NO_NUMBER), "part": fault.part, "line": fault.line,
+            "name": fault.name, "severity": verdict.severity.of(fault.name),
+            "file": "pes" if fault.block is None else "stl", "block": fault.block,
+            "subtitle": subtitle and words_of_subtitle(subtitle), "frame": frame,
+            "time": fault.time, "until": fault.until, "means": fault.words,
+            "do": plain(meaning.do) if meaning else ""}
+
+
 def faults_of(verdict: Verdict) -> Iterator[Members]:
-    """The faults of all parts."""
+    """The faults of all parts; before them those without a number."""
+    yield from (named_fault(verdict, fault) for fault in verdict.named)
     for part in verdict.parts:
         if part.answer.count:
             yield from PartFaults(verdict, part)

@@ -103,7 +103,8 @@ OF_ALL = {GAP, OFF_FRAME}  # of which what is known is said of all that is judge
 class Facts(NamedTuple):
     """All that the sentence is made of: the verdict in one word, how many subtitles there are, the
     first fault and how many there are, what to know of that, and the causes; `lost` are the lines
-    of what is missing, `warnings` the kinds of those that count."""
+    of what is missing, `warnings` the kinds of those that count; `named` is what is wrong by the
+    first fault without a number."""
 
     word: str
     subtitles: int
@@ -119,6 +120,7 @@ class Facts(NamedTuple):
     refused: str = ""  # which subtitles are refused, beside which the others are judged
     within: int = 0
     accepted_within: int | None = None
+    named: str = ""
 
 
 def sentence_of(seen: Facts) -> str:
@@ -190,6 +192,8 @@ def what_is_wrong(seen: Facts) -> str:
 def fault_clause(seen: Facts) -> str:
     """The first fault, with its place, in the words for it alone or those of the manual."""
     told = seen.first
+    if told is None and seen.named:
+        return seen.named + (f"; in all {counted(seen.faults, 'fault')}" * (seen.faults > 1))
     if told is None:
         return f"{counted(seen.faults, 'fault')}"
     if told.number == LOST_PACKETS and seen.lost:

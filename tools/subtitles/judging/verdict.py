@@ -7,7 +7,7 @@ from typing import Callable, Iterable, NamedTuple
 from ..clock.start import FITTED, FITTED_LATER
 from ..common.command_line import range_words
 from ..common.files import SummedFile
-from ..formats.listing import LOSSES, ON_SCREEN, STL_FAULTS
+from ..formats.listing import LOSSES, NamedFault, ON_SCREEN, STL_FAULTS
 from ..formats.stl import Subtitle
 from ..recording.recording import Notice
 from ..request.request import Request, Selection
@@ -134,6 +134,7 @@ class Verdict:
     count: int = 0  # of the subtitles
     layout: Choice | None = None  # that was found
     beside: JudgedBeside | None = None  # where some subtitles are refused, and others are judged
+    named: list[NamedFault] = dataclasses.field(default_factory=list)  # faults without a number
 
     @property
     def is_lost(self) -> bool:
@@ -144,7 +145,8 @@ class Verdict:
     def is_lost_alone(self) -> bool:
         """Whether nothing but that is refused."""
         numbers = {number for part in self.parts for number in part.answer.numbers}
-        return self.word == LOST or self.word == REFUSED and numbers <= LOSSES
+        return self.word == LOST or \
+            self.word == REFUSED and numbers <= LOSSES and not self.named
 
     def warn(self, found: Iterable[Notice]) -> None:
         """Takes warnings that are not known yet."""
@@ -168,7 +170,7 @@ class Verdict:
         return Grounds([part.said() for part in self.parts], self.severity,
                     [gap.is_judged and gap.place.mark is None for gap in self.gaps], kinds,
                     self.asked.is_strict, [] if self.reason is None else [self.reason],
-                    self.failed)
+                    self.failed, [fault.name for fault in self.named])
 
     @property
     def decision(self) -> Decision:
@@ -198,7 +200,8 @@ class Verdict:
         said = Facts(
             self.word, self.count, option=self.asked.option, faults=self.faults,
             lost=[gap.line() for gap in self.gaps if gap.is_judged], warnings=self.seen().warnings,
-            reason=self.why_not, is_file=self.asked.recording is None, within=self.asked.within,
+            reason=self.why_not, named=self.named[0].words if self.named else "",
+            is_file=self.asked.recording is None, within=self.asked.within,
             accepted_within=self.accepted_within)
         if refused and self.beside:
             said = self.sent_beside(said, self.beside)
@@ -222,7 +225,7 @@ class Verdict:
     def counts(self) -> Counts | None:
         """How many subtitles were judged, and how many are refused; `None` where neither is known.
         """
-        if self.word == NOT_JUDGED:
+        if self.word == NOT_JUDGED or not self.parts:
             return None
         if self.beside:
             return Counts(len(self.beside.judged), len(self.beside.left_out))
@@ -249,7 +252,7 @@ class Verdict:
     @property
     def faults(self) -> int:
         """How many faults there are in all parts."""
-        return sum(part.answer.count for part in self.parts)
+        return sum(part.answer.count for part in self.parts) + len(self.named)
 
     @property
     def status(self) -> int:
@@ -283,6 +286,8 @@ class Verdict:
         word = self.word
         if word == NOT_JUDGED:
             return None
+        if refused is None and self.named:
+            refused = self.named[0].line
         if word == REFUSED:
             return refused
         line = self.accepted_line() if refused is None else f"{WAIVED}: {refused}"
