@@ -42,11 +42,10 @@ LOST_PACKETS = 45  # TS packets are lost within what is judged: nobody saw what 
 SILENT = 79  # no PES packet has come for as long as the pace allows: these may be lost
 LOSSES = {LOST_PACKETS, SILENT}
 REFUSED, ENDED, FAULT, USAGE = "refused", "ended", "fault", "usage"
-CONTENT, CHARACTER, LETTERS, CONTROL, CHANGED = 72, 50, (50, 51), 67, 69
+CONTENT, CHARACTER, LETTERS, CONTROL, PARITY, CHANGED = 72, 50, (50, 51), 67, 68, 69
 BEGIN, END = 63, 74  # what is judged begins after the first TCI, or ends before the last TCO
 WITH_CAUSE = {BEGIN, CONTENT, END}
 INCOMPLETE = 77
-ON_SCREEN = {*WITH_CAUSE, INCOMPLETE, UNDECIDED}  # what a viewer sees, or does not see
 
 
 class FaultLine(NamedTuple):

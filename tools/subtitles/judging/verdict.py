@@ -1,13 +1,14 @@
 """The verdict on a pair: all that is written of it, and after how many frames pages were whole."""
 from __future__ import annotations
 
+import collections
 import dataclasses
-from typing import Callable, Iterable, NamedTuple
+from typing import Callable, Collection, Iterable, NamedTuple, Sequence
 
 from ..clock.start import FITTED, FITTED_LATER
 from ..common.command_line import range_words
 from ..common.files import SummedFile
-from ..formats.listing import LOSSES, NamedFault, ON_SCREEN, STL_FAULTS
+from ..formats.listing import LOSSES, NamedFault, STL_FAULTS, UNDECIDED
 from ..formats.stl import Subtitle
 from ..recording.recording import Notice
 from ..request.request import Request, Selection
@@ -15,10 +16,11 @@ from ..stream.gaps import Place
 from ..stream.layout import Choice
 from ..stream.receiver import Rows, Timeline
 from .part import Part
-from .sentence import Facts, sentence_of
+from .sentence import Count, Facts, sentence_of
 from .status import Decision, Grounds, LOST, NOT_JUDGED, REFUSED, Severity, WAIVED, WARNED, decide
 from .subtitles import Counts, JudgedBeside
 from .transmissions import DuePages
+from .worst import Lead, Rank
 
 
 # After how many frames each subtitle was whole: what a house needs to choose --within N.
@@ -78,6 +80,31 @@ def frames_in(is_known: bool, count: int, held: Timeline, due: Callable[[], DueP
               is_complete: bool) -> list[int | None]:
     """The same of so many subtitles, by what is held, and what is due where that is needed."""
     return [0] * count if is_known else frames_of(due(), held, is_complete)
+
+
+def worst_of(parts: Sequence[Part], lead: Callable[[Part], Lead | None]) -> Part | None:
+    """The first part of those that have the worst to say first."""
+    def rank(part: Part) -> Rank:
+        one = lead(part)
+        return one.rank if one else Rank.LATER
+
+    return min(parts, key=rank) if parts else None
+
+
+def with_lead(said: Facts, lead: Lead | None) -> Facts:
+    """The same with the fault that is said first."""
+    return said._replace(first=lead.told, is_caused=lead.is_caused) if lead else said
+
+
+def counts_of_numbers(parts: Sequence[Part], left_out: Collection[int] = ()) -> list[Count]:
+    """How many faults there are of each number in all parts, but for some numbers."""
+    counts: collections.Counter[int] = collections.Counter()
+    names: dict[int, str] = {}
+    for part in parts:
+        counts.update(part.answer.counts)
+        names |= {number: told.name for number, told in part.answer.firsts.items()}
+    return [Count(number, names.get(number, ""), count) for number, count in counts.items()
+            if number not in left_out]
 
 
 # A verdict on a pair: its parts, what was lost, what it was made with.
@@ -199,6 +226,7 @@ class Verdict:
         refused = self.leading
         said = Facts(
             self.word, self.count, option=self.asked.option, faults=self.faults,
+            counts=counts_of_numbers(self.parts),
             lost=[gap.line() for gap in self.gaps if gap.is_judged], warnings=self.seen().warnings,
             reason=self.why_not, named=self.named[0].words if self.named else "",
             is_file=self.asked.recording is None, within=self.asked.within,
@@ -206,20 +234,21 @@ class Verdict:
         if refused and self.beside:
             said = self.sent_beside(said, self.beside)
         elif refused:
-            is_caused = refused.causes and refused.causes.named
-            first = refused.answer.first if is_caused else refused.answer.leading
-            said = said._replace(first=first, hint=refused.explanation.hint, causes=refused.causes)
+            said = with_lead(said._replace(hint=refused.explanation.hint, causes=refused.causes),
+                             refused.worst)
         return sentence_of(said)
 
     def sent_beside(self, said: Facts, beside: JudgedBeside) -> Facts:
         """What the sentence is made of where subtitles are refused: that of the transmission, of
         the first part of which something is."""
         answers = [part.answer for part in self.parts]
-        part = next((part for part in self.parts if part.answer.first_sent), None)
+        parts = [part for part in self.parts if part.worst_sent]
+        part = worst_of(parts, lambda one: one.worst_sent)
         said = said._replace(refused=beside.words(), subtitles=len(beside.judged), is_file=False,
-                             faults=sum(answer.count_sent for answer in answers))
-        return said._replace(first=part.answer.first_sent, hint=part.explanation.sent_hint,
-                             causes=part.causes) if part else said
+                             faults=sum(answer.count_sent for answer in answers),
+                             counts=counts_of_numbers(self.parts, STL_FAULTS | {UNDECIDED}))
+        return with_lead(said._replace(hint=part.explanation.sent_hint, causes=part.causes),
+                         part.worst_sent) if part else said
 
     @property
     def counts(self) -> Counts | None:
@@ -268,18 +297,15 @@ class Verdict:
 
     @property
     def lead(self) -> str | None:
-        """The same with the fault that a viewer sees first, where there is one: reports, and tables
-        of many pairs, begin with it."""
+        """The same with the worst fault, where there is one: reports, and tables of many pairs,
+        begin with it."""
         part = self.leading
-        return self.line_of(part.answer.lead if part else None)
+        return self.line_of(part.lead if part else None)
 
     @property
     def leading(self) -> Part | None:
-        """The first part of which something is refused that a viewer sees, else the first that is
-        refused."""
-        refused = [part for part in self.parts if part.is_refused]
-        return next((part for part in refused if part.answer.leading and
-                     part.answer.leading.number in ON_SCREEN), next(iter(refused), None))
+        """The part that has the worst of what is refused."""
+        return worst_of([part for part in self.parts if part.is_refused], lambda one: one.worst)
 
     def line_of(self, refused: str | None) -> str | None:
         """A line of `check`, with what became of it; `None` where nothing is judged."""

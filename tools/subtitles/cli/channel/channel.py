@@ -380,8 +380,8 @@ class Channel:
         of that now. The status is `PASSING` where the machine failed."""
         folder = tempfile.tempdir = os.path.dirname(path)
         words = self.words
-        placed = {"json": os.path.join(folder, record.name + ENDING)} if words.out is None else \
-            {"out": words.out, "here": folder}
+        placed: dict[str, Any] = {"out": words.out, "here": folder} if words.out is not None else \
+            {"json": os.path.join(folder, record.name + ENDING)}
         call = single.PairCall(words.program, is_kept=words.is_kept, stall=words.stall,
                                name=record.name, is_claimed=True, is_fitted=due.is_fitted,
                                given=path, **placed)
