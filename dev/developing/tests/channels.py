@@ -68,9 +68,15 @@ def three(case: Case, starts: Sequence[int], end: int, missing: int = 0) -> list
     return found
 
 
+# The last line of a call whose feed has ended, and how one of a file begins that goes on.
+CLOSING = re.compile(r"(ended|unreadable): \d+ lines? judged, \d+ not judged, \d+ open"
+                     r"|.* goes on at byte \d+")
+
+
 def verdicts(done_lines: Sequence[str]) -> list[str]:
-    """Lines without the date and the time of day."""
-    return [line.partition("  ")[2] for line in done_lines]
+    """Lines without the date and the time of day, but for the first and the last of a call."""
+    told = [line.partition("  ")[2] for line in done_lines]
+    return [line for line in told if not CLOSING.fullmatch(line)]
 
 
 def until(holds: Callable[[], object]) -> bool:

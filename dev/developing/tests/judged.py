@@ -3,7 +3,6 @@ transmissions as the program makes them, of which something is changed.
 """
 from __future__ import annotations
 
-import functools
 import json
 import os
 import shlex
@@ -14,8 +13,7 @@ from typing import Any, Callable, NamedTuple, Sequence
 from developing.pes import data_field, pes_packet, pts_in, teletext_packets
 from developing.stl import gsi_block, subtitle_blocks
 from subtitles.cli.main import parser_of
-from subtitles.cli.single import (
-    Files, PairCall, claimed, draw, end_pair, judge_pair, verdict_of)
+from subtitles.cli.single import Files, PairCall, claimed, end_pair, judge_pair, verdict_of
 from subtitles.common.program import MadeWith
 from subtitles.common.times import CLOCK, TICKS
 from subtitles.formats.stl import NEW_LINE
@@ -99,8 +97,6 @@ def judged_by(program: str, *words: str, heard: Heard | None = None) -> Judged:
                                known.junit), verdict, typed, names)
         verdict.found = found(asked)
         pair = Pair(verdict, typed, names, listener, True)
-        if known.out:
-            pair.draw = functools.partial(draw, pair)
         judge_pair(pair, files)
         end_pair(verdict, heard, files)
         result = json.loads("".join(object_of(verdict, MadeWith("1", "0" * 64, None))))

@@ -3,15 +3,17 @@ from __future__ import annotations
 
 import argparse
 import os
+import shutil
 import tempfile
-from typing import Any, Callable, Iterable, Iterator, Sequence
+from typing import Any, Callable, Iterable, Iterator
 from unittest import mock
 
 from subtitles.cli import single
 from subtitles.cli.channel.channel import Channel
 from subtitles.cli.channel.feed import Heard, Hearing
-from subtitles.cli.channel.recorder import Begin, Read
-from subtitles.cli.channel.results import WORK
+from subtitles.cli.channel.recorder import Begin
+from subtitles.cli.channel.records import Read, Record
+from subtitles.cli.channel.results import Judged, PASSING
 from subtitles.common.times import CLOCK, FRAMES_A_SECOND, TICKS
 from subtitles.formats.teletext import Page
 from subtitles.results.objects import found_at, left_by_call, put_object
@@ -68,6 +70,7 @@ class Judging:
 
     made: list[Judging] = []
     ended = 0  # its status
+    why = "the machine failed"
     left = result("accepted", line="accepted 5 frames",
                   lead="accepted 5 frames")
 
@@ -102,32 +105,38 @@ class Told(Channel):
 
     def __init__(self, case: Case, lines: str, out: str | None = None, *more: str,
                  is_kept: bool = False, patience: int = 2, spool: str | None = None,
-                 command: str | None = None, back: int = 0) -> None:
+                 command: str | None = None, back: int = 0, alarm: str | None = None) -> None:
         words = argparse.Namespace(**{
             **vars(defaults(*more)), "channel": case.write("list", lines.encode()), "name": None,
             "patience": patience, "out": out, "is_kept": is_kept, "stall": 10, "stl": "-",
-            "program": case.bench.program, "on_result": command, "json": None})
+            "program": case.bench.program, "on_result": command, "on_alarm": alarm, "json": None})
         Judging.made = []
         self.said: list[str] = []
+        self.back = back
         super().__init__(words, "tools/qc", spool or tempfile.mkdtemp(dir=case.folder))
-        ended = self.results.ended() and self.results.ended() - back
-        known = Begin(ended, (BEGIN + ended) % CLOCK, True) if ended else None
-        self.hearing = Pages("none", words.pid, known, lambda: ())
-        self.segments.between = lambda *times: [Read("segment", 0)]  # type: ignore[assignment]
-        self.segments.known = -2
-        self.results.judge = self.judged  # type: ignore[assignment]
+        self.results.judge = self.judge_beside  # type: ignore[method-assign]
         self.go_on()
         self.hearing.turn_to([self.words.page])
 
-    def judged(self, call: Callable[[str], int], name: str, parts: Sequence[Read]
-               ) -> tuple[str, dict[str, Any]]:
+    def open(self) -> None:
+        super().open()
+        ended = self.queue.ended and self.queue.ended - self.back
+        known = Begin(ended, (BEGIN + ended) % CLOCK, True) if ended else None
+        self.hearing = Pages("none", self.words.pid, known, lambda: ())
+        self.segments.between = lambda *times: [Read(1, 0)]  # type: ignore[method-assign]
+        self.segments.known = -2
+
+    def judge_beside(self, one: Record, call: Callable[[str], int]) -> Judged:
         """Stands for another process that judges."""
-        folder = tempfile.mkdtemp(dir=self.folder, prefix=WORK)
-        with mock.patch.object(single, "judge_request") as judge, \
-                mock.patch.object(tempfile, "tempdir"):
-            call(folder)
+        folder = self.records.work(one.number)
+        shutil.rmtree(folder, ignore_errors=True)
+        os.mkdir(folder)
+        with mock.patch.object(single, "judged") as judge, mock.patch.object(tempfile, "tempdir"):
+            judge.return_value.status = 0
+            call(os.path.join(folder, "recording"))
         asked, called, _ = judge.call_args.args
-        return folder, Judging(argparse.Namespace(**vars(asked), **called._asdict())).leave(folder)
+        known = Judging(argparse.Namespace(**vars(asked), **called._asdict())).leave(folder)
+        return Judged(None, Judging.why) if Judging.ended == PASSING else Judged(known)
 
     def say(self, line: str) -> None:
         self.said.append(line)

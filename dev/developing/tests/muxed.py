@@ -21,6 +21,9 @@ def mpeg_2_picture(structure: int = 3) -> bytes:
     return b"\0\0\1\0\0\0\0\0" + b"\0\0\1\xb5" + extension + SLICES
 
 
+CLOSED_GROUP = b"\0\0\1\xb8\0\x08\0\x40"  # a GOP header of MPEG-2 with closed_gop
+
+
 def h_264_picture(field: int | None = None) -> bytes:
     """A picture of H.264, a frame or one of two fields, behind a sequence parameter set that allows
     fields."""
@@ -112,16 +115,18 @@ def components(kind: int = MPEG_2, descriptor: bytes = teletext_descriptor()) \
 def programme(pes: bytes, first: int, kind: int = MPEG_2, picture: bytes = b"",
               passed: int = 3, leading: int = 2) -> Maker:
     """A stream whose first picture has this PTS. Of the video `passed` pictures come before, and
-    `leading` ones are sent after the one with the flag and shown before it."""
+    `leading` ones are sent after the one with the flag and shown before it: in a closed group,
+    which H.264 has not."""
     maker = Maker(components(kind))
     made = picture or {MPEG_2: mpeg_2_picture(), H_264: h_264_picture(),
                        HEVC: hevc_picture()}[kind]
     maker.put_tables()
     for number in range(passed):
         maker.put(VIDEO_PID, video_packet(first + TICKS * (number - passed), made))
+    group_begin = CLOSED_GROUP if kind == MPEG_2 else b""
     for number in range(2):
         group = first + TICKS * (leading + 12) * number
-        maker.put(VIDEO_PID, video_packet(group + TICKS * leading, made), True)
+        maker.put(VIDEO_PID, video_packet(group + TICKS * leading, group_begin + made), True)
         for place in range(leading):
             maker.put(VIDEO_PID, video_packet(group + TICKS * place, made))
         for place in range(leading + 1, leading + 12):

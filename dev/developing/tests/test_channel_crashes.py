@@ -9,7 +9,8 @@ from typing import Any, Callable
 from unittest import mock
 
 from subtitles.cli.channel import results
-from subtitles.cli.channel.recorder import Journal
+from subtitles.cli.channel.records import Records
+from subtitles.cli.channel.spool import Journal
 from subtitles.common.times import CLOCK, TICKS
 from .listings import BEGIN, SECOND, Lines, Programmes, Told, texts_of
 from .test_channel_tables import FIRST
@@ -18,7 +19,7 @@ STARTS = {"one": BEGIN, "two": BEGIN + 60 * SECOND, "one~2": BEGIN + 120 * SECON
 # The calls by which something is written, and how many of them there are at least.
 STEPS: list[tuple[Any, str]] = [
     (os, "mkdir"), (os, "rename"), (os, "replace"), (os, "unlink"), (shutil, "rmtree"),
-    (Journal, "add"), (results, "failure_of")]
+    (os, "fsync"), (os, "pwrite"), (Journal, "add"), (Records, "put_due"), (results, "failure_of")]
 LEAST = 30
 
 
@@ -88,7 +89,8 @@ class Crashes(Programmes):
         lines = Lines()
         for name, begin in STARTS.items():
             channel.give(lines.sent(texts_of(name.partition("~")[0]), begin, 20))
-        channel.results.publish()
+        channel.judge_due()
+        channel.publish()
 
     def results(self, out: str) -> dict[str, bytes]:
         """The results that are there."""

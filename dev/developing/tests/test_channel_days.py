@@ -5,7 +5,8 @@ import os
 import subprocess
 
 
-from subtitles.cli.channel.recorder import numbers_in, size_in
+from subtitles.cli.channel.recorder import size_in
+from subtitles.cli.channel.spool import numbers_in
 from subtitles.common.times import CLOCK
 from .bench import Case, packets
 from .channels import BEGIN, SECOND, Running, blank, make_programme

@@ -88,7 +88,7 @@ class Disks(Case):
             file.write(bytes(SIZE * 2 ** 20 - len(feed) // 2))
         for name in ("small", "full"):
             done = self.tool("qc", "--channel", "list", "-", "-o", name + " out", "--spool",
-                             "small", "-p", self.bench.program, data=feed)
+                             "small/feed", "-p", self.bench.program, data=feed)
             self.must(f"{name}: its end", done.status == 2 and not done.told, done)
             for one, line in zip(self.results(name + " out"), THREE):
                 reason = one["reason"] or ""
@@ -96,7 +96,7 @@ class Disks(Case):
                           if reason else one["line"] in line, one)
             self.fill(self.path("small"))
         self.lock(self.disk("read-only"))
-        done = self.tool("qc", "--channel", "list", "-", "--spool", "read-only", "-p",
+        done = self.tool("qc", "--channel", "list", "-", "--spool", "read-only/feed", "-p",
                          self.bench.program, data=feed)
         self.must("read-only", done.status == 2 and "Read-only file system" in done.told[-1], done)
 

@@ -111,4 +111,5 @@ class Feeds(Case):
         """Of a list without a line that is told at the end of the feed."""
         self.write("list", b"# none\n")
         done = self.tool("qc", "--channel", "list", example("story.pes"), "-p", self.bench.program)
-        self.must("told", done == (2, b"", ["qc: list names no programme"]), done)
+        self.must("told", (done.status, done.told) == (2, ["qc: list names no programme"]) and
+                  done.out.endswith(b"  ended: 0 lines judged, 0 not judged, 0 open\n"), done)

@@ -67,11 +67,12 @@ class Pids(Case):
             if not is_early:
                 lines[-8:-2] = MOVED
             heard = heard_of(lines)
-            self.must(f"{is_early}: said", heard.said == [
+            both = "page 888 is sent on PID 0x101 and PID 0x102: PID 0x101 is heard on"
+            self.must(f"{is_early}: said", heard.said == [both] * is_early + [
                 f"the PMT moves page 888 from PID 0x101 to PID 0x102, before PTS "
                 f"{(21 if is_early else 22) * SECOND}"], heard.said)
             self.must(f"{is_early}: on", (heard.pid, heard.now) == (OTHER, 22 * SECOND))
-            self.must(f"{is_early}: when", heard.moves == [20 * SECOND], heard.moves)
+            self.must(f"{is_early}: when", [one.time for one in heard.moves] == [20 * SECOND])
         stays = heard_of([*TABLE, Lines(PID).pes(0), *MOVED, *MOVED], PID)
         self.must("one that is asked for", stays.pid == PID and not stays.said)
 
@@ -84,7 +85,7 @@ class Pids(Case):
             heard = heard_of([*TABLE, own.pes(0), own.pes(SECOND), *MOVED, other.pes(2 * SECOND),
                               *(other.pes(SECOND * 60 * at) for at in range(1, hours * 60)), *TABLE,
                               own.pes(back), own.pes(back + SECOND)])
-            self.must(f"{hours}", (heard.pid, heard.anew, heard.now) == (PID, 0, back + SECOND) and
+            self.must(f"{hours}", (heard.pid, heard.anew, heard.now) == (PID, "", back + SECOND) and
                       [line[:20] for line in heard.said] == ["the PMT moves page 8"] * 2,
                       heard.said)
 

@@ -10,8 +10,9 @@ from unittest import mock
 from developing.pes import MARK, pes_packet
 from subtitles.cli.channel import recorder
 from subtitles.cli.channel.recorder import (
-    AHEAD, Begin, ERROR, Exchange, FILE, HEARD, Journal, LEAST, MANY, NotWanted, PART, Recorder,
-    Segments, numbers_in, path_of)
+    AHEAD, Begin, LEAST, MANY, NotWanted, PART, Recorder, Segments)
+from subtitles.cli.channel.spool import (
+    ERROR, Exchange, FILE, HEARD, Journal, RESTARTS, are, numbers_in, path_of)
 from subtitles.common.files import Input
 from .bench import Case
 from .listings import SECOND
@@ -99,7 +100,7 @@ class Read(Folders):
             segments = self.segments(folder, behind)
             for first, last in ((0, 99), (50, 99), (50, 60), (96, 99)):
                 parts = segments.between(SECOND * first, SECOND * first, SECOND * last) or []
-                found = [int(os.path.basename(one.path)[:-4]) for one in parts]
+                found = [one.number for one in parts]
                 self.must(f"{behind}: {first} to {last}", {*range(first, last + 1)} <= {*found}
                           and first - found[0] <= 4, found)
             segments.drop(SECOND * 50)
@@ -121,11 +122,11 @@ class Read(Folders):
         while segments.read() is not None:
             pass
         self.must("before it", segments.between(0, 0, SECOND * 9) == [
-            (path_of(folder, number), LEAST // 4) for number in range(5)], segments.at)
+            (number, LEAST // 4) for number in range(5)], segments.at)
         segments.read()
         segments.begin(Begin(SECOND * 9, 0, False))
         self.must("since then", segments.between(SECOND * 9, 0, SECOND * 9) ==
-                  [(path_of(folder, 6), 3)] and [*segments.before()] == [b"six"])
+                  [(6, 3)] and [*segments.before()] == [b"six"])
         segments.drop(0)
         self.must("gone", numbers_in(folder) == [6])
 
@@ -152,34 +153,42 @@ class Read(Folders):
             segments.begins = dict([max(segments.begins.items())])
         self.put(folder, number, b"last")
         segments.drop(1 << 60)
-        self.must("written anew", len([*segments.index.entries(4)]) == 1)
+        self.must("written anew", len(segments.index.entries()) == 1)
 
     def test_journal(self) -> None:
         """Half of an entry is none, and those behind it are there."""
-        journal = Journal(self.path("journal"))
-        self.must("none", [*journal.entries(2)] == [])
-        journal.add("one", 1)
-        whole = self.read("journal")
+        def journal(folder: str = self.folder) -> Journal:
+            return Journal(folder, "index", lambda entry: are(entry, str, int))
+
+        self.must("none", journal().entries() == [])
+        journal().add("one", 1)
+        whole = self.read("index")
         for count in range(len(whole) + 1):
-            self.write("journal", whole[:count])
-            journal.add("two", 2)
-            journal.add("other", 2, 3)
-            self.must(f"{count}", [*journal.entries(2)] == [["one", 1]] * (
-                count >= len(whole) - 1) + [["two", 2]], self.read("journal"))
-        Journal(self.path("none/journal")).add(1)
+            self.write("index", whole[:count])
+            journal().add("two", 2)
+            self.must(f"{count}", journal().entries() == [["one", 1]] * (
+                count >= len(whole) - 1) + [["two", 2]], self.read("index"))
+        journal(self.path("none")).add("one", 1)
         with mock.patch("os.replace", side_effect=OSError):
-            journal.replace([])
-        self.must("as it was", len([*journal.entries(2)]) == 2)
+            journal().replace([])
+        self.must("as it was", len(journal().entries()) == 2)
+        for wrong in (b"{}", b"5", b"[1,2]", b'["a",true]', b'["a",1,2]', b"[" * 100_000):
+            self.write("index", whole + wrong + b"\n")
+            one = journal()
+            self.must(f"{wrong[:9]!r}", one.entries() == [] and os.path.exists(
+                self.path("index.damaged")) and "is damaged: it is index.damaged now" in
+                one.said[0], one.said)
+            os.unlink(self.path("index.damaged"))
 
     def test_state(self) -> None:
         """Numbers, at once; of a file that is gone none."""
         state = Exchange(self.new("one"))
-        self.must("none, with room for all", os.path.getsize(state.path) == 48 and
+        self.must("none, with room for all", os.path.getsize(state.path) == 64 and
                   [state[at] for at in (HEARD, ERROR, FILE)] == [0] * 3)
         state[ERROR] = 1
-        state.put(FILE, 2, 3, 1 << 63, 5)
-        self.must("known", state[ERROR] == 1 and state.several(FILE, 4) == [2, 3, 1 << 63, 5]
-                  and state[HEARD] == 0)
+        state.put(FILE, 2, 3, 1 << 63, 5, 6)
+        self.must("known", state[ERROR] == 1 and state.several(FILE, 5) == [2, 3, 1 << 63, 5, 6]
+                  and state[HEARD] == state[RESTARTS] == 0)
         os.unlink(state.path)
         state[HEARD] = 7
         self.must("anew", (state[HEARD], state[ERROR]) == (7, 0))

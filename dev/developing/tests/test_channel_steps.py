@@ -8,8 +8,8 @@ from typing import Any
 from unittest import mock
 
 from subtitles.cli.channel.channel import BEFORE_IT
-from subtitles.cli.channel.feed import MINUTE
-from subtitles.cli.channel.recorder import ERROR
+from subtitles.cli.channel.feed import MINUTE, Move
+from subtitles.cli.channel.spool import ERROR
 from subtitles.cli.channel.schedule import AT_ONCE, LATER
 from subtitles.clock.start import FITTED_SHORT
 from subtitles.common.times import CLOCK, TICKS
@@ -40,7 +40,7 @@ class Steps(Programmes):
                 words = one.words
                 self.must("words", (words.name, words.recording, words.origin, words.pid) == (
                     "one", "-", (begin - TICKS * FIRST) % CLOCK, 0x101) and
-                    words.is_fitted and words.is_cut and words.is_kept == is_kept and
+                    words.is_fitted and words.given and words.is_kept == is_kept and
                     words.stl == self.files["one"] and words.out == out and
                     (words.here is None) == (out is None) == (words.json is not None), words)
                 self.must("said", channel.said == [f"one  accepted 5 frames; {FITTED_SHORT}"],
@@ -152,7 +152,7 @@ class Steps(Programmes):
                 self.must(f"{options} at {second}", len(channel.said) == count, channel.said)
             self.must("why", channel.said == [f"{name}  not judged: {why}" for name in
                                               ("one", "two")], channel.said)
-            self.must("since then", channel.queue.since == 241 * SECOND, channel.queue.since)
+            self.must("since then", channel.queue.since == 240 * SECOND, channel.queue.since)
 
     def test_patience_of_another_call(self) -> None:
         """It counts from the end of the programme before, however much is heard once more."""
@@ -176,7 +176,7 @@ class Steps(Programmes):
             channel, lines = Told(self, self.listed("one")), Lines(OTHER)
             told = [*lines.sent(texts_of("one"), BEGIN, 20)]
             channel.give(told[:8])
-            channel.hearing.by_page[0, 0x88].moves.append(-before * SECOND)
+            channel.hearing.by_page[0, 0x88].moves.append(Move(-before * SECOND, "it"))
             channel.give(told[8:])
             self.must(f"{before}", [one.words.pid for one in Judging.made] == [pid], channel.said)
 
@@ -325,7 +325,8 @@ class Steps(Programmes):
         channel = Told(self, self.listed("one", "two"), patience=60)
         channel.give([*Lines().sent(texts_of("one"), BEGIN)][:14])
         floors = list[int]()
-        channel.segments.drop = floors.append  # type: ignore[assignment]
+        channel.segments.drop = (  # type: ignore[method-assign]
+            lambda floor, needed=None: floors.append(floor))
         assert channel.running
         for is_sent, later, ended, floor in (
                 (True, 0, 0, -2), (True, 9, 0, -2), (False, 30, 0, -12), (False, 50, 40, 28),

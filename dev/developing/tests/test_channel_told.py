@@ -6,28 +6,38 @@ import os
 import shutil
 import signal
 import subprocess
+from typing import Any
 from unittest import mock
 
 from subtitles.cli.channel import results
+from subtitles.cli.channel.machine import ALARMS, STOPPED
 from subtitles.cli.channel.results import failure_of, refuse_command
+from subtitles.cli.channel.schedule import LOST
+from subtitles.cli.channel.spool import path_of
 from subtitles.common.command_line import Stop
 from .bench import SECONDS, Case, example
 from .channels import Running, until
-from .listings import BEGIN, SECOND, Lines, Programmes, Told, texts_of
+from .listings import BEGIN, SECOND, Judging, Lines, Programmes, Told, texts_of
+from .results import result
 
 
 class Machine(Programmes):
     """channel.json."""
 
-    def told(self) -> dict[str, object]:
+    def told(self) -> dict[str, Any]:
         """What stands in it, but for the dates."""
         known = json.loads(self.read("out/channel.json"))
         verdict = known["last_verdict"] or {"date": None}
-        self.must("its dates", len(known.pop("date")) == 20 and all(
-            one is None or len(one) == 20 for one in (known["last_loss"], verdict.pop("date"))))
+        dates = [known.pop(name) for name in ("date", "last_loss", "came", "header",
+                                              "silent_since")] + [verdict.pop("date")]
+        self.must("its dates", len(dates[0]) == 20 and all(
+            one is None or len(one) == 20 for one in dates))
+        known["dates"] = [name for name, one in zip(("date", "loss", "came", "header", "silent"),
+                                                    dates) if one]
+        self.must("room", known.pop("free_bytes") > 0)
         return dict(known)
 
-    def look(self, channel: Told) -> dict[str, object]:
+    def look(self, channel: Told) -> dict[str, Any]:
         """What stands there after a second."""
         channel.next_write = 0.0
         channel.keep()
@@ -35,22 +45,61 @@ class Machine(Programmes):
 
     def test_what_it_says(self) -> None:
         """Which is sent, which are waited for and since when, the last loss and the last verdict,
-        and what is kept."""
-        channel, lines = Told(self, self.listed("one", "two"), self.path("out")), Lines()
-        nothing = {"format": 1, "sent": None, "last_loss": None, "last_verdict": None,
-                   "waiting_seconds": 0, "waiting": ["one", "two"], "segments": 0, "bytes": 0}
+        what is kept, what came of the list, and how often a judge has begun."""
+        spool = self.path("spool")
+        os.mkdir(spool)
+        channel, lines = Told(self, self.listed("one", "two"), self.path("out"), spool=spool), \
+            Lines()
+        counts = {"open": 2, "judged": 0, "refused": 0, "not_judged": 0, "not_written": 0}
+        nothing = {"format": 2, "state": "running", "sent": None, "last_verdict": None,
+                   "waiting_seconds": 0, "waiting": ["one", "two"], "segments": 0, "bytes": 0,
+                   "lines": counts, "alarms": [], "recorder": False, "restarts": 0,
+                   "last_error": None, "behind_seconds": 0, "dates": ["date"]}
         self.must("at first", self.look(channel) == nothing, self.told())
         channel.give([*lines.sent(texts_of("one"), BEGIN)][:14])
         self.must("one is sent", self.look(channel) == {
-            **nothing, "sent": "one", "waiting": ["two"], "waiting_seconds": 9}, self.told())
-        channel.give([lines.pes(BEGIN + SECOND * 11, "hecb", 20, SECOND)])
-        with open(os.path.join(channel.folder, "000000001.seg"), "wb") as file:
+            **nothing, "sent": "one", "waiting": ["two"], "waiting_seconds": 9,
+            "dates": ["date", "header"]}, self.told())
+        with mock.patch.object(Judging, "left", result("refused")), \
+                mock.patch.object(Judging, "ended", 1):
+            channel.give([lines.pes(BEGIN + SECOND * 11, "hecb", 20, SECOND)])
+        with open(path_of(channel.folder, 1), "wb") as file:
             file.write(bytes(188))
         channel.lose()
         found = self.look(channel)
-        self.must("a loss", found["last_loss"] is not None and found["last_verdict"] == {
-            "name": "one", "verdict": "accepted"}, found)
+        self.must("a loss", found["last_verdict"] == {"name": "one", "verdict": "refused"} and
+                  found["alarms"] == ["loss"] and found["dates"][:3] == ["date", "loss", "came"] and
+                  found["last_error"] == f"{LOST}: it was recorded anew", found)
         self.must("what is kept", (found["segments"], found["bytes"]) == (1, 188), found)
+        self.must("the list", found["lines"] == {**counts, "open": 1, "judged": 1, "refused": 1},
+                  found)
+        again = Told(self, self.listed("one", "two"), self.path("out"), spool=spool)
+        self.must("again", self.look(again)["restarts"] == 1, self.told())
+        again.machine.state = STOPPED
+        self.must("stopped", self.look(again)["state"] == "stopped")
+
+    def test_alarms(self) -> None:
+        """Each once when it sets in, and once when it ends."""
+        told = list[tuple[str, ...]]()
+        channel = Told(self, self.listed("one"), self.path("out"), alarm="alarm")
+        with mock.patch.object(results, "failure_of", lambda command, *words: told.append(words)):
+            channel.give([Lines().pes(BEGIN)])
+            for still, is_losing, folder, failed in (
+                    (0, False, "-", {}), (99, False, "-", {}), (99, False, "-", {}),
+                    (0, True, "-", {}), (0, False, "-", {}), (0, False, channel.folder, {}),
+                    (0, False, "-", {"one": "No space left"}), (0, False, "-", {})):
+                channel.stall.take(still)
+                channel.words.stl, channel.results.failed = folder, dict(failed)
+                if is_losing:
+                    channel.lose()
+                    channel.is_losing = True
+                channel.tell_machine()
+                channel.is_losing = False
+        self.must("told", sorted((kind, what) for kind, what, _ in told) == [
+            (kind, what) for kind in sorted(ALARMS) for what in ("begins", "ends")], told)
+        self.must("lines", [line for _, what, line in told if what == "begins"] == [
+            "nothing has come for 10 seconds", f"{LOST}: it was recorded anew",
+            f"nobody records into {channel.folder}", "one: No space left"], told)
 
     def test_when(self) -> None:
         """When something changes, and every ten seconds; where it can't be written nothing else
@@ -73,7 +122,7 @@ class Machine(Programmes):
         channel = Told(self, f"{self.path('channel.stl')}\n", self.path("out"))
         channel.give(Lines().sent(texts_of("one"), BEGIN, 20))
         self.must("its result", json.loads(self.read("out/%63hannel.json"))["verdict"] ==
-                  "accepted" and self.look(channel)["format"] == 1)
+                  "accepted" and self.look(channel)["format"] == 2)
 
 
 class Folders(Programmes):
@@ -104,12 +153,17 @@ class Folders(Programmes):
         self.must("emptied", os.path.exists(self.path("out/three.json")), channel.said)
 
     def test_result_that_could_not_be_kept(self) -> None:
-        """Where its folder can't be written to it goes to that of the results at once."""
+        """Where its folder can't be written to it goes to that of the results at once, and is kept
+        once that can be done."""
         channel = Told(self, self.listed("one"), self.path("out"))
-        with mock.patch("os.rename", side_effect=OSError(28, "No space")):
+        with mock.patch("os.fsync", side_effect=OSError(30, "Read-only")):
             channel.give(Lines().sent(texts_of("one"), BEGIN, 20))
-        self.must("written", json.loads(self.read("out/one.json"))["verdict"] == "accepted" and
-                  not channel.results.kept, channel.said)
+            why = "its result can't be kept, and is tried again: "
+            self.must("written", json.loads(self.read("out/one.json"))["verdict"] == "accepted"
+                      and any(f"one: {why}" in line for line in channel.said), channel.said)
+        self.must("not kept", channel.records.unkept)
+        channel.publish()
+        self.must("kept", not channel.records.unkept and not channel.results.failed)
 
     def test_lists_that_are_none(self) -> None:
         """A device, a pipe, and one that stands in the place of a result: that stays."""

@@ -232,7 +232,7 @@ class Starts(Case):
             for shift in (0, CLOCK - (BEGIN - 40) * TICKS):
                 pes = moved(example_bytes("story.pes"), lambda _, pts: pts + shift)
                 first = (FIRST_PTS + shift) % CLOCK
-                data = stream_with(pes, first, kind).data
+                data = stream_with(pes, first, kind, leading=0 if kind == H_264 else 2).data
                 found = self.judge(data, "--start", STARTED)
                 self.must(f"{kind} {shift}", found.word == "accepted" and any(
                     line.startswith(f"the first picture has PTS {first}, ") and
@@ -305,21 +305,25 @@ ENCODERS = {"mpeg2video": ["-bf", "2", "-g", "15"],
 
 
 def compare(case: Case, name: str, stl: str, data: bytes, is_closed: bool) -> None:
-    """Compares the first picture of a stream with what ffprobe reads."""
+    """Compares the first picture of a stream with what ffprobe reads: that with the flag, or where
+    its group is closed, or `survey` does not tell that, the one with the smallest PTS."""
     path = case.write("cut.ts", data)
     done = qc(case, stl, path, "--start", "00:00:00:00")
+    survey = case.call([case.bench.program, "survey", "--page", "888", "--", path])
+    has_least = is_closed or b"\ngroup " not in survey.out
     packets_of = table(case, path, "packet=pts,flags")
     keys = [number for number, row in enumerate(packets_of) if "K" in row[1]]
     if not case.must(f"{name}: groups", len(keys) > 1, packets_of):
         return
     group = [int(row[0]) for row in packets_of[keys[0]:keys[1]]]
+    first = min(group) if has_least else group[0]
     line = next((line for line in lines_of(done) if line.startswith("the first picture")), "")
-    case.must(f"{name}: the smallest PTS", line.startswith(
-        f"the first picture has PTS {min(group)}, "), (line, min(group), done.told))
+    case.must(f"{name}: its PTS", line.startswith(f"the first picture has PTS {first}, "),
+              (line, group, done.told))
     case.must(f"{name}: passed over", f"; {keys[0]} PES packet" in line, (line, keys))
     if is_closed:
         shown = [int(row[1]) for row in table(case, path, "frame=key_frame,pts") if row[0] == "1"]
-        case.must(f"{name}: the first that is shown", shown[:1] == [min(group)], (shown, line))
+        case.must(f"{name}: the first that is shown", shown[:1] == [first], (shown, line))
 
 
 def table(case: Case, path: str, entries: str) -> list[list[str]]:
@@ -335,9 +339,8 @@ class OfFfprobe(Case):
     """Streams of ffmpeg, and what ffprobe reads of them."""
 
     def test_agrees_with_ffprobe(self) -> None:
-        """Streams of ffmpeg, cut within a group of pictures, hold the smallest PTS of the first
-        whole group; where no group needs the one before, that is the first picture which ffprobe
-        shows."""
+        """Streams of ffmpeg, cut within a group of pictures: the first picture of the first whole
+        group; where no group needs the one before, that is the first which ffprobe shows."""
         if not (shutil.which("ffmpeg") and shutil.which("ffprobe")):
             self.skipTest("streams of MPEG-2, H.264 and HEVC, since there is no ffmpeg")
         stl = self.write("own.stl", gsi_block(b"Own", 3, 3) + b"".join(

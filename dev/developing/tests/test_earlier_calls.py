@@ -22,7 +22,7 @@ from subtitles.request.request import Request
 from subtitles.request.lateness import Lateness
 from subtitles.request.profile import Profile
 from subtitles.results.objects import (
-    Row, found, found_at, has_had_its_turn, is_current, left_by_call, may_take, object_at,
+    Row, found, is_current, left_by_call, may_take, object_at,
     objects_in, row_of_object, unjudged)
 from subtitles.results.schema import ASKED
 from .bench import Case, example_bytes
@@ -174,27 +174,6 @@ class Objects(Case):
         os.mkdir(self.path("f.json"))
         names = [os.path.basename(path) for path, _ in objects_in(self.folder)]
         self.must("names", names == ["a.json", "b.json"], names)
-
-    def test_has_had_its_turn(self) -> None:
-        """By its subtitle file as it is now; what was not judged by its own account."""
-        stl = self.write("one.stl", b"1")
-        asked, other = asked_for(stl, None), asked_for(self.write("two.stl", b"1"), None)
-        for path in (stl, other.stl):  # alike but for the name
-            os.utime(path, ns=(5, 1_700_000_000_123_456_789))
-        self.must("of a file", found_at(stl) == {
-            "size": 1, "modified": "2023-11-14T22:13:20.123456789Z"}, found_at(stl))
-        self.must("of none", found_at(None) is None and found_at(self.folder) is None)
-        one = result(asked=ASKED.made(asked), found=found(asked))
-        nothing, longer = ({**found(asked), "stl": size and {**size, "size": 2}}
-                           for size in (None, found_at(stl)))
-        rows: list[tuple[str, dict[str, Any], Request | None, bool]] = [
-                ("judged", one, asked, True), ("of another file", one, other, False),
-                ("no programme now", one, None, False),
-                ("nothing found", {**one, "found": nothing}, asked, False),
-                ("another size", {**one, "found": longer}, asked, False),
-                ("no pair", {}, asked, True), ("open", {"open": True}, asked, False)]
-        for name, have, of, wanted in rows:
-            self.must(name, has_had_its_turn(have, of) == wanted)
 
     def test_left_by_a_call(self) -> None:
         """An object counts with the status that the call ended with; else what it told last."""

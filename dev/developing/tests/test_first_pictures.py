@@ -4,7 +4,8 @@ from __future__ import annotations
 import unittest
 from typing import Sequence
 
-from subtitles.clock.start import First, NoFirst, PATIENCE, first_picture, is_known, left_out
+from subtitles.clock.start import (
+    Clock, First, NoFirst, PATIENCE, START, first_picture, is_known, left_out)
 from subtitles.common.times import CLOCK, TICKS
 from subtitles.stream.survey import Survey
 from .muxed import H_264, HEVC, MPEG_2
@@ -54,6 +55,36 @@ class Pictures(unittest.TestCase):
             self.assertEqual(self.said(lines), First(VIDEO, kind, 9, 0))
         self.assertIn("PTS 9, HEVC of PID 0x200; 1 PES packet of video before it skipped",
                       First(VIDEO, HEVC, 9, 1).line())
+
+    def test_groups(self) -> None:
+        """Of a closed group the smallest; of one that is open or unknown the one with the flag;
+        both are said where they differ."""
+        flagged, least = (CLOCK - 5 + TICKS * 2) % CLOCK, CLOCK - 5
+        begin = ", MPEG-2 of PID 0x200; 3 PES packets of video before it skipped"
+        for frames, form, first, other, away, more in (
+                (GROUP, "closed", least, flagged, 2, "; the one with the random_access_indicator "
+                 f"has PTS {flagged}, 2 frames later"),
+                (GROUP, "open", flagged, least, -2, "; those of its group that come before it, "
+                 f"from PTS {least} on, 2 frames, can't be decoded"),
+                (GROUP, "unknown", flagged, least, -2, "; those of its group that come before it, "
+                 f"from PTS {least} on, 2 frames, can't be decoded"),
+                ([0, 1, 2], "open", least, None, 0, ""), ([0, 2, 1], "closed", least, None, 0, "")):
+            lines = shown(frames)
+            found = self.said([*lines[:-1], f"group {VIDEO} {flagged} {least} {form}", lines[-1]])
+            self.assertEqual(found, First(VIDEO, MPEG_2, first, 3, other), (frames, form))
+            assert isinstance(found, First)
+            self.assertEqual((found.away, found.line()), (
+                away, f"the first picture has PTS {first}{begin}{more}"))
+
+    def test_questions(self) -> None:
+        """A delay of all that is just as long as to the other picture asks whether the time code is
+        of that."""
+        for away, delay, words in (
+                (-2, -2, "is the time code that of the GOP header?"), (-2, 2, ""), (-2, -1, ""),
+                (-2, 0, ""), (-2, None, ""), (0, 0, ""), (0, None, ""), (2, -2, ""),
+                (2, 2, "is the time code that of the picture with the random_access_indicator?")):
+            said = Clock(0, START, delay, away=away).question()
+            self.assertTrue(said.startswith(words) and bool(said) == bool(words), said)
 
     def test_none(self) -> None:
         """Each reason."""

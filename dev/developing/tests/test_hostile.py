@@ -108,7 +108,7 @@ class Hostile(Case):
                 is_program = what == "not UTF-8" and "check" in command
                 self.must(f"{what}: {command}", again.status in (0, 1) or is_program, again)
             done = qc(self, self.path("in/two.stl"), two, "--breaks", "1", *words)
-            self.must(f"{what}: two parts", done.status == 0 and "two.2.html" in os.listdir(out),
+            self.must(f"{what}: two parts", done.status == 0 and "two.2.txt" in os.listdir(out),
                       done)
             done = qc(self, "--batch", "in", "--breaks", "1", *words)
             self.must(f"{what}: a batch", done.status == 0 and not controls(done.out)

@@ -33,7 +33,7 @@ VALUES = {"--page": "801", "--every": "25", "--within": "1", "--option": "german
           "--line": "2", "--jobs": "2", "--settled": "1", "--patience": "9",
           "--from": "00:00:01:00",
           "--to": "00:00:02:00", "--layout": "fit", "--pace": "9", "--spool": "feed",
-          "--on-result": "true", "--late": "0:9/0:9"}
+          "--on-result": "true", "--on-alarm": "true", "--late": "0:9/0:9"}
 MANUAL = os.path.join(TOP, "docs", "manual", "qc.md")
 ASKING = {"--batch", "--watch", "--channel", "--collect", "--measure", "--help", "-h", "--version"}
 

@@ -1,19 +1,17 @@
 """One pair: what is said at its end, in which order, and what is written of it."""
 from __future__ import annotations
 
-import argparse
 import contextlib
-import dataclasses
 import io
 import json
 import os
+import re
 from typing import Any, Sequence
 
 from subtitles.cli import collection
 from subtitles.cli.single import (
     Files, Output, PairCall, clear, end_pair, now, pair_title, refuse_outputs, say_verdict)
 from subtitles.clock.start import Clock, FITTED, Found, GIVEN, RECORDING
-from subtitles.common.program import about_program
 from subtitles.judging.check import Answer
 from subtitles.judging.part import Explanation, Part
 from subtitles.judging.status import Severity
@@ -56,16 +54,17 @@ class Ends(Case):
         return heard.lines
 
     def test_accepted(self) -> None:
-        """The sentence, then what stands beside it, and the line last."""
+        """What stands beside it, then the sentence, and the line last."""
         said = self.said(self.verdict([part_with(0, 9, 0)], notes=["a note"], hints=["a hint"],
                                       warnings=[Notice("kind", "strange")]))
         self.must("lines", said == [
+            "! a note", said[1], "a hint",
             "Accepted: 3 subtitles, each of them as it is due from the first frame on.",
-            "! a note", said[2], "a hint", "accepted 10 frames 2 transmissions"] and
-            "strange" in said[2] and said[2].startswith("! "), said)
+            "accepted 10 frames 2 transmissions"] and
+            "strange" in said[1] and said[1].startswith("! "), said)
         fitted = part_with(0, 9, 0, source=RECORDING)
         said = self.said(self.verdict([fitted, part_with(10, 19, 0, number=2)]))
-        self.must("parts", said[1:3] == [
+        self.must("parts", said[:2] == [
             "part 1, from 00:00:00:00 to 00:00:00:09: accepted 10 frames 2 transmissions",
             "part 2, from 00:00:00:10 to 00:00:00:19: accepted 10 frames 2 transmissions"], said)
         self.must("fitted", FITTED in said and said[-1] ==
@@ -78,12 +77,12 @@ class Ends(Case):
             said = self.said(self.verdict([part_with(0, 99, 0)], gaps=[gap(True)] * count))
             place = "! between 00:00:01:00 and 00:00:02:00: 3 TS packets lost"
             self.must(f"{count}", said.count(place) == min(count, 20) and
-                      (more in said if more else not any("more place" in one for one in said[1:])),
+                      (more in said if more else not any("more place" in one for one in said[:-2])),
                       said)
             self.must("allow", "! that part was not recorded; --allow-lost accepts the "
                       "recording without it" in said, said)
         said = self.said(self.verdict([part_with(0, 99, 0)], gaps=[gap(False)]))
-        self.must("outside", said[1].endswith("3 TS packets lost, outside of what is judged") and
+        self.must("outside", said[0].endswith("3 TS packets lost, outside of what is judged") and
                   not any("not recorded" in one for one in said), said)
         said = self.said(self.verdict([part_with(0, 99, 0)], "--allow-lost", gaps=[gap(True)]))
         self.must("allowed", not any("not recorded" in one for one in said) and
@@ -95,7 +94,7 @@ class Ends(Case):
         """The line of the first part that is refused; within how many frames it is accepted."""
         parts = [part_with(0, 9, 0), part_with(10, 19, 0, answer(REFUSED), 2)]
         said = self.said(self.verdict(parts))
-        self.must("line", said[0].startswith("Refused: ") and said[-1] == REFUSED[0] and
+        self.must("line", said[-2].startswith("Refused: ") and said[-1] == REFUSED[0] and
                   "part 2, from 00:00:00:10 to 00:00:00:19: " + REFUSED[0] in said, said)
         rows: list[tuple[Sequence[int], int, bool]] = [
             ((0, 3), 1, True), ((), 1, False), ((0, 3), 0, False)]
@@ -106,7 +105,15 @@ class Ends(Case):
         refused = part_with(0, 9, 0, answer(REFUSED),
                             explanation=Explanation(accepted_within=4))
         self.must("accepted within", any("--within 4" in one for one in self.said(
-            self.verdict([refused]))[1:]))
+            self.verdict([refused]))[:-2]))
+        accepted = [part_with(0, 9, 0)]
+        for some, page, where in (
+                (parts, None, ". See refusals.md#n72."), (accepted, "a.html", "."),
+                (parts, "out/one.html", ". See out/one.html."), (accepted, None, ".")):
+            heard = Heard()
+            say_verdict(self.verdict(some), heard, page)
+            self.must(f"{page}: where to look", heard.lines[-2] ==
+                      self.verdict(some).sentence.removesuffix(".") + where, heard.lines)
 
     def test_not_judged(self) -> None:
         """Why, in lines, and what to type; how far it came where a signal ended it."""
@@ -226,7 +233,7 @@ class Writes(Case):
             self.must(f"{words}", self.files(self.verdict(), **words).are_any() == wanted)
 
     def test_all(self) -> None:
-        """The object, the lines and the testcase; of several parts with a folder the overview."""
+        """The object, the lines and the testcase; with a folder the page."""
         files = self.files(self.verdict(), json=self.path("one.json"), csv=self.path("one.csv"),
                            junit=self.path("one.xml"), out=self.path("out"))
         files.write()
@@ -236,12 +243,12 @@ class Writes(Case):
             self.must(name, have["verdict"] == "refused" and len(have["faults"]) == 2, have)
         self.must("lines", len(self.read("one.csv").splitlines()) == 4)
         self.must("case", b"refused 68 Parity" in self.read("one.xml"))
-        self.must("no overview", not os.path.exists(self.path("out/one.html")))
+        self.must("page", b"part 1" not in self.read("out/one.html"), files.verdict.failed)
         verdict = self.verdict()
         verdict.parts.append(self.part(2))
         several = self.files(verdict, out=self.path("out"))
         several.write()
-        self.must("overview", os.path.exists(self.path("out/one.html")), verdict.failed)
+        self.must("page of parts", b"part 2" in self.read("out/one.html"), verdict.failed)
 
     def test_failed(self) -> None:
         """What could not be written stands in what was written before, and after."""
@@ -314,49 +321,73 @@ class Writes(Case):
 
 
 class Overview(Case):
-    """The page over all parts, and that over all pairs."""
+    """The page of several parts, or of what is not judged, and that over all pairs."""
 
-    def test_parts(self) -> None:
-        """A row for each part, which leads to its page; what is between them; the clock."""
-        names = Names("one", self.folder, self.path("out"))
-        verdict = Verdict(asked_for(example("story.stl"), "one.pes"), Severity(None), "now")
+    def several(self) -> Verdict:
+        """A verdict on three parts."""
+        verdict = Verdict(asked_for(example("story.stl"), "one.pes"), Severity(None),
+                          "2026-01-02T03:04:05Z")
         verdict.parts = [part_with(0, 9, 7), part_with(50, 99, 9, answer(REFUSED), 2),
                          part_with(120, 149, 7, number=3)]
+        for part in verdict.parts:
+            part.names.given = example("story.stl")
+        return verdict
+
+    def test_parts(self) -> None:
+        """A row for each part, which leads to it; what is between them; the clock."""
+        verdict = self.several()
         for delay, words in ((None, "origin 7, given"), (0, "origin 7, given"),
                              (2, "origin 7, given, all 2 frames late"),
                              (-1, "origin 7, given, all 1 frame early")):
             part = part_with(0, 9, 7, found=Found(0, 9, Clock(7, GIVEN, delay)))
             self.must(words, report_page.clock_of(part) == words)
-        table = in_page(report_page.table(verdict, names))
+        table = in_page(report_page.table(verdict))
         for number in (1, 2, 3):
-            link = f'<a href="one.{number}.html">'
+            link = f'<a href="#part{number}">'
             self.must(f"part {number}", table.count(f"{link}part {number}</a>") == 1 and
                       table.count(link) == 2)
-        odd = in_page(report_page.table(verdict, Names("50%25", self.folder, self.path("out"))))
-        self.must("a name with an escaped sign", 'href="50%2525.2.html"' in odd, odd)
         self.must("faults", '<td data-name="Faults">2</td>' in table and
                   table.count('<td data-name="Faults">0</td>') == 2, table)
         self.must("between", "between 00:00:00:09 and 00:00:02:00; between 00:00:03:24 and "
                   "00:00:04:20." in in_page(report_page.times_between(verdict.parts)))
-        for part in verdict.parts:
-            part.names.given = example("story.stl")
-        verdict.gaps = [gap(True), gap(False)]
-        verdict.warnings = [Notice("kind", "strange")]
-        box = in_page(report_page.box(verdict, "the <line>"))
-        self.must("box", box.startswith('<div class="verdict refused">') and "the &lt;line&gt;" in
+        verdict.gaps, verdict.warnings = [gap(True), gap(False)], [Notice("kind", "strange")]
+        box = in_page(report_page.pair_box(verdict))
+        self.must("box", box.startswith('<div class="verdict refused">') and verdict.sentence in
                   box and box.count("3 TS packets lost") == 1 and "warning: strange" in box, box)
-        page = in_page(report_page.overview(
-            dataclasses.replace(verdict, date="2026-01-02T03:04:05Z"),
-                                            about_program(self.bench.program), names,
-                                            CommandWords("tools/qc", self.bench.program)))
-        self.must("its date", "2026-01-02 03:04:05 UTC" in page)
-        scope = in_page(report_page.scope(verdict))
+        scope = in_page(report_page.pair_scope(verdict).box())
         count = 3 * report_page.subtitle_count(verdict.parts[0])
         self.must("scope", f"00:00:00:00 to 00:00:05:24, {count} subtitles" in scope, scope)
         verdict.asked = asked_for("piped.stl", "one.pes")  # what came through a pipe is kept
         verdict.asked.kept_stl = example("story.stl")
-        self.must("a pipe", "Programme" in scope and in_page(report_page.scope(verdict)) == scope,
-                  scope)
+        self.must("a pipe", "Programme" in scope and
+                  in_page(report_page.pair_scope(verdict).box()) == scope, scope)
+
+    def test_page_of_several(self) -> None:
+        """All parts follow one another, each with anchors of its own, and links lead to them."""
+        page = in_page(report_page.report_page(self.several(), CommandWords(
+            "tools/qc", self.bench.program)))
+        self.must("its date", page.count("2026-01-02 03:04:05 UTC") == 1)
+        self.must("parts", re.findall(r'<section class="part" id="part(\d)"><h2>Part (\d),', page)
+                  == [("1", "1"), ("2", "2"), ("3", "3")])
+        names = re.findall(' id="([^"]*)"', page)
+        self.must("anchors", len(names) == len(set(names)), names)
+        self.must("links", {*re.findall('href="#([^"]*)"', page)} <= {*names},
+                  {*re.findall('href="#([^"]*)"', page)} - {*names})
+        self.must("once", all(page.count(f'id="{name}"') == 1 for name in (
+            "verdict", "part2-verdict", "key", "files")))
+
+    def test_not_judged(self) -> None:
+        """Why, what to type, and what it is made from, whatever was judged before."""
+        verdict = self.several()
+        verdict.reason, verdict.to_type = "no clock <\nnone", ("tools/qc a b --origin T",)
+        verdict.notes, verdict.warnings = ["a note"], [Notice("kind", "strange")]
+        page = in_page(report_page.report_page(verdict, CommandWords(
+            "tools/qc", self.bench.program)))
+        for words in ("Not judged: no clock &lt;.", ">no clock &lt;</p>", ">none</p>", "a note",
+                      "warning: strange", 'type <code class="long">tools/qc a b --origin T</code>',
+                      '<dt>Recording</dt><dd>one.pes</dd>', 'id="files"', "<dd>Story</dd>"):
+            self.must(words, words in page, page)
+        self.must("no part", "Timeline" not in page)
 
     def test_pairs(self) -> None:
         """What is broken first, then what nobody judged, warnings, and what is accepted."""

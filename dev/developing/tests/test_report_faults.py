@@ -160,11 +160,11 @@ class Lists(unittest.TestCase):
             1, listed + 1)]
         given: dict[str, Any] = {
             "report": SimpleNamespace(faults=SimpleNamespace(count=count, entry_count=count),
-                                      reasons=None, programme=PROGRAMME),
+                                      reasons=None, programme=PROGRAMME, is_beside=False),
             "looks": SimpleNamespace(entries=SimpleNamespace(drawn={}, frame_of=lambda one: None)),
             "held": SimpleNamespace(state_at=lambda frame: state),
             "figures": SimpleNamespace(due_at=lambda frame: (page_with(b"a"), bytes(8))),
-            "section": lambda entry: markup("one ")}
+            "section": lambda entry: markup("one "), "leading": made.entries[0]}
         vars(made).update(given)
         return made
 

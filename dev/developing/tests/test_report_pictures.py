@@ -1,6 +1,7 @@
 """What a report draws, in process: strips of time, pictures beside what is due, refused blocks."""
 from __future__ import annotations
 
+import re
 import unittest
 from types import SimpleNamespace
 from typing import Any, NamedTuple, Sequence
@@ -8,11 +9,11 @@ from typing import Any, NamedTuple, Sequence
 from developing.stl import gsi_block, tti_block
 from subtitles.common.markup import Markup
 from subtitles.formats.stl import Subtitle, SubtitleFile
-from subtitles.report import page
+from subtitles.report import refused
 from subtitles.report.faults import Entry
 from subtitles.report.pictures import (
     DIFFERENT, Figures, NOTHING, NOT_KNOWN, NOT_READ, SAME, marks_words)
-from subtitles.report.strips import Looked, Strip, Strips, looked_at, runs_of
+from subtitles.report.strip import Looked, Strip, looked_at, runs_of
 from subtitles.stream.receiver import BLANK_PAGE, Rows, State, TUNED
 from .bench import Case
 from .parts import fault_of, in_page, part_with
@@ -38,9 +39,9 @@ class Drawn(unittest.TestCase):
 
     def line(self, subtitles: Sequence[Subtitle] = SUBTITLES, sendings: Sequence[int] = (),
              odd: Sequence[int] = (), end: int | None = None, broken: int | None = None,
-             lines: Sequence[str] = ()) -> Strips:
+             lines: Sequence[str] = ()) -> Strip:
         entries: Any = Pictured(frozenset(odd))
-        return Strips(list(subtitles), sendings, entries, faults(*lines), broken, "flag", end)
+        return Strip(list(subtitles), sendings, entries, faults(*lines), broken, "flag", end)
 
     def test_runs(self) -> None:
         rows: list[tuple[list[int], list[tuple[int, int]]]] = [
@@ -49,84 +50,78 @@ class Drawn(unittest.TestCase):
         for frames, wanted in rows:
             self.assertEqual(list(runs_of(frames)), wanted)
 
-    def test_units(self) -> None:
-        """The shortest of which there are no more than 24 in use."""
-        for count, step, called in ((1, 250, "ten seconds"), (24, 250, "ten seconds"),
-                                    (25, 250, "a minute"), (24, 1500, "ten seconds"),
-                                    (25, 1000, "a minute"),
-                                    (25, 1500, "ten minutes"), (300, 1500, "an hour")):
-            some = [Subtitle(number + 1, 1, step * number, step * number + 9, 20, 2, b"")
-                    for number in range(count)]
-            with self.subTest(count=count, step=step):
-                self.assertEqual(self.line(some).called, called)
-        line = self.line([SUBTITLES[0]], [0, 249, 750, 751, 1000],
-                         lines=("refused 68 P frame @300",))
-        self.assertEqual(line.used(250), {0, 1, 3, 4})
-        long = [SUBTITLES[0], Subtitle(2, 2, 249, 1001, 20, 2, b"")]
-        self.assertEqual(self.line(long).used(250), {0, 1, 2, 3, 4})
-        self.assertEqual(self.line([Subtitle(1, 1, 0, 250, 20, 2, b"")]).used(250), {0})
-        overview = in_page(line.overview())
-        self.assertEqual((overview.count('class="strip"'), overview.count("nothing from")), (4, 1))
-        self.assertIn(f"nothing from {at(500)} to {at(750)}", overview)
+    def test_reach(self) -> None:
+        """One strip, from the first to the last of subtitles, sendings and faults."""
+        for strip, wanted in (
+                (self.line(), (25, 125)), (self.line([]), (0, 25)),
+                (self.line(sendings=[3, 150]), (3, 151)), (self.line([], [3]), (3, 4)),
+                (self.line(lines=("refused 73 Gap frame @200", "ended 73 Gap frame @254")),
+                 (25, 255)),
+                (self.line(lines=("trusted frames @5 @24",)), (5, 125))):
+            self.assertEqual((strip.begin, strip.end), wanted)
+        drawn = in_page(self.line(sendings=[0, 99_999]).drawn())
+        self.assertEqual(drawn.count('class="strip"'), 1)
+        self.assertIn('aria-label="00:00:00:00 to 01:06:39:24"', drawn)
 
-    def test_close(self) -> None:
-        """On up to 300 strips of minutes what is nearer than 3 units is a block, on more than 8."""
-        for count, close in ((1, 3), (300, 3), (301, 8)):
-            some = [Subtitle(number + 1, 1, 1500 * number, 1500 * number + 9, 20, 2, b"")
-                    for number in range(count)]
-            self.assertEqual(self.line(some).close, close)
+    def test_words_of_time(self) -> None:
+        """At most twelve stand on the strip, of whole seconds or minutes; there are ticks between.
+        """
+        for length, step, words in (
+                (25, 25, []), (50, 25, ["00:01"]),
+                (300, 25, [f"00:{at:02}" for at in range(1, 12)]),
+                (301, 50, ["00:02", "00:04", "00:06", "00:08", "00:10"]),
+                (9000, 750, [f"{at // 2:02}:{at % 2 * 30:02}" for at in range(1, 12)]),
+                (9001, 1500, ["00:01", "00:02", "00:03", "00:04", "00:05"]),
+                (2_160_000, 180_000, ["02:00", "04:00", "06:00", "08:00", "10:00", "12:00", "14:00",
+                                      "16:00", "18:00", "20:00", "22:00"])):
+            strip, told = self.line([], [0, length - 1]), list[Markup]()
+            shapes = in_page(*strip.axis(told))
+            self.assertEqual(strip.step, step, length)
+            self.assertEqual(re.findall("[0-9]{2}:[0-9]{2}", in_page(*told)), words)
+            self.assertEqual(shapes.count("v4"), 1 + (length * 5) // step, length)
 
     def test_bars(self) -> None:
-        """Of each subtitle that is due in the strip; links where it has a picture, its look; of
-        more than so many those without pictures are one path."""
-        drawn = in_page(Strip(self.line(odd=[2]), 0, (250, 25, 50)).drawn(()))
+        """Links where a subtitle has a picture, its look; of more than so many those without
+        pictures are one path, and narrow ones too."""
+        drawn = in_page(self.line(sendings=[0, 249], odd=[2]).drawn())
         self.assertEqual(drawn.count('aria-label="subtitle'), 1)
         self.assertIn('<rect class="odd" x="300.0" y="2" width="100.0" height="20"', drawn)
         self.assertIn('<rect class="bar" x="100.0" y="5" width="100.0" height="14"', drawn)
-        for begin, count in ((0, 3), (50, 2), (49, 3), (100, 1), (125, 0)):
-            found = in_page(*Strip(self.line(), begin, (250, 25, 50)).bars([]))
-            self.assertEqual(found.count("<rect"), count, begin)
-        self.assertEqual(in_page(*Strip(self.line(), 0, (75, 25, 50)).bars([])).count("<rect"), 1)
+        self.assertEqual(in_page(*self.line().bars([])).count("<rect"), 3)
+        self.assertEqual(in_page(*self.line(sendings=[99_999]).bars([])).count("<rect"), 0)
         many = [Subtitle(one + 1, 1, 9 * one, 9 * one + 5, 20, 2, b"") for one in range(5001)]
-        found = in_page(*Strip(self.line(many), 0, (250, 25, 50)).bars([]))
-        self.assertEqual((found.count("<rect"), found.count("<path")), (1, 1))
+        found = in_page(*self.line(many).bars([]))
+        self.assertEqual((found.count("<rect"), found.count("<path")), (0, 1))
 
     def test_ends(self) -> None:
         """What is not heard is hatched, up to the end of the strip; the first fault is flagged."""
-        for end, is_hatched, words in ((None, False, False), (100, True, True), (250, False, False),
-                                       (249, True, True), (0, True, True)):
+        for end, is_hatched in ((None, False), (100, True), (250, False), (249, True), (0, True)):
             told: list[Markup] = []
-            lines = list(Strip(self.line(end=end), 0, (250, 25, 50)).hatching(told))
-            self.assertEqual((bool(lines), bool(told)), (is_hatched, words), end)
+            lines = list(self.line(sendings=[0, 249], end=end).hatching(told))
+            self.assertEqual((bool(lines), bool(told)), (is_hatched, is_hatched), end)
             if end:
                 self.assertEqual("00:00:03:24" in in_page(*told), end == 100, told)
-        told = []
-        list(Strip(self.line(end=100), 250, (250, 25, 50)).hatching(told))
-        self.assertEqual(told, [])
-        for broken, is_here in ((249, False), (250, True), (499, True), (500, False),
-                                (None, False)):
-            drawn = in_page(Strip(self.line(broken=broken), 250, (250, 25, 50)).drawn(()))
-            self.assertEqual("flag" in drawn, is_here, broken)
+        for broken in (0, 249, None):
+            drawn = in_page(self.line(sendings=[0, 249], broken=broken).drawn())
+            self.assertEqual("flag" in drawn, broken is not None, broken)
 
     def test_sendings_and_faults(self) -> None:
         """Those that are close are one block; marks as long as a fault stands."""
+        day = [Subtitle(1, 1, 0, 250, 20, 2, b"")]
         for frames, ticks, blocks in (([10], 1, 0), ([10, 20], 2, 0), ([10, 11, 12], 3, 0)):
-            found = in_page(*Strip(self.line(sendings=frames), 0, (250, 25, 50)).sendings())
+            found = in_page(*self.line(day, frames).ticks())
             self.assertEqual((found.count("v8") - found.count("v8H"), found.count("v8H")),
                              (ticks, blocks), frames)
-        found = in_page(*Strip(self.line(sendings=[10, 11, 12]), 0,
-                               (1500, 25, 50)).sendings())
-        self.assertEqual((found.count("v8H"), found.count('class="tick"')), (1, 0))
+        found = in_page(*self.line(sendings=[10, 11, 12, 1509]).ticks())
+        self.assertEqual((found.count("v8H"), found.count('class="tick"')), (1, 1))
         lines = ("refused 73 Gap frame @30", "ended 73 Gap frame @54", "refused 68 P frame @200",
-                 "refused 73 Gap frame @240", "ended 73 Gap frame @260")
-        strip = Strip(self.line(lines=lines), 0, (250, 25, 50))
-        found = in_page(*strip.faults())
+                 "refused 73 Gap frame @240", "ended 73 Gap frame @249")
+        found = in_page(*self.line(day, lines=lines).faults())
         self.assertEqual(found.count('class="bad"'), 3)
         self.assertIn('x="120" y="40" width="100"', found)
         self.assertIn('x="960" y="40" width="40"', found)
         self.assertIn('href="#e5"', found)
-        trusted = self.line(lines=("trusted frames @25 @49", "trusted frames @300 @310"))
-        found = in_page(*Strip(trusted, 0, (250, 25, 50)).trusted())
+        found = in_page(*self.line(day, lines=("trusted frames @25 @49",)).trusted_frames())
         self.assertEqual(found.count("<rect"), 1)
         self.assertIn('x="100" y="45" width="100"', found)
 
@@ -212,14 +207,14 @@ class Looks(unittest.TestCase):
 class Blocks(Case):
     """A subtitle file that is refused: its subtitles, block by block."""
 
-    def blocks(self, *told: str) -> page.Blocks:
+    def blocks(self, *told: str) -> refused.Blocks:
         """A comment, three subtitles, of which the second has two blocks and user data between."""
         user = tti_block(9, 0, 0, 20, 2, b"user", 0xFE)
         made = [tti_block(0, 0, 0, 20, 2, b"note", comment=1), tti_block(1, 25, 50, 20, 2, b"one"),
                 tti_block(7, 75, 99, 18, 2, b"tw\x8ao ", 0), user,
                 tti_block(7, 75, 99, 18, 2, b"more\x07"), tti_block(3, 60, 70, 20, 2, b"three")]
         path = self.write("one.stl", gsi_block(b"", len(made), 3) + b"".join(made))
-        return page.Blocks(SubtitleFile(path), (fault_of(line) for line in told))
+        return refused.Blocks(SubtitleFile(path), (fault_of(line) for line in told))
 
     def test_of_blocks(self) -> None:
         """The subtitle of each block, its text with that of those behind, and the one before."""
@@ -240,7 +235,7 @@ class Blocks(Case):
     def test_fields(self) -> None:
         """The field that a fault is about, as it stands in the file; of no other fault one."""
         path = self.write("two.stl", gsi_block(b"", 1, 1) + bytes(range(16)) + b"\x8f" * 112)
-        made = page.Blocks(SubtitleFile(path), ())
+        made = refused.Blocks(SubtitleFile(path), ())
         fields = {11: "DFC STL25.01", 12: "DFC STL25.01", 13: "DSC 1", 14: "CCT 00", 15: "EBN 03",
                   16: "CS 04", 17: "CF 0F", 18: "JC 0E", 19: "VP 0D", 22: "SGN and SN 000102"}
         for number in range(10, 60):
@@ -253,7 +248,7 @@ class Blocks(Case):
     def test_marks(self) -> None:
         """The byte or the line that a fault names, in a text and in tables."""
         def marked(*lines: str) -> str:
-            return in_page(page.marked_text(b"a b\x8ac", [fault_of(line) for line in lines]))
+            return in_page(refused.marked_text(b"a b\x8ac", [fault_of(line) for line in lines]))
 
         for lines, words in (
                 ((), "a b<br/>c"), (("refused 50 X block 2 at 0",), "<mark>a</mark> b<br/>c"),
@@ -263,13 +258,13 @@ class Blocks(Case):
                  "<mark>a <mark>b</mark></mark><br/>c"), (("refused 21 X block 2",), "a b<br/>c")):
             self.must(f"{lines}", marked(*lines) == f'<span class="text">{words}</span>',
                       marked(*lines))
-        table = in_page(page.byte_table(bytes(range(0x41, 0x53)), 17))
+        table = in_page(refused.byte_table(bytes(range(0x41, 0x53)), 17))
         self.must("bytes", table.count("<tr>") == 2 and table.count(' class="named"') == 1 and
                   '<td class="named">52<br/>R</td>' in table and '"row">16<' in table, table)
-        lined = in_page(page.line_table(b"ab\x8a\x8ac", 18, 1))
+        lined = in_page(refused.line_table(b"ab\x8a\x8ac", 18, 1))
         self.must("lines", '<tr class="named"><th scope="row">line 1</th><td>row 19</td><td>0 bytes'
                   "</td><td>empty</td>" in lined and "<td>1 byte</td>" in lined, lined)
-        letters = [in_page(page.readable(byte)) for byte in (0x20, 0x41, 0x7E, 0x7F, 0x1F)]
+        letters = [in_page(refused.readable(byte)) for byte in (0x20, 0x41, 0x7E, 0x7F, 0x1F)]
         self.must("letters", letters == ["\u2423", "A", "~", "<i>7F</i>", "<i>1F</i>"])
 
     def test_times(self) -> None:
@@ -282,14 +277,14 @@ class Blocks(Case):
                 ("refused 56 X block 6", (f"<mark>{begin}</mark>", end)),
                 ("refused 57 X block 6", (f"<mark>{begin}</mark>", end)),
                 ("refused 20 X block 6", (begin, end)), ("refused 50 X block 6", (begin, end))):
-            self.must(line, (*map(in_page, page.marked_times(one, [fault_of(line)])),) == wanted)
+            self.must(line, (*map(in_page, refused.marked_times(one, [fault_of(line)])),) == wanted)
         wrong = one._replace(begin="99:00:00:00")
-        told = [*map(in_page, page.marked_times(wrong, [fault_of("refused 20 X block 6")]))]
+        told = [*map(in_page, refused.marked_times(wrong, [fault_of("refused 20 X block 6")]))]
         self.must("no time", told == ["<mark>99:00:00:00</mark>", end])
         first, last = "00:00:03:00", "00:00:03:24"
         for line, words in (("refused 56 X block 6", f"<mark>{first}</mark></td><td>{last}"),
                             ("refused 57 X block 6", f"{first}</td><td><mark>{last}")):
-            table = in_page(page.two_times(made, one, fault_of(line)))
+            table = in_page(refused.two_times(made, one, fault_of(line)))
             own = f"<mark>{begin}</mark></td><td>{end}"
             self.must(line, words in table and own in table, table)
 
@@ -304,14 +299,14 @@ class Blocks(Case):
                                         counts={50: 1, 51: 1, 56: 1 + more, 78: 9})
             report: Any = SimpleNamespace(faults=told, is_beside=False, part=SimpleNamespace(
                 answer=SimpleNamespace(last_told=last)))
-            said = in_page(page.refused_blocks(report, self.blocks()))
+            said = in_page(refused.refused_blocks(report, self.blocks()))
             self.must(words, words in said and said.count("<li") == 2 and
                       ("<b>1 more fault</b>" in said) == ("left out here" in said) == bool(more),
                       said)
             self.must("after", "after 00:00:03:00 to 00:00:03:24, SN 7" in said and
                       said.count(" after 00") == 1, said)
             report.is_beside = True
-            beside = in_page(page.refused_blocks(report, self.blocks()))
+            beside = in_page(refused.refused_blocks(report, self.blocks()))
             self.must("beside", ("No PES file is read" in said, "No PES file is read" in beside) ==
                       (True, False), beside)
 
@@ -322,9 +317,9 @@ class Blocks(Case):
             report: Any = SimpleNamespace(
                 part=part_with(1, 2, 0), asked=SimpleNamespace(is_open=False),
                 program=SimpleNamespace(show=lambda path, lines=lines: lines))
-            said = in_page(page.printed(report))
+            said = in_page(refused.printed(report))
             words = f"Lines 201 to {200 + left}, {left} of them" if left else ""
             self.must(f"{count}", words in said and ("left out" in said) == (left > 0) and
                       said.count("line ") == count - left, said[-200:])
         report.asked.is_open = True
-        self.must("of open subtitles, which it shows not", in_page(page.printed(report)) == "")
+        self.must("of open subtitles, which it shows not", in_page(refused.printed(report)) == "")

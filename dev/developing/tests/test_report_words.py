@@ -107,22 +107,7 @@ class Bounds(unittest.TestCase):
             part = part_with(0, 9, origin, asked=asked)
             judged: Any = SimpleNamespace(asked=asked)
             program: Any = None
-            self.assertEqual(Subject(judged, part, 1, program, [], []).options(), wanted)
-
-    def test_flag_and_scope(self) -> None:
-        """Beside refused subtitles the flag has the line of the fault at its frame; of no subtitle
-        there is no scope."""
-        made: Any = Report.__new__(Report)
-        lines = [f"refused 68 Parity frame 00:00:0{second}:00" for second in (1, 2, 3)]
-        entries = [Entry(at, fault_of(one)) for at, one in enumerate(lines[:2])]
-        entries[1].add(fault_of(lines[2]))  # within the same subtitle
-        made.faults = SimpleNamespace(entries=entries)
-        made.line, made.subtitles, made.is_refused_file = "a line", [], False
-        for is_beside, frame, words in ((True, 25, lines[0]), (True, 50, lines[1]), (True, 75, ""),
-                                        (True, None, ""), (False, 50, "a line")):
-            made.is_beside = is_beside
-            self.assertEqual(made.flag(frame), words)
-        self.assertIsNone(made.scope())
+            self.assertEqual(Subject(judged, part, 1, program).options(), wanted)
 
     def test_scope_of_a_part(self) -> None:
         """From the first TCI to the last TCO; which part it is where there are several; the clock
@@ -144,6 +129,8 @@ class Bounds(unittest.TestCase):
                 is_fitted, count > 1, clock.words() if clock and source in (START, TCP) else None))
             made.is_refused_file = True
             self.assertIsNone(made.scope())
+        made.subtitles, made.is_refused_file = [], False
+        self.assertIsNone(made.scope())
 
     def test_first_link(self) -> None:
         """The place of a fault leads to its entry, where the list has one."""
@@ -154,34 +141,24 @@ class Bounds(unittest.TestCase):
                 ("refused 67 Control frame 00:00:02:00", "00:00:02:00")):
             self.assertEqual(in_page(markup("{}", made.first_link(fault_of(line)))), words)
 
-    def test_flag_of_the_strips(self) -> None:
-        """It is at the first fault, or in the sending before its PES packet; beside refused
-        subtitles at the first fault of the transmission of which it is known what is due. Reasons
+    def test_flag_of_the_strip(self) -> None:
+        """It is at the fault that is said first, or in the sending before its PES packet. Reasons
         know which subtitles are drawn."""
-        block = "refused 50 Character block 3 at 11"
-        lines = ["refused 78 Undecided frame 00:00:01:00", "refused 31 Start pes 7",
-                 "refused 68 Parity frame 00:00:02:00", "refused 67 Control frame 00:00:03:00"]
         seen = SimpleNamespace(last_before=lambda pes: 100 + pes, sendings=[])
-        rows: list[tuple[bool, list[str], int | None, str | None]] = [
-            (True, lines, 50, lines[2]), (True, lines[:1], None, None),
-            (True, lines[3:], 75, lines[3]), (False, lines[2:], 50, "lead"),
-            (False, lines[1:], 107, "lead"), (False, [], None, None)]
-        for is_beside, told, frame, line in rows:
+        rows: tuple[tuple[str | None, int | None], ...] = (
+            ("refused 68 Parity frame 00:00:02:00", 50), ("refused 31 Start pes 7", 107),
+            (None, None))
+        for line, frame in rows:
             made: Any = Report.__new__(Report)
-            made.faults = SimpleNamespace(entries=[
-                Entry(at, fault_of(one)) for at, one in enumerate(told)])
-            made.asked, made.line, made.subtitles = asked_for("a.stl", "a.pes"), "lead", []
-            for one in made.faults.entries:
-                one.add(fault_of("refused 68 Parity frame 00:00:09:00"))
-            made.first = next(map(fault_of, [block] * is_beside + told), None)
-            made.is_beside, made.looked, made.page = is_beside, [], "888"
+            made.faults = SimpleNamespace(leading=line and Entry(3, fault_of(line)))
+            made.asked, made.subtitles = asked_for("a.stl", "a.pes"), []
+            made.looked, made.page = [], "888"
             made.part, made.reasons = mock.MagicMock(), SimpleNamespace(drawn=None)
             others = {name: mock.DEFAULT for name in (
-                "Figures", "Entries", "FaultList", "Strips", "mark_unheard", "end_of_knowledge")}
+                "Figures", "Entries", "FaultList", "Strip", "mark_unheard", "end_of_knowledge")}
             with mock.patch.multiple(report_report, **others) as made_of:
                 looks = report_report.Looks(made, cast(Any, seen))
-            at, words = made_of["Strips"].call_args.args[4:6]
-            self.assertEqual((at, None if at is None else words), (frame, line))
+            self.assertEqual(made_of["Strip"].call_args.args[4:6], (frame, line or ""))
             self.assertIs(made.reasons.drawn, looks.entries.drawn)
 
     def test_places_of_pts(self) -> None:

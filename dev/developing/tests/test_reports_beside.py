@@ -143,7 +143,7 @@ def pages_from(first: int) -> Callable[[Reports], None]:
             with made(number) as (found, page):
                 self.holds(number, page)
                 with self.subTest(number):
-                    if page.startswith("<"):
+                    if page.startswith("<") and found.verdict.parts:
                         beside, root = Beside(found), tree.fromstring(page)
                         self.lists(root, beside)
                         self.pictures(root, beside)

@@ -24,7 +24,7 @@ from subtitles.common.shapes import Integer, Listed
 from subtitles.formats.listing import SILENT, UNDECIDED
 from subtitles.request.commands import CommandWords
 from subtitles.results import objects
-from subtitles.results.objects import has_had_its_turn, object_at, object_of, unjudged
+from subtitles.results.objects import object_at, object_of, unjudged
 from subtitles.results.schema import FAULT as ROWS_OF_FAULT, FORMAT, LISTS, VERDICT, misfit, schema
 from .. import DEV
 from ..pages import SCHEMA, laid_out
@@ -209,11 +209,11 @@ class ReadBack(Case):
         asked = asked_for(self.path("story.stl"), self.path("x.pes"))
         kept_rows(calls, [Item(name, asked, None) for name in names])
         os.makedirs(self.path("kept"), exist_ok=True)
-        channel = Results(self.path("kept"), self.path("out"), Inputs(), lambda path, word: None)
+        channel = Results(self.path("kept"), self.path("out"), lambda path, word: None)
         for name in names:
-            result_of = channel.result(name)
-            self.must(f"channel: {name}", result_of is None or misfit(result_of) is None and
-                      has_had_its_turn(result_of, asked) in (True, False), result_of)
+            record = channel.adopt(name, asked.stl)
+            self.must(f"channel: {name}", record is None or record.row and
+                      record.is_of(asked.stl) in (True, False), record)
         pairs: list[dict[str, Any]] = json.loads(self.read("x.json"))["pairs"]
         self.must("all pairs", len(pairs) == len(names) and status == 2, (len(pairs), names))
         self.must("all fit", all(misfit(one) is None for one in pairs))

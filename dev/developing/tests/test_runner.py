@@ -41,7 +41,7 @@ class Found(Case):
         module = __name__
         self.must("none of the tools", not runner.called_by(module))
         self.must("no module", not runner.called_by("no.such"))
-        tests = runner.found(["report.strips"])
+        tests = runner.found(["report.strip"])
         kinds = {type(one).__module__.rpartition(".")[2] for one in tests}
         self.must("those that call it", kinds == {"test_report_pictures"}, kinds)
         kinds = {type(one).__module__.rpartition(".")[2]

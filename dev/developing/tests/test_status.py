@@ -7,6 +7,7 @@ import unittest
 from typing import Sequence
 
 from subtitles.common.command_line import Stop
+from subtitles.formats.listing import FAULT_NAMES, NEVER_SENT
 from subtitles.judging.status import (
     ACCEPTED, Decision, Grounds, LOST, NOT_JUDGED, REFUSED, STATUSES, Said, Severity, UNREAD,
     UNSAID, WAIVED, WARNED, decide, is_of_call, of_all, word_of)
@@ -101,6 +102,40 @@ class Decided(unittest.TestCase):
             for severity in ALLOWING if is_allowed else [NAMED]:
                 self.decides(name, Grounds(parts, severity, losses, warnings, is_strict),
                              is_allowed)
+
+    def test_faults_without_a_number(self) -> None:
+        """Each name, an error or a warning by the file, beside each kind of part and without any:
+        an error refuses what was judged, and where nothing was; a warning never accepts that."""
+        kinds, warned = RIGHT | WRONG, severity_of(
+            f"{WARNING} warning", *(f"{name} warning" for name in FAULT_NAMES))
+        for name, is_error, count in itertools.product(FAULT_NAMES, (True, False), (0, 1, 2)):
+            severity = NAMED if is_error else warned
+            for parts in itertools.product(kinds, repeat=count):
+                word = self.word_by_names(parts) if parts else NOT_JUDGED
+                if is_error and not set(parts) & WRONG.keys():
+                    word = REFUSED
+                elif word == ACCEPTED:
+                    word = WAIVED
+                found = decide(Grounds([kinds[part] for part in parts], severity, names=[name]))
+                self.assertEqual(found.word, word, (name, is_error, parts))
+        for reasons, failed in ((["why"], ()), ((), ["full"])):
+            self.assertEqual(decide(Grounds([], NAMED, reasons=reasons, failed=failed,
+                                            names=[NEVER_SENT])).word, NOT_JUDGED)
+        self.assertEqual(decide(Grounds([], warned, names=[NEVER_SENT])),
+                         Decision(NOT_JUDGED, UNREAD))
+
+    def test_severity_of_names(self) -> None:
+        """As of numbers; a word that is no name is told."""
+        for lines, severities in (((), ("error",) * 3), (("others warning",), ("warning",) * 3),
+                                  (("never sent warning",), ("warning", "error", "error")),
+                                  (("others warning", "not shown error"),
+                                   ("warning", "warning", "error"))):
+            severity = severity_of(*lines)
+            self.assertEqual(tuple(map(severity.of, FAULT_NAMES)), severities, lines)
+            self.assertEqual(severity.of(45), "error", lines)
+        for line in ("sent error", "never error", "never sent", "never  sent wrong", "not error"):
+            with self.assertRaisesRegex(Stop, "line 1: a line is"):
+                severity_of(line)
 
     def decides(self, name: str, seen: Grounds, is_allowed: bool) -> None:
         """One of these: --allow-lost, and a severity file that names 45 a warning, are one rule."""

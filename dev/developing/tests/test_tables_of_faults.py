@@ -16,10 +16,10 @@ from subtitles.common.times import CLOCK, Span, TICKS
 from subtitles.formats.listing import fault_of_line
 from subtitles.formats.stl import Subtitle
 from subtitles.judging.causes import (
-    ATTRIBUTE, Cause, EARLY, Faulty, LATE, NEVER, NOT_ERASED, Namer, OTHER, TEXT, UNKNOWN)
+    ATTRIBUTE, Cause, EARLY, Faulty, LATE, NEVER, NOT_ERASED, Namer, OTHER, PLACE, TEXT, UNKNOWN)
 from subtitles.judging.faults import fault_place, gap_words, hints_of
 from subtitles.judging.part import tell_causes
-from subtitles.judging.sentence import Facts, of_causes, what_is_wrong
+from subtitles.judging.sentence import Count, Facts, of_causes, what_is_wrong
 from subtitles.judging.transmissions import DuePages, program_answer
 from subtitles.request.commands import CLEAR, Listener, Progress, Speech
 from subtitles.request.request import Unclear
@@ -58,20 +58,26 @@ class Words(Case):
     """Causes, hints and lists in words."""
 
     def test_causes(self) -> None:
-        """The cause that most have, of equals the first; from when on, or up to when; how many."""
+        """The worst cause, whatever most have; from when on, or up to when; how many; and how many
+        have which other one, the worst first."""
         for several, wanted in (
                 ([cause(2, LATE, 3)], 'at 00:00:02:00 subtitle 3, "text", is 3 frames late'),
                 ([cause(2, EARLY, 1)], 'at 00:00:02:00 subtitle 3, "text", is 1 frame early'),
                 ([cause(0, NEVER, None, "why")],
                  'at 00:00:00:00 subtitle 1, "text", was never sent (why)'),
-                ([cause(0, TEXT), cause(1, NEVER)], 'at 00:00:00:00 subtitle 1, "text", has a '
-                 "wrong text; 1 other has another cause"),
+                ([cause(0, TEXT), cause(1, NEVER)], 'at 00:00:01:00 subtitle 2, "text", was never '
+                 "sent; 1 other: 1 wrong text"),
                 ([cause(0, TEXT), cause(1, NEVER), cause(3, NEVER)],
-                 "from 00:00:01:00 to 00:00:03:00 the subtitles were never sent (2 of 9); 1 other "
-                 "has another cause"),
-                ([cause(0, TEXT), cause(1, NEVER), cause(3, NEVER), cause(5, TEXT),
-                  cause(8, LATE, 2)], "from 00:00:00:00 to 00:00:05:00 the subtitles have wrong "
-                 "texts (2 of 9); 3 others have another cause"),
+                 "from 00:00:01:00 to 00:00:03:00 the subtitles were never sent (2 of 9); 1 other: "
+                 "1 wrong text"),
+                ([cause(0, LATE, 2), cause(1, LATE, 1), cause(3, TEXT), cause(5, PLACE),
+                  cause(6, TEXT), cause(8, ATTRIBUTE)], "from 00:00:03:00 to 00:00:06:00 the "
+                 "subtitles have wrong texts (2 of 9); 4 others: 1 wrong place, 2 late, 1 wrong "
+                 "colour or attribute"),
+                ([cause(0, OTHER), cause(1, OTHER), cause(2, NEVER)], 'at 00:00:02:00 subtitle 3, '
+                 '"text", was never sent; 2 others: 2 another subtitle\'s text'),
+                ([cause(0, TEXT)._replace(sent=(b" " * 40,) * 23 + (b"texts".ljust(40),))],
+                 'at 00:00:00:00 subtitle 1, "text", has a wrong text, sent: "texts"'),
                 ([cause(4, LATE, 7), cause(6, LATE, 3), cause(8, LATE, 5)],
                  "from 00:00:04:00 on the subtitles are 3 to 7 frames late (3 of 9)"),
                 ([cause(4, LATE, 7), cause(8, LATE, 7)],
@@ -87,18 +93,32 @@ class Words(Case):
                  'at 00:00:08:00 subtitle 9, "text", has a wrong colour or attribute')):
             self.assertEqual(of_causes(causes_of(*several), "english"), wanted)
 
-    def test_the_first_fault_beside_a_cause(self) -> None:
-        """It is named where there are several, and it is none that has a cause."""
-        for line, count, is_named in (("refused 68 Parity frame 00:00:01:00 packet 1", 2, True),
-                                      ("refused 68 Parity frame 00:00:01:00 packet 1", 1, False),
-                                      ("refused 72 Content frame 00:00:01:00 row 1 column 1", 2,
-                                       False)):
-            words = what_is_wrong(Facts("refused", 9, fault_of_line(line), count, "", causes_of(
-                cause(2, LATE, 3))))
-            self.must(f"{line} {count}", words.endswith(
-                "; the first of 2 faults is 68 Parity at 00:00:01:00") == is_named ==
-                      ("the first of" in words) and
-                      words.startswith("at 00:00:02:00 subtitle 3"), words)
+    def test_faults_beside_a_cause(self) -> None:
+        """How many there are of which number, the worst first, of many the first four; none of the
+        content, and none of the number that is said first."""
+        content = fault_of_line("refused 72 Content frame 00:00:01:00 row 1 column 1")
+        several = causes_of(cause(2, LATE, 3))
+        for numbers, wanted in (
+                ({72: 9}, ""), ({72: 9, 68: 1}, "; also 68 Name"), ({63: 1, 72: 9, 74: 1}, ""),
+                ({73: 2, 68: 1, 72: 9}, "; also 68 Name and 73 Name (2)"),
+                ({79: 1, 73: 1, 69: 1, 68: 1_234, 67: 1},
+                 "; also 67 Name, 68 Name (1,234), 79 Name, 69 Name and 1 more number"),
+                ({79: 1, 73: 1, 69: 1, 68: 1, 67: 1, 66: 1},
+                 "; also 67 Name, 68 Name, 79 Name, 66 Name and 2 more numbers")):
+            words = what_is_wrong(Facts(
+                "refused", 9, content, True, 9, [Count(number, "Name", count)
+                                                 for number, count in numbers.items()],
+                causes=several))
+            self.must(f"{numbers}", words == of_causes(several, "english") + wanted, words)
+
+    def test_several_numbers(self) -> None:
+        """Where there is no cause it is said how many faults there are, and of which numbers."""
+        for counts, wanted in (([Count(68, "Parity", 3)], "; in all 3 faults"),
+                               ([Count(73, "Gap", 1), Count(68, "Parity", 2)],
+                                "; in all 3 faults: 68 Parity (2) and 73 Gap")):
+            words = what_is_wrong(Facts("refused", 9, fault_of_line(
+                "refused 68 Parity frame 00:00:01:00 packet 1"), False, 3, counts, "a letter"))
+            self.must(wanted, words == f"at 00:00:01:00 a letter{wanted}", words)
 
     def test_numbers_of_other_digits(self) -> None:
         """What int takes and the program does not print is no answer."""
@@ -257,9 +277,11 @@ class Words(Case):
             speech = Speech(Progress())
             for line in ("a", "b"):
                 speech.say(line)
-                speech.end(line)
-            speech.end("a")
-        self.must("the last line once", out.getvalue() == "a\nb\na\n", out.getvalue())
+            speech.is_quiet = True
+            speech.say("c")
+            speech.end("Good.", "b")
+        self.must("the verdict last", (out.getvalue(), speech.last) == ("a\nb\nGood.\nb\n", "b"),
+                  out.getvalue())
         with mock.patch("subtitles.judging.part.Wording") as wording:
             wording.return_value.line = lambda one: f"cause {one}"
             for count in (0, 40, 41, 45):

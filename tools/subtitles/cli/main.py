@@ -73,6 +73,11 @@ OF_CALL = (
            "recorded there", (CHANNEL, RECORDER), "beside that of -o", field="spool"),
     Option("--on-result", "COMMAND", "a program that is called with each JSON result and its "
            "verdict", (CHANNEL,), field="on_result"),
+    Option("--on-alarm", "COMMAND", "a program that is called where something is wrong, and once "
+           "it is not: silence, loss, disk or recorder, begins or ends, and a line", (CHANNEL,),
+           field="on_alarm"),
+    Option("--quiet", None, "print the verdict's sentence and the last line alone", (ALONE, PAIR),
+           field="is_quiet", default=False),
     Option("--stall", "S", "seconds after which a feed that stands still is reported",
            (PAIR, CHANNEL), "10", field="stall", default=10, read=seconds_word))
 TAKEN_BY = {one.name: one.modes for one in (*OPTIONS, *OF_CALL)}

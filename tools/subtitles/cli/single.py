@@ -4,16 +4,16 @@ from __future__ import annotations
 import argparse
 import contextlib
 import fcntl
-import functools
 import itertools
 import os
 import re
 import signal
 import stat
 import time
-from typing import Callable, Iterator, NamedTuple, Sequence
+from typing import Callable, Iterator, NamedTuple
 
-from ..common.command_line import Stop, counted, error_line, escaped, shown, silence, tell
+from ..common.command_line import (
+    Stop, Unanswered, counted, error_line, escaped, silence, tell)
 from ..common.files import (
     Inputs, OWN_OUTPUT, first_bytes, is_replaced, kind_of, naming, refuse_name, result_file,
     temporary_folder, whole_file)
@@ -22,16 +22,14 @@ from ..formats.listing import is_line
 from ..judging.causes import count_line
 from ..judging.faults import faults_of, hints_of
 from ..judging.pair import Pair
-from ..judging.part import Part
-from ..judging.status import NOT_JUDGED, Severity
-from ..judging.verdict import Gap, Verdict
+from ..judging.status import ACCEPTED, NOT_JUDGED, Severity
+from ..judging.verdict import Verdict
 from ..judging.within import within_line
 from ..recording.recording import Recording, size_of
-from ..report.page import overview
 from ..request.commands import (
     CommandWords, LOCK, Listener, Names, Progress, Speech, files_in, index_in, lock_of, pair_name,
     profile_line)
-from ..request.request import AUTO_OF_FEED, Request, Unclear, keep_stl, request_of
+from ..request.request import AUTO_OF_FEED, Request, Unclear, Unsaid, keep_stl, request_of
 from ..results import objects, tables
 from ..results.objects import found, object_text, unjudged
 from ..stream.gaps import first_lines
@@ -173,8 +171,8 @@ class PairCall(NamedTuple):
     """A call for a pair, beside what is asked of it: the program, and the files that are written.
     `name` is that of the pair, where it is not that of its subtitle file, and `here` the folder in
     which its files stand until somebody gives them their place. `is_claimed`: its files are the
-    caller's; `is_fitted`: its origin was found by the caller; `is_cut`: all that is read may be
-    judged."""
+    caller's; `is_fitted`: its origin was found by the caller. `given` is a file with all that
+    came of a feed, which may be judged."""
 
     program: str | None
     out: str | None = None
@@ -187,23 +185,30 @@ class PairCall(NamedTuple):
     here: str | None = None
     is_claimed: bool = False
     is_fitted: bool = False
-    is_cut: bool = False
+    given: str | None = None
+    is_quiet: bool = False
 
 
 def judge_call(words: argparse.Namespace, called: str) -> int:
     """Judges the pair of a command line; answers its status."""
     return judge_request(request_of(words), PairCall(
         words.program, words.out or None, words.is_kept, words.json, words.csv, words.junit,
-        words.stall), called)
+        words.stall, is_quiet=words.is_quiet), called)
 
 
 def judge_request(asked: Request, call: PairCall, called: str) -> int:
     """Judges a pair; answers its status."""
+    return judged(asked, call, called).status
+
+
+def judged(asked: Request, call: PairCall, called: str) -> Verdict:
+    """Judges a pair; answers its verdict, which is said and written by then."""
     refuse_auto(asked)
     out, here = call.out, call.here or call.out
     is_output_taken = any(path in OWN_OUTPUT for path in (call.json, call.csv, call.junit))
     speech = Speech(Progress(), is_output_taken)
     speech.at_end = ignore_signals  # what stands last is that of the status
+    speech.is_quiet = call.is_quiet
     if asked.profile:
         speech.say(profile_line(asked.profile))
     typed = CommandWords(called, call.program)
@@ -221,12 +226,10 @@ def judge_request(asked: Request, call: PairCall, called: str) -> int:
         names.give(asked.stl_path)
         files = Files(call, verdict, typed, names)
         verdict.found = found(asked)
-        pair = Pair(verdict, typed, names, listener, files.are_any(), call.stall, call.is_cut)
-        if out is not None:
-            pair.draw = functools.partial(draw, pair)
+        pair = Pair(verdict, typed, names, listener, files.are_any(), call.stall, call.given)
         judge_pair(pair, files)
         end_pair(verdict, speech, files)
-    return verdict.status
+    return verdict
 
 
 def verdict_of(asked: Request, listener: Listener, is_fitted: bool = False) -> Verdict:
@@ -259,25 +262,6 @@ def refuse_auto(asked: Request) -> None:
             raise Stop(AUTO_OF_FEED)
 
 
-def draw(pair: Pair, part: Part, gaps: Sequence[Gap], count: int) -> None:
-    """Draws the report of a part, one of so many, with what is missing there."""
-    # most calls need nothing of these
-    from ..report import page as report_page, report, transmission
-    verdict, typed = pair.verdict.of_part(part, [*gaps]), pair.typed
-    program = transmission.Program(typed.program_word, typed.program_path,
-                                   part.recording.path if part.recording else None, part.stream,
-                                   part.names.folder)
-    files = [(kind, file) for kind, file in (
-        ("STL", verdict.stl), ("PES", part.judged), ("Recording", verdict.recording)) if file]
-    subject = report.Subject(verdict, part, count, program, verdict.commands, files)
-    try:
-        made = report_page.report_page(report.Report(subject))
-    except transmission.NoReport as reason:
-        raise Unclear(f"no report was made: {reason}") from None
-    with result_file(part.names.report) as file:
-        file.write(made.page())
-
-
 def judge_pair(pair: Pair, files: Files) -> None:
     """Judges a pair and writes the files; what is not clear stands in the verdict."""
     verdict, began = pair.verdict, time.monotonic()
@@ -286,8 +270,10 @@ def judge_pair(pair: Pair, files: Files) -> None:
         verdict.hints = [*dict.fromkeys(hints_of(verdict))]  # parts may have the same
     except Unclear as unclear:
         verdict.reason, verdict.to_type = unclear.reason, unclear.to_type
+        verdict.is_passing = isinstance(unclear, Unsaid)
     except Exception as reason:  # whatever it is, nothing is judged
         verdict.reason = error_line(reason)
+        verdict.is_passing = isinstance(reason, (Unanswered, OSError, MemoryError))
     except KeyboardInterrupt:
         ignore_signals()  # what is known is written now
         verdict.is_stopped = True
@@ -304,12 +290,12 @@ def judge_pair(pair: Pair, files: Files) -> None:
 def end_pair(verdict: Verdict, speech: Speech, files: Files) -> None:
     """Says the verdict; where that fails it is not judged, in all files too."""
     try:
-        say_verdict(verdict, speech)
+        say_verdict(verdict, speech, files.page)
     except KeyboardInterrupt as reason:
         ignore_signals()
         verdict.failed.append(error_line(reason))
         files.write_again()
-        say_verdict(verdict, speech)
+        say_verdict(verdict, speech, files.page)
     except Exception as reason:
         verdict.failed.append(error_line(reason))
         files.write_again()
@@ -331,10 +317,8 @@ def ignore_signals() -> None:
         signal.signal(one, signal.SIG_IGN)
 
 
-def say_verdict(verdict: Verdict, speech: Speech) -> None:
-    """Says the verdict, after what was lost and what is not clear."""
-    if verdict.line is not None:
-        speech.say(verdict.sentence)
+def say_verdict(verdict: Verdict, speech: Speech, page: str | None = None) -> None:
+    """Says the verdict, after what was lost and what is not clear; `page` is that of its report."""
     causes = [part.causes for part in verdict.parts if part.causes]
     if causes:
         speech.say(count_line(causes))
@@ -359,7 +343,7 @@ def say_verdict(verdict: Verdict, speech: Speech) -> None:
             speech.say(verdict.fitted)
         for line in verdict.hints:
             speech.say(line)
-        speech.end(verdict.line)
+        speech.end(verdict.sentence + look_words(verdict, page), verdict.line)
     elif is_line(speech.last):  # what the program says is no verdict then
         speech.say(NOT_JUDGED)
     if verdict.is_stopped:
@@ -369,6 +353,17 @@ def say_verdict(verdict: Verdict, speech: Speech) -> None:
         speech.tell(f"{NOT_JUDGED}: {line}" if verdict.is_stopped else line)
     for at, line in enumerate(verdict.to_type):
         speech.tell(f"{'type' if at == 0 else 'or'} {line}")
+
+
+def look_words(verdict: Verdict, page: str | None) -> str:
+    """Where to look behind a verdict that accepts not all: its report, or else what the manual says
+    of the number that is said first."""
+    part = verdict.leading
+    if verdict.word == ACCEPTED or not page and not (part and part.leading):
+        return ""
+    if page:
+        return f" See {page}."
+    return f" See refusals.md#n{part.leading.number}." if part and part.leading else ""
 
 
 class Output(NamedTuple):
@@ -395,6 +390,11 @@ class Files:
                  names: Names) -> None:
         self.call, self.verdict, self.typed, self.names = call, verdict, typed, names
         self.written: list[Output] = []
+
+    @property
+    def page(self) -> str | None:
+        """The page of the report as it is typed."""
+        return self.names.typed("html") if self.names.out else None
 
     def are_any(self) -> bool:
         """Whether something is written that has the sums of the inputs."""
@@ -439,13 +439,13 @@ class Files:
         program = about_program(self.typed.program_path)
 
         def page() -> Iterator[bytes]:
-            return iter([overview(verdict, program, names, self.typed).page()])
+            from ..report.page import report_page  # most calls need nothing of it
+            return iter([report_page(verdict, self.typed).page()])
 
         def members() -> Iterator[bytes]:
             return map(as_bytes, objects.object_of(verdict, program))
 
-        if names.out and len(verdict.parts) > 1:
-            wanted.append(Output(names.report, page, True))
+        wanted += [Output(names.report, page, True)] if names.out else []
         wanted += [Output(call.json, members, is_object=True)] if call.json else []
         wanted += [Output(names.machine, members, True, True)] if names.machine else []
         return wanted

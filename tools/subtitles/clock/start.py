@@ -30,12 +30,14 @@ class Clock(NamedTuple):
     """An origin and its `source`: fitted to the recording, given as `--origin`, or as `--start` by
     a time or by the TCP of the GSI block. `delay_frames` is how many frames later than by it the
     edges of the subtitles came, `None` where nothing can tell: a clock that was fitted to the
-    recording has the delay in it. `evidence` is by what this call has fitted it."""
+    recording has the delay in it. `evidence` is by what this call has fitted it. `away` is by how
+    many frames the clock is later if the time code is that of another picture, where it may be."""
 
     origin: int
     source: str
     delay_frames: int | None = None
     evidence: Selection | None = None
+    away: int = 0
 
     def chosen(self, part: int | None) -> Selection | None:
         """It as what is chosen for a part; `None` where it was given."""
@@ -50,6 +52,16 @@ class Clock(NamedTuple):
     def words(self) -> str:
         """The origin, and where it is from."""
         return f"origin {self.origin}, {SOURCES[self.source]}"
+
+    def question(self) -> str:
+        """What a delay asks that is just as long as from the first picture to another one that the
+        time code may be of; nothing of any other."""
+        if not self.away or self.delay_frames != self.away:
+            return ""
+        return "is the time code that of the GOP header? That is of the first picture in the " \
+            "order of showing, also where it can't be shown" if self.away < 0 else \
+            "is the time code that of the picture with the random_access_indicator? Others are " \
+            "shown before it"
 
 
 class Found(NamedTuple):
@@ -88,6 +100,7 @@ FRAMES_NEAR = 25  # frames that the last PCR of a recording may be before its la
 PTS_LOOKED_AT = 1000  # PTS
 REORDERED = 16  # pictures, at most, that are sent before one that is shown before them
 LONGEST = 10 * 90_000  # ticks after which pictures are no longer listed
+CLOSED = "closed"  # a group of pictures that needs none before it
 PATIENCE = 60 * 90_000  # ticks of the PCR without a picture after which none is waited for
 
 
@@ -97,17 +110,30 @@ class NoFirst(Exception):
 
 class First(NamedTuple):
     """The first picture of a recording: the PID of its video, what kind that is, its PTS, and how
-    many PES packets before it were passed over."""
+    many PES packets before it were passed over; and the PTS of another one, that with the flag or
+    the least of its group, where that is not the same."""
 
     pid: int
     kind: int
     pts: int
     passed: int
+    other: int | None = None
+
+    @property
+    def away(self) -> int:
+        """By how many frames the other one is later."""
+        return 0 if self.other is None else round(ticks_between(self.pts, self.other) / TICKS)
 
     def line(self) -> str:
+        frames = counted(abs(self.away), "frame")
+        more = "" if self.other is None else \
+            f"; the one with the random_access_indicator has PTS {self.other}, {frames} later" \
+            if self.away > 0 else \
+            f"; those of its group that come before it, from PTS {self.other} on, {frames}, " \
+            "can't be decoded"
         return (f"the first picture has PTS {self.pts}, {NAMES[self.kind]} of "
                 f"{pid_name(self.pid)}; {counted(self.passed, 'PES packet')} of video before it "
-                "skipped")
+                f"skipped{more}")
 
 
 class Began(NamedTuple):
@@ -138,8 +164,9 @@ def video_of(survey: Survey, teletext: int) -> tuple[int, int]:
 
 
 def first_picture(survey: Survey, teletext: int) -> First:
-    """The first picture of the programme whose PMT names a Teletext PID: the one with the smallest
-    PTS from the first with random_access_indicator to the next such one."""
+    """The first picture of the programme whose PMT names a Teletext PID: the first with the
+    random_access_indicator. Where those of its group can be decoded that are shown before it, or
+    nothing tells whether they can, it is the one with the smallest PTS up to the next such flag."""
     pid, kind = video_of(survey, teletext)
     name, one = f"{NAMES[kind]} of {pid_name(pid)}", survey.videos.get(pid)
     if one is None and not survey.is_whole:
@@ -161,7 +188,9 @@ def first_picture(survey: Survey, teletext: int) -> First:
         raise NoFirst(f"the PTS of the first pictures of {name} leave out "
                       f"{counted(frames, 'frame')}: a PES packet has several pictures, or some are "
                       "missing")
-    return First(pid, kind, min(pts, key=lambda each: ticks_between(pts[0], each)), one.passed)
+    least = min(pts, key=lambda each: ticks_between(pts[0], each))
+    first, other = (least, pts[0]) if one.form in ("", CLOSED) else (pts[0], least)
+    return First(pid, kind, first, one.passed, other if one.form and other != first else None)
 
 
 def left_out(pts: list[int], is_cut: bool) -> int:
@@ -224,8 +253,8 @@ def began(asked: Request, survey: Survey, packets: Packets) -> Began:
     said = "which the PTS of the Teletext agree with" if not ticks else \
         f"moved by {counted(abs(ticks), 'tick')} {'forward' if ticks > 0 else 'back'} to the PTS " \
         "of the Teletext"
-    return Began(Clock(moved, source), [first.line(), f"{name} there is --origin {moved}, {said}"],
-                 frame)
+    return Began(Clock(moved, source, away=first.away),
+                 [first.line(), f"{name} there is --origin {moved}, {said}"], frame)
 
 
 def refuse_outside(asked: Request, one: Began, begin: int, end: int, last: int | None) -> None:

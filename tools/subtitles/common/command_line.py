@@ -30,6 +30,10 @@ class Stop(Exception):
     """The tool can't go on; the text is its line on standard error, the status 2."""
 
 
+class Unanswered(Stop):
+    """The program did not answer to its end, as where it was killed: another time it may."""
+
+
 def version() -> str:
     """The version of the tools, which is that of the program."""
     try:

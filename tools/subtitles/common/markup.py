@@ -10,6 +10,7 @@ from .command_line import escaped
 
 # Nothing is loaded, run, sent or framed, whatever stands in a page; its style stands in it.
 POLICY = ("default-src 'none'; style-src 'unsafe-inline'; base-uri 'none'; form-action 'none'")
+ANCHOR = re.compile(' id="| href="#')
 NOT_XML = re.compile("[^\t\n\r\x20-\ud7ff\ue000-\ufffd\U00010000-\U0010ffff]")
 
 
@@ -36,6 +37,11 @@ class Markup:
     def capital(self) -> Markup:
         """The same with a capital letter in front."""
         return Markup(self.source[:1].upper() + self.source[1:])
+
+    def anchored(self, prefix: str) -> Markup:
+        """The same with a prefix for each anchor, and for links to them: as one of several parts.
+        A text has no quotes, so that these words stand in tags alone."""
+        return Markup(ANCHOR.sub(lambda found: found[0] + prefix, self.source))
 
     def page(self) -> bytes:
         """The bytes of a page."""

@@ -42,11 +42,10 @@ LOST_PACKETS = 45  # TS packets are lost within what is judged: nobody saw what 
 SILENT = 79  # no PES packet has come for as long as the pace allows: these may be lost
 LOSSES = {LOST_PACKETS, SILENT}
 REFUSED, ENDED, FAULT, USAGE = "refused", "ended", "fault", "usage"
-CONTENT, CHARACTER, LETTERS, CONTROL, CHANGED = 72, 50, (50, 51), 67, 69
+CONTENT, CHARACTER, LETTERS, CONTROL, PARITY, CHANGED = 72, 50, (50, 51), 67, 68, 69
 BEGIN, END = 63, 74  # what is judged begins after the first TCI, or ends before the last TCO
 WITH_CAUSE = {BEGIN, CONTENT, END}
 INCOMPLETE = 77
-ON_SCREEN = {*WITH_CAUSE, INCOMPLETE, UNDECIDED}  # what a viewer sees, or does not see
 
 
 class FaultLine(NamedTuple):
@@ -147,6 +146,39 @@ def frame_of_place(time: str) -> int:
     return ((hours * 60 + minutes) * 60 + seconds) * FRAMES_A_SECOND + frames
 
 
+# Faults that `qc` finds and no number of `check` says: a name stands for each, once.
+
+NEVER_SENT = "never sent"  # the page, where the PMT announces it
+PICTURES_LEFT = "pictures left"  # the clock of the video goes on elsewhere than that of the PTS
+NOT_SHOWN = "not shown"  # a row of the subtitle file, by any set
+FAULT_NAMES = (NEVER_SENT, PICTURES_LEFT, NOT_SHOWN)
+
+
+class NamedFault(NamedTuple):
+    """A fault with a name in the place of a number: what is wrong, in words; of a transmission from
+    when on, and the last frame at whose end it stands, of a subtitle file the TTI block. It is of a
+    part by its number."""
+
+    name: str
+    words: str
+    time: str | None = None
+    until: str | None = None
+    block: int | None = None
+    part: int = 1
+
+    @property
+    def line(self) -> str:
+        """It as a line of `check` would have it."""
+        place = f" frame {self.time}" if self.time else \
+            f" block {self.block}" if self.block is not None else ""
+        return f"{REFUSED} {self.name}{place}"
+
+
+def name_in(line: str) -> str | None:
+    """The name of a fault that a line has in the place of a number."""
+    return next((name for name in FAULT_NAMES if f"{line} ".startswith(f"{REFUSED} {name} ")), None)
+
+
 # What the manual says that a refusal means, and what to do: read from its tables.
 
 CHAPTER = os.path.join(TOP, "docs", "manual", "refusals.md")
@@ -176,6 +208,20 @@ def meanings() -> dict[int, Meaning]:
     return found
 
 
+def named_meanings() -> dict[str, Meaning]:
+    """The same of faults without a number, by their names."""
+    found: dict[str, Meaning] = {}
+    if not os.path.isfile(CHAPTER):
+        return found
+    with open(CHAPTER, encoding="utf-8") as file:
+        for line in file:
+            cells = [cell.strip() for cell in line.strip().strip("|").split("|")]
+            name = cells[0].strip("`")
+            if len(cells) == 4 and name in FAULT_NAMES:
+                found[name] = Meaning(name, *cells[2:])
+    return found
+
+
 def plain(text: str) -> str:
     """A cell of the manual without marks: links as their words."""
     return re.sub(r"\[([^]]*)\]\([^)]*\)", r"\1", text).replace("`", "")
@@ -188,8 +234,16 @@ def marked_up(text: str) -> Markup:
                   for at, one in enumerate(pieces))
 
 
+def anchor_of(name: str) -> str:
+    """The anchor of a fault without a number, in the manual and in a report."""
+    return name.replace(" ", "-")
+
+
 def number_link(line: str) -> Markup:
     """A line `refused NUMBER Name place` without its word; number and name lead to what it means.
     """
+    if (fault := name_in(line)) is not None:
+        place = line[len(f"{REFUSED} {fault}"):].split()
+        return joined([markup('<a href="#{}">{}</a>', anchor_of(fault), fault), *place], " ")
     _, number, name, *place = line.split(" ")
     return joined([markup('<a href="#n{}">{} {}</a>', number, number, name), *place], " ")

@@ -4,7 +4,8 @@ status         the verdict in one word and its exit status
 check          `check --all` called, and what its list comes to
 transmissions  page transmissions: their headers, what a person reads on them
 causes         why the content is refused: the cause of each subtitle, those of a list
-sentence       the sentence of a verdict, which ends the last line
+worst          what is said first of what is refused: the worst that a viewer sees
+sentence       the sentence of a verdict, which stands before the last line
 subtitles      subtitles that are refused themselves: midnight, letters
 part           a part of a pair: what is judged by itself, which subtitles it has
 verdict        the verdict on a pair: all that is written of it

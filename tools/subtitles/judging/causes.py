@@ -317,6 +317,7 @@ class Causes:
         self.named: dict[int, Cause] = {}
         self.of_edge: dict[int, int] = {}
         self.open: dict[int, Faulty] = {}
+        self.first_frames: dict[int, int] = {}  # by subtitle, at which another page is held
 
     def name(self, answer: Answer) -> None:
         """Names the causes of all that is told."""
@@ -339,6 +340,7 @@ class Causes:
 
     def add_to(self, place: int, span: Span) -> int:
         """Takes such frames as those of a subtitle."""
+        self.first_frames.setdefault(place, span.first)
         if place not in self.named:
             self.open.setdefault(place, Faulty()).add(span, self.programme.subtitles[place])
         return place

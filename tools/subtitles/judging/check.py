@@ -12,9 +12,9 @@ from typing import BinaryIO, Callable, Iterator, NamedTuple
 from ..common.files import naming, pieces_of
 from ..common.times import FRAMES_OF_A_DAY, Spans
 from ..formats.listing import (
-    ENDED, FaultLine, ON_SCREEN, PASSED_OVER, REFUSED, STL_FAULTS, UNDECIDED, accepted_of, count_of,
+    ENDED, FaultLine, PASSED_OVER, REFUSED, STL_FAULTS, UNDECIDED, accepted_of, count_of,
     fault_of_line, frame_of_place, is_line, line_words, number_of, trusted_of)
-from ..request.request import Unclear
+from ..request.request import Unsaid
 from .status import NOT_JUDGED, Said, UNSAID, word_of
 
 
@@ -99,21 +99,6 @@ class FaultCounts:
                 self.passed.add(self.passed.ends[-1], int(value))
 
     @property
-    def leading(self) -> FaultLine | None:
-        """The first fault of those that a viewer sees, or else the first one; where the subtitle
-        file is refused it is that."""
-        if self.first is None or self.first.number in STL_FAULTS:
-            return self.first
-        return next((told for number, told in self.firsts.items() if number in ON_SCREEN),
-                    self.first)
-
-    @property
-    def first_sent(self) -> FaultLine | None:
-        """The first fault of the transmission, beside subtitles that are refused."""
-        return next((told for number, told in self.firsts.items()
-                     if number not in STL_FAULTS | {UNDECIDED}), None)
-
-    @property
     def count_sent(self) -> int:
         """How many faults of the transmission there are."""
         return sum(count for number, count in self.counts.items()
@@ -157,13 +142,13 @@ class Answer(FaultCounts):
             self.strange = line
 
     def end(self, status: int) -> None:
-        """Takes the status; what is no answer is `Unclear`."""
+        """Takes the status; what is no answer is `Unsaid`."""
         with naming(self.path):
             self.file.close()
         self.status = status
         if self.verdict == NOT_JUDGED:
             line = self.last if self.strange is None else self.strange
-            raise Unclear(f"{UNSAID}: {line or 'it printed nothing'}, status {status}")
+            raise Unsaid(f"{UNSAID}: {line or 'it printed nothing'}, status {status}")
 
     def stop(self) -> None:
         """Takes that nothing more is told: what was told so far is no answer."""
@@ -232,11 +217,6 @@ class Answer(FaultCounts):
     def raw(self) -> Iterator[bytes]:
         """All that is told, as it is."""
         return pieces_of(self.path)
-
-    @property
-    def lead(self) -> str:
-        """What is told first of it: the fault that a viewer sees first."""
-        return self.leading.line if self.leading else self.last
 
     def lines(self) -> Iterator[str]:
         """All lines once more."""

@@ -154,7 +154,9 @@ def with_delay(clock: Clock, origin: Origin) -> tuple[Clock, list[str]]:
     which = "all" if origin.agreement is None or origin.agreement.are_all else "most"
     where = f"up to {time_of(origin.shifted_from)}" if origin.shifted_from is not None else \
         which if len(origin.printed) == 1 else f"up to the first break {which}"
-    return clock, [f"{where} subtitles are {words} {'early' if sign < 0 else 'late'}"]
+    line = f"{where} subtitles are {words} {'early' if sign < 0 else 'late'}"
+    question = clock.question() if which == "all" and not ticks else ""
+    return clock, [line, *filter(None, [question])]
 
 
 def unclear_origin(origin: Origin, again: Iterable[str]) -> Unclear:

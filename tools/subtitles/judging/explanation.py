@@ -4,19 +4,20 @@ from __future__ import annotations
 import dataclasses
 from typing import NamedTuple, Sequence
 
-from ..formats.listing import CONTENT, CONTROL, FaultLine, WITH_CAUSE
+from ..formats.listing import CONTENT, CONTROL, WITH_CAUSE
 from ..formats.teletext import BY_WORD
 from ..request.commands import Listener
 from ..stream.layout import left_lines, otherwise, otherwise_words, sent_in
 from .calls import better_options, try_part
 from .causes import Causes
 from .clocks import Programme
-from .faults import OF_HEADERS, hint_words
+from .faults import OF_HEADERS, lead_words
 from .losses import lacks
 from .part import Explanation, Part, part_causes, tell_causes
 from .transmissions import Kept, judged_by, kept_in
 from .verdict import MOVED, Verdict, frames_in
 from .within import least_within
+from .worst import Lead
 
 
 class Explainer(NamedTuple):
@@ -45,8 +46,8 @@ class Explainer(NamedTuple):
             part = with_more(part, better=better_options(self.program, part), kept=self.kept(part))
         if OF_HEADERS & part.answer.numbers:
             part = with_more(part, of_header=part.recorded[0].header_words(part.packets))
-        return with_more(part, hint=self.hint(part.answer.leading, part),
-                         sent_hint=self.hint(part.answer.first_sent, part))
+        return with_more(part, hint=self.hint(part.worst, part),
+                         sent_hint=self.hint(part.worst_sent, part))
 
     def otherwise(self, part: Part, causes: Causes) -> str:
         """How the house draws, where letters are right and the content is refused."""
@@ -83,9 +84,9 @@ class Explainer(NamedTuple):
         return judged_by(kept, try_part(self.program, part, keeping), part.held,
                          part.due().page_at)
 
-    def hint(self, fault: FaultLine | None, part: Part) -> str:
-        """What to know of a fault that is told first."""
-        return hint_words(fault, part, self.verdict) if fault else ""
+    def hint(self, lead: Lead | None, part: Part) -> str:
+        """What to know of the fault that is said first."""
+        return lead_words(lead.told, part, self.verdict) if lead else ""
 
 
 def with_more(part: Part, **more: object) -> Part:

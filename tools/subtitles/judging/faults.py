@@ -7,22 +7,24 @@ from typing import Iterator, NamedTuple, Sequence
 from ..clock.start import most_off, off_words
 from ..common.command_line import MOST_EVERY, counted, pid_name
 from ..common.shapes import Members
-from ..common.times import frame_at, time_of
+from ..common.times import frame_at, frame_of, time_of
 from ..formats.listing import (
     BEGIN, CHARACTER, CONTENT, CONTROL, DISPLAY, EMPTY_TIME, END, FaultLine, GAP, LETTERS,
-    OFF_FRAME, OUT_OF_ORDER, PASSED_OVER, SILENT, STL_FAULTS, WITH_CAUSE, meanings, plain)
+    NamedFault, OFF_FRAME, OUT_OF_ORDER, PARITY, PASSED_OVER, SILENT, STL_FAULTS, WITH_CAUSE,
+    meanings, named_meanings, plain)
 from ..formats.stl import NamedSubtitle, SubtitleFile
 from ..formats.teletext import BY_WORD, letters
 from ..request.request import Request
 from ..stream.gaps import are_usual, edges_of, frame_rows, longest_gap, repeat_distance, why_refused
 from ..stream.layout import BY_LAYOUT, left_lines
-from ..stream.receiver import OLD, Rows, Timeline
+from ..stream.receiver import HIT, OLD, Rows, Timeline
 from ..stream.survey import HEADER, Packets, Run
 from .causes import Wording
 from .check import End
 from .part import Part
 from .subtitles import OptionAdvice, midnight_words
-from .transmissions import Headed, headed, header_words
+from .transmissions import (
+    Headed, SPACE, code_words, effect_of, headed, header_words, page_text)
 from .verdict import Verdict
 
 
@@ -84,7 +86,7 @@ def code_at(rows: Rows | None, row: int, column: int) -> int | None:
 
 # What a person should know of the first fault of some numbers, beside its place.
 
-HINTED = {EMPTY_TIME, CHARACTER, OUT_OF_ORDER, OFF_FRAME, CONTROL, GAP, SILENT}
+HINTED = {EMPTY_TIME, CHARACTER, OUT_OF_ORDER, OFF_FRAME, CONTROL, GAP, PARITY, SILENT}
 NAMED = {DISPLAY, CONTENT, *BY_LAYOUT}  # for which an option is named, where one helps
 OF_HEADERS = {32, 35}  # of PES packets: their length, and that of their headers
 OF_ENDS = {BEGIN, END}  # where the page moves to another PID, or that has no more Teletext
@@ -137,10 +139,51 @@ def hint_words(told: FaultLine, part: Part, verdict: Verdict) -> str:
         times = [(one.begin, one.end) for one in part.due().subtitles]
         return gap_words((part.pts(HEADER), part.pts()[-1:]), part.origin, asked,
                          part.answer.numbers, times, part.explanation.is_lost)
+    if told.number == PARITY:
+        return letter_words(told, part)
     if part.explanation.kept:
         return part.explanation.kept.words()
     return header_words(fault_place(told, part.packets, part.held).headers, asked,
                         part.explanation.better)
+
+
+def lead_words(told: FaultLine, part: Part, verdict: Verdict) -> str:
+    """What is said of the fault that is said first: of a header of the page also of which subtitle
+    it is, and what it does there."""
+    words = hint_words(told, part, verdict)
+    if told.number != CONTROL or not words or told.frame is None:
+        return words
+    effect = effect_of(fault_place(told, part.packets, part.held).headers, verdict.asked)
+    return f"{whose_words(told.frame, part)} {effect} on some sets: {words}"
+
+
+def whose_words(frame: int, part: Part) -> str:
+    """The subtitle that is due at a frame with its text, or else behind which one the page comes.
+    """
+    due = part.due()
+    count, is_due = due.due(frame)
+    if not is_due:
+        return f"the page behind {due.subtitles[count - 1].name}" if count else "the page"
+    text = page_text(due.pages[count - 1], BY_WORD[part.asked.option].bits)
+    return f'{due.subtitles[count - 1].name}, "{text}",'
+
+
+def letter_words(told: FaultLine, part: Part) -> str:
+    """Which letter of which subtitle comes with even parity; nothing where that is not known."""
+    rows = fault_place(told, part.packets, part.held).rows
+    if told.frame is None or rows is None:
+        return ""
+    due = part.due().page_at(told.frame)
+    found = [code for cells, wanted in zip(rows, due) for cell, code in zip(cells, wanted)
+             if cell == HIT]
+    code = next((code for code in found if code > SPACE), found[0] if found else None)
+    if code is None:
+        what = "a byte"
+    elif code > SPACE:
+        what = f'the letter "{letters(BY_WORD[part.asked.option].bits)[code]}"'
+    else:
+        what = f"a byte, {code_words(code)},"
+    return f"{what} of {whose_words(told.frame, part)} comes with even parity"
 
 
 def end_words(number: int, part: Part, page: str) -> str:
@@ -279,14 +322,36 @@ class PartFaults:
         return {"code": f"{code:02X}", "character": self.letters[code] if code >= 0x20 else None}
 
 
+# What a fault without a number does not have.
+NO_NUMBER = ("number", "byte", "character", "text_at", "pes", "pes_pts", "pes_time", "packet",
+             "row", "column", "due", "held", "until_pes", "cause")
+
+
 def words_of_subtitle(subtitle: NamedSubtitle) -> Members:
     """A subtitle for machines."""
     return {"position": subtitle.position, "number": subtitle.number, "begin": subtitle.begin,
             "end": subtitle.end}
 
 
+def named_fault(verdict: Verdict, fault: NamedFault) -> Members:
+    """All that is known of a fault without a number."""
+    part = next((part for part in verdict.parts if part.number == fault.part), None)
+    file = part.subtitle_file() if part else None
+    frame = frame_of(fault.time) if fault.time else None
+    subtitle = None if file is None else file.at_block(fault.block) \
+        if fault.block is not None else file.at_frame(frame) if frame is not None else None
+    meaning = named_meanings().get(fault.name)
+    return {**dict.fromkeys(NO_NUMBER), "part": fault.part, "line": fault.line,
+            "name": fault.name, "severity": verdict.severity.of(fault.name),
+            "file": "pes" if fault.block is None else "stl", "block": fault.block,
+            "subtitle": subtitle and words_of_subtitle(subtitle), "frame": frame,
+            "time": fault.time, "until": fault.until, "means": fault.words,
+            "do": plain(meaning.do) if meaning else ""}
+
+
 def faults_of(verdict: Verdict) -> Iterator[Members]:
-    """The faults of all parts."""
+    """The faults of all parts; before them those without a number."""
+    yield from (named_fault(verdict, fault) for fault in verdict.named)
     for part in verdict.parts:
         if part.answer.count:
             yield from PartFaults(verdict, part)

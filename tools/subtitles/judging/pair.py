@@ -2,7 +2,7 @@
 from __future__ import annotations
 
 import functools
-from typing import Callable, NamedTuple, Sequence
+from typing import NamedTuple
 
 from ..clock.start import Found
 from ..common.command_line import Stop, counted
@@ -17,7 +17,7 @@ from ..recording.feed import Ending
 from ..recording.recording import Notice, Recording, refuse_files
 from ..request import commands, request
 from ..request.commands import CommandWords, Listener, Names
-from ..request.request import Request, Selection, Unclear, option_line
+from ..request.request import Request, Selection, Unclear, Unsaid, option_line
 from ..stream.layout import BY_LAYOUT, choices_of, layout_line, left_lines, sent_in, why_none
 from ..stream.receiver import timeline_near
 from ..stream.survey import HEADER
@@ -27,14 +27,14 @@ from .clocks import (
     NO_CLOCK, PartClocks, Programme, cut_part, given_clock, origin_in, parts_of, search_in)
 from .explanation import Explainer, with_more
 from .faults import hint_words
-from .losses import gap_of, gaps_in, paced_part, unsent_in
+from .losses import gaps_in, paced_part, unsent_in
 from .part import (
-    Explanation, Part, PartFrames, PartPace, PartRange, answered_part, is_in, moves_told, parted,
+    Explanation, Part, PartFrames, PartPace, PartRange, answered_part, moves_told, parted,
     refuse_others)
 from .status import REFUSED, UNSAID
 from .subtitles import beside_of, due_beside, is_judged_beside, title_words
 from .transmissions import DuePages, due_pages_of, subtitles_in
-from .verdict import Gap, Verdict
+from .verdict import Verdict
 
 
 class Located(NamedTuple):
@@ -46,15 +46,14 @@ class Located(NamedTuple):
 
 
 class Pair:
-    """A pair that is judged step by step; what is known so far stands in the verdict. `draw` draws
-    the report of a part, where that is asked for. `is_cut`: all that is read may be judged."""
+    """A pair that is judged step by step; what is known so far stands in the verdict. `given` is a
+    file with all that came of a feed, which may be judged."""
 
     def __init__(self, verdict: Verdict, typed: CommandWords, names: Names, listener: Listener,
-                 is_summed: bool, stalled_after: int = 10, is_cut: bool = False) -> None:
+                 is_summed: bool, stalled_after: int = 10, given: str | None = None) -> None:
         self.verdict, self.asked = verdict, verdict.asked
         self.typed, self.names, self.listener = typed, names, listener
-        self.is_summed, self.stalled_after, self.is_cut = is_summed, stalled_after, is_cut
-        self.draw: Callable[[Part, Sequence[Gap], int], None] = lambda *_: None
+        self.is_summed, self.stalled_after, self.given = is_summed, stalled_after, given
         self.recording: Recording | None = None
         self.begun: Part | None = None  # that is being judged, or was last
 
@@ -117,7 +116,7 @@ class Pair:
         """What is wrong with the subtitle file; at least there is no PES packet."""
         answer = check_alone(self.asked, self.typed.program_path, self.names)
         if answer.verdict != REFUSED:
-            raise Unclear(f"{UNSAID}: {answer.last}, where there is no PES packet")
+            raise Unsaid(f"{UNSAID}: {answer.last}, where there is no PES packet")
         return answer
 
     def take_beside(self, answer: Answer) -> Answer:
@@ -152,8 +151,6 @@ class Pair:
         if answer.first:
             part = with_more(part, hint=hint_words(answer.first, part, self.verdict))
             self.verdict.parts[-1] = part
-        if is_refused:
-            self.draw(part, [], 1)
 
     def subtitles(self) -> list[Subtitle]:
         """The subtitles that are judged."""
@@ -199,9 +196,10 @@ class Pair:
             raise Unclear(f"{asked.stl} has no subtitle")
         clock = given_clock(asked, self.verdict.was_fitted) or NO_CLOCK
         programme = Programme(asked, Found(subtitles[0].begin, subtitles[-1].end, clock),
-                              asked.pes, self.left_out, self.verdict.was_fitted, self.is_cut)
+                              asked.pes, self.left_out, self.verdict.was_fitted,
+                              self.given is not None)
         self.recording = recording = Recording(asked, self.typed, self.names, self.listener,
-                                               self.stalled_after, self.is_cut)
+                                               self.stalled_after, self.given)
         recording.read(self.is_summed, Ending(
             asked, programme.whole.begin, programme.whole.end,
             lambda packets: origin_in(packets, search_in(programme, recording.shown))))
@@ -288,8 +286,6 @@ class Pair:
                          self.is_summed).explained(part)
         self.verdict.parts[-1] = part
         self.warn_of(part, subtitles)
-        self.draw(part, [gap_of(place, frames.found.origin, True) for place in part.places()
-                         if is_in(place, part)], count)
 
     def due_of(self, asked: Request, subtitles: list[Subtitle]) -> DuePages:
         """The pages that are due of a part; beside subtitles that are refused those of the others.

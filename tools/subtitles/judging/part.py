@@ -11,7 +11,7 @@ from ..common.command_line import counted, pid_name
 from ..common.files import SummedFile
 from ..common.times import (
     Between, FRAMES_OF_A_DAY, Span, Spans, TICKS, frame_in, pts_of, ticks_within, time_of)
-from ..formats.listing import EMPTY, PASSED_OVER, STL_FAULTS
+from ..formats.listing import EMPTY, FaultLine, PASSED_OVER, STL_FAULTS, UNDECIDED
 from ..formats.stl import Subtitle, SubtitleFile
 from ..formats.teletext import BY_BITS, RESERVED
 from ..recording.recording import Notice, Recording
@@ -25,6 +25,7 @@ from .causes import Causes, Wording
 from .check import Answer
 from .status import REFUSED, Said
 from .transmissions import DuePages, Kept, headers_of
+from .worst import Lead, lead_of
 
 
 # A part of a pair, made in steps, each a value that the next one takes: its frames with their
@@ -136,6 +137,26 @@ class Part:
         """Its recording and its frames, of one that has these."""
         assert self.recording and self.found
         return self.recording, self.found
+
+    @functools.cached_property
+    def worst(self) -> Lead | None:
+        """What is said first of it, where something is refused."""
+        return lead_of(self.answer, self.causes)
+
+    @functools.cached_property
+    def worst_sent(self) -> Lead | None:
+        """The same of its transmission, beside subtitles that are refused."""
+        return lead_of(self.answer, self.causes, STL_FAULTS | {UNDECIDED})
+
+    @property
+    def leading(self) -> FaultLine | None:
+        """The fault that is said first."""
+        return self.worst.told if self.worst else None
+
+    @property
+    def lead(self) -> str:
+        """The line that is said first."""
+        return self.worst.told.line if self.worst else self.answer.last
 
     @property
     def held(self) -> Timeline | None:

@@ -1,4 +1,4 @@
-"""The sentence of a verdict, which ends the last line."""
+"""The sentence of a verdict, which stands before the last line."""
 from __future__ import annotations
 
 import collections
@@ -6,14 +6,16 @@ from typing import NamedTuple, Sequence
 
 from ..common.command_line import counted, range_words
 from ..common.times import time_of
-from ..formats.listing import CONTROL, FaultLine, GAP, LOST_PACKETS, OFF_FRAME, WITH_CAUSE
+from ..formats.listing import (
+    CONTROL, FaultLine, GAP, LOST_PACKETS, OFF_FRAME, PARITY, WITH_CAUSE)
 from ..formats.stl import Subtitle
 from ..formats.teletext import BY_WORD
 from .causes import (
-    ATTRIBUTE, Cause, Causes, EARLY, ERASED, IN_PART, IN_PAUSE, LATE, NEVER, NOT_ERASED,
+    ATTRIBUTE, Cause, Causes, EARLY, ERASED, IN_PART, IN_PAUSE, LATE, NAMES, NEVER, NOT_ERASED,
     NOT_RECEIVED, OTHER, PLACE, TEXT, UNKNOWN)
 from .status import ACCEPTED, LOST, NOT_JUDGED, REFUSED, WAIVED, WARNED
 from .transmissions import page_text
+from .worst import OF_CAUSE, rank_of, worst_cause
 
 
 # A fault of each number as a sentence: what stands behind `Refused: at TIME`.
@@ -98,17 +100,31 @@ SAID = {
     NOT_RECEIVED: ("was not received", "were not received"),
     UNKNOWN: ("is not held as it is due", "are not held as they are due")}
 OF_ALL = {GAP, OFF_FRAME}  # of which what is known is said of all that is judged
+BY_HINT = {CONTROL, PARITY}  # for which what is known stands alone
+MOST_NUMBERS = 4  # that are named
+
+
+class Count(NamedTuple):
+    """How many faults there are of a number."""
+
+    number: int
+    name: str
+    faults: int
 
 
 class Facts(NamedTuple):
     """All that the sentence is made of: the verdict in one word, how many subtitles there are, the
-    first fault and how many there are, what to know of that, and the causes; `lost` are the lines
-    of what is missing, `warnings` the kinds of those that count."""
+    fault that is said first, whether its cause is said, how many there are, in all and of each
+    number, what to know of the first, and the causes; `lost` are the lines of what is missing,
+    `warnings` the kinds of those that count; `named` is what is wrong by the first fault without a
+    number."""
 
     word: str
     subtitles: int
     first: FaultLine | None = None
+    is_caused: bool = False
     faults: int = 0
+    counts: Sequence[Count] = ()
     hint: str = ""
     causes: Causes | None = None
     option: str = "english"
@@ -119,6 +135,7 @@ class Facts(NamedTuple):
     refused: str = ""  # which subtitles are refused, beside which the others are judged
     within: int = 0
     accepted_within: int | None = None
+    named: str = ""
 
 
 def sentence_of(seen: Facts) -> str:
@@ -170,55 +187,73 @@ def since(seen: Facts) -> str:
 
 
 def what_is_wrong(seen: Facts) -> str:
-    """What is wrong: the cause that most subtitles have, else the first fault; and what accepts
+    """What is wrong: the worst with its first place, then how many of what else; and what accepts
     it."""
     if seen.refused:
         return beside_refused(seen)
-    told, causes = seen.first, seen.causes
-    if causes and causes.named:
-        words = of_causes(causes, seen.option)
-        if told and told.number not in WITH_CAUSE and seen.faults > 1:
-            place = f" at {told.time}" if told.time else ""
-            words += f"; the first of {counted(seen.faults, 'fault')} is {told.number} " \
-                f"{told.name}{place}"
-    else:
-        words = fault_clause(seen)
+    words = fault_clause(seen)
+    if seen.is_caused and seen.causes:
+        words = of_causes(seen.causes, seen.option) + also(seen)
     is_said = seen.accepted_within is None or f"--within {seen.accepted_within}" in words
     return words if is_said else f"{words}; --within {seen.accepted_within} accepts it"
 
 
 def fault_clause(seen: Facts) -> str:
-    """The first fault, with its place, in the words for it alone or those of the manual."""
+    """The first fault, with its place, in the words for it alone or those of the manual, and how
+    many there are of each number."""
     told = seen.first
+    if told is None and seen.named:
+        return seen.named + (f"; in all {counted(seen.faults, 'fault')}" * (seen.faults > 1))
     if told is None:
         return f"{counted(seen.faults, 'fault')}"
     if told.number == LOST_PACKETS and seen.lost:
         more = f", and in {counted(len(seen.lost) - 1, 'more place')}" if len(seen.lost) > 1 else ""
-        return f"{seen.lost[0]}{more}; that part was not recorded"
+        return f"{seen.lost[0]}{more}; that part was not recorded{also(seen)}"
     words = WORDS.get(told.number, told.name)
     place = told.time or (f"PES packet {told.pes}" if told.pes is not None else
                           f"block {told.block}" if told.block is not None else "")
     if seen.hint and told.number in OF_ALL:
         words, place = f"from {place} on {seen.hint}", ""
     elif seen.hint:
-        words = seen.hint if told.number == CONTROL else f"{words}: {seen.hint}"
+        words = seen.hint if told.number in BY_HINT else f"{words}: {seen.hint}"
     place = place and f"{'at' if told.time else 'in'} {place} "
     more = f"; in all {counted(seen.faults, 'fault')}" if seen.faults > 1 else ""
-    return f"{place}{words}{more}"
+    several = f": {numbers_words(seen.counts)}" if len(seen.counts) > 1 else ""
+    return f"{place}{words}{more}{several}"
+
+
+def also(seen: Facts) -> str:
+    """How many faults there are that are none of the content, and not of the number that is said
+    first."""
+    first = seen.first.number if seen.first else None
+    others = [one for one in seen.counts if one.number not in WITH_CAUSE and one.number != first]
+    return f"; also {numbers_words(others)}" if others else ""
+
+
+def numbers_words(several: Sequence[Count]) -> str:
+    """How many faults there are of each number, the worst first, of many the first ones."""
+    rising = sorted(several, key=lambda one: (rank_of(one.number), one.number))
+    words = [f"{one.number} {one.name}" + (f" ({one.faults:,})" if one.faults > 1 else "")
+             for one in rising]
+    if len(words) > MOST_NUMBERS:
+        words[MOST_NUMBERS:] = [counted(len(words) - MOST_NUMBERS, "more number")]
+    return " and ".join(filter(None, (", ".join(words[:-1]), words[-1])))
 
 
 def of_causes(causes: Causes, option: str) -> str:
-    """The cause that most subtitles have; those with another one are counted."""
+    """The worst cause, of the first subtitle that has it; how many have which other one."""
     every = causes.all()
-    counts = collections.Counter(cause.name for cause in every)
-    name = min(counts, key=lambda one: (-counts[one], next(
-        at for at, cause in enumerate(every) if cause.name == one)))
-    found = [cause for cause in every if cause.name == name]
+    worst = worst_cause(every)
+    assert worst
+    found = [cause for cause in every if cause.name == worst.name]
     subtitles = causes.programme.subtitles
-    words = of_one(found[0], causes, option) if len(found) == 1 else of_several(found, subtitles)
-    others = len(every) - len(found)
-    return words + (f"; {counted(others, 'other')} {'has' if others == 1 else 'have'} another cause"
-                    if others else "")
+    words = of_one(worst, causes, option) if len(found) == 1 else of_several(found, subtitles)
+    others = collections.Counter(cause.name for cause in every if cause.name != worst.name)
+    if not others:
+        return words
+    known = sorted(others, key=lambda name: (OF_CAUSE[name], NAMES.index(name)))
+    counts = ", ".join(f"{others[name]} {name}" for name in known)
+    return f"{words}; {counted(sum(others.values()), 'other')}: {counts}"
 
 
 def of_one(cause: Cause, causes: Causes, option: str) -> str:
@@ -227,11 +262,19 @@ def of_one(cause: Cause, causes: Causes, option: str) -> str:
     if cause.name == IN_PAUSE:
         return f"another text was sent in a pause, {cause.words}" + (
             f', "{page_text(cause.sent, BY_WORD[option].bits)}"' if cause.sent else "")
-    text = page_text(causes.programme.pages[cause.place], BY_WORD[option].bits)
+    text = due_text(causes, cause.place, option)
     said = f"is {counted(cause.frames or 0, 'frame')} {cause.name}" \
         if cause.name in (LATE, EARLY) else SAID[cause.name][0]
     more = f" ({cause.words})" if cause.words else ""
+    sent = page_text(cause.sent, BY_WORD[option].bits) if cause.sent and cause.name in (
+        TEXT, OTHER) else ""
+    more += f', sent: "{sent}"' if sent and sent != text else ""
     return f"at {time_of(one.begin)} {one.name}, \"{text}\", {said}{more}"
+
+
+def due_text(causes: Causes, place: int, option: str) -> str:
+    """The text that is due of a subtitle."""
+    return page_text(causes.programme.pages[place], BY_WORD[option].bits)
 
 
 def of_several(found: Sequence[Cause], subtitles: Sequence[Subtitle]) -> str:

@@ -5,25 +5,25 @@ from typing import Collection, Iterable, NamedTuple, Sequence
 
 from ..common.command_line import Stop
 from ..common.files import list_at
-from ..formats.listing import ENDS_READING, LOST_PACKETS, SILENT
+from ..formats.listing import ENDS_READING, FAULT_NAMES, LOST_PACKETS, SILENT
 
 
 # Which faults count for the exit status.
 
 ERROR, WARNING = "error", "warning"
-OTHERS = "others"  # the word for all numbers that are not named
+OTHERS = "others"  # the word for all numbers and names that are not named
 # The numbers that a command of the program refuses by: packets and files, texts, transmissions.
 REFUSALS = {3, 4, *range(10, 26), *range(30, 41), 44, LOST_PACKETS, *range(50, 58), *range(60, 75),
             *range(76, 80), 82}
 
 
 class Severity:
-    """The severity of each number: an error, but for what a file says. `is_loss_allowed` names lost
-    packets a warning; `others` in a file never does. Where they are one, a silence that a file does
-    not name is one too."""
+    """The severity of each number, and of each name that a fault without one has: an error, but for
+    what a file says. `is_loss_allowed` names lost packets a warning; `others` in a file never does.
+    Where they are one, a silence that a file does not name is one too."""
 
     def __init__(self, path: str | None, is_loss_allowed: bool = False) -> None:
-        self.named: dict[int, str] = {}
+        self.named: dict[int | str, str] = {}
         self.others = ERROR
         self.is_loss_allowed = is_loss_allowed
         if path is not None:
@@ -34,19 +34,22 @@ class Severity:
         """Takes a line; an empty one says nothing."""
         if not words:
             return
-        is_right = len(words) == 2 and words[1] in (ERROR, WARNING) and (
-            words[0] == OTHERS or words[0].isascii() and words[0].isdecimal())
-        if not is_right:
+        *names, severity = words
+        name = " ".join(names)
+        is_number = name.isascii() and name.isdecimal()
+        if severity not in (ERROR, WARNING) or not is_number and name not in (OTHERS, *FAULT_NAMES):
             raise Stop(f"{path}, line {at}: a line is `NUMBER error` or `NUMBER warning`")
-        if words[0] == OTHERS:
-            self.others = words[1]
-        elif words[0].lstrip("0") in map(str, REFUSALS):
-            self.named[int(words[0])] = words[1]
+        if name == OTHERS:
+            self.others = severity
+        elif name in FAULT_NAMES:
+            self.named[name] = severity
+        elif name.lstrip("0") in map(str, REFUSALS):
+            self.named[int(name)] = severity
         else:
-            raise Stop(f"{path}, line {at}: no refusal has the number {words[0]}")
+            raise Stop(f"{path}, line {at}: no refusal has the number {name}")
 
-    def of(self, number: int) -> str:
-        """The severity of a number."""
+    def of(self, number: int | str) -> str:
+        """The severity of a number, or of a name."""
         if number in ENDS_READING:
             return ERROR
         if number == LOST_PACKETS:
@@ -54,8 +57,8 @@ class Severity:
         is_loss = number == SILENT and not self.is_error(LOST_PACKETS)
         return self.named.get(number, WARNING if is_loss else self.others)
 
-    def is_error(self, number: int) -> bool:
-        """Whether a number counts."""
+    def is_error(self, number: int | str) -> bool:
+        """Whether a number counts, or a name."""
         return self.of(number) == ERROR
 
 
@@ -96,7 +99,7 @@ class Grounds(NamedTuple):
     verdict speaks of frames there. Such a place counts as a 45 does, which `check` tells of all
     others: `severity` says whether that is an error, by its file and by --allow-lost. `warnings`
     are the kinds of what is strange and breaks no rule. `reasons` say why it was not judged, and
-    `failed` which outputs could not be written.
+    `failed` which outputs could not be written. `names` are those of faults without a number.
     """
 
     parts: Sequence[Said]
@@ -106,6 +109,7 @@ class Grounds(NamedTuple):
     is_strict: bool = False
     reasons: Sequence[str] = ()
     failed: Sequence[str] = ()
+    names: Sequence[str] = ()
 
 
 class Decision(NamedTuple):
@@ -131,21 +135,23 @@ def word_of(said: Said) -> str:
 
 def decide(seen: Grounds) -> Decision:
     """The verdict on all parts. What nobody said or read, or could write, is not judged; then an
-    error counts before a loss, and a loss before a warning."""
+    error counts before a loss, and a loss before a warning. A fault without a number counts too
+    where there is no part, as of a page that is never sent."""
     words = [word_of(part) for part in seen.parts]
     if seen.reasons or seen.failed:
         return Decision(NOT_JUDGED)
-    if not words or NOT_JUDGED in words:
+    if not words and not seen.names or NOT_JUDGED in words:
         return Decision(NOT_JUDGED, UNSAID)
-    if any(seen.severity.is_error(number) for part in seen.parts for number in part.numbers):
+    faults: list[int | str] = [number for part in seen.parts for number in part.numbers]
+    if any(seen.severity.is_error(fault) for fault in [*faults, *seen.names]):
         return Decision(REFUSED)
-    if not all(part.is_read for part in seen.parts):
+    if not words or not all(part.is_read for part in seen.parts):
         return Decision(NOT_JUDGED, UNREAD)
     if any(seen.losses) and seen.severity.is_error(LOST_PACKETS):
         return Decision(LOST)
     if seen.warnings and seen.is_strict:
         return Decision(WARNED)
-    return Decision(WAIVED if REFUSED in words else ACCEPTED)
+    return Decision(WAIVED if REFUSED in words or seen.names else ACCEPTED)
 
 
 def is_of_call(word: str, status: int, ended: int) -> bool:

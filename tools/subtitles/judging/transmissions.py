@@ -15,7 +15,7 @@ from ..formats.stl import Subtitle, SubtitleList, stl_bytes, subtitles_read, sub
 from ..formats.teletext import (
     BY_BITS, BY_WORD, ERASE, INHIBIT, NEWSFLASH, Page, RESERVED, SUBTITLE, SUPPRESS, has_bit,
     letters, page_name)
-from ..request.request import Request, Unclear
+from ..request.request import Request, Unclear, Unsaid
 from ..stream.receiver import BLANK_PAGE, LEAST, Rows, State, Timeline, national_option, subcode_of
 from ..stream.survey import CLOSED, HEADER, PES, Packets, Run, survey
 from .check import Answer, End
@@ -33,6 +33,15 @@ ASKED = (
     (NEWSFLASH, False, "C5 (newsflash) is set"),
     (INHIBIT, False, "C10 (inhibit display) is set"),
 )
+# What the page does on sets that heed such a bit, the worst first.
+EFFECTS = (
+    (INHIBIT, False, "is not shown"),
+    (SUBTITLE, True, "hides the picture"),
+    (ERASE, True, "may stand over old text"),
+    (SUPPRESS, True, "shows a header line"),
+    (NEWSFLASH, False, "comes as a newsflash"),
+)
+OTHER_LETTERS = "has other letters"
 
 
 class Headed(NamedTuple):
@@ -97,6 +106,15 @@ def control_words(header: bytes, option: str, better: Collection[str] = (),
         advice = f": --option {one.word}" if one.word in better else ""
         found.append(f"the header is {one.name}{advice}")
     return found
+
+
+def effect_of(headers: Sequence[Headed], asked: Request) -> str:
+    """What the page does on some sets, by the first header of some of which something is wrong."""
+    numbers = next((one.numbers for one in headers if control_words(
+        one.numbers, asked.option, (), unerased_words(one, asked))), b"")
+    wrong = (words for bit, is_set, words in EFFECTS if numbers and has_bit(numbers, bit) != is_set
+             and not (bit == ERASE and asked.may_keep))
+    return next(wrong, OTHER_LETTERS)
 
 
 def header_words(headers: Sequence[Headed], asked: Request, better: Collection[str]) -> str:
@@ -365,7 +383,7 @@ def program_answer(program: str, *words: str) -> list[str]:
                           stdout=subprocess.PIPE, encoding="utf-8", errors="replace")
     lines = done.stdout.splitlines()
     if done.returncode and f"refused {NOTHING} " not in "".join(lines[-1:]):
-        raise Unclear(f"{words[0]} was not answered: {''.join(lines[-1:])}")
+        raise Unsaid(f"{words[0]} was not answered: {''.join(lines[-1:])}")
     return lines
 
 

@@ -1,13 +1,14 @@
 """The verdict on a pair: all that is written of it, and after how many frames pages were whole."""
 from __future__ import annotations
 
+import collections
 import dataclasses
-from typing import Callable, Iterable, NamedTuple
+from typing import Callable, Collection, Iterable, NamedTuple, Sequence
 
 from ..clock.start import FITTED, FITTED_LATER
 from ..common.command_line import range_words
 from ..common.files import SummedFile
-from ..formats.listing import LOSSES, ON_SCREEN, STL_FAULTS
+from ..formats.listing import LOSSES, NamedFault, STL_FAULTS, UNDECIDED
 from ..formats.stl import Subtitle
 from ..recording.recording import Notice
 from ..request.request import Request, Selection
@@ -15,10 +16,11 @@ from ..stream.gaps import Place
 from ..stream.layout import Choice
 from ..stream.receiver import Rows, Timeline
 from .part import Part
-from .sentence import Facts, sentence_of
+from .sentence import Count, Facts, sentence_of
 from .status import Decision, Grounds, LOST, NOT_JUDGED, REFUSED, Severity, WAIVED, WARNED, decide
 from .subtitles import Counts, JudgedBeside
 from .transmissions import DuePages
+from .worst import Lead, Rank
 
 
 # After how many frames each subtitle was whole: what a house needs to choose --within N.
@@ -80,6 +82,31 @@ def frames_in(is_known: bool, count: int, held: Timeline, due: Callable[[], DueP
     return [0] * count if is_known else frames_of(due(), held, is_complete)
 
 
+def worst_of(parts: Sequence[Part], lead: Callable[[Part], Lead | None]) -> Part | None:
+    """The first part of those that have the worst to say first."""
+    def rank(part: Part) -> Rank:
+        one = lead(part)
+        return one.rank if one else Rank.LATER
+
+    return min(parts, key=rank) if parts else None
+
+
+def with_lead(said: Facts, lead: Lead | None) -> Facts:
+    """The same with the fault that is said first."""
+    return said._replace(first=lead.told, is_caused=lead.is_caused) if lead else said
+
+
+def counts_of_numbers(parts: Sequence[Part], left_out: Collection[int] = ()) -> list[Count]:
+    """How many faults there are of each number in all parts, but for some numbers."""
+    counts: collections.Counter[int] = collections.Counter()
+    names: dict[int, str] = {}
+    for part in parts:
+        counts.update(part.answer.counts)
+        names |= {number: told.name for number, told in part.answer.firsts.items()}
+    return [Count(number, names.get(number, ""), count) for number, count in counts.items()
+            if number not in left_out]
+
+
 # A verdict on a pair: its parts, what was lost, what it was made with.
 
 FITTED_KIND = "fitted"  # a warning where warnings count: the clock was fitted to the recording
@@ -125,6 +152,7 @@ class Verdict:
     is_kept: bool = False  # what was judged stays in the folder
     is_stopped: bool = False  # by a signal
     reason: str | None = None  # why it is not judged
+    is_passing: bool = False  # that is a failure of the machine: another time it may be judged
     failed: list[str] = dataclasses.field(default_factory=list)  # why outputs are not written
     to_type: tuple[str, ...] = ()
     found: dict[str, object] = dataclasses.field(default_factory=dict)
@@ -133,6 +161,7 @@ class Verdict:
     count: int = 0  # of the subtitles
     layout: Choice | None = None  # that was found
     beside: JudgedBeside | None = None  # where some subtitles are refused, and others are judged
+    named: list[NamedFault] = dataclasses.field(default_factory=list)  # faults without a number
 
     @property
     def is_lost(self) -> bool:
@@ -143,7 +172,8 @@ class Verdict:
     def is_lost_alone(self) -> bool:
         """Whether nothing but that is refused."""
         numbers = {number for part in self.parts for number in part.answer.numbers}
-        return self.word == LOST or self.word == REFUSED and numbers <= LOSSES
+        return self.word == LOST or \
+            self.word == REFUSED and numbers <= LOSSES and not self.named
 
     def warn(self, found: Iterable[Notice]) -> None:
         """Takes warnings that are not known yet."""
@@ -167,12 +197,17 @@ class Verdict:
         return Grounds([part.said() for part in self.parts], self.severity,
                     [gap.is_judged and gap.place.mark is None for gap in self.gaps], kinds,
                     self.asked.is_strict, [] if self.reason is None else [self.reason],
-                    self.failed)
+                    self.failed, [fault.name for fault in self.named])
 
     @property
     def decision(self) -> Decision:
         """What comes of that."""
         return decide(self.seen())
+
+    @property
+    def is_final(self) -> bool:
+        """Whether it would be the same another time: the machine did what was asked of it."""
+        return not (self.is_passing or self.is_stopped or self.failed)
 
     @property
     def word(self) -> str:
@@ -191,32 +226,35 @@ class Verdict:
         refused = self.leading
         said = Facts(
             self.word, self.count, option=self.asked.option, faults=self.faults,
+            counts=counts_of_numbers(self.parts),
             lost=[gap.line() for gap in self.gaps if gap.is_judged], warnings=self.seen().warnings,
-            reason=self.why_not, is_file=self.asked.recording is None, within=self.asked.within,
+            reason=self.why_not, named=self.named[0].words if self.named else "",
+            is_file=self.asked.recording is None, within=self.asked.within,
             accepted_within=self.accepted_within)
         if refused and self.beside:
             said = self.sent_beside(said, self.beside)
         elif refused:
-            is_caused = refused.causes and refused.causes.named
-            first = refused.answer.first if is_caused else refused.answer.leading
-            said = said._replace(first=first, hint=refused.explanation.hint, causes=refused.causes)
+            said = with_lead(said._replace(hint=refused.explanation.hint, causes=refused.causes),
+                             refused.worst)
         return sentence_of(said)
 
     def sent_beside(self, said: Facts, beside: JudgedBeside) -> Facts:
         """What the sentence is made of where subtitles are refused: that of the transmission, of
         the first part of which something is."""
         answers = [part.answer for part in self.parts]
-        part = next((part for part in self.parts if part.answer.first_sent), None)
+        parts = [part for part in self.parts if part.worst_sent]
+        part = worst_of(parts, lambda one: one.worst_sent)
         said = said._replace(refused=beside.words(), subtitles=len(beside.judged), is_file=False,
-                             faults=sum(answer.count_sent for answer in answers))
-        return said._replace(first=part.answer.first_sent, hint=part.explanation.sent_hint,
-                             causes=part.causes) if part else said
+                             faults=sum(answer.count_sent for answer in answers),
+                             counts=counts_of_numbers(self.parts, STL_FAULTS | {UNDECIDED}))
+        return with_lead(said._replace(hint=part.explanation.sent_hint, causes=part.causes),
+                         part.worst_sent) if part else said
 
     @property
     def counts(self) -> Counts | None:
         """How many subtitles were judged, and how many are refused; `None` where neither is known.
         """
-        if self.word == NOT_JUDGED:
+        if self.word == NOT_JUDGED or not self.parts:
             return None
         if self.beside:
             return Counts(len(self.beside.judged), len(self.beside.left_out))
@@ -243,7 +281,7 @@ class Verdict:
     @property
     def faults(self) -> int:
         """How many faults there are in all parts."""
-        return sum(part.answer.count for part in self.parts)
+        return sum(part.answer.count for part in self.parts) + len(self.named)
 
     @property
     def status(self) -> int:
@@ -259,24 +297,23 @@ class Verdict:
 
     @property
     def lead(self) -> str | None:
-        """The same with the fault that a viewer sees first, where there is one: reports, and tables
-        of many pairs, begin with it."""
+        """The same with the worst fault, where there is one: reports, and tables of many pairs,
+        begin with it."""
         part = self.leading
-        return self.line_of(part.answer.lead if part else None)
+        return self.line_of(part.lead if part else None)
 
     @property
     def leading(self) -> Part | None:
-        """The first part of which something is refused that a viewer sees, else the first that is
-        refused."""
-        refused = [part for part in self.parts if part.is_refused]
-        return next((part for part in refused if part.answer.leading and
-                     part.answer.leading.number in ON_SCREEN), next(iter(refused), None))
+        """The part that has the worst of what is refused."""
+        return worst_of([part for part in self.parts if part.is_refused], lambda one: one.worst)
 
     def line_of(self, refused: str | None) -> str | None:
         """A line of `check`, with what became of it; `None` where nothing is judged."""
         word = self.word
         if word == NOT_JUDGED:
             return None
+        if refused is None and self.named:
+            refused = self.named[0].line
         if word == REFUSED:
             return refused
         line = self.accepted_line() if refused is None else f"{WAIVED}: {refused}"

@@ -10,7 +10,7 @@ from typing import Iterable, Iterator, NamedTuple, Sequence
 
 from ..clock.start import NoFirst
 from ..common.command_line import PACKET_SIZES, Stop, counted, pid_name, shown, stream_words
-from ..common.files import SummedFile, Sums, first_bytes, pieces_of
+from ..common.files import SummedFile, Sums, file_of, first_bytes, pieces_of
 from ..common.times import FRAMES_OF_A_DAY, NO_FRAME, frame_in, frames_at, ticks_between, time_of
 from ..formats.stl import SubtitleFile
 from ..formats.teletext import BY_WORD, OTHER_REGIONS, START, as_sent, of_track
@@ -277,7 +277,7 @@ class Recording:
     range of the recording itself; what comes through a pipe is kept in a file, at `path`."""
 
     def __init__(self, asked: Request, typed: CommandWords, names: Names, listener: Listener,
-                 stalled_after: int, is_cut: bool = False) -> None:
+                 stalled_after: int, given: str | None = None) -> None:
         assert asked.recording is not None
         self.asked, self.typed, self.names, self.listener = asked, typed, names, listener
         self.name, self.stalled_after = asked.recording, stalled_after
@@ -285,7 +285,7 @@ class Recording:
         self.is_feed = self.size is None
         self.is_piped = self.is_feed or self.name == STANDARD_INPUT
         self.path = names.whole_path if self.is_piped else names.as_program(self.name, "given")
-        self.is_cut = is_cut  # of a feed, by who calls this tool: it is read to its end
+        self.given = given  # a file with all that came of a feed, by who calls this tool
         self.survey, self.packets = Survey(), Packets(PES)
         self.stages: list[Stage] = []
         self.file: SummedFile | None = None
@@ -293,8 +293,12 @@ class Recording:
     def read(self, is_summed: bool, ending: Ending) -> None:
         """Reads it: a file to its end, a feed up to the last subtitle at least."""
         try:
-            if self.is_piped:
-                self.read_feed(None if self.is_cut or not self.is_feed else ending)
+            if self.given is not None:
+                self.path = self.given
+                self.read_file(False)
+                self.file = file_of(self.path, self.name)
+            elif self.is_piped:
+                self.read_feed(ending if self.is_feed else None)
             else:
                 self.read_file(is_summed)
         except NoFirst as reason:

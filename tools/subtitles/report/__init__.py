@@ -3,7 +3,8 @@
 transmission   what a report shows of a transmission: its pages, its PES packets, its bytes
 pictures       pages as Teletext level 1 draws them, and the pictures of a frame
 faults         the list of faults of a report, and how many there are of each number
-strips         strips of time with subtitles, sendings and faults; subtitles by minute
+strip          an overview of subtitles, sendings and faults; subtitles with pictures
 report         all that a report is made of: what it is about, why the content is refused
-page           the page of a report, of a refused subtitle file, and over all parts of a pair
+refused        a refused subtitle file: its broken place, and all its refused subtitles
+page           the page of a verdict: what is said of it, then each part
 """

@@ -44,11 +44,13 @@ class Faults:
     """What `check --all` told, as entries: the first ones; `entry_count` is how many there are.
 
     Those that name a block are `of_blocks`, an entry for each block. `first_entries` is by
-    number the entry that has the first fault of it. `spans` are the frames at which something is
+    number the entry that has the first fault of it, and `leading` the one that has the fault that
+    is said first, wherever it stands. `spans` are the frames at which something is
     told, or stands; at those that are `undecided` it is not known what is due.
     """
 
-    def __init__(self, answer: Answer, programme: SubtitleList, trusted: Spans) -> None:
+    def __init__(self, answer: Answer, programme: SubtitleList, trusted: Spans,
+                 lead: FaultLine | None = None) -> None:
         self.answer, self.programme = answer, programme
         self.count, self.counts, self.firsts = answer.count, answer.counts, answer.firsts
         self.passed, self.trusted = answer.passed, trusted
@@ -59,6 +61,7 @@ class Faults:
         self.of_blocks: list[FaultLine] = []
         self.entry_count = 0
         self.first_entries: dict[int, int] = {}
+        self.leading: Entry | None = None
         last: tuple[object, ...] = ()  # what the last entry has in common
         entry: Entry | None = None
         for index, (told, end) in enumerate(answer.told()):
@@ -75,6 +78,8 @@ class Faults:
                 entry.add(told)
             if self.entry_count <= MOST_ENTRIES or told.block is not None:
                 self.first_entries.setdefault(told.number, self.entry_count)
+            if told == lead and told.block is None:
+                self.leading = self.leading or entry
             entry.end, last = end, of_entry
 
     def ending(self) -> FaultLine | None:
@@ -166,6 +171,7 @@ class FaultList:
     def __init__(self, report: Report, looks: Looks, seen: Seen) -> None:
         self.report, self.looks, self.program = report, looks, report.program
         self.entries, self.figures, self.held = report.faults.entries, looks.figures, seen
+        self.leading = report.faults.leading
         self.pictured: dict[int, Entry] = {}  # the entry that has the pictures of a frame
 
     def is_shown(self, frame: int | None) -> bool:
@@ -234,8 +240,8 @@ class FaultList:
     def item(self, entry: Entry) -> Markup:
         fault, frame = entry.first, self.looks.entries.frame_of(entry)
         when: Value = fault_place_words(fault)
-        if entry.index <= MOST_PICTURED:
-            when = markup('<a href="#{}">{}</a>', section_name(entry), when)
+        if entry.index <= MOST_PICTURED or entry is self.leading:
+            when = markup('<a href="#{}">{}</a>', self.name_of(entry), when)
         words = [markup("<b>{}</b> <code>{}</code>", when, number_link(fault.line))]
         span = self.span_words(entry)
         details: Value = NOT_READ
@@ -266,9 +272,9 @@ class FaultList:
     def section(self, entry: Entry) -> Markup:
         """The pictures of an entry, and its Teletext packets: all for the first, else the named."""
         fault, frame = entry.first, self.looks.entries.frame_of(entry)
-        title: Value = "The broken place" if entry.index == 1 else \
+        title: Value = "The broken place" if self.is_place(entry) else \
             markup("Fault {}: <code>{}</code>", entry.index, number_link(fault.line))
-        parts = [markup('<section class="fault" id="{}"><h2>{}</h2>{}', section_name(entry), title,
+        parts = [markup('<section class="fault" id="{}"><h2>{}</h2>{}', self.name_of(entry), title,
                         self.steps(entry))]
         details = self.details(entry)
         if details and self.is_shown(frame):
@@ -304,17 +310,18 @@ class FaultList:
             parts.append(self.figures.at(frame, place))
         else:
             parts.append(markup('<p>Pictures of that frame: <a href="#{}">fault {}</a>.</p>',
-                                section_name(other), other.index))
+                                self.name_of(other), other.index))
         parts.append(self.packets(entry, frame))
         return joined(parts)
 
     def packets(self, entry: Entry, frame: int) -> Markup:
         known = [one.first for one in self.held.held.members(frame)]
+        is_first = entry is self.leading
         if not known:
-            return markup("<p>No PES packet has frame {}.</p>", time_of(frame)) * (entry.index == 1)
-        if entry.index > 1 and entry.first.packet is None:
+            return markup("<p>No PES packet has frame {}.</p>", time_of(frame)) * is_first
+        if not is_first and entry.first.packet is None:
             return NO_MARKUP
-        return units_table(self.program, known, frame, entry.first.packet, entry.index == 1)
+        return units_table(self.program, known, frame, entry.first.packet, is_first)
 
     def steps(self, entry: Entry) -> Markup:
         """Links to the entries before and after, and to the list."""
@@ -322,19 +329,24 @@ class FaultList:
         for other, words in ((entry.index - 1, markup("&#9664; previous fault")),
                              (entry.index + 1, markup("next fault &#9654;"))):
             if 1 <= other <= min(len(self.entries), MOST_PICTURED):
-                name = section_name(self.entries[other - 1])
+                name = self.name_of(self.entries[other - 1])
                 links.append(markup('<a href="#{}">{}</a>', name, words))
         links.append(markup('<a href="#e{}">in the list</a>', entry.index))
         return markup('<p class="steps">{}</p>', joined(links, " "))
 
     def place(self) -> Markup:
-        """The first fault, which `check` names."""
-        return self.section(self.entries[0]) if self.entries else NO_MARKUP
+        """The fault that is said first."""
+        return self.section(self.leading) if self.leading else NO_MARKUP
 
     def others(self) -> Markup:
-        """The sections of the faults after the first one."""
-        return joined(map(self.section, self.entries[1:MOST_PICTURED]))
+        """The sections of the other faults, in order."""
+        return joined(self.section(one) for one in self.entries[:MOST_PICTURED]
+                      if one is not self.leading)
 
+    def name_of(self, entry: Entry) -> str:
+        """The anchor of the section of an entry."""
+        return "place" if self.is_place(entry) else f"f{entry.index}"
 
-def section_name(entry: Entry) -> str:
-    return "place" if entry.index == 1 else f"f{entry.index}"
+    def is_place(self, entry: Entry) -> bool:
+        """Whether an entry is the broken place; beside refused subtitles that is a block."""
+        return entry is self.leading and not self.report.is_beside

@@ -1,269 +1,27 @@
-"""The page of a report, of a refused subtitle file, and over all parts of a pair."""
+"""The page of a verdict: what is said of it, then what there is to see of each part."""
 from __future__ import annotations
 
-import itertools
 import os
 from typing import Iterable, Sequence
-from urllib.parse import quote
 
 from ..common.command_line import counted
 from ..common.files import SummedFile
-from ..common.markup import BREAK, HEAD, Markup, NO_MARKUP, Value, joined, markup, own_style
-from ..common.program import MadeWith
-from ..common.times import frame_of, time_of
-from ..formats.listing import FaultLine, STL_FAULTS, fault_of_line, number_link
-from ..formats.stl import COMMENT, GSI, LAST, NamedSubtitle, SubtitleFile, TTI, USER_DATA, titles_in
+from ..common.markup import BREAK, HEAD, Markup, Value, joined, markup, own_style
+from ..common.program import MadeWith, about_program
+from ..common.times import frame_of
+from ..formats.stl import titles_in
 from ..formats.teletext import page_name
-from ..judging.causes import count_line, names_line
+from ..judging.causes import names_line
 from ..judging.faults import HINTED
-from ..judging.part import Part
+from ..judging.part import Part, is_in
 from ..judging.status import ACCEPTED, LOST, NOT_JUDGED, REFUSED, WAIVED, WARNED
 from ..judging.verdict import Verdict, spread_of
-from ..request.commands import CommandWords, Names
+from ..request.commands import CommandWords
 from ..request.request import Request
 from .faults import heads, meaning_of_verdict, numbers_table, table_row
-from .report import Looks, Report, Scope, names_block
-from .transmission import Seen, place_of_pts
-
-
-# A refused subtitle file: its broken place, and all its refused subtitles as text.
-
-NAMED = markup(' class="named"')
-ORDER_FAULTS = 56, 57
-BYTE_FAULTS, ROW_FAULTS = (50, 51), range(50, 56)
-OF_FIRST_BLOCK = (16, 18, 19, 20, 21)  # after these the list goes on, as if it were not there
-ENDS = (*range(10, 16), 17, *range(22, 26))  # reading ends at one of these
-# The field of a TTI block, or of the GSI block, that a fault is about: its name and its bytes.
-FIELDS = {11: ("DFC", slice(3, 11)), 12: ("DFC", slice(3, 11)), 13: ("DSC", slice(11, 12)),
-          14: ("CCT", slice(12, 14)), 15: ("EBN", slice(3, 4)), 16: ("CS", slice(4, 5)),
-          17: ("CF", slice(15, 16)), 18: ("JC", slice(14, 15)), 19: ("VP", slice(13, 14)),
-          22: ("SGN and SN", slice(0, 3))}
-FIRST_LINES, LAST_LINES = 200, 20  # of what `show` prints
-DRAWN_BESIDE = "It is drawn as undecided: what was sent from the subtitle before it that can be " \
-    "relied on to the next one is not judged."
-
-
-class Blocks:
-    """The blocks of a file, and the subtitles that they are of."""
-
-    def __init__(self, file: SubtitleFile, told: Iterable[FaultLine]) -> None:
-        self.file = file
-        self.count = len(self.file.firsts) - 1
-        self.passed_over = {one.block for one in told if one.number in OF_FIRST_BLOCK}
-
-    def is_text(self, block: int) -> bool:
-        """Whether a block is of a subtitle: it holds no user data and is no comment."""
-        one = self.file.block(block)
-        return one[3] != USER_DATA and one[15] != COMMENT
-
-    def subtitle(self, block: int | None) -> NamedSubtitle | None:
-        """The subtitle of a block; `None` for the GSI block, and for one that is cut."""
-        return None if block is None else self.file.at_block(block)
-
-    def text(self, block: int) -> bytes:
-        """The text of a block's subtitle, as far as there are blocks of it."""
-        first, last = self.file.firsts[block], block
-        for number in range(block, self.count + 1):
-            if self.file.firsts[number] == first and self.is_text(number):
-                last = number
-                if self.file.block(number)[3] == LAST:
-                    break
-        return self.file.text(last)
-
-    def row(self, block: int) -> int:
-        """The row of the first line of a block's subtitle (VP)."""
-        return self.file.block(self.file.firsts[block])[13]
-
-    def before(self, block: int) -> NamedSubtitle | None:
-        """The subtitle whose times those of a block's subtitle are held against."""
-        for number in range(self.file.firsts[block] - 1, 0, -1):
-            if self.is_text(number) and not self.file.is_outside(number) and \
-                    self.file.firsts[number] not in self.passed_over:
-                return self.subtitle(number)
-        return None
-
-    def field(self, fault: FaultLine) -> Markup:
-        """The field that a fault is about, with its bytes marked; nothing for another fault."""
-        if fault.number not in FIELDS or fault.block is None:
-            return NO_MARKUP
-        name, place = FIELDS[fault.number]
-        data = self.file.block(fault.block) if fault.block else self.file.data[:GSI]
-        return markup("{} {}", name, mark(data[place].hex().upper() if fault.block else
-                                          joined(map(readable, data[place]))))
-
-
-def block_place(report: Report, blocks: Blocks) -> Markup:
-    """The broken place, which `check` names."""
-    first = report.first
-    assert first and first.block is not None
-    begin = GSI + TTI * (first.block - 1)
-    named = f"TTI block {first.block} begins at byte {begin} of the subtitle file." \
-        if first.block else "The GSI block, block 0, is the first 1024 bytes of the file."
-    why = DRAWN_BESIDE if report.is_beside else \
-        "No page is drawn: what is due is known from a whole subtitle file alone."
-    parts = [markup('<section id="place"><h2>The broken place</h2><p>{} {}</p>', named, why)]
-    subtitle = blocks.subtitle(first.block)
-    if subtitle:
-        parts.append(refused_subtitle(blocks, subtitle, first))
-    elif blocks.field(first):
-        parts.append(markup('<p class="text">{}</p>', blocks.field(first)))
-    return joined([*parts, markup("</section>")])
-
-
-def refused_subtitle(blocks: Blocks, subtitle: NamedSubtitle, fault: FaultLine) -> Markup:
-    """The first refused subtitle, in tables."""
-    assert fault.block is not None
-    text = blocks.text(fault.block)
-    parts = [markup("<h3>{}</h3>", block_name(subtitle, fault.block))]
-    if fault.number in ORDER_FAULTS:
-        parts.append(two_times(blocks, subtitle, fault))
-    else:
-        parts.append(markup("<p>{}</p>", joined(marked_times(subtitle, [fault]), " to ")))
-    if fault.number in BYTE_FAULTS:
-        return joined([*parts, byte_table(text, fault.at)])
-    if fault.number in ROW_FAULTS:
-        return joined([*parts, line_table(text, blocks.row(fault.block), fault.at)])
-    if blocks.field(fault):
-        parts.append(markup('<p class="text">{}</p>', blocks.field(fault)))
-    return joined([*parts, markup("<p>{}</p>", marked_text(text, []))])
-
-
-def block_name(subtitle: NamedSubtitle, block: int) -> str:
-    return f"SN {subtitle.number}, block {block}"
-
-
-def mark(text: Value) -> Markup:
-    return markup("<mark>{}</mark>", text)
-
-
-def marked_times(subtitle: NamedSubtitle, faults: list[FaultLine]) -> tuple[Value, Value]:
-    """TCI and TCO of a subtitle, marked where a fault is about them."""
-    numbers = {one.number for one in faults}
-    is_begin, is_end = (20 in numbers and frame_of(time) is None or 21 in numbers
-                        for time in (subtitle.begin, subtitle.end))
-    is_begin = is_begin or bool(numbers & {*ORDER_FAULTS})
-    return (mark(subtitle.begin) if is_begin else subtitle.begin,
-            mark(subtitle.end) if is_end else subtitle.end)
-
-
-def refused_blocks(report: Report, blocks: Blocks) -> Markup:
-    """All that is told of the subtitle file, subtitle by subtitle."""
-    faults = report.faults
-    items = []
-    by_block = itertools.groupby(faults.of_blocks, lambda one: one.block)
-    for index, (block, several) in enumerate(by_block, 1):
-        items.append(refused_item(blocks, index, block, list(several)))
-    count = sum(count for number, count in faults.counts.items() if number in STL_FAULTS)
-    more = count - len(faults.of_blocks)
-    left = markup("<p><b>{:,} more fault{}</b> from <code>check --all</code> {} left out here."
-                  "</p>", more, "s" * (more != 1), "are" if more != 1 else "is") * (more > 0)
-    read = NO_MARKUP if report.is_beside else markup(
-        "{} No PES file is read before all of them are repaired.", end_of_reading(report, blocks))
-    return markup('<p>{}</p><ol class="faults">{}</ol>{}', read, joined(items), left)
-
-
-def end_of_reading(report: Report, blocks: Blocks) -> Value:
-    """Where reading ended."""
-    last = fault_of_line(report.part.answer.last_told)
-    if last is None or last.number not in ENDS:
-        return f"The file was read to its end, {counted(blocks.count, 'block')}."
-    return markup("<b>Reading ended at block {}</b>, with {} {}: nothing is known of what comes "
-                  "after it.", last.block or 0, last.number, last.name)
-
-
-def refused_item(blocks: Blocks, index: int, block: int | None, faults: list[FaultLine]) -> Markup:
-    """A block with what is told of it, and its subtitle with its text."""
-    lines = [markup("<code>{}</code> {}", number_link(one.line), blocks.field(one))
-             for one in faults]
-    subtitle = blocks.subtitle(block)
-    if not subtitle or block is None:
-        return markup('<li id="e{}">{}</li>', index, joined(lines, BREAK))
-    words = markup("<b>{}</b> {}", block_name(subtitle, block),
-                   joined(marked_times(subtitle, faults), " to "))
-    before = blocks.before(block)
-    if before and any(one.number in ORDER_FAULTS for one in faults):
-        words += markup(" after {} to {}, SN {}", before.begin, before.end, before.number)
-    text = marked_text(blocks.text(block), faults)
-    return markup('<li id="e{}">{}</li>', index, joined([words, *lines, text], BREAK))
-
-
-def marked_text(text: bytes, faults: list[FaultLine]) -> Markup:
-    """The lines of a text with the byte or the line marked that a fault names."""
-    marked = {(one.number in BYTE_FAULTS, one.at) for one in faults if one.number in ROW_FAULTS}
-    lines, begin = [], 0
-    for number, line in enumerate(text.split(b"\x8a")):
-        letters = [" " if byte == 0x20 else readable(byte) for byte in line]
-        words = joined(mark(letter) if (True, at) in marked else letter
-                       for at, letter in enumerate(letters, begin))
-        lines.append(mark(words) if (False, number) in marked else words)
-        begin += len(line) + 1
-    return markup('<span class="text">{}</span>', joined(lines, BREAK))
-
-
-def printed(report: Report) -> Markup:
-    """What `show` prints, the middle of it left out where it is long."""
-    if report.asked.is_open:
-        return NO_MARKUP  # it shows no open subtitles
-    lines = report.program.show(report.part.names.given)
-    last = lines[FIRST_LINES:][-LAST_LINES:]
-    left = len(lines[FIRST_LINES:]) - len(last)
-    parts = [markup("<details><summary>What <code>show</code> prints</summary>"),
-             lines_block(lines[:FIRST_LINES])]
-    if left:
-        parts.append(markup("<p>Lines {} to {}, {} of them, are left out here.</p>",
-                            FIRST_LINES + 1, FIRST_LINES + left, left))
-    if last:
-        parts.append(lines_block(last))
-    return joined([*parts, markup("</details>")])
-
-
-def lines_block(lines: list[str]) -> Markup:
-    return markup('<pre class="lines">{}</pre>', chr(10).join(lines))
-
-
-def two_times(blocks: Blocks, subtitle: NamedSubtitle, fault: FaultLine) -> Markup:
-    """The times of a subtitle and the one before; those that the refusal is about are marked."""
-    rows = [(subtitle.number, *marked_times(subtitle, [fault]))]
-    before = blocks.before(fault.block or 0)
-    if before:
-        is_begin = fault.number == 56
-        rows.insert(0, (before.number, mark(before.begin) if is_begin else before.begin,
-                        before.end if is_begin else mark(before.end)))
-    told = joined(markup("<tr><td>{}</td><td>{}</td><td>{}</td></tr>", number, begin, end)
-                  for number, begin, end in rows)
-    return markup("<table><tr>{}</tr>{}</table>", heads("SN", "TCI", "TCO"), told)
-
-
-def readable(byte: int) -> Value:
-    """A text byte for people: its ASCII character, else its code."""
-    if byte == 0x20:
-        return "\u2423"
-    return chr(byte) if 0x20 < byte <= 0x7E else markup("<i>{:02X}</i>", byte)
-
-
-def byte_table(text: bytes, place: int | None) -> Markup:
-    """The text in rows of sixteen bytes with the byte at the place marked."""
-    rows = []
-    for begin in range(0, len(text), 16):
-        cells = joined(
-            markup("<td{}>{:02x}<br/>{}</td>", NAMED * (at == place), byte, readable(byte))
-            for at, byte in enumerate(text[begin:begin + 16], begin))
-        rows.append(markup('<tr><th scope="row">{}</th>{}</tr>', begin, cells))
-    return markup("<p>The bytes of its text; <b>byte {}</b>, counted from 0, is framed.</p>"
-                  '<table class="bytes">{}</table>', str(place), joined(rows))
-
-
-def line_table(text: bytes, row: int, place: int | None) -> Markup:
-    """The lines of the text, the first in its row, with the one at the place marked."""
-    rows = []
-    for number, line in enumerate(text.split(b"\x8a")):
-        words = joined(map(readable, line)) or markup("empty")
-        named = NAMED * (number == place)
-        rows.append(markup('<tr{}><th scope="row">line {}</th><td>row {}</td><td>{}</td><td>{}'
-                           "</td></tr>", named, number, row + number, counted(len(line), "byte"),
-                           words))
-    return markup("<p>The lines of its text; <b>line {}</b>, counted from 0, is framed.</p>"
-                  '<table class="textlines">{}</table>', str(place), joined(rows))
+from .refused import Blocks, block_place, printed, refused_blocks
+from .report import Looks, Report, Scope, Subject, names_block
+from .transmission import Program, Seen, place_of_pts
 
 
 # The whole report: one XHTML page, with all that it needs in it.
@@ -312,8 +70,8 @@ def keys_of(within: int) -> Markup:
     odd = f"not held as it is due within {counted(within, 'frame')}" if within else \
         "held otherwise than it is due at its first frame"
     return markup("""<h2 id="key">How to read this page</h2>
-<p><b>Strips.</b> Bars are subtitles from TCI to TCO with their numbers. A higher bar with a red rim
-is {}, and leads to its pictures; a dashed one can't
+<p><b>Timeline.</b> Bars are subtitles from TCI to TCO with their numbers. A higher bar with a red
+rim is {}, and leads to its pictures; a dashed one can't
 be seen. The lines below are frames with a header of the page; where such frames are close to each
 other they are drawn as a block. Red marks below the line are faults, each as long as it stands, and
 lead to the list; a PES packet that can't be read is marked from the frame before it up to the next
@@ -349,22 +107,77 @@ def document(line: str, title: str, parts: Iterable[Markup]) -> Markup:
     return joined([head, *parts, markup("</body></html>\n")], "\n")
 
 
-def report_page(report: Report) -> Markup:
+def report_page(verdict: Verdict, typed: CommandWords) -> Markup:
     """The page."""
-    names = [report.stl, report.asked.recording]
-    title = " and ".join(os.path.basename(name) for name in names if name)
+    made = Made(verdict, typed)
+    title = " and ".join(os.path.basename(name) for name in
+                         (verdict.asked.stl, verdict.asked.recording) if name)
+    line = verdict.lead or f"{NOT_JUDGED}: {verdict.why_not}"
+    if verdict.word == NOT_JUDGED:
+        parts = [unjudged_box(verdict), *names_list(verdict)]
+    elif len(verdict.parts) == 1:
+        parts = single_parts(made.report(verdict.parts[0]))
+    else:
+        parts = several_parts(verdict, [made.report(part) for part in verdict.parts])
+    return document(line, title, [*parts, made.foot()])
+
+
+class Made:
+    """What a page is made from: a verdict, and the program by the names that the caller uses."""
+
+    def __init__(self, verdict: Verdict, typed: CommandWords) -> None:
+        self.verdict, self.typed = verdict, typed
+        self.program = about_program(typed.program_path)
+
+    def report(self, part: Part) -> Report:
+        """What there is to see of a part."""
+        verdict, count = self.verdict, len(self.verdict.parts)
+        gaps = [gap for gap in verdict.gaps
+                if gap.is_judged and (count == 1 or is_in(gap.place, part))]
+        recording = part.recording
+        program = Program(self.typed.program_word, self.typed.program_path,
+                          recording.path if recording else None, part.stream, part.names.folder)
+        return Report(Subject(verdict.of_part(part, gaps), part, count, program))
+
+    def files(self) -> list[tuple[str, SummedFile]]:
+        """The files, each with what it is."""
+        verdict = self.verdict
+        found = [("STL", verdict.stl), *(("PES", part.judged) for part in verdict.parts),
+                 ("Recording", verdict.recording)]
+        size = os.path.getsize(self.typed.program_path)
+        return [*((kind, file) for kind, file in found if file),
+                ("Program", SummedFile(self.typed.program_word, size, self.program.sha256))]
+
+    def foot(self) -> Markup:
+        """What the page is made from, by what, and when."""
+        date = self.verdict.date.replace("T", " ").replace("Z", " UTC")
+        words = [("Commands", "\n".join(self.verdict.commands))]
+        return made_from(self.files(), date, self.program, words) + \
+            markup('<p class="says">{}</p>', SAYS)
+
+
+def single_parts(report: Report) -> list[Markup]:
+    """The page of a verdict on one part."""
     parts = [navigation(report), verdict_box(report)]
     scope = report.scope()
     if scope:
         parts.append(scope.box())
-    parts += transmission_parts(report, report.looks) if report.looks else \
-        refused_file_parts(report)
-    if report.seen:
-        parts.append(pages_table(report, report.seen))
+    parts += part_sections(report)
     if report.looks:
         parts += [keys_of(report.asked.within), trusted_words(report)]
-    parts.append(foot(report))
-    return document(report.line, title, parts)
+    return parts
+
+
+def part_sections(report: Report) -> list[Markup]:
+    """What there is to see of a part."""
+    parts: list[Markup] = []
+    if report.looks:
+        parts += transmission_parts(report, report.looks)
+    elif report.is_refused_file:
+        parts += refused_file_parts(report)
+    if report.seen:
+        parts.append(pages_table(report, report.seen))
+    return [*parts, names_block([("Options", report.subject.options())])]
 
 
 def refused_file_parts(report: Report) -> list[Markup]:
@@ -382,18 +195,17 @@ def beside_parts(report: Report) -> list[Markup]:
 
 
 def transmission_parts(report: Report, looks: Looks) -> list[Markup]:
-    """The faults of a transmission, its strips and its subtitles."""
+    """The faults of a transmission, its strip and its subtitles."""
     place = looks.fault_list.place()
     parts = [*(beside_parts(report) if report.is_beside else [place]),
-             markup('<h2 id="timeline">Timeline</h2><p>A strip is {}.</p>{}', looks.strips.called,
-                    looks.strips.overview())]
+             markup('<h2 id="timeline">Timeline</h2>{}', looks.strip.drawn())]
     if report.reasons:
         parts.append(report.reasons.section())
     if report.faults.count:
         parts += [faults_head(report), looks.fault_list.listed(), *[place] * report.is_beside,
                   looks.fault_list.others()]
     parts.append(markup('<h2 id="subtitles">Subtitles</h2>{}{}', subtitles_words(report, looks),
-                        looks.entries.all(looks.strips)))
+                        looks.entries.all()))
     return parts
 
 
@@ -414,7 +226,7 @@ def verdict_box(report: Report) -> Markup:
     """The verdict word for word, with what the manual says of its number."""
     faults, parts = report.faults, list[Markup]()
     if report.first:
-        if faults.count > 1:
+        if faults.count > 1 and (report.looks or report.is_refused_file):
             parts.append(markup('<p class="count">and {:,} more fault{}: <a href="#faults">all {}'
                                 "</a></p>", faults.count - 1, "s" * (faults.count != 2),
                                 faults_words(report)))
@@ -423,8 +235,9 @@ def verdict_box(report: Report) -> Markup:
                                 "</a>, {}</p>", report.reasons.counted()))
         parts.append(advice(report))
     else:
-        parts.append(markup("<p>{}</p>", ACCEPTED_WORDS))
-        if report.asked.within:
+        if report.seen:
+            parts.append(markup("<p>{}</p>", ACCEPTED_WORDS))
+        if report.seen and report.asked.within:
             parts.append(markup("<p>What receivers show, once they have heard the page: {}.</p>",
                                 promised(report.asked)))
     parts += [lost_places(report.lost)] if report.lost else []
@@ -432,8 +245,7 @@ def verdict_box(report: Report) -> Markup:
     word = REFUSED if report.is_refused else LOST if report.lost else ACCEPTED
     kind, shape = FRAMES.get(judged.word if judged.word in (WAIVED, LOST, WARNED) else word,
                              REFUSAL)
-    notes = [*report.notes, *([judged.fitted] if judged.fitted else [])]
-    parts += [markup('<p class="note">{}</p>', words) for words in notes]
+    parts += [markup('<p class="note">{}</p>', words) for words in report.notes]
     said = markup('<p class="sentence">{}</p>', judged.sentence)
     return markup('<div class="verdict {}">{}<div>{}<p class="line" id="verdict">{}</p>{}</div>'
                   "</div>", kind, shape, said, report.line, joined(parts))
@@ -463,7 +275,7 @@ def navigation(report: Report) -> Markup:
     links = []
     if report.looks:
         links.append(("timeline", "Timeline"))
-    if report.faults.count:
+    if report.faults.count and (report.looks or report.is_refused_file):
         links += [("faults", "Faults"), ("place", "The broken place")]
     if report.reasons:
         links.append(("causes", "Why"))
@@ -471,19 +283,11 @@ def navigation(report: Report) -> Markup:
         links.append(("subtitles", "Subtitles"))
     if report.seen:
         links.append(("pages", "Headers"))
-    if report.looks:
-        links.append(("key", "How to read this page"))
-    links.append(("files", "Made from"))
+    if report.subject.parts == 1:
+        links += [("key", "How to read this page")] if report.looks else []
+        links.append(("files", "Made from"))
     return markup("<nav>{}</nav>", joined((markup('<a href="#{}">{}</a>', to, words)
                                            for to, words in links), " "))
-
-
-def foot(report: Report) -> Markup:
-    """What the page is made from, by what, and when."""
-    words = [("Options", report.subject.options()),
-             ("Commands", "\n".join(report.subject.commands))]
-    return made_from(report.files, report.date, report.made_with, words) + \
-        markup('<p class="says">{}</p>', SAYS)
 
 
 def made_from(files: Iterable[tuple[str, SummedFile]], date: str, program: MadeWith,
@@ -571,52 +375,69 @@ def subtitles_words(report: Report, looks: Looks) -> Markup:
         *([f"{spread.words().capitalize()}."] if spread else [])], " "))
 
 
-# One page over all parts of a pair: the verdict, what it speaks of, and a line for each part.
+# Several parts follow one another, behind a line for each.
 
 PART_COLUMNS = ("From", "To", "Verdict", "Faults", "Causes", "Clock")
 
 
-def overview(verdict: Verdict, program: MadeWith, names: Names, typed: CommandWords) -> Markup:
-    """The page."""
-    asked = verdict.asked
-    line = verdict.lead or f"{NOT_JUDGED}: {verdict.why_not}"
-    title = " and ".join(os.path.basename(name) for name in (asked.stl, asked.recording) if name)
-    files: list[tuple[str, SummedFile]] = [
-        (kind, file) for kind, file in (("STL", verdict.stl), ("Recording", verdict.recording))
-        if file]
-    size = os.path.getsize(typed.program_path)
-    files.append(("Program", SummedFile(typed.program_word, size, program.sha256)))
-    words = [("Commands", "\n".join(verdict.commands))]
-    return document(line, title, [
-        box(verdict, line), scope(verdict),
-        markup('<h2 id="parts">{} parts</h2>', len(verdict.parts)),
-        table(verdict, names), times_between(verdict.parts),
-        made_from(files, verdict.date.replace("T", " ").replace("Z", " UTC"), program, words)])
+def several_parts(verdict: Verdict, reports: Sequence[Report]) -> list[Markup]:
+    """The page of a verdict on several parts."""
+    parts = [pair_box(verdict), pair_scope(verdict).box(),
+             markup('<h2 id="parts">{} parts</h2>', len(reports)),
+             table(verdict), times_between(verdict.parts)]
+    for report in reports:
+        begin, end = report.part.times()
+        name = f"part{report.part.number}"
+        sections = joined([navigation(report), verdict_box(report), *part_sections(report),
+                           trusted_words(report)], "\n")
+        parts.append(markup('<section class="part" id="{}"><h2>Part {}, from {} to {}</h2>\n{}'
+                            "</section>", name, report.part.number, begin or "", end or "",
+                            sections.anchored(f"{name}-")))
+    return [*parts, keys_of(verdict.asked.within)]
 
 
-def box(verdict: Verdict, line: str) -> Markup:
-    """The verdict, and what stands beside it."""
-    kind, shape = FRAMES.get(verdict.word, REFUSAL)
-    causes = [part.causes for part in verdict.parts if part.causes]
-    parts = [markup('<p class="count">{}</p>', count_line(causes))] if causes else []
+def pair_box(verdict: Verdict) -> Markup:
+    """The verdict on several parts, and what stands beside it."""
     lost = [gap.line() for gap in verdict.gaps if gap.is_judged]
-    parts += [lost_places(lost)] if lost else []
-    notes = [*verdict.said(), *(warned.said() for warned in verdict.warnings), *verdict.hints]
-    parts += [markup('<p class="note">{}</p>', words) for words in notes]
-    return markup('<div class="verdict {}">{}<div><p class="line" id="verdict">{}</p>{}</div>'
-                  "</div>", kind, shape, line, joined(parts))
+    return box_of(verdict, verdict.lead or "", [lost_places(lost)] if lost else [],
+                  [*verdict.said(), *(warned.said() for warned in verdict.warnings)])
 
 
-def scope(verdict: Verdict) -> Markup:
+def box_of(verdict: Verdict, line: str, parts: Sequence[Markup], notes: Sequence[str]) -> Markup:
+    """The box of a verdict: its sentence, its line, more, and notes."""
+    kind, shape = FRAMES.get(verdict.word, REFUSAL)
+    more = [*parts, *(markup('<p class="note">{}</p>', words) for words in notes)]
+    return markup('<div class="verdict {}">{}<div><p class="sentence">{}</p><p class="line" '
+                  'id="verdict">{}</p>{}</div></div>', kind, shape, verdict.sentence, line,
+                  joined(more))
+
+
+def unjudged_box(verdict: Verdict) -> Markup:
+    """Why nothing is judged, and what to type."""
+    more = [markup('<p class="count">{}</p>', line)
+            for line in (verdict.why_not or "").splitlines()]
+    more += [markup('<p>type <code class="long">{}</code></p>', line) for line in verdict.to_type]
+    return box_of(verdict, NOT_JUDGED, more, [
+        *verdict.said(), *(warned.said() for warned in verdict.warnings)])
+
+
+def names_list(verdict: Verdict) -> list[Markup]:
+    """What was to be judged."""
+    titles = titles_in(verdict.asked.stl_path) if os.path.isfile(verdict.asked.stl_path) else []
+    rows: list[tuple[str, Value]] = [("Programme", " / ".join(titles))] if titles else []
+    rows += [(kind, name) for kind, name in (
+        ("Subtitle file", verdict.asked.stl), ("Recording", verdict.asked.recording)) if name]
+    return [names_block(rows, "made scope")]
+
+
+def pair_scope(verdict: Verdict) -> Scope:
     """What the verdict speaks of."""
     begins, ends = ([time for part in verdict.parts for time in [part.times()[at]] if time]
                     for at in (0, 1))
-    recording = verdict.recording
-    one = Scope(titles_in(verdict.asked.stl_path), recording,
-                frame_of(min(begins)) or 0, frame_of(max(ends)) or 0,
-                sum(subtitle_count(part) for part in verdict.parts), None, bool(verdict.fitted),
-                True)
-    return one.box()
+    return Scope(titles_in(verdict.asked.stl_path), verdict.recording,
+                 frame_of(min(begins)) or 0, frame_of(max(ends)) or 0,
+                 sum(subtitle_count(part) for part in verdict.parts), None, bool(verdict.fitted),
+                 True)
 
 
 def subtitle_count(part: Part) -> int:
@@ -624,18 +445,18 @@ def subtitle_count(part: Part) -> int:
     return len(part.subtitle_file().begins)
 
 
-def table(verdict: Verdict, names: Names) -> Markup:
-    """A row for each part, which leads to its page."""
+def table(verdict: Verdict) -> Markup:
+    """A row for each part, which leads to it."""
     rows = []
     for part in verdict.parts:
-        page = quote(os.fsencode(os.path.basename(names.of_part(part.number).report)))
+        name = f"#part{part.number}"
         begin, end = part.times()
         cells: list[Value] = [
-            begin or "", end or "", markup('<a href="{}">{}</a>', page, part.answer.lead),
+            begin or "", end or "", markup('<a href="{}">{}</a>', name, part.lead),
             f"{part.answer.count:,}", names_line([part.causes]) if part.causes else "none",
             clock_of(part)]
-        head = markup('<a href="{}">part {}</a>', page, part.number)
-        rows.append(table_row(head, PART_COLUMNS, cells))
+        rows.append(table_row(markup('<a href="{}">part {}</a>', name, part.number), PART_COLUMNS,
+                              cells))
     return markup('<table class="pages parts"><thead><tr>{}</tr></thead><tbody>{}</tbody></table>',
                   heads("Part", *PART_COLUMNS), joined(rows))
 

@@ -1,16 +1,14 @@
 """All that a report is made of: what it is about, why the content is refused."""
 from __future__ import annotations
 
-import os
 from typing import Collection, NamedTuple, Sequence
 
 from ..clock.start import START, TCP
 from ..common.command_line import counted, shown
 from ..common.files import SummedFile
 from ..common.markup import Markup, Value, joined, markup
-from ..common.program import about_program
-from ..common.times import FRAMES_OF_A_DAY, time_of
-from ..formats.listing import FaultLine, UNDECIDED, meanings
+from ..common.times import time_of
+from ..formats.listing import FaultLine, meanings
 from ..formats.stl import SubtitleList, titles_in
 from ..formats.teletext import BY_WORD, page_name
 from ..judging.causes import Cause, Causes, Wording, names_line
@@ -21,8 +19,8 @@ from ..stream.layout import layout_line
 from ..stream.receiver import Timeline
 from .faults import FaultList, Faults, fault_place_words, heads, table_row
 from .pictures import Figures
-from .strips import Entries, Strips, looked_at
-from .transmission import NoReport, Program, Seen
+from .strip import Entries, Strip, looked_at
+from .transmission import Program, Seen
 
 
 # What a report speaks of: programme, recording, from when to when; what nobody looked at.
@@ -133,20 +131,17 @@ class Reasons:
 
 # All that a page is made of: a verdict on a part, and what there is to see of it.
 
-EMPTY, ORDER = 60, 62
+ORDER = 62
 
 
 class Subject(NamedTuple):
-    """What a report is made of: a verdict on a part, which is one of so many, the program as it is
-    typed and where it stands, and the commands that judged it; `files` were read, each with what it
-    is."""
+    """What a report is made of: a verdict on a part, which is one of so many, and the program as it
+    is typed and where it stands."""
 
     judged: Verdict
     part: Part
     parts: int
     program: Program
-    commands: Sequence[str]
-    files: Sequence[tuple[str, SummedFile]]
 
     def options(self) -> str:
         """All options as they hold."""
@@ -168,12 +163,8 @@ class Report:
         answer = self.part.answer
         self.stl, self.page = self.part.asked.stl, page_name(*self.asked.page)
         self.origin = self.part.origin or 0
-        self.date = subject.judged.date.replace("T", " ").replace("Z", " UTC")
-        self.made_with = about_program(self.program.path)
-        size = os.path.getsize(self.program.path)
-        self.files = [*subject.files,
-                      ("Program", SummedFile(self.program.name, size, self.made_with.sha256))]
-        self.line, self.first, self.is_refused = answer.lead, answer.leading, bool(answer.status)
+        self.line, self.first = self.part.lead, self.part.leading
+        self.is_refused = bool(answer.status)
         # Subtitles are refused; the others are judged beside them where PES packets are.
         is_of_file = self.first is not None and self.first.block is not None
         self.is_beside = is_of_file and self.part.pes is not None
@@ -181,17 +172,11 @@ class Report:
         due = self.part.due()
         self.subtitles = due.subtitles
         self.programme: SubtitleList = due
-        if self.part.pes is None and self.first and self.first.number == EMPTY:
-            raise NoReport(f"nothing is wrong with {self.stl}, "
-                           f"{counted(len(self.subtitles), 'subtitle')}: give the PES file, which "
-                           "is drawn beside it")
-        self.faults = Faults(answer, due, self.part.trusted)
+        worst = self.part.worst_sent if self.is_beside else self.part.worst
+        self.faults = Faults(answer, due, self.part.trusted, worst.told if worst else None)
         self.meanings = meanings()
         self.lost = first_lines([gap.line() for gap in subject.judged.gaps])
-        unread = [self.asked.recording] if self.asked.recording and self.part.pes is None else []
-        self.notes = [*(f"{shown(one)} was not read" for one in unread), *subject.judged.notes,
-                      *(one.said() for one in subject.judged.warnings),
-                      *([layout_line(found)] if (found := subject.judged.layout) else []),
+        self.notes = [*(self.pair_notes() if subject.parts == 1 else []),
                       *filter(None, [self.part.explanation.otherwise])]
         self.reasons = Reasons(self.part.causes, self.asked.option) if self.part.causes else None
         self.looked = [looked_at(one, frames, self.asked.within)
@@ -202,6 +187,13 @@ class Report:
                             self.part.pes, is_single=True)
         self.seen: Seen | None = Seen(held, answer.passed, self.faults.ending()) if held else None
         self.looks = Looks(self, self.seen) if self.seen and not self.is_refused_file else None
+
+    def pair_notes(self) -> list[str]:
+        """What stands beside the verdict on the pair."""
+        judged, recording = self.subject.judged, self.asked.recording
+        unread = [f"{shown(recording)} was not read"] if recording and self.part.pes is None else []
+        return [*unread, *judged.said(), *(one.said() for one in judged.warnings),
+                *([layout_line(judged.layout)] if judged.layout else [])]
 
     def scope(self) -> Scope | None:
         """What the page speaks of; `None` where the subtitle file is refused."""
@@ -214,13 +206,6 @@ class Report:
                      self.subtitles[-1].end, len(self.subtitles), part,
                      bool(self.subject.judged.fitted), part is not None, words)
 
-    def flag(self, broken: int | None) -> str:
-        """The line of the first fault on the strips."""
-        if not self.is_beside:
-            return self.line
-        return next((entry.first.line for entry in self.faults.entries
-                     if entry.first.frame == broken), "")
-
     def first_link(self, fault: FaultLine) -> Value:
         """The place of the first fault of a number, as a link where the list has it."""
         entry = self.faults.first_entries.get(fault.number)
@@ -229,7 +214,7 @@ class Report:
 
 
 class Looks:
-    """What there is to see of a transmission: its pictures, its faults, its strips."""
+    """What there is to see of a transmission: its pictures, its faults, its strip."""
 
     def __init__(self, report: Report, seen: Seen) -> None:
         asked, faults = report.asked, report.faults
@@ -238,18 +223,16 @@ class Looks:
         header = bytes([0, 0, 0, 8, 0, 8, 1, option << 1])  # C4, C6 and C7
         due = report.part.due().timeline
         self.figures: Figures = Figures(due, seen, header, report.page, asked.is_complete)
-        pes = report.first.pes if report.first else None
+        leading = faults.leading
+        pes = leading.first.pes if leading else None
         broken = seen.last_before(pes) if pes is not None else \
-            report.first.frame if report.first else None
-        if report.is_beside:
-            broken = next((frame for entry in faults.entries if entry.first.number != UNDECIDED
-                           and (frame := entry.first.frame) is not None), None)
+            leading.first.frame if leading else None
         self.entries: Entries = Entries(self.figures, seen, report.subtitles, report.looked, faults)
         if report.reasons:
             report.reasons.drawn = self.entries.drawn
         self.fault_list = FaultList(report, self, seen)
-        self.strips = Strips(report.subtitles, seen.sendings, self.entries, faults, broken,
-                             report.flag(broken), end_of_knowledge(seen, report))
+        self.strip = Strip(report.subtitles, seen.sendings, self.entries, faults, broken,
+                           leading.first.line if leading else "", end_of_knowledge(seen, report))
 
 
 def mark_unheard(faults: Faults, seen: Seen) -> None:

@@ -29,6 +29,10 @@ class NoReport(Stop):
     """No report can be made; its text is the line for standard error."""
 
 
+class NoAnswer(NoReport):
+    """No report can be made, since the program did not answer: another time it may."""
+
+
 class Unit(NamedTuple):
     """A Teletext packet of a PES packet: where it is sent, in words, and its 42 bytes."""
 
@@ -53,10 +57,10 @@ class Program:
                                   stdout=subprocess.PIPE, encoding="utf-8", errors="replace")
         except (OSError, ValueError) as error:
             reason = error.strerror if isinstance(error, OSError) else error
-            raise NoReport(f"{self.name} can't be run: {reason}") from None
+            raise NoAnswer(f"{self.name} can't be run: {reason}") from None
         lines = done.stdout.splitlines()
         if done.returncode not in (0, 1) or not lines:
-            raise NoReport(f"{words[0]} was not answered: {''.join(lines[-1:]) or 'nothing'}")
+            raise NoAnswer(f"{words[0]} was not answered: {''.join(lines[-1:]) or 'nothing'}")
         return lines
 
     def show(self, stl: str) -> list[str]:

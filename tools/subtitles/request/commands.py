@@ -257,6 +257,7 @@ class Speech:
         self.progress = progress
         self.out = sys.stderr if is_output_taken else sys.stdout
         self.last, self.listed = "", 0
+        self.is_quiet = False  # until the verdict comes
         self.at_end: Callable[[], None] = lambda: None  # what is done before the verdict's line
         self.lock = threading.RLock()  # a feed is heard beside the program that judges it
 
@@ -265,7 +266,8 @@ class Speech:
         with self.lock:
             self.progress.clear()
             self.last = line
-            self.put(shown(line), self.out)
+            if not self.is_quiet:
+                self.put(shown(line), self.out)
 
     @staticmethod
     def put(line: str, out: TextIO) -> None:
@@ -309,11 +311,12 @@ class Speech:
         if left > 0:
             self.say(last)
 
-    def end(self, line: str) -> None:
-        """The verdict's line, which is the last one."""
+    def end(self, sentence: str, line: str) -> None:
+        """The verdict: its sentence, and its line, which is the last one."""
+        self.is_quiet = False
+        self.say(sentence)
         self.at_end()
-        if self.last != line:
-            self.say(line)
+        self.say(line)
 
 
 class Listener:

@@ -485,3 +485,7 @@ class Unclear(Exception):
     def __init__(self, reason: str, *to_type: str) -> None:
         super().__init__(reason)
         self.reason, self.to_type = reason, to_type
+
+
+class Unsaid(Unclear):
+    """The program did not answer to its end, as where it was killed: another time it may."""

@@ -115,15 +115,6 @@ def unjudged(name: str, reason: str, is_open: bool = False) -> dict[str, Any]:
     return made
 
 
-def has_had_its_turn(known: dict[str, Any], asked: Request | None) -> bool:
-    """Whether an object is one of a programme of a channel, by its subtitle file as it is now, and
-    no call need look for it once more."""
-    if "asked" not in known:
-        return not known.get("open")
-    return asked is not None and known["asked"]["stl"] == asked.stl and \
-        known["found"]["stl"] == found_at(asked.stl)
-
-
 def may_take(path: str, begins: bytes = b"{") -> bool:
     """Whether an object, or what begins otherwise, may take the place of a file, whatever words are
     wrong: one that holds something else may be an input."""

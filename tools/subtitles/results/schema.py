@@ -82,8 +82,9 @@ FAULT = Record(
     "fault", "",
     Member("part", PART),
     Member("line", Text(r"refused [ -~]+", 200), "That of check --all."),
-    Member("number", Integer(FIRST_FAULT, LAST_FAULT)),
-    Member("name", Text(r"[A-Za-z]+", 40)),
+    Member("number", Maybe(Integer(FIRST_FAULT, LAST_FAULT)),
+           "null of a fault that has a name alone: never sent, pictures left, not shown."),
+    Member("name", Text(r"[A-Za-z]+( [a-z]+)?", 40)),
     Member("severity", OneOf("error", "warning")),
     Member("file", OneOf("stl", "pes")),
     Member("block", Maybe(COUNT), "The TTI block from 1; 0 is the GSI block."),
@@ -112,7 +113,8 @@ FAULT = Record(
            "The last frame at whose end the fault lasted, for 72, 73, 77 and 78."),
     Member("until_pes", Maybe(COUNT),
            "The last of the PES packets that were skipped, for 33 to 40, 45 and 61."),
-    Member("means", Text(), "What the manual says that it means."),
+    Member("means", Text(), "What the manual says that it means; of one that has a name alone what "
+           "is wrong."),
     Member("do", Text(), "What the manual says to do."),
     Member("cause", Maybe(CAUSE), "For 72: that of the subtitle whose fault it is. For 63 and 74 "
            "too, where the recording goes on there; else null."))
@@ -361,7 +363,8 @@ LISTS = (
     Member("trusted", Listed(TRUSTED, MOST_LISTED), "Frames that may stay on air as they are, both "
            "included; where asked.within is 1 or more, with what is promised within so many "
            "frames.", trusted_of),
-    Member("faults", Listed(FAULT, MOST_LISTED), "In the order in which check --all tells them.",
+    Member("faults", Listed(FAULT, MOST_LISTED), "In the order in which check --all tells them; "
+           "before them those that have a name alone.",
            lambda known: faults_of(known.verdict)),
     Member("causes", Listed(LISTED_CAUSE, MOST_LISTED), "Of each subtitle whose content is refused "
            "(72) one cause, in the order of the subtitles; of the first one that is 63 and the "

@@ -7,7 +7,7 @@ import os
 import subprocess
 from typing import BinaryIO, Callable, IO, Iterable, Iterator, NamedTuple
 
-from ..common.command_line import Stop, page_in, pid_name, shown, stream_words
+from ..common.command_line import Unanswered, page_in, pid_name, shown, stream_words
 from ..common.times import TICKS, ticks_between, wrapped
 from ..formats.teletext import Page, page_name
 
@@ -204,7 +204,8 @@ class ProgramMap:
 @dataclasses.dataclass
 class Video:
     """The PTS of pictures from the first that can be shown to the next such one, or up to the end
-    of the recording, where they are cut."""
+    of the recording, where they are cut. `form` is what that group is: closed, where what is shown
+    before its first picture can be decoded, open, unknown, or nothing where that was not told."""
 
     passed: int = 0
     pictures: list[int | None] = dataclasses.field(default_factory=list)
@@ -212,6 +213,7 @@ class Video:
     scrambled: int = 0
     is_over: bool = False
     is_cut: bool = False
+    form: str = ""
 
 
 def pid_line(packets: Packets, programmes: Iterable[ProgramMap]) -> str:
@@ -350,6 +352,9 @@ class Survey:
     def take_picture(self, pid: str, pts: str, *_: str) -> None:
         self.videos[int(pid)].pictures.append(number_of(pts))
 
+    def take_group(self, pid: str, flagged: str, least: str, form: str, *_: str) -> None:
+        self.videos[int(pid)].form = form
+
     def take_pictures(self, pid: str, lost: str, scrambled: str, passed: str = "",
                       *_: str) -> None:
         one = self.videos.setdefault(int(pid), Video(int(passed or 0)))
@@ -385,10 +390,10 @@ class Survey:
         return [pid_line(self.by_pid[pid], self.programmes_of(pid)) for pid in sorted(self.by_pid)]
 
     def refuse(self, status: int) -> None:
-        """`Stop` where the program could not tell it all."""
+        """`Unanswered` where the program could not tell it all."""
         if self.strange or status or not self.is_whole:
-            raise Stop(f"survey was not answered: {self.strange or 'it did not end'}, status "
-                       f"{status}")
+            raise Unanswered("survey was not answered: "
+                             f"{self.strange or 'it did not end'}, status {status}")
 
 
 def survey_call(program: str, name: str, page: Page, pid: int | None = None,

@@ -17,6 +17,7 @@ from ...recording.recording import refuse_stream
 from ...request.request import Request
 from ...stream import ranges
 from ...stream.gaps import Place, hole_of, overlap, what_of
+from ...stream.ranges import MOST_OVERLAP
 from ...stream.survey import HEADER, PES, Packets, Run, Survey
 from .recorder import Begin
 
@@ -28,6 +29,7 @@ MINUTE = 60 * SECOND
 GAP = MINUTE  # by less than this a page that is not sent is no gap
 BACK = SECOND // 2  # by more than this PTS go back where an encoder begins anew
 ANEW = 60 * MINUTE  # by more than this they jump where it does
+ANEW_WORDS = "PTS began anew"
 
 
 class FeedClock:
@@ -39,11 +41,12 @@ class FeedClock:
         self.pts: int | None = None  # the last one
         self.behind = 0  # ticks by which that is before the latest one
 
-    def take(self, pts: int) -> int:
-        """Takes a PTS; answers by how much it is later than the last one, or earlier."""
+    def take(self, pts: int, back: int = BACK) -> int:
+        """Takes a PTS, which may be so many ticks earlier than the last one; answers by how much it
+        is later than that."""
         late = 0 if self.pts is None else ticks_between(self.pts, pts)
         self.pts = pts
-        if not -BACK <= late <= ANEW:
+        if not -back <= late <= ANEW:
             self.behind = 0
         elif late <= self.behind:
             self.behind -= late
@@ -68,9 +71,9 @@ class Jump(NamedTuple):
     is_anew: bool
 
 
-def jump_of(before: int | None, pts: int, late: int) -> Jump | None:
+def jump_of(before: int | None, pts: int, late: int, back: int = BACK) -> Jump | None:
     """A PTS that is so many ticks later than the one before: where that is a jump, what it is."""
-    if before is None or -BACK <= late <= GAP:
+    if before is None or -back <= late <= GAP:
         return None
     nothing = f"nothing came for {time_of(late // TICKS)}, " if late > 0 else ""
     if late > ANEW or late < 0:
@@ -296,26 +299,38 @@ BOTH = 5 * SECOND  # within which a second PID that sends the page is no later o
 PRUNED = 1000  # lines after which what is told is looked through for what is old
 
 
+class Move(NamedTuple):
+    """A page that goes to another PID: when, and in words."""
+
+    time: int
+    words: str
+
+
 class Heard(Survey):
     """A page of a feed: what is sent of it, and the time. `clock` is that of its PES packets, and
     `packets` are those of the PID that carries it now; `changes` are those of its text, also as
-    they are within some frames. `said` are lines for a person; `moves` are the times at which the
-    page went to another PID, and `anew` counts encoders that began anew. `reference` is a clock
-    that is known at the same time; a `clock` is one that goes on."""
+    they are within some frames. `said` are lines for a person; `anew` is why nothing of what came
+    before tells what comes. `reference` is a clock that is known at the same time; a `clock` is one
+    that goes on; `likely` is the PID that carried the page when it was heard before."""
 
     def __init__(self, page: Page, pid: int | None, reference: FeedClock | None = None,
-                 clock: FeedClock | None = None) -> None:
+                 clock: FeedClock | None = None, likely: int | None = None) -> None:
         super().__init__()
         self.page, self.asked_pid, self.reference = page, pid, reference
         self.pid: int | None = None
+        self.likely = likely
         self.clock = clock or FeedClock()
         self.first: tuple[int, int] | None = None  # PTS, with its time
         self.ahead: int | None = None  # the first ticks by which PTS are ahead of the PCR
         self.changes = {is_within: Changes() for is_within in (False, True)}
         self.said: list[str] = []
-        self.moves: list[int] = []
-        self.anew = self.count = 0
+        self.moves: list[Move] = []
+        self.anew = ""
+        self.count = self.headers = 0
         self.is_new_table = False
+        # What came lately of PIDs that may carry the page later, each with the time.
+        self.lately: collections.deque[tuple[int, int, Run]] = collections.deque(maxlen=PRUNED)
+        self.others = set[int]()  # PIDs that send the page, too
         self.moved = ""  # what the PMT says, until something comes of the new PID
         self.found: int | None = None  # the PTS of the first header of the page
         self.silence, self.losses = Silence(self.said), Losses(self.said)
@@ -354,28 +369,45 @@ class Heard(Survey):
         if HEADER in run.does and own != self.pid:
             self.find(own, run)
         if own == self.pid:
+            self.headers += HEADER in run.does
             self.go_on(run)
+        else:
+            self.lately.append((self.now, own, run))
 
     def find(self, pid: int, run: Run) -> None:
-        """Takes the PID that carries the page: the first that sends a header of it. `Stop` where
-        another one sends it a little later."""
+        """Takes the PID that carries the page: the first that sends a header of it. Where another
+        one sends it a little later the one is heard on that was heard before; `Stop` where that is
+        neither."""
         if self.pid is None:
-            self.pid, self.found = pid, run.pts
-            for earlier in self.by_pid[pid].runs[:-1]:
-                self.go_on(earlier)
-        elif self.asked_pid is None and not self.moves and None not in (self.found, run.pts) and \
-                abs(ticks_between(self.found or 0, run.pts or 0)) < BOTH:
-            raise Stop(f"page {page_name(*self.page)} is sent on {pid_name(self.pid)} and "
-                       f"{pid_name(pid)}: say which one by --pid")
+            self.begin_with(pid, run)
+        elif self.asked_pid is None and not self.moves and pid not in self.others:
+            self.others.add(pid)
+            both = f"page {page_name(*self.page)} is sent on {pid_name(self.pid)} and " \
+                f"{pid_name(pid)}"
+            is_at_once = None not in (self.found, run.pts) and \
+                abs(ticks_between(self.found or 0, run.pts or 0)) < BOTH
+            if is_at_once and self.likely not in (pid, self.pid):
+                raise Stop(f"{both}: say which one by --pid")
+            if is_at_once and self.likely == pid:
+                self.others = {self.pid}
+                self.begin_with(pid, run)
+            self.said.append(f"{both}: {pid_name(self.pid)} is heard on")
+
+    def begin_with(self, pid: int, run: Run) -> None:
+        """Hears a PID from what came of it on."""
+        self.pid, self.found = pid, run.pts
+        self.changes = {is_within: Changes() for is_within in (False, True)}
+        for earlier in self.by_pid[pid].runs[:-1]:
+            self.go_on(earlier)
 
     def go_on(self, run: Run) -> None:
         """Goes on with PES packets of the page's PID."""
         for pts in clock_times(run):
             self.begin_clock(pts)
-            before = self.clock.pts
-            late = self.clock.take(pts)
+            before, back = self.clock.pts, MOST_OVERLAP if self.moved else BACK
+            late = self.clock.take(pts, back)
             self.first = self.first or (pts, self.clock.now)
-            self.tell_jump(before, pts, late)
+            self.tell_jump(jump_of(before, pts, late, back))
         if run.pts is not None and run.last is not None:
             if self.moved:
                 self.said.append(f"{self.moved}, before PTS {run.pts}")
@@ -400,14 +432,13 @@ class Heard(Survey):
         before = ticks_between(pcr[0] + max(self.ahead or 0, 0), pts) if pcr else 0
         return now - before if 0 < before < 60 * MINUTE else now
 
-    def tell_jump(self, before: int | None, pts: int, late: int) -> None:
-        """Tells a gap, and an encoder that begins anew."""
-        jump = jump_of(before, pts, late)
+    def tell_jump(self, jump: Jump | None) -> None:
+        """Tells a gap, and an encoder that begins anew, also on another PID."""
         if jump is None:
             return
         self.said.append(jump.line)
         if jump.is_anew:
-            self.anew += 1
+            self.anew = f"{self.moved}, where {ANEW_WORDS}," if self.moved else ANEW_WORDS
             self.changes = {is_within: Changes() for is_within in (False, True)}
 
     def take_rows(self, pid: str, *words: str) -> None:
@@ -460,12 +491,20 @@ class Heard(Survey):
         if self.pid == before:
             return
         self.moved = ranges.move_words(page_name(*self.page), before or 0, self.pid)
-        self.moves.append(self.clock.now)
-        alive = self.silence.alive
-        for run in self.packets.runs:
+        self.moves.append(Move(self.clock.now, self.moved))
+        del self.moves[:-KEPT]
+        alive, now = self.silence.alive, self.now
+        runs = [run for time, pid, run in self.lately if pid == self.pid and now - time < MINUTE]
+        if self.pid in self.by_pid:  # what came long ago has nothing to do with what comes
+            self.forget(self.packets, runs[0].first if runs else self.packets.count)
+        for run in runs:
             if alive is not None and run.pts is not None and \
                     0 <= ticks_between(alive, run.pts) < MINUTE:
                 self.go_on(run)
+
+    def move_since(self, time: int) -> Move | None:
+        """The first move from a time on."""
+        return next((one for one in self.moves if one.time >= time), None)
 
     # What is not needed any more.
 
@@ -474,15 +513,19 @@ class Heard(Survey):
         for packets in self.by_pid.values():
             floor = self.floor_of(packets)
             if floor > 0:
-                first = packets.runs[floor].first
-                del packets.runs[:floor]
-                for several in (packets.held, packets.strays):
-                    several[:] = [one for one in several if one[0] >= first]
-                packets.changes[:] = [one for one in packets.changes[:-1] if one.number >= first] \
-                    + packets.changes[-1:]
-                packets.marks[:] = [one for one in packets.marks if one.number >= first]
+                self.forget(packets, packets.runs[floor].first)
             del packets.samples[:-KEPT], packets.clocked[:-KEPT], packets.sets[:-KEPT]
         del self.programmes[:-KEPT]
+
+    @staticmethod
+    def forget(packets: Packets, first: int) -> None:
+        """Forgets PES packets before one, but the page that is held since."""
+        packets.runs[:] = [run for run in packets.runs if run.first >= first]
+        for several in (packets.held, packets.strays):
+            several[:] = [one for one in several if one[0] >= first]
+        packets.changes[:] = [one for one in packets.changes[:-1] if one.number >= first] \
+            + packets.changes[-1:]
+        packets.marks[:] = [one for one in packets.marks if one.number >= first]
 
     def floor_of(self, packets: Packets) -> int:
         """How many runs of a PID are not needed any more."""
@@ -508,7 +551,6 @@ class Hearing:
         self.program, self.pid, self.known, self.before = program, pid, known, before
         self.by_page: dict[Page, Heard] = {}
         self.calls: list[Listening] = []
-        self.anew = 0
 
     def of(self, asked: Request) -> Heard:
         """What is heard of the page of a programme."""
@@ -521,7 +563,8 @@ class Hearing:
         if heard is None or heard.first is None:
             return self.known
         pts, time = heard.first if is_first else (heard.clock.pts_at(self.now), self.now)
-        return Begin(time, pts, True)
+        return Begin(time, pts, True, {page_name(*one.page): one.pid for one in
+                                       self.by_page.values() if one.pid is not None})
 
     @property
     def now(self) -> int:
@@ -534,7 +577,8 @@ class Hearing:
         for page in pages:
             if page not in self.by_page:
                 known = next(iter(self.by_page.values()), None)
-                self.hear(page, Heard(page, self.pid, known.clock) if known else self.first(page))
+                self.hear(page, Heard(page, self.pid, known.clock, likely=self.likely(page))
+                          if known else self.first(page))
                 for data in self.before():
                     for _ in self.hand(self.calls[-1], data):
                         pass
@@ -545,10 +589,14 @@ class Hearing:
         clock, known = FeedClock(), self.known
         if known:
             clock.now, clock.pts = known.time, known.pts
-        heard = Heard(page, self.pid, clock=clock)
-        if known and known.is_exact:
+        heard = Heard(page, self.pid, clock=clock, likely=self.likely(page))
+        if known and known.is_exact and known.pts is not None:
             heard.first = known.pts, known.time
         return heard
+
+    def likely(self, page: Page) -> int | None:
+        """The PID that carried a page when it was heard before."""
+        return self.known.pids.get(page_name(*page)) if self.known else None
 
     def hear(self, page: Page, heard: Heard) -> None:
         """Begins to hear a page."""
@@ -586,11 +634,10 @@ class Hearing:
             heard.kept_since = before.kept_since
             heard.said += before.said
             self.hear(page, heard)
-        self.anew = 0
 
     def has_ended(self) -> bool:
-        """Whether none of them hears any more."""
-        return all(call.has_ended for call in self.calls)
+        """Whether one of them hears no more."""
+        return any(call.has_ended for call in self.calls)
 
     def take_said(self) -> Iterator[str]:
         """What was told of the feed since it was asked last."""
@@ -598,10 +645,12 @@ class Hearing:
             while heard.said:
                 yield heard.said.pop(0)
 
-    def take_anew(self) -> bool:
-        """Whether an encoder has begun anew since then."""
-        before, self.anew = self.anew, sum(heard.anew for heard in self.by_page.values())
-        return self.anew > before
+    def take_anew(self) -> str:
+        """Why nothing of what came before tells what comes, where that has happened since then."""
+        why = next((heard.anew for heard in self.by_page.values() if heard.anew), "")
+        for heard in self.by_page.values():
+            heard.anew = ""
+        return why
 
     def drop(self, before: int) -> None:
         """Forgets what came before a time."""
@@ -611,7 +660,10 @@ class Hearing:
                 changes.drop(before)
 
     def refuse(self, name: str) -> None:
-        """`Stop` or `Unclear` where the feed has ended since it could not be read on."""
+        """`Stop` or `Unclear` where the feed has ended since it could not be read on; `Unanswered`
+        where the program that hears it has."""
+        for call in self.calls:
+            call.heard.refuse(call.process.wait())
         heard = next(iter(self.by_page.values()))
         refuse_stream(heard, name)
         self.calls[0].refuse(heard.packets)

@@ -2,92 +2,23 @@
 from __future__ import annotations
 
 import contextlib
-import json
+import fcntl
+import hashlib
 import os
 import select
 import stat
 import time
-from typing import Any, BinaryIO, Iterable, Iterator, NamedTuple
+from typing import Any, BinaryIO, Iterator, Mapping, NamedTuple
 
-from ...common.command_line import Stop
-from ...common.files import Input, result_file
+from ...common.command_line import Stop, say
+from ...common.files import Input, Inputs
 from ...formats.teletext import HEAD, START, begins_in
+from ...request.commands import lock_of
 from ..batch import beside, signals_held
-from ..single import heed_signals, ignore_signals, locking
-
-
-# Values in a file that only grows, an entry in each line: half of one, as a crash leaves it, is
-# none.
-
-
-class Journal:
-    """A file of entries. What can't be written to it now is left out: whoever reads it has to do
-    with what is there."""
-
-    def __init__(self, path: str) -> None:
-        self.path = path
-
-    def entries(self, count: int) -> Iterator[list[Any]]:
-        """Those that have so many values."""
-        with contextlib.suppress(OSError), open(self.path, "rb") as file:
-            for line in file:
-                with contextlib.suppress(ValueError):
-                    found = json.loads(line)
-                    if isinstance(found, list) and len(found) == count:
-                        yield found
-
-    def add(self, *values: Any) -> None:
-        """One more."""
-        with contextlib.suppress(OSError), open(self.path, "ab", buffering=0) as file:
-            file.write(b"\n" + json.dumps(values).encode() + b"\n")
-
-    def replace(self, entries: Iterable[Iterable[Any]]) -> None:
-        """These in the place of all that there are."""
-        with contextlib.suppress(OSError), result_file(self.path) as file:
-            file.writelines(json.dumps(list(one)).encode() + b"\n" for one in entries)
-
-
-# What the recorder and the judge of a channel tell each other: numbers in the file `state`, which
-# is written to at once, also where there is no room any more.
-
-HEARD, ERROR, FILE = range(0, 24, 8)  # where what is told begins
-SIZE, COUNT = 8, 6  # bytes of a number, and how many there are
-
-
-class Exchange:
-    """`HEARD` is the number behind the segment that the judge reads, `ERROR` that of the error by
-    which something was lost; at `FILE`, of a feed that is a file: its device, its number there, a
-    segment, and the place in the file where that begins.
-
-    The file is opened each time, since somebody may have emptied the folder."""
-
-    def __init__(self, folder: str) -> None:
-        self.path = os.path.join(folder, "state")
-        if not os.path.exists(self.path):
-            self.put(HEARD, *[0] * COUNT)  # it has its room before the disk is full
-
-    def __getitem__(self, at: int) -> int:
-        return self.several(at, 1)[0]
-
-    def __setitem__(self, at: int, value: int) -> None:
-        self.put(at, value)
-
-    def several(self, at: int, count: int) -> list[int]:
-        """So many numbers; 0 for those that nobody has written."""
-        data = b""
-        with contextlib.suppress(OSError), open(self.path, "rb", buffering=0) as file:
-            data = os.pread(file.fileno(), SIZE * count, at)
-        data = data.ljust(SIZE * count, b"\0")
-        return [int.from_bytes(data[one:one + SIZE], "big") for one in range(0, len(data), SIZE)]
-
-    def put(self, at: int, *values: int) -> None:
-        """Writes numbers, all at once."""
-        with contextlib.suppress(OSError):
-            handle = os.open(self.path, os.O_WRONLY | os.O_CREAT | os.O_CLOEXEC, 0o666)
-            try:
-                os.pwrite(handle, b"".join(one.to_bytes(SIZE, "big") for one in values), at)
-            finally:
-                os.close(handle)
+from ..single import InUse, heed_signals, ignore_signals, locking
+from .records import Read
+from .spool import (
+    ERROR, Exchange, FILE, HEARD, Journal, are, claim, is_number, numbers_in, opened, path_of)
 
 
 # A feed on disk: segments with numbers in a folder. A recorder writes them; a judge reads them as
@@ -95,18 +26,7 @@ class Exchange:
 
 PART = 1 << 18  # bytes that are read at a time
 LEAST = 1 << 20  # bytes by which what is told of a feed is behind what was read of it, at most
-ENDING = ".seg"
 MANY = 5000  # entries of the index that nobody needs, until it is written anew
-
-
-def numbers_in(folder: str) -> list[int]:
-    """The numbers of the segments in a folder, in their order."""
-    names = (name.removesuffix(ENDING) for name in os.listdir(folder) if name.endswith(ENDING))
-    return sorted(int(name) for name in names if name.isdecimal())
-
-
-def path_of(folder: str, number: int) -> str:
-    return os.path.join(folder, f"{number:09}{ENDING}")
 
 
 def size_in(folder: str, number: int) -> int:
@@ -118,27 +38,21 @@ def size_in(folder: str, number: int) -> int:
 
 class Begin(NamedTuple):
     """What was told of a feed when one began to read a segment: what is in it came then or later.
-    Before the first segment, and after a loss, the time is not that of its first bytes."""
+    Before the first segment, and after a loss, the time is not that of its first bytes. `pids` are
+    those that carried pages, by the pages' names."""
 
     time: int
-    pts: int
+    pts: int | None
     is_exact: bool
+    pids: Mapping[str, int] = {}
 
 
-class Read(NamedTuple):
-    """What was read of a segment: its file, and how many bytes."""
-
-    path: str
-    size: int
-
-
-def bytes_of(several: Iterable[Read]) -> Iterator[bytes]:
-    """What was read, in parts."""
-    for path, size in several:
-        with open(path, "rb") as file:
-            while size and (data := file.read(min(PART, size))):
-                size -= len(data)
-                yield data
+def is_begin(entry: list[Any]) -> bool:
+    """Whether an entry of the index is the begin of a segment; version 1.9 knew no PID."""
+    pids = entry[4] if len(entry) == 5 else {}
+    return len(entry) in (4, 5) and all(map(is_number, entry[:2])) and (
+        entry[2] is None or is_number(entry[2])) and are(entry[3:4], bool) and \
+        isinstance(pids, dict) and all(map(is_number, pids.values()))
 
 
 class Segments:
@@ -151,8 +65,8 @@ class Segments:
 
     def __init__(self, folder: str) -> None:
         self.folder, self.state = folder, Exchange(folder)
-        self.index = Journal(os.path.join(folder, "index"))
-        self.begins = {number: Begin(*rest) for number, *rest in self.index.entries(4)}
+        self.index = Journal(folder, "index", is_begin)
+        self.begins = {number: Begin(*rest) for number, *rest in self.index.entries()}
         self.known, self.count = max(self.begins, default=-1), len(self.begins)
         self.file: BinaryIO | None = None
         self.is_lost = False  # something behind the segment that is read, and that was told
@@ -188,8 +102,9 @@ class Segments:
     def read_on(self) -> bytes:
         """Some bytes of the segment that is read."""
         if self.file is None:
-            with contextlib.suppress(FileNotFoundError):
-                self.file = open(path_of(self.folder, self.at), "rb", buffering=0)
+            with contextlib.suppress(OSError):
+                self.file = open(opened(path_of(self.folder, self.at), os.O_RDONLY), "rb",
+                                 buffering=0)
                 self.state[HEARD] = self.at + 1
         return self.file.read(PART) if self.file else b""
 
@@ -205,14 +120,18 @@ class Segments:
 
     def before(self) -> Iterator[bytes]:
         """All that was read so far, since the last loss."""
-        with contextlib.suppress(FileNotFoundError):
-            yield from bytes_of([self.read_of(number) for number in self.there()])
+        for number, size in [self.read_of(number) for number in self.there()]:
+            with contextlib.suppress(OSError), open(opened(
+                    path_of(self.folder, number), os.O_RDONLY), "rb") as file:
+                while size and (data := file.read(min(PART, size))):
+                    size -= len(data)
+                    yield data
 
     def read_of(self, number: int) -> Read:
         """What was read of a segment: more may have come to it, where PTS may come again."""
         size = size_in(self.folder, number) if number < self.at else \
             self.file.tell() if self.file else 0
-        return Read(path_of(self.folder, number), size)
+        return Read(number, size)
 
     def there(self) -> list[int]:
         """The segments that were read, since the last loss, as far as they are there."""
@@ -239,13 +158,14 @@ class Segments:
         return [self.read_of(one) for one in numbers[self.first_at(earlier, numbers) or 0:]
                 if one not in self.begins or self.begins[one].time <= last]
 
-    def drop(self, before: int) -> None:
-        """Takes away what came before a time, and what is before a loss."""
+    def drop(self, before: int, needed: int | None = None) -> None:
+        """Takes away what came before a time, and what is before a loss, up to a segment that is
+        needed."""
         numbers = self.there()
         floor = numbers[self.first_at(before, numbers) or 0] if numbers else self.at
-        self.take_away(floor)
-        needed = max((one for one in self.begins if one <= floor), default=floor)
-        self.begins = {one: known for one, known in self.begins.items() if one >= needed}
+        self.take_away(floor if needed is None else min(floor, needed))
+        least = max((one for one in self.begins if one <= floor), default=floor)
+        self.begins = {one: known for one, known in self.begins.items() if one >= least}
         if self.count > len(self.begins) + MANY:
             self.index.replace([number, *known] for number, known in self.begins.items())
             self.count = len(self.begins)
@@ -262,6 +182,39 @@ class Segments:
             self.file.close()
             self.file = None
 
+    # ---- what a machine asks
+
+    def size(self) -> tuple[int, int]:
+        """How many segments there are, and their bytes."""
+        numbers = numbers_in(self.folder)
+        return len(numbers), sum(size_in(self.folder, one) for one in numbers)
+
+    def came(self) -> float | None:
+        """When the last byte came."""
+        with contextlib.suppress(OSError, IndexError):
+            return os.stat(path_of(self.folder, numbers_in(self.folder)[-1])).st_mtime
+        return None
+
+    def read_date(self) -> float | None:
+        """When that came which is read now."""
+        return os.fstat(self.file.fileno()).st_mtime if self.file else None
+
+    def behind(self) -> int:
+        """By how many seconds what is read came before the last byte."""
+        return max(round((self.came() or 0) - (self.read_date() or self.came() or 0)), 0)
+
+    def is_recorded(self) -> bool:
+        """Whether somebody records now."""
+        with contextlib.suppress(OSError):
+            handle = opened(lock_of(self.folder, "recorder"), os.O_RDWR)
+            try:
+                fcntl.flock(handle, fcntl.LOCK_SH | fcntl.LOCK_NB)
+            except BlockingIOError:
+                return True
+            finally:
+                os.close(handle)
+        return False
+
 
 # Writes a feed into segments, and does nothing else: a process of its own, which may end at any
 # moment, and be begun again. With who judges it shares the segments, and the file `state`.
@@ -270,6 +223,7 @@ LONG, MOST = 5.0, 1 << 25  # seconds, and bytes, of a segment
 AHEAD = 8  # segments by which a file may be read before it is heard
 WAIT, TRIES = 0.1, 20  # seconds between two tries to write, and how many there are
 BEHIND_TIME, SYNC = 4, b"\x47"  # bytes before the first TS packet of 192 bytes
+SUMMED = 1 << 16  # bytes of a file by which it is known again, before where it was left
 
 
 class NotWanted(Exception):
@@ -293,17 +247,43 @@ class Recorder:
         self.is_damaged = self.is_lost = False
         self.written = 0  # bytes of a file that stand in segments already, of those that come next
         self.place = 0  # in a file, of what is written next
+        self.said = ""
         known, heard = numbers_in(folder), self.state[HEARD]
         self.number = max([heard - 1, *known[-1:]]) + 2 if heard or known else 0
-        self.go_on(about.st_size)
+        if self.own and self.number:
+            self.go_on(about.st_size)
 
     def go_on(self, size: int) -> None:
-        """Of the same file, goes on where it was."""
-        *own, number, place = self.state.several(FILE, 4)
+        """Of the same file, goes on where it was; it is known by its device, its number there, its
+        size, and its bytes before that."""
+        *own, number, place, sum_before = self.state.several(FILE, 5)
         written = size_in(self.folder, number)
-        if self.own == tuple(own) and number >= self.number - 2 and place + written <= size:
+        if self.own == tuple(own) and number >= self.number - 2 and place + written <= size and \
+                sum_before == self.sum_at(place) and self.is_written(number, written, place):
             self.number, self.place, self.written = number, place, written
             os.lseek(self.source.file.fileno(), place, os.SEEK_SET)
+        where = f"goes on at byte {self.place + self.written}" if self.place + self.written else \
+            "is another file than before, or was written anew: it is recorded from its beginning"
+        self.said = f"{self.source.name} {where}"
+
+    def bytes_at(self, place: int) -> bytes:
+        """Some bytes of a file before a place."""
+        begin = max(place - SUMMED, 0)
+        return os.pread(self.source.file.fileno(), place - begin, begin)
+
+    def sum_at(self, place: int) -> int:
+        """A number for them."""
+        return int.from_bytes(hashlib.sha256(self.bytes_at(place)).digest()[:7], "big")
+
+    def is_written(self, number: int, written: int, place: int) -> bool:
+        """Whether the end of what stands in a segment is in the file, too."""
+        count = min(written, SUMMED)
+        data = b""
+        with contextlib.suppress(OSError), open(opened(
+                path_of(self.folder, number), os.O_RDONLY), "rb") as file:
+            file.seek(written - count)
+            data = file.read(count)
+        return len(data) == count and self.bytes_at(place + written).endswith(data)
 
     def wait(self) -> None:
         """Waits a little."""
@@ -368,8 +348,9 @@ class Recorder:
         if self.file is None:
             self.size, self.since = size_in(self.folder, self.number), time.monotonic()
             if self.own and not self.size:
-                self.state.put(FILE, *self.own, self.number, self.place)
-            self.file = open(path_of(self.folder, self.number), "ab", buffering=0)
+                self.state.put(FILE, *self.own, self.number, self.place, self.sum_at(self.place))
+            self.file = open(opened(path_of(self.folder, self.number), os.O_WRONLY | os.O_CREAT
+                                    | os.O_APPEND), "ab", buffering=0)
         return self.file
 
     def lose(self) -> None:
@@ -400,16 +381,25 @@ class Recorder:
         return False
 
 
+def say_dated(line: str) -> None:
+    """A line with the date and the time of day."""
+    say(f"{time.strftime('%Y-%m-%d %H:%M:%S')}  {line}")
+
+
 def record(name: str, folder: str, alive: int) -> bool:
     """Records a feed in a folder; whether that was to its end. One that has just been left is still
     ending, and is waited for."""
     tries = TRIES
+    claim(folder, Inputs(name))
     while True:
         try:
             with Input(name) as source, \
                     locking(folder, "recorder", "another feed is recorded in "):
-                return Recorder(folder, source, alive).record()
-        except Stop:
+                recorder = Recorder(folder, source, alive)
+                if recorder.said:
+                    say_dated(recorder.said)
+                return recorder.record()
+        except InUse:
             tries -= 1
             if not tries:
                 raise

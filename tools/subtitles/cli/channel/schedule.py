@@ -2,7 +2,9 @@
 from __future__ import annotations
 
 import argparse
+import collections
 import dataclasses
+import os
 import time
 from typing import Any, Callable, Iterable, NamedTuple, Sequence, Union
 
@@ -14,10 +16,12 @@ from ...request.commands import NamesOfList
 from ...request.lines import read_options, refuse_settings
 from ...request.request import (
     AUTO_OF_FEED, CHANNEL_LINE, Request, add_options, pair_options, request_of)
-from ...results.objects import has_had_its_turn
+from ...results.objects import found_at
+from ..batch import no_file
 from ..main import refuse_options
 from .feed import Awaited, Heard, Hearing, MINUTE, Timed
-from .recorder import Journal
+from .records import Record, is_name
+from .spool import Journal, are, is_number
 
 
 # The programmes of a channel, by the entries of a list that is edited while the channel runs.
@@ -50,22 +54,29 @@ def edits_of(known: Sequence[Programme], lines: Sequence[Line]) -> Edits:
     """Which line is which programme: first those whose words are the same, then those of the same
     subtitle file. Of several that are alike the first is the first; where there are fewer than
     before, those stay that have no result yet."""
-    left = list(known)
     rows: dict[int, Programme] = {}
-    changed: list[Programme] = []
+    changed, gone = list[Programme](), set(known)
     for count in (None, 1):  # of the words
-        for words in dict.fromkeys(line.words[:count] for line in lines):
-            open_lines = [at for at, line in enumerate(lines)
-                          if at not in rows and line.words[:count] == words]
-            alike = [one for one in left if one.line.words[:count] == words]
-            while len(alike) > len(open_lines) and any(one.has_ended for one in alike):
-                alike.remove(next(one for one in alike if one.has_ended))
-            for at, one in zip(open_lines, alike):
+        alike, places = (collections.defaultdict[tuple[str, ...], list[Any]](list) for _ in "ab")
+        for one in known:
+            if one in gone:
+                alike[one.line.words[:count]].append(one)
+        for at, line in enumerate(lines):
+            if at not in rows:
+                places[line.words[:count]].append(at)
+        for words, some in places.items():
+            several = alike[words]
+            more = len(several) - len(some)
+            if more > 0:  # those stay that have no result
+                passed = {one for one in [one for one in several if one.has_ended][:more]}
+                several = [one for one in several if one not in passed]
+            for at, one in zip(some, several):
                 rows[at] = one
-                left.remove(one)
+                gone.remove(one)
                 if one.line.words != lines[at].words:
                     changed.append(one)
-    return Edits([(rows.get(at), line) for at, line in enumerate(lines)], left, changed)
+    return Edits([(rows.get(at), line) for at, line in enumerate(lines)],
+                 [one for one in known if one in gone], changed)
 
 
 class Planned:
@@ -77,9 +88,11 @@ class Planned:
     in a file, so that an edit is one whenever somebody looks.
     """
 
-    def __init__(self, path: str, defaults: argparse.Namespace, kept: Journal | None = None,
-                 result: Callable[[str], dict[str, Any] | None] = lambda name: None) -> None:
-        self.path, self.defaults, self.kept, self.result = path, defaults, kept, result
+    def __init__(self, path: str, defaults: argparse.Namespace, folder: str | None = None,
+                 out: str = "",
+                 known: Callable[[str, str], Record | None] = lambda name, stl: None) -> None:
+        self.path, self.defaults, self.known = path, defaults, known
+        self.kept = Journal(folder, "list", is_entry) if folder else None
         self.programmes: list[Programme] = []
         self.gone: list[Programme] = []
         self.said: list[str] = []
@@ -89,16 +102,34 @@ class Planned:
         self.first: str | None = None  # that of the first one
         self.missing: float | None = None  # since when the file is not there
         self.is_missed = False  # for so long that it was said
-        for name, is_gone, number, words, fault in kept.entries(5) if kept else ():
+        self.day = [os.path.abspath(path), out]  # whose results a record is of
+        self.since: int | None = None  # since when there is a line without a result
+        self.next_file = 0  # the programme whose subtitle file is looked at next
+        self.told_files = set[tuple[str, str]]()
+        self.take_kept(self.kept.entries() if self.kept else [])
+        self.was_known = bool(self.programmes)
+
+    def take_kept(self, entries: list[list[Any]]) -> None:
+        """Takes the list as an earlier call knew it, unless that was another day's."""
+        if self.kept:
+            self.said += self.kept.said
+        if entries and len(entries[0]) == 3:
+            *day, since = entries.pop(0)
+            if day != self.day:
+                if entries:
+                    self.said.append(f"{self.path} begins anew: the list before was {day[0]}, with "
+                                     f"{day[1] or 'no folder'} for results")
+                return
+            self.since = since
+        for name, is_gone, number, words, fault in entries:
             line = Line(number, tuple(words), fault)
-            known = result(self.names.take(name))
-            one = Programme(name, line, *self.read_line(line),
-                            known is not None and not known.get("open"))
+            has_ended = self.known(self.names.take(name), "") is not None
+            asked, reason = (None, None) if has_ended else self.read_line(line)
+            one = Programme(name, line, asked, reason, has_ended)
             if not is_gone:
                 self.programmes.append(one)
             elif not one.has_ended:
                 self.gone.append(one)
-        self.was_known = bool(self.programmes)
 
     def open(self) -> list[Programme]:
         """Those that have no result."""
@@ -117,6 +148,7 @@ class Planned:
             if self.taken is not None and not text.startswith(self.taken):
                 return False
         if text == self.taken:
+            self.look_at_file()
             return False
         is_first = not self.was_known and (self.taken is None or text == self.first)
         self.taken = text
@@ -127,8 +159,37 @@ class Planned:
     def keep(self) -> None:
         """Keeps the list as it is known, with those that are gone and have no result yet."""
         if self.kept:
-            self.kept.replace((one.name, one in self.gone, *one.line)
-                              for one in (*self.gone, *self.programmes))
+            self.kept.replace([(*self.day, self.since)] + [
+                (one.name, is_gone, *one.line) for is_gone, several in (
+                    (True, self.gone), (False, self.programmes)) for one in several])
+
+    def wait_since(self, since: int | None) -> None:
+        """Keeps since when a line has no result."""
+        if since != self.since:
+            self.since = since
+            self.keep()
+
+    def look_at_file(self) -> None:
+        """Looks whether the subtitle file of a programme that has its result, one at each look, is
+        another one by now: nobody would judge that."""
+        if not self.programmes:
+            return
+        self.next_file = (self.next_file + 1) % len(self.programmes)
+        one = self.programmes[self.next_file]
+        record = self.known(one.name, "") if one.has_ended else None
+        if record is None or not record.stl or record.found is None:
+            return
+        found = found_at(record.stl)
+        if found not in (None, record.found) and (one.name, str(found)) not in self.told_files:
+            self.told_files.add((one.name, str(found)))
+            self.said.append(f"{one.name}: {record.stl} is another file than the one that has its "
+                             "result, and is not judged: give it a line of its own, or each day a "
+                             "LIST and a DIR")
+
+    def files(self) -> list[str]:
+        """The files that lines name."""
+        return [name for one in self.programmes if one.asked
+                for name in (one.asked.stl, one.asked.severity) if name]
 
     def read(self) -> str | None:
         """The text of the list; `None` as long as it is not there."""
@@ -152,9 +213,10 @@ class Planned:
         """Takes what became of the list."""
         rows = [(one or self.programme(line), line, one is None) for one, line in edits.rows]
         before = [one for one, _, is_new in rows if not is_new]
-        kept = [one for one in self.programmes if one not in edits.gone]
+        gone, changed = set(edits.gone), set(edits.changed)
+        kept = [one for one in self.programmes if one not in gone]
         for one, line, is_new in rows:
-            if one in edits.changed and not one.has_ended:
+            if one in changed and not one.has_ended:
                 one.asked, one.reason = self.read_line(line)
             one.line = line
         self.programmes = [one for one, _, _ in rows]
@@ -175,10 +237,10 @@ class Planned:
         asked, reason = self.read_line(line)
         while True:
             name = self.names.pair(asked.stl) if asked else self.names.line(line.number)
-            known = self.result(name)
-            if known is None or known.get("open"):
+            record = self.known(name, asked.stl if asked else "")
+            if record is None:
                 return Programme(name, line, asked, reason)
-            if has_had_its_turn(known, asked):
+            if record.is_of(asked.stl if asked else None):
                 return Programme(name, line, asked, reason, True)
 
     def read_line(self, line: Line) -> tuple[Request | None, str | None]:
@@ -205,6 +267,14 @@ class Planned:
         if asked.is_layout_sought:
             raise Stop(AUTO_OF_FEED)
         return asked
+
+
+def is_entry(entry: list[Any]) -> bool:
+    """Whether an entry of what is kept is the day, or a programme by its name and its line."""
+    if len(entry) == 3:
+        return are(entry[:2], str, str) and (entry[2] is None or is_number(entry[2]))
+    return are(entry, str, bool, int, list, str) and is_name(entry[0]) and all(
+        isinstance(word, str) for word in entry[3])
 
 
 def line_parser() -> Words:
@@ -249,7 +319,9 @@ class Waiting:
         asked = self.programme.asked
         if asked is None:
             return
-        self.awaited, self.reason = None, None
+        self.awaited, self.reason = None, no_file(asked.stl)
+        if self.reason:
+            return
         try:
             self.awaited = Awaited(asked.stl, asked.option, since, until, asked.within,
                                    asked.between) if asked.origin is None else \
@@ -270,13 +342,16 @@ class Waiting:
 class Queue:
     """The programmes that are waited for, and those of the list behind them.
 
-    `since` is when waiting for the first one began, `ended` when the programme before was over.
+    `since` is when waiting for the first one began, `ended` when the programme before was over;
+    `latest` is up to when an earlier call has heard the feed.
     """
 
-    def __init__(self, planned: Planned, patience: int) -> None:
+    def __init__(self, planned: Planned, patience: int, ended: int = 0, since: int = 0) -> None:
         self.planned, self.patience = planned, patience
         self.waiting: list[Waiting] = []
-        self.since = self.ended = 0
+        self.ended = ended
+        self.since = max(ended, since, planned.since or 0)
+        self.latest = 0
         self.next_look = 0.0
         self.is_whole = False  # the list
 
@@ -285,16 +360,19 @@ class Queue:
         """Up to when the first one has to be there."""
         return self.since + self.patience
 
-    def fill(self, now: int) -> None:
-        """Looks into the list each second, and waits for as many as can be waited for. Where there
-        was nothing to wait for, patience begins now."""
-        was_empty = not self.waiting
+    def fill(self, now: int) -> bool:
+        """Looks into the list each second, and waits for as many as can be waited for; whether
+        there is something else in it. Where there was nothing to wait for, patience begins now."""
+        is_new = False
         if time.monotonic() >= self.next_look:
-            self.planned.look(self.is_whole)
+            is_new = self.planned.look(self.is_whole)
             self.next_look = time.monotonic() + LOOK
-        if was_empty:
-            self.since = max(self.since, now)  # who begins anew hears what is older once more
-        self.take(self.planned.open()[:AT_ONCE])
+        first = self.planned.open()[:AT_ONCE]
+        if first and self.planned.since is None:
+            self.since = max(self.since, now, self.latest)
+        self.planned.wait_since(self.since if first else None)
+        self.take(first)
+        return is_new
 
     def take(self, programmes: Iterable[Programme]) -> None:
         """Waits for these; for one for which it does already, as long as its line is the same."""
@@ -339,7 +417,6 @@ class Queue:
 
 LATER = MARGIN = 2 * MINUTE  # after a last TCO; before a first TCI what is sent may be of it
 ENDED = "the feed ended"
-ANEW = "PTS began anew"
 LOST = "something of the feed was not recorded"
 
 

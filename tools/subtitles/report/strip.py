@@ -1,35 +1,33 @@
-"""Strips of time with subtitles, sendings and faults; subtitles by minute."""
+"""The overview of a report, which is one strip of time; and subtitles with their pictures."""
 from __future__ import annotations
 
 import bisect
 import collections
 import itertools
-from typing import Collection, Iterable, Iterator, NamedTuple
+from typing import Iterable, Iterator, NamedTuple
 
 from ..common.command_line import counted
 from ..common.markup import Markup, NO_MARKUP, joined, markup
-from ..common.times import Span, Spans, time_of
+from ..common.times import FRAMES_A_SECOND, Span, Spans, time_of
 from ..formats.stl import Subtitle
 from .faults import Entry, Faults
 from .pictures import DIFFERENT, Figures, KINDS, NOTHING, SAME
 from .transmission import Seen
 
 
-# Strips of time with subtitles, sendings of the page and faults.
+# A strip of time from the first to the last of what is due, sent or wrong.
 #
 # Shapes are SVG that is as wide as the page; words stand beside and below them, so that they are as
 # large on a narrow page as on a wide one.
 
-MINUTE = 1500  # in frames
-# How long a strip can be, what that is called, how far its ticks are apart, and its words.
-UNITS = [(250, "ten seconds", 25, 50), (MINUTE, "a minute", 250, 250),
-         (10 * MINUTE, "ten minutes", MINUTE, 2 * MINUTE),
-         (60 * MINUTE, "an hour", 5 * MINUTE, 10 * MINUTE)]
-MINUTES = UNITS[1]
-MOST_STRIPS = 24
-WIDTH = 1000  # of a strip, in its own units
-# Sendings nearer than that are drawn as one block: on up to 300 strips of minutes, and on more.
-CLOSE, CLOSE_ON_MANY, MANY_STRIPS = 3, 8, 300
+WIDTH = 1000  # of the strip, in its own units
+MINUTE = 60 * FRAMES_A_SECOND  # in frames
+# How far words of time may be apart, in frames: as many stand on a strip as there is room for.
+STEPS = (FRAMES_A_SECOND, 2 * FRAMES_A_SECOND, 5 * FRAMES_A_SECOND, 10 * FRAMES_A_SECOND,
+         30 * FRAMES_A_SECOND, MINUTE, 2 * MINUTE, 5 * MINUTE, 10 * MINUTE, 30 * MINUTE,
+         60 * MINUTE, 120 * MINUTE, 240 * MINUTE)
+MOST_WORDS, TICKS_A_WORD = 12, 5
+CLOSE = 3  # units: sendings and faults nearer than that are drawn as one block
 # The look of a subtitle that is held as it is due, of one that is not, and of one that can't be
 # seen: its class, its top, its height.
 Look = tuple[str, int, int]
@@ -55,117 +53,68 @@ def runs_of(frames: Iterable[int]) -> Iterator[Span]:
         yield Span(begin, last)
 
 
-class Strips:
-    """What is drawn on them: subtitles in order, frames with a sending, and faults.
+class Strip:
+    """The strip, with what is drawn on it: subtitles in order, frames with a sending, and faults.
 
     `entries` are the subtitles' entries, `faults` what `check --all` told, `broken` the frame of
-    the first of them and `flag` its line. Nothing is known from the frame `end` on, where it is
-    given.
+    the fault that is said first and `flag` its line. Nothing is known from the frame `last` on,
+    where it is given.
     """
 
     def __init__(self, subtitles: list[Subtitle], sendings: Iterable[int], entries: Entries,
-                 faults: Faults, broken: int | None, flag: str, end: int | None) -> None:
+                 faults: Faults, broken: int | None, flag: str, last: int | None) -> None:
         self.subtitles, self.sendings = subtitles, Spans(runs_of(sendings))
         self.entries, self.spans, self.trusted = entries, faults.spans, faults.trusted
         self.undecided = faults.undecided
-        self.broken, self.flag, self.end = broken, flag, end
-        self.numbers: dict[int, set[int]] = {}  # of strips in use, by their length
+        self.broken, self.flag, self.last = broken, flag, last
         self.ends = [subtitle.end for subtitle in subtitles]
         self.firsts = [subtitle.begin for subtitle in subtitles]
-        self.unit, self.called, self.step, self.words = next(
-            (unit for unit in UNITS if len(self.used(unit[0])) <= MOST_STRIPS), UNITS[-1])
-        self.close = CLOSE if len(self.used(MINUTE)) <= MANY_STRIPS else CLOSE_ON_MANY
+        self.begin, self.end = self.reach()
+        length = self.end - self.begin
+        self.step = next((step for step in STEPS if length <= MOST_WORDS * step), STEPS[-1])
 
-    def used(self, unit: int) -> set[int]:
-        """The numbers of the strips of that length with something on them."""
-        if unit not in self.numbers:
-            used = self.numbers[unit] = set[int]()
-            subtitles = ((subtitle.begin, subtitle.end - 1) for subtitle in self.subtitles)
-            last: int | None = None
-            for begin, end in itertools.chain(subtitles, self.sendings, self.spans, self.undecided):
-                if begin // unit != last or end // unit != last:
-                    last = end // unit
-                    used.update(range(begin // unit, last + 1))
-        return self.numbers[unit]
-
-    def has_minutes(self) -> bool:
-        """Whether strips are so long that each minute needs one of its own."""
-        return self.unit > MINUTE
-
-    def overview(self) -> Markup:
-        """All strips that have something on them, and what is left out between them."""
-        parts: list[Markup] = []
-        last: int | None = None
-        minutes = self.used(MINUTE) if self.has_minutes() else set()
-        for number in sorted(self.used(self.unit)):
-            if last is not None and number > last + 1:
-                parts.append(markup('<p class="gap">nothing from {} to {}</p>',
-                                    time_of((last + 1) * self.unit), time_of(number * self.unit)))
-            strip = Strip(self, number * self.unit, (self.unit, self.step, self.words))
-            parts.append(strip.drawn(minutes))
-            last = number
-        return joined(parts) or markup('<p class="gap">nothing</p>')
-
-    def minute(self, number: int) -> Markup:
-        """The strip of a minute of the day."""
-        unit, _, step, words = MINUTES
-        return Strip(self, number * MINUTE, (unit, step, words)).drawn(())
-
-
-class Strip:
-    """One strip: its first frame, and its length with the distances of its ticks and words."""
-
-    def __init__(self, strips: Strips, begin: int, unit: tuple[int, int, int]) -> None:
-        self.strips, self.begin = strips, begin
-        self.unit, self.step, self.words = unit
-        self.end = begin + self.unit
+    def reach(self) -> tuple[int, int]:
+        """The first frame with something on the strip, and the one after the last."""
+        spans = (self.sendings, self.spans, self.undecided, self.trusted)
+        begins = [*self.firsts, *(begin for some in spans for begin in some.begins)]
+        ends = [*self.ends, *(end + 1 for some in spans for end in some.ends)]
+        return (min(begins), max(ends)) if begins else (0, FRAMES_A_SECOND)
 
     def x(self, frame: int) -> float:
+        """Where a frame is on the strip."""
         inside = min(max(frame, self.begin), self.end) - self.begin
-        return round(inside * WIDTH / self.unit, 1)
+        return round(inside * WIDTH / (self.end - self.begin), 1)
 
-    def drawn(self, minutes: Collection[int]) -> Markup:
-        """The strip; `minutes` are those that have strips of their own to lead to."""
-        line = self.strips
+    def drawn(self) -> Markup:
+        """The strip."""
         words: list[Markup] = []
         shapes = [markup('<rect class="lane" y="0" width="{}" height="{}"/>', WIDTH, LANE)]
-        shapes += self.undecided()
+        shapes += self.undecided_frames()
         shapes += self.bars(words)
         shapes += self.hatching(words)
-        shapes += self.sendings()
+        shapes += self.ticks()
         shapes += self.axis(words)
-        shapes += self.trusted()
+        shapes += self.trusted_frames()
         shapes += self.faults()
-        for minute in range(self.begin // MINUTE, self.end // MINUTE):
-            if minute in minutes:
-                at = self.x(minute * MINUTE)
-                shapes.append(markup(
-                    '<a href="#m{}" aria-label="{}"><rect class="go" x="{}" y="0" width="{:g}" '
-                    'height="{}"/></a>', minute, time_of(minute * MINUTE)[:5], at,
-                    self.x((minute + 1) * MINUTE) - at, HEIGHT))
         flag = NO_MARKUP
-        if line.broken is not None and self.begin <= line.broken < self.end:
-            shapes.append(markup('<path class="broken" d="M{} 0v{}"/>', self.x(line.broken),
+        if self.broken is not None:
+            shapes.append(markup('<path class="broken" d="M{} 0v{}"/>', self.x(self.broken),
                                  HEIGHT))
-            flag = markup('<p class="flag">&#9650; {}: {}</p>', time_of(line.broken), line.flag)
-        label = f"{time_of(self.begin)} to {time_of(self.end)}"
+            flag = markup('<p class="flag">&#9650; {}: {}</p>', time_of(self.broken), self.flag)
+        label = f"{time_of(self.begin)} to {time_of(self.end - 1)}"
         return markup('<div class="strip"><p class="time">{}</p><div><svg viewBox="0 0 {} {}" '
                       'preserveAspectRatio="none" role="group" aria-label="{}">{}</svg>{}</div>{}'
-                      "</div>", time_of(self.begin)[:8], WIDTH, HEIGHT, label, joined(shapes),
-                      joined(words), flag)
+                      "</div>", label, WIDTH, HEIGHT, label, joined(shapes), joined(words), flag)
 
     def bars(self, words: list[Markup]) -> Iterator[Markup]:
         """The subtitles: bars that are links, and a path of narrow ones and others."""
-        line, entries = self.strips, self.strips.entries
+        entries = self.entries
         narrow: dict[Look, list[list[float]]] = {GOOD: [], ODD: [], UNKNOWN: []}
-        place = bisect.bisect_right(line.ends, self.begin)
-        while place < len(line.subtitles) and line.firsts[place] < self.end:
-            subtitle = line.subtitles[place]
+        for subtitle in self.subtitles:
             left, right = self.x(subtitle.begin), self.x(subtitle.end)
             look = ODD if subtitle.index in entries.odd else \
                 UNKNOWN if subtitle.index in entries.unknown else GOOD
-            place += 1
-            is_alone = subtitle.index in entries.drawn or len(line.subtitles) <= FEW
+            is_alone = subtitle.index in entries.drawn or len(self.subtitles) <= FEW
             if right - left >= NARROW and is_alone:
                 yield self.bar(subtitle, left, right, look, words)
             elif narrow[look] and left - narrow[look][-1][1] < 0.5:
@@ -180,7 +129,7 @@ class Strip:
             words: list[Markup]) -> Markup:
         """A bar, and its number where it has room and is not hatched."""
         kind, top, height = look
-        name, end = f"subtitle {subtitle.index}", self.strips.end
+        name, end = f"subtitle {subtitle.index}", self.last
         has_room = right - left > WORDS_WIDTH * len(str(subtitle.index)) + 4
         if has_room and (end is None or subtitle.end <= end):
             words.append(markup('<span class="in {}" style="left:{:.4g}%">{}</span>', kind,
@@ -188,13 +137,13 @@ class Strip:
         shape = markup('<rect class="{}" x="{}" y="{}" width="{:.1f}" height="{}"><title>{}: {} '
                        "to {}</title></rect>", kind, left, top, right - left, height, name,
                        time_of(subtitle.begin), time_of(subtitle.end))
-        if subtitle.index in self.strips.entries.drawn:
+        if subtitle.index in self.entries.drawn:
             return markup('<a href="#s{}" aria-label="{}">{}</a>', subtitle.index, name, shape)
         return shape
 
     def hatching(self, words: list[Markup]) -> Iterator[Markup]:
         """Lines over the time of which a receiver hears nothing."""
-        end = self.strips.end
+        end = self.last
         if end is None or end >= self.end:
             return
         left = self.x(end)
@@ -202,33 +151,29 @@ class Strip:
                         for at in range(int(left), WIDTH, 6) if at >= left)
         yield markup('<rect class="after" x="{}" width="{:g}" height="{}"/><path class="hatch" '
                      'd="{}"/>', left, WIDTH - left, FAULTS, lines)
-        if end >= self.begin:
-            side = f"left:{left / 10:.4g}%" if left < WIDTH / 2 else \
-                f"right:{(WIDTH - left) / 10:.4g}%"
-            words.append(markup('<span class="end" style="{}">nothing heard after {}</span>', side,
-                                time_of(end - 1)))
+        side = f"left:{left / 10:.4g}%" if left < WIDTH / 2 else f"right:{(WIDTH - left) / 10:.4g}%"
+        words.append(markup('<span class="end" style="{}">nothing heard after {}</span>', side,
+                            time_of(end - 1)))
 
-    def undecided(self) -> Iterator[Markup]:
+    def undecided_frames(self) -> Iterator[Markup]:
         """The frames at which it is not known what is due."""
         _, top, height = UNKNOWN
-        for begin, end in self.strips.undecided.between(self.begin, self.end):
+        for begin, end in self.undecided:
             left = self.x(begin)
             width = max(self.x(end + 1) - left, 2)
             yield markup('<rect class="unknown" x="{:g}" y="{}" width="{:.4g}" height="{}">'
                          "<title>undecided: {} to {}</title></rect>", left, top, width, height,
                          time_of(begin), time_of(end))
 
-    def sendings(self) -> Iterator[Markup]:
+    def ticks(self) -> Iterator[Markup]:
         """The sendings, those that are close to each other as one block."""
-        close = self.strips.close
+        is_wide = self.x(self.begin + 1) >= CLOSE
         runs: list[list[float]] = []
-        for begin, end in self.strips.sendings.between(self.begin, self.end):
-            left = self.x(begin)
-            right = self.x(min(end, self.end - 1)) if begin < end else left
-            if begin < end and self.x(begin + 1) - left >= close:
-                runs += [[self.x(frame)] * 2 for frame in range(max(begin, self.begin),
-                                                               min(end + 1, self.end))]
-            elif runs and left - runs[-1][1] < close:
+        for begin, end in self.sendings:
+            left, right = self.x(begin), self.x(end)
+            if begin < end and is_wide:
+                runs += [[self.x(frame)] * 2 for frame in range(begin, end + 1)]
+            elif runs and left - runs[-1][1] < CLOSE:
                 runs[-1][1] = right
             else:
                 runs.append([left, right])
@@ -242,17 +187,19 @@ class Strip:
 
     def axis(self, words: list[Markup]) -> Iterator[Markup]:
         """Ticks of time, with words at some of them."""
+        tick = max(self.step // TICKS_A_WORD, 1)
         lines = "".join(f"M{self.x(frame):g} {AXIS}v4"
-                        for frame in range(self.begin, self.end + 1, self.step))
+                        for frame in range(-(-self.begin // tick) * tick, self.end + 1, tick))
         yield markup('<path class="axis" d="M0 {}H{}{}"/>', AXIS, WIDTH, lines)
-        for frame in range(self.begin + self.words, self.end, self.words):
-            short = time_of(frame)[:5] if self.step >= MINUTE else ":" + time_of(frame)[6:8]
+        last = self.end - (self.end - self.begin) // 50  # there is no room at the very end
+        for frame in range((self.begin // self.step + 1) * self.step, last, self.step):
+            short = time_of(frame)[:5] if self.step >= MINUTE else time_of(frame)[3:8]
             side = f"left:{self.x(frame) / 10:.4g}%"
             words.append(markup('<span class="axis" style="{}">{}</span>', side, short))
 
-    def trusted(self) -> Iterator[Markup]:
+    def trusted_frames(self) -> Iterator[Markup]:
         """The frames that may be trusted: a line below the axis, thinner than a fault's mark."""
-        for begin, end in self.strips.trusted.between(self.begin, self.end):
+        for begin, end in self.trusted:
             left = self.x(begin)
             width = max(self.x(end + 1) - left, 2)
             yield markup('<rect class="trusted" x="{:g}" y="{}" width="{:.4g}" height="{}">'
@@ -261,9 +208,9 @@ class Strip:
 
     def faults(self) -> Iterator[Markup]:
         """What is told: a mark for each span that has room for one, which leads to the list."""
-        near = CLOSE * self.unit / WIDTH
+        near = CLOSE * (self.end - self.begin) / WIDTH
         runs: list[list[int]] = []
-        for begin, end in self.strips.spans.between(self.begin, self.end):
+        for begin, end in self.spans:
             if runs and begin - runs[-1][1] <= near:
                 runs[-1][1] = end
             else:
@@ -273,12 +220,12 @@ class Strip:
             width = max(self.x(end + 1) - left, 2)
             mark = markup('<rect class="bad" x="{:g}" y="{}" width="{:.4g}" height="{}"/>', left,
                           FAULTS, width, HEIGHT - FAULTS)
-            entry = self.strips.entries.entry_in(max(begin, self.begin), end + 1)
+            entry = self.entries.entry_in(begin, end + 1)
             yield mark if entry is None else markup(
                 '<a href="#e{}" aria-label="fault {}">{}</a>', entry.index, entry.index, mark)
 
 
-# The subtitles, minute by minute, with two pictures of each that is held otherwise than due.
+# The subtitles that are held otherwise than due, with two pictures of each.
 
 MOST_DRAWN = 500  # subtitles with pictures, the first that are not as due
 
@@ -356,21 +303,9 @@ class Entries:
                       name, first, end, subtitle.row, subtitle.justify, words,
                       self.faults_in(subtitle), self.figures.at(looked.frame))
 
-    def all(self, strips: Strips) -> Markup:
-        """The entries in order, by minute where there are strips of minutes."""
-        if not strips.has_minutes():
-            return self.listed(self.subtitles)
-        parts = []
-        groups = itertools.groupby(self.subtitles, lambda one: one.begin // MINUTE)
-        members = {minute: list(group) for minute, group in groups}
-        for minute in sorted(strips.used(MINUTE)):
-            parts.append(markup('<section class="minute" id="m{}">{}{}</section>', minute,
-                                strips.minute(minute), self.listed(members.get(minute, []))))
-        return joined(parts)
-
-    def listed(self, subtitles: Iterable[Subtitle]) -> Markup:
+    def all(self) -> Markup:
         """Those with pictures, in order."""
-        return joined(self.drawn.get(one.index, NO_MARKUP) for one in subtitles)
+        return joined(self.drawn.get(one.index, NO_MARKUP) for one in self.subtitles)
 
     def counted(self, group: Iterable[Subtitle]) -> str:
         """How many subtitles of a group are of which kind."""

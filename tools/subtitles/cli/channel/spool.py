@@ -1,0 +1,269 @@
+"""The folder of a channel: what may stand in it, and the small files by which processes talk."""
+from __future__ import annotations
+
+import contextlib
+import errno
+import json
+import os
+import re
+import stat
+from typing import Any, Callable, Iterable, Iterator
+
+from ...common.command_line import Stop
+from ...common.files import BEGIN, Inputs, kind_of, new_name
+
+# What a channel makes in its folder: nothing else may stand there, and no link. The mark says that
+# nobody else made the folder.
+
+MARK = "subttx-spool-2"
+FILES = ("state", "list", "index", "room", MARK)
+SEGMENT, RECORD, WORK = ".seg", ".done", ".files"  # behind numbers
+ASIDE = ".damaged"
+OWN_FILE = re.compile(rf"[0-9]{{9,18}}({SEGMENT}|{RECORD})|{'|'.join(FILES)}|\.(recorder\.)?lock"
+                      rf"|{re.escape(BEGIN)}[0-9a-f]{{16}}|([0-9]{{9,18}}\.done|list|index){ASIDE}")
+OWN_FOLDER = re.compile(rf"[0-9]{{9,18}}{WORK}")
+# What version 1.9 made beside that.
+OLD_FILE, OLD_FOLDER = re.compile("journal"), re.compile("done|work-[0-9a-f]{16}")
+OLD_STATE = 48  # bytes of its `state`, which was always there
+
+
+def claim(folder: str, inputs: Inputs) -> None:
+    """Makes a folder, or takes one that a channel has made; `Stop` where anything else stands in
+    it, or a file that is read: nothing is done then."""
+    os.makedirs(folder, exist_ok=True)
+    names = sorted(os.listdir(folder))
+    for name in names:
+        inputs.refuse(os.path.join(folder, name), False)
+    strange = [name for name in names if not is_own(folder, name)]
+    is_known = MARK in names or not {*names} - {".lock", ".recorder.lock"} or is_old(folder, names)
+    if strange or not is_known:
+        raise Stop(f"{folder} holds {(strange or names)[0]}, which no channel made: move that "
+                   "away, or give another folder by --spool")
+    if MARK not in names:  # it is empty, so that a full disk has room for it
+        os.close(opened(os.path.join(folder, MARK), os.O_WRONLY | os.O_CREAT))
+
+
+def is_own(folder: str, name: str) -> bool:
+    """Whether a channel makes what has such a name, this version or the one before."""
+    try:
+        mode = os.lstat(os.path.join(folder, name)).st_mode
+    except FileNotFoundError:
+        return True  # it has just got its name, or is gone
+    if stat.S_ISDIR(mode):
+        return bool(OWN_FOLDER.fullmatch(name)) or bool(OLD_FOLDER.fullmatch(name)) and (
+            name != "done" or all(is_old_result(os.path.join(folder, name, one))
+                                  for one in os.listdir(os.path.join(folder, name))))
+    is_file = kind_of(mode) is None
+    return is_file and bool(OWN_FILE.fullmatch(name) or OLD_FILE.fullmatch(name))
+
+
+def is_old(folder: str, names: Iterable[str]) -> bool:
+    """Whether version 1.9 made a folder, by its `state`."""
+    return "state" in names and os.path.getsize(os.path.join(folder, "state")) == OLD_STATE
+
+
+def is_old_result(path: str) -> bool:
+    """Whether a folder is the result of a programme that version 1.9 had not given its place."""
+    name = os.path.basename(path)
+    return stat.S_ISDIR(os.lstat(path).st_mode) and f"{name}.json" in os.listdir(path) and all(
+        one.startswith(f"{name}.") and stat.S_ISREG(os.lstat(os.path.join(path, one)).st_mode)
+        for one in os.listdir(path))
+
+
+def numbers_in(folder: str, ending: str = SEGMENT) -> list[int]:
+    """The numbers of what has an ending in a folder, in their order."""
+    names = (name.removesuffix(ending) for name in os.listdir(folder) if name.endswith(ending))
+    return sorted(int(name) for name in names if name.isdecimal())
+
+
+def path_of(folder: str, number: int, ending: str = SEGMENT) -> str:
+    return os.path.join(folder, f"{number:09}{ending}")
+
+
+def opened(path: str, flags: int) -> int:
+    """A file of the folder, opened: through no link, and nothing is waited for."""
+    return os.open(path, flags | os.O_NOFOLLOW | os.O_NONBLOCK | os.O_CLOEXEC, 0o666)
+
+
+def put_whole(folder: str, name: str, pieces: Iterable[bytes]) -> None:
+    """Writes a file, which is there as a whole, or as it was, also where the machine stops."""
+    path = new_name(folder, BEGIN)
+    try:
+        with open(opened(path, os.O_WRONLY | os.O_CREAT | os.O_EXCL), "wb") as file:
+            file.writelines(pieces)
+            file.flush()
+            os.fsync(file.fileno())
+        os.replace(path, os.path.join(folder, name))
+    except BaseException as error:
+        with contextlib.suppress(OSError):
+            os.unlink(path)
+        if isinstance(error, OSError):
+            error.filename, error.filename2 = os.path.join(folder, name), None
+        raise
+    handle = opened(folder, os.O_RDONLY | os.O_DIRECTORY)
+    with contextlib.suppress(OSError):  # of a file system that knows no such thing
+        os.fsync(handle)
+    os.close(handle)
+
+
+def set_aside(folder: str, name: str) -> str:
+    """A file that is damaged gets another name; a line that says so."""
+    path = os.path.join(folder, name)
+    with contextlib.suppress(OSError):
+        os.replace(path, path + ASIDE)
+    return f"{path} is damaged: it is {name}{ASIDE} now, and what it said is not known"
+
+
+# Room that is kept for results: given away where the disk is full.
+
+ROOM, SHARE = 4 << 20, 32  # bytes, and at most such a share of the disk
+
+
+class Room:
+    """Some bytes of the disk that nobody else gets."""
+
+    def __init__(self, folder: str) -> None:
+        self.path = os.path.join(folder, "room")
+
+    def keep(self) -> None:
+        """Keeps it, where there is room for it."""
+        with contextlib.suppress(OSError):
+            if os.path.exists(self.path):
+                return
+            about = os.statvfs(os.path.dirname(self.path))
+            size = min(ROOM, about.f_frsize * about.f_blocks // SHARE)
+            handle = opened(self.path, os.O_WRONLY | os.O_CREAT)
+            try:
+                os.posix_fallocate(handle, 0, size)
+            except OSError:
+                os.unlink(self.path)
+            finally:
+                os.close(handle)
+
+    def is_there(self) -> bool:
+        """Whether it is kept now."""
+        return os.path.exists(self.path)
+
+    def give(self) -> bool:
+        """Gives it away; whether there was some."""
+        with contextlib.suppress(OSError):
+            os.unlink(self.path)
+            return True
+        return False
+
+    def put(self, does: Callable[[], None]) -> None:
+        """Does what writes, and once more in this room where the disk is full."""
+        try:
+            does()
+        except OSError as error:
+            if error.errno not in (errno.ENOSPC, errno.EDQUOT) or not self.give():
+                raise
+            does()
+
+
+# Values in a file that only grows, an entry in each line: half of one, as a crash leaves it, is
+# none.
+
+MOST_OF_JOURNAL = 64 << 20  # bytes of one that is read
+
+
+class Journal:
+    """A file of entries, each a list that `fits`. What can't be written to it now is left out:
+    whoever reads it has to do with what is there. A whole entry that does not fit says that the
+    file is damaged: it is set aside, and `said` says so."""
+
+    def __init__(self, folder: str, name: str, fits: Callable[[list[Any]], bool]) -> None:
+        self.folder, self.name, self.fits = folder, name, fits
+        self.path = os.path.join(folder, name)
+        self.said: list[str] = []
+
+    def entries(self) -> list[list[Any]]:
+        """All of them; none where one does not fit."""
+        found = list[list[Any]]()
+        with contextlib.suppress(OSError), open(opened(self.path, os.O_RDONLY), "rb") as file:
+            for line in file.read(MOST_OF_JOURNAL).splitlines():
+                try:
+                    entry = json.loads(line or b"[]")
+                    is_right = isinstance(entry, list) and (not entry or self.fits(entry))
+                except ValueError:
+                    continue
+                except (TypeError, RecursionError):
+                    is_right = False
+                if not is_right:
+                    self.said.append(set_aside(self.folder, self.name))
+                    return []
+                found += [entry] * bool(entry)
+        return found
+
+    def add(self, *values: Any) -> None:
+        """One more."""
+        with contextlib.suppress(OSError), open(opened(
+                self.path, os.O_WRONLY | os.O_CREAT | os.O_APPEND), "ab", buffering=0) as file:
+            file.write(b"\n" + json.dumps(values).encode() + b"\n")
+
+    def replace(self, entries: Iterable[Iterable[Any]]) -> None:
+        """These in the place of all that there are."""
+        with contextlib.suppress(OSError):
+            put_whole(self.folder, self.name, (json.dumps(list(one)).encode() + b"\n"
+                                               for one in entries))
+
+
+# What the recorder and the judge of a channel tell each other: numbers in the file `state`, which
+# is written to at once, also where there is no room any more.
+
+HEARD, ERROR, FILE = range(0, 24, 8)  # where what is told begins
+RESTARTS = 56
+SIZE, COUNT = 8, 8  # bytes of a number, and how many there are
+
+
+class Exchange:
+    """`HEARD` is the number behind the segment that the judge reads, `ERROR` that of the error by
+    which something was lost; at `FILE`, of a feed that is a file: its device, its number there, a
+    segment, the place in the file where that begins, and a sum of the bytes before it.
+    `RESTARTS` is how often a judge has begun here.
+
+    The file is opened each time, since somebody may have emptied the folder."""
+
+    def __init__(self, folder: str) -> None:
+        self.path = os.path.join(folder, "state")
+        if not os.path.lexists(self.path) or os.path.getsize(self.path) < SIZE * COUNT:
+            self.put(SIZE * (COUNT - 1), 0)  # it has its room before the disk is full
+
+    def __getitem__(self, at: int) -> int:
+        return self.several(at, 1)[0]
+
+    def __setitem__(self, at: int, value: int) -> None:
+        self.put(at, value)
+
+    def several(self, at: int, count: int) -> list[int]:
+        """So many numbers; 0 for those that nobody has written."""
+        data = b""
+        with contextlib.suppress(OSError):
+            handle = opened(self.path, os.O_RDONLY)
+            try:
+                data = os.pread(handle, SIZE * count, at)
+            finally:
+                os.close(handle)
+        data = data.ljust(SIZE * count, b"\0")
+        return [int.from_bytes(data[one:one + SIZE], "big") for one in range(0, len(data), SIZE)]
+
+    def put(self, at: int, *values: int) -> None:
+        """Writes numbers, all at once."""
+        with contextlib.suppress(OSError):
+            handle = opened(self.path, os.O_WRONLY | os.O_CREAT)
+            try:
+                os.pwrite(handle, b"".join(one.to_bytes(SIZE, "big") for one in values), at)
+            finally:
+                os.close(handle)
+
+
+def is_number(value: object) -> bool:
+    """Whether a value of JSON is a number of something."""
+    return type(value) is int and 0 <= value < 1 << 62
+
+
+def are(values: Iterable[object], *kinds: type) -> bool:
+    """Whether values of JSON are of some kinds, one after another."""
+    values = list(values)
+    return len(values) == len(kinds) and all(
+        type(value) is kind for value, kind in zip(values, kinds))
