@@ -32,6 +32,6 @@ returns g c = record {
         whole = λ done.
             rw (c.new-file.ensures, c.into_file-2.ensures) at
             (c.answer_part-status.ensures.done done);
-        stored = rw (c.new-file.ensures, c.into_file-2.ensures) at c.answer_part-status.ensures.stored;
+        stored = c.answer_part-status.ensures.stored;
       });
 }

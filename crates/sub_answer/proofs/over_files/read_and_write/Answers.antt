@@ -38,6 +38,6 @@ returns g c = record {
         whole = λ done.
             rw (c.new-file.ensures, c.into_file-2.ensures)
             at (c.answer_source-status.ensures.done done).0;
-        stored = rw (c.new-file.ensures, c.into_file-2.ensures) at c.answer_source-status.ensures.stored;
+        stored = c.answer_source-status.ensures.stored;
       });
 }
