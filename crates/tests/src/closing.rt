@@ -99,7 +99,7 @@ fn what_is_held_back_is_written_before_it_is_stored(rt: HostRuntime) {
     let mut sink = BufferedSink::new(MemSink::new(&mut bytes), &mut room);
     assert_pushes(&rt, &mut sink, b"sub", Ok(3), 0);
     assert_stores(&rt, &mut sink, Ok(()), 0);
-    assert!(rt; sink.into_inner().written() == b"sub");
+    assert!(rt; sink.into_inner().written() == b"sub".as_slice());
 
     // Its push fails, and nothing is stored then; or else the store itself.
     for call in 0..2 {
