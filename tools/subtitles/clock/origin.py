@@ -13,7 +13,7 @@ from ..formats.teletext import Page, page_name
 from ..request.lateness import Lateness
 from ..stream.receiver import subcode_words, turns_of
 from ..stream.survey import Packets, Range, STRAY
-from .alignment import Base, Fit, MOST_APART, Shown, bases_of
+from .alignment import Base, Fit, MOST_APART, MOST_BASES, Shown, bases_of
 from .delays import Drift, Early, drift_of
 from .stretches import (
     Airing, FittedPart, IN_A_ROW, Stretch, by_breaks, find_row, parts_of, runs_of)
@@ -112,6 +112,9 @@ def find(asked: Sought, packets: Packets) -> Origin:
     if not bases:
         origin.told += [*other_words(packets, asked.page), "no cue agrees with any origin"]
         return origin
+    if (count := len(packets.bases())) > MOST_BASES:
+        origin.told.append(f"PTS go back at {count - 1} places: of what lies between, the "
+                           f"{MOST_BASES} stretches are looked at in which the page changes most")
     runs = runs_of(bases, asked.origin is not None)
     if len(runs) > 1:
         origin.runs = [packets_of(runs, number, bases, packets) for number in range(len(runs))]

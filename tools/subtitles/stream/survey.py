@@ -10,6 +10,7 @@ from typing import BinaryIO, Callable, IO, Iterable, Iterator, NamedTuple
 from ..common.command_line import Unanswered, page_in, pid_name, shown, stream_words
 from ..common.times import TICKS, ticks_between, wrapped
 from ..formats.teletext import Page, page_name
+from .pictures import Distance, PictureClock, Step
 
 
 # PES packets of a PID with Teletext, as values: what each does with the page, and what is missing
@@ -172,6 +173,7 @@ SHOWN = 12  # pages of a line
 SUBTITLE_KINDS = (2, 5)
 KINDS = {1: "initial page", 2: "subtitles", 3: "additional information", 4: "programme schedule",
          5: "subtitles for the hard of hearing"}
+LATEST = 8  # PIDs of the PCR of a programme, at most, of which one tells when its PMT changes
 ENOUGH = 1 << 16  # bytes of lines that are taken at a time
 HIT = b"\xa0"  # a space whose byte had even parity
 NO_LETTERS = bytes(range(0x21))
@@ -247,8 +249,10 @@ class Survey:
         self.is_whole = False
         self.strange = ""  # the line of another version, or of a program that failed
         self.programmes: list[ProgramMap] = []
+        self.pcr_pids: dict[int, list[int]] = {}  # of a programme by its number, the latest last
         self.by_pid: dict[int, Packets] = {}
         self.videos: dict[int, Video] = {}
+        self.picture_clocks: dict[int, PictureClock] = {}
         self.clocks: dict[int, tuple[int, int]] = {}  # the first PCR and the last one
 
     def take(self, line: str) -> None:
@@ -281,10 +285,12 @@ class Survey:
         self.size = int(size)
 
     def take_programme(self, number: str, clock: str, *_: str) -> None:
-        pids = [int(clock), *(one.pcr_pid for one in reversed(self.programmes)
-                              if one.number == int(number))]
-        known = [self.clocks[pid][1] for pid in pids if pid in self.clocks]
-        self.programmes.append(ProgramMap(int(number), int(clock), after=next(iter(known), None)))
+        pids = self.pcr_pids.setdefault(int(number), [])
+        known = (self.clocks[pid][1] for pid in (int(clock), *reversed(pids)) if pid in self.clocks)
+        self.programmes.append(ProgramMap(int(number), int(clock), after=next(known, None)))
+        if int(clock) in pids:
+            pids.remove(int(clock))
+        pids[:] = [*pids, int(clock)][-LATEST:]
 
     def take_stream(self, pid: str, kind: str, *_: str) -> None:
         self.programmes[-1].kinds[int(pid)] = int(kind)
@@ -354,6 +360,20 @@ class Survey:
 
     def take_group(self, pid: str, flagged: str, least: str, form: str, *_: str) -> None:
         self.videos[int(pid)].form = form
+
+    def take_apart(self, pid: str, pts: str, ticks: str, video: str, *_: str) -> None:
+        self.picture_clock(video).lines.append(Distance(int(pid), int(pts), int(ticks)))
+
+    def take_step(self, pid: str, before: str, after: str, usual: str, *_: str) -> None:
+        self.picture_clock(pid).lines.append(Step(int(before), int(after), int(usual)))
+
+    def take_steps(self, pid: str, count: str, usual: str, *_: str) -> None:
+        clock = self.picture_clock(pid)
+        clock.untold = int(count) - sum(isinstance(line, Step) for line in clock.lines)
+        clock.has_step = usual != "-"
+
+    def picture_clock(self, pid: str) -> PictureClock:
+        return self.picture_clocks.setdefault(int(pid), PictureClock())
 
     def take_pictures(self, pid: str, lost: str, scrambled: str, passed: str = "",
                       *_: str) -> None:
