@@ -10,6 +10,7 @@ subtitles      subtitles that are refused themselves: midnight, letters
 part           a part of a pair: what is judged by itself, which subtitles it has
 verdict        the verdict on a pair: all that is written of it
 losses         what is missing in the time of a part, and the pace by which it is judged
+pictures       where the pictures leave the subtitles within a part
 measurement    how a house sends: what recordings tell that are right
 faults         faults with their places and all that is known of them, and hints on some numbers
 pair           a pair judged, from a recording to a verdict

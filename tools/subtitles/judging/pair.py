@@ -31,6 +31,7 @@ from .losses import gaps_in, paced_part, unsent_in
 from .part import (
     Explanation, Part, PartFrames, PartPace, PartRange, answered_part, moves_told, parted,
     refuse_others)
+from .pictures import left_by_pictures
 from .status import REFUSED, UNSAID
 from .subtitles import beside_of, due_beside, is_judged_beside, title_words
 from .transmissions import DuePages, due_pages_of, subtitles_in
@@ -282,10 +283,19 @@ class Pair:
         self.begun = part = answered_part(pace, answer, due)
         check_part(part, self.typed, listener)
         self.verdict.parts.append(part)
+        self.look_at_pictures(frames)
         part = Explainer(self.typed.program_path, programme, listener, self.verdict, count,
                          self.is_summed).explained(part)
         self.verdict.parts[-1] = part
         self.warn_of(part, subtitles)
+
+    def look_at_pictures(self, part: PartFrames) -> None:
+        """Takes where the pictures leave the subtitles of a part."""
+        recording = part.recording
+        faults, notes = left_by_pictures(recording.survey, recording.packets.pid, part.found,
+                                         part.asked.within, part.number)
+        self.verdict.named += faults
+        self.listener.noted(*notes)
 
     def due_of(self, asked: Request, subtitles: list[Subtitle]) -> DuePages:
         """The pages that are due of a part; beside subtitles that are refused those of the others.
