@@ -13,7 +13,6 @@ from ..formats.listing import EMPTY
 from ..formats.stl import Subtitle, SubtitleFile
 from ..formats.teletext import BY_WORD
 from ..recording import recording as recording_recording
-from ..recording.feed import Ending
 from ..recording.recording import Notice, Recording, refuse_files
 from ..request import commands, request
 from ..request.commands import CommandWords, Listener, Names
@@ -23,8 +22,7 @@ from ..stream.receiver import timeline_near
 from ..stream.survey import HEADER
 from .calls import check_alone, check_part, say_alone
 from .check import Answer
-from .clocks import (
-    NO_CLOCK, PartClocks, Programme, cut_part, given_clock, origin_in, parts_of, search_in)
+from .clocks import NO_CLOCK, PartClocks, Programme, cut_part, given_clock, parts_of
 from .explanation import Explainer, with_more
 from .faults import hint_words
 from .losses import gaps_in, paced_part, unsent_in
@@ -51,10 +49,10 @@ class Pair:
     file with all that came of a feed, which may be judged."""
 
     def __init__(self, verdict: Verdict, typed: CommandWords, names: Names, listener: Listener,
-                 is_summed: bool, stalled_after: int = 10, given: str | None = None) -> None:
+                 is_summed: bool, given: str | None = None) -> None:
         self.verdict, self.asked = verdict, verdict.asked
         self.typed, self.names, self.listener = typed, names, listener
-        self.is_summed, self.stalled_after, self.given = is_summed, stalled_after, given
+        self.is_summed, self.given = is_summed, given
         self.recording: Recording | None = None
         self.begun: Part | None = None  # that is being judged, or was last
 
@@ -200,10 +198,8 @@ class Pair:
                               asked.pes, self.left_out, self.verdict.was_fitted,
                               self.given is not None)
         self.recording = recording = Recording(asked, self.typed, self.names, self.listener,
-                                               self.stalled_after, self.given)
-        recording.read(self.is_summed, Ending(
-            asked, programme.whole.begin, programme.whole.end,
-            lambda packets: origin_in(packets, search_in(programme, recording.shown))))
+                                               self.given)
+        recording.read(self.is_summed)
         self.verdict.recording = recording.file
         self.refuse_range(recording)
         clocks = parts_of(programme, recording, self.listener)
@@ -312,7 +308,7 @@ class Pair:
         if not any(notice.kind == "grew" for notice in verdict.warnings):
             verdict.warnings += [notice for notice in recording.strange() if notice.kind == "grew"]
         verdict.gaps += gaps_in(recording, verdict.parts)
-        if recording.is_feed and not self.asked.breaks and not is_shifted:
+        if recording.is_cut and not self.asked.breaks and not is_shifted:
             self.listener.noted(*unsent_in(verdict.parts[-1]))
 
     # What is strange, and breaks no rule.

@@ -213,7 +213,6 @@ class Video:
     pictures: list[int | None] = dataclasses.field(default_factory=list)
     lost: int = 0
     scrambled: int = 0
-    is_over: bool = False
     is_cut: bool = False
     form: str = ""
 
@@ -378,7 +377,7 @@ class Survey:
     def take_pictures(self, pid: str, lost: str, scrambled: str, passed: str = "",
                       *_: str) -> None:
         one = self.videos.setdefault(int(pid), Video(int(passed or 0)))
-        one.lost, one.scrambled, one.is_over = int(lost), int(scrambled), True
+        one.lost, one.scrambled = int(lost), int(scrambled)
         one.is_cut = passed != ""
 
     def take_damaged(self, pid: str, number: str, why: str, *_: str) -> None:

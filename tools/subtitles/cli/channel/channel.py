@@ -10,14 +10,12 @@ import tempfile
 import time
 from typing import Any, Iterator
 
-from ...clock.origin import Origin
 from ...clock.start import FITTED_SHORT
 from ...common.command_line import (
     Stop, Unanswered, counted, error_line, shown, tell)
 from ...common.files import Inputs, temporary_folder
 from ...common.times import FRAMES_OF_A_DAY, TICKS, time_of
 from ...judging.status import NOT_JUDGED, of_all
-from ...recording.feed import Ending, Stall
 from ...request.commands import CommandWords, Progress
 from ...request.request import AUTO, AUTO_OF_FEED, Request, Unclear
 from ...results.objects import ENDING, in_order, row_of_object, unjudged
@@ -25,6 +23,7 @@ from .. import collection, single
 from ..single import locking, refuse_files_of_all
 from . import machine, results
 from .feed import Hearing, MINUTE, SECOND
+from .listening import Ending, Stall
 from .machine import Alarms, DISK, Feed, LOSS, Machine, RECORDER, SILENCE, lines_of
 from .records import Due, Record
 from .recorder import Begin, Recorded, Segments, say_dated
@@ -309,7 +308,7 @@ class Channel:
         origin = self.hearing.of(one.asked).clock.pts_at(seen.midnight)
         asked = dataclasses.replace(one.asked, origin=origin, pid=None)
         self.running = OnAir(one.programme, asked, seen.midnight, first, last,
-                             Ending(asked, first, last, lambda _: Origin()))
+                             Ending(asked, first, last))
 
     def leave(self, reason: str, until: int | None = None) -> None:
         """The first programme that is waited for is not judged; the next one is waited for, since
@@ -382,9 +381,8 @@ class Channel:
         words = self.words
         placed: dict[str, Any] = {"out": words.out, "here": folder} if words.out is not None else \
             {"json": os.path.join(folder, record.name + ENDING)}
-        call = single.PairCall(words.program, is_kept=words.is_kept, stall=words.stall,
-                               name=record.name, is_claimed=True, is_fitted=due.is_fitted,
-                               given=path, **placed)
+        call = single.PairCall(words.program, is_kept=words.is_kept, name=record.name,
+                               is_claimed=True, is_fitted=due.is_fitted, given=path, **placed)
         verdict = single.judged(asked, call, self.called)
         return verdict.status if verdict.is_final else results.PASSING
 

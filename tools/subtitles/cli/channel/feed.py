@@ -12,13 +12,13 @@ from ...common.times import (
     ALL_DAY, Between, EARLY, FRAMES_A_SECOND, TICKS, pts_of, ticks_between, time_of, wrapped)
 from ...formats.stl import letters_on_page, readable, stl_bytes, subtitle_times
 from ...formats.teletext import Page, page_name
-from ...recording.feed import Listening, SOON
 from ...recording.recording import refuse_stream
 from ...request.request import Request
 from ...stream import ranges
 from ...stream.gaps import Place, hole_of, overlap, what_of
 from ...stream.ranges import MOST_OVERLAP
 from ...stream.survey import HEADER, PES, Packets, Run, Survey
+from .listening import Listening, SOON
 from .recorder import Begin
 
 
