@@ -82,7 +82,8 @@ class Ended(Case):
                       [f"qc: not judged: {known['reason']}"] and not known["faults"] and
                       known["reason"].startswith("stopped at "), told)
             self.must(f"{one}: nothing is left", os.listdir(self.path("temporary")) == [] and
-                      os.listdir(self.path("out")) == ["story.json"], os.listdir(self.path("out")))
+                      sorted(os.listdir(self.path("out"))) == [
+                          "story.html", "story.json"], os.listdir(self.path("out")))
 
     def test_tells_what_was_judged_of_a_file(self) -> None:
         """Where a signal comes while `check` judges a file: how far it had come, and what it told.
