@@ -52,12 +52,13 @@ class Departures(unittest.TestCase):
                 (distances(FEW), distances(FEW, 4, TICKS), [Departure(TICKS, 2 * TICKS)]),
                 (distances(FEW - 1), distances(FEW, 4, TICKS), [Departure(TICKS, None)]),
                 (distances(FEW), distances(FEW - 1, 4, TICKS), [Departure(TICKS, None)]),
-                (distances(FEW), [], [Departure(TICKS * (FEW - 1), None)]),
-                ([], distances(FEW, 4, TICKS), [Departure(TICKS, None)]), ([], [], []),
+                (distances(FEW), [], []), ([], [], []),
+                ([], distances(FEW, 4, TICKS), [Departure(TICKS, None, True)]),
                 (distances(50, jitter=8), distances(50, 4, TICKS), [Departure(TICKS, None)]),
                 (distances(50, jitter=1), distances(50, 4, TICKS, jitter=1),
                  [Departure(TICKS, 2 * TICKS)]),
-                (distances(50), distances(50, 4, TICKS, pid=7), [Departure(49 * TICKS, None)])):
+                (distances(50), distances(50, 4, TICKS, pid=7), []),
+                (distances(50, pid=7), distances(50, 4, TICKS), [Departure(TICKS, None, True)])):
             self.assertEqual(departures_of([*before, step(2), *after], PID), wanted)
 
     def test_several(self) -> None:

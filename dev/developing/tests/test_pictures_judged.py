@@ -74,8 +74,9 @@ class Left(unittest.TestCase):
         self.assertEqual(self.told(survey, source=RECORDING), ([], []))
         self.assertEqual(self.told(survey, source=START)[0],
                          [("00:00:40:00", "00:01:19:24", "2 frames early")])
-        several = [Departure(TICKS * at, 9) for at in (900, 1000, 1999, 2000)]
-        for source, count in ((GIVEN, 2), (START, 3)):
+        several = [*(Departure(TICKS * at, 9) for at in (900, 1000, 1999, 2000)),
+                   Departure(TICKS * 1000, None, True)]
+        for source, count in ((GIVEN, 2), (START, 4)):
             found = Found(1000, 2000, Clock(0, source))
             self.assertEqual(len(departures_in(several, found)), count)
 

@@ -38,7 +38,7 @@ def departures_in(several: Sequence[Departure], found: Found) -> list[Departure]
     first, length = pts_of(found.begin, found.origin), TICKS * (found.end - found.begin)
     is_of_picture = found.clock.source in (START, TCP)
     return [one for one in several if (at := ticks_within(first, length, one.pts)) < length
-            and (at >= 0 or is_of_picture)]
+            and (at >= 0 and not one.is_begin or is_of_picture)]
 
 
 class Away(NamedTuple):

@@ -56,11 +56,12 @@ class PictureClock:
 
 class Departure(NamedTuple):
     """By how many ticks the pictures leave the Teletext, from the PES packet with a PTS on: what
-    follows is so early, or late where they are less than nothing. `None` where that is not clear.
-    """
+    follows is so early, or late where they are less than nothing. `None` where that is not clear;
+    `is_begin`: no PES packet came before."""
 
     pts: int
     ticks: int | None
+    is_begin: bool = False
 
 
 def departures_of(lines: Sequence[Line], pid: int) -> list[Departure]:
@@ -77,11 +78,11 @@ def departures_of(lines: Sequence[Line], pid: int) -> list[Departure]:
     found = []
     for step, before, after in zip(steps, rows, rows[1:]):
         before, after = before[-LOOKED_AT:], after[:LOOKED_AT]
-        if not before and not after:
-            continue
-        pts = after[0].pts if after else before[-1].pts
+        if not after:
+            continue  # and nothing is early or late
+        pts = after[0].pts
         if min(len(before), len(after)) < FEW or max(spread(before), spread(after)) > JITTER:
-            found.append(Departure(pts, None))
+            found.append(Departure(pts, None, not before))
         elif abs(middle(after) - middle(before) + step.ticks) * 2 < TICKS:
             found.append(Departure(pts, step.ticks))
     return found

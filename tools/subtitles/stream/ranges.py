@@ -343,7 +343,7 @@ def joined_stages(stages: Sequence[Stage]) -> Packets:
     """What is sent of the page on all PIDs, one after another, as if it were on one: by numbers of
     their own."""
     first = stages[0].packets
-    whole = dataclasses.replace(first, runs=[], held=[], strays=[], changes=[], marks=[])
+    whole = dataclasses.replace(first, runs=[], held=[], strays=[], changes=[], marks=[], seams=[])
     for stage in stages:
         low, high = stage.inside
         more, one = whole.count - low, stage.packets

@@ -100,6 +100,7 @@ class Packets:
     samples: list[tuple[int, int]] = dataclasses.field(default_factory=list)  # PTS, ticks ahead
     sets: list[tuple[int, int, int | None, int | None]] = dataclasses.field(default_factory=list)
     sent: dict[str, int] = dataclasses.field(default_factory=dict)  # pages with the subtitle bit
+    seams: list[int] = dataclasses.field(default_factory=list)  # before which a jump is announced
     damage: str | None = None  # why a file of PES packets can't be read on
     refusal: int = 0  # 31 or 32 where what follows is no PES packet with Teletext
     packets: int = 0  # TS packets of it
@@ -251,6 +252,7 @@ class Survey:
         self.pcr_pids: dict[int, list[int]] = {}  # of a programme by its number, the latest last
         self.by_pid: dict[int, Packets] = {}
         self.videos: dict[int, Video] = {}
+        self.tells_seams = False  # by a line that no program had before one that tells them
         self.picture_clocks: dict[int, PictureClock] = {}
         self.clocks: dict[int, tuple[int, int]] = {}  # the first PCR and the last one
 
@@ -357,8 +359,13 @@ class Survey:
     def take_picture(self, pid: str, pts: str, *_: str) -> None:
         self.videos[int(pid)].pictures.append(number_of(pts))
 
+    def take_seam(self, pid: str, number: str, *_: str) -> None:
+        self.of(pid).seams.append(int(number))
+        self.tells_seams = True
+
     def take_group(self, pid: str, flagged: str, least: str, form: str, *_: str) -> None:
         self.videos[int(pid)].form = form
+        self.tells_seams = True
 
     def take_apart(self, pid: str, pts: str, ticks: str, video: str, *_: str) -> None:
         self.picture_clock(video).lines.append(Distance(int(pid), int(pts), int(ticks)))
@@ -370,6 +377,7 @@ class Survey:
         clock = self.picture_clock(pid)
         clock.untold = int(count) - sum(isinstance(line, Step) for line in clock.lines)
         clock.has_step = usual != "-"
+        self.tells_seams = True
 
     def picture_clock(self, pid: str) -> PictureClock:
         return self.picture_clocks.setdefault(int(pid), PictureClock())
@@ -485,8 +493,9 @@ def names_of(code: str) -> list[str]:
 
 # Jumps of a counter that a transport stream announces (ISO/IEC 13818-1, discontinuity_indicator).
 #
-# There the counter of a PID tells no loss, and `survey` names none. So where more time passes than
-# usual from a PES packet to the next one, the packets of the PID are looked at themselves.
+# There the counter of a PID tells no loss. A later `survey` tells the PES packets behind each; of
+# an earlier one, where more time passes than usual from a PES packet to the next one, the packets
+# of the PID are looked at themselves.
 
 SYNC, ADAPTATION, ANNOUNCED, BEGINS = 0x47, 0x20, 0x80, 0x40
 PACKET, HEAD, IN_A_ROW = 188, 14, 5
@@ -495,13 +504,27 @@ IN_A_PIECE = 4096  # TS packets, at most, that are looked at at once
 PTS_AT = slice(9, 14)  # in a PES header
 
 
+def late_pairs(packets: Packets, inside: Range, usual: int) -> dict[int, int]:
+    """Of each PES packet that comes more frames after the one before than is usual the PTS, with
+    that of the one before."""
+    pts = [*packets.pts(inside)]
+    return {after: before for before, after in zip(pts, pts[1:])
+            if ticks_between(before, after) > usual * TICKS}
+
+
+def jumps_told(packets: Packets, inside: Range, usual: int) -> list[PTSPair]:
+    """Where a jump is announced of a PID, as it is told, and a PES packet comes more frames after
+    the one before than is usual: the PTS of both."""
+    late = late_pairs(packets, inside, usual)
+    found = (packets.pts_at(number) for number in packets.seams
+             if inside[0] <= number <= inside[1])
+    return [(late[one], one) for one in dict.fromkeys(found) if one in late]
+
+
 def jumps_at(packets: Packets, inside: Range, usual: int, path: str, size: int) \
         -> list[PTSPair]:
-    """Where a jump is announced of a PID and a PES packet comes more frames after the one before
-    than is usual: the PTS of both. `size` is from one TS packet to the next."""
-    pts = [*packets.pts(inside)]
-    late = {after: before for before, after in zip(pts, pts[1:])
-            if ticks_between(before, after) > usual * TICKS}
+    """The same where none is told, by the TS packets; `size` is from one to the next."""
+    late = late_pairs(packets, inside, usual)
     if not late:
         return []
     with open(path, "rb") as file:

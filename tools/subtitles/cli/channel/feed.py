@@ -515,6 +515,9 @@ class Heard(Survey):
             if floor > 0:
                 self.forget(packets, packets.runs[floor].first)
             del packets.samples[:-KEPT], packets.clocked[:-KEPT], packets.sets[:-KEPT]
+            del packets.seams[:-KEPT]
+        for clock in self.picture_clocks.values():
+            del clock.lines[:-KEPT]
         del self.programmes[:-KEPT]
 
     @staticmethod
