@@ -1,18 +1,20 @@
 """A pair judged, from a recording to a verdict."""
 from __future__ import annotations
 
+import contextlib
 import functools
-from typing import NamedTuple
+from typing import Iterator, NamedTuple
 
 from ..clock.start import Found
 from ..common.command_line import Stop, counted
 from ..common.files import file_of
-from ..common.times import ALL_DAY, Span, time_of
+from ..common.times import ALL_DAY, Span, pts_of, time_of
 from ..formats.layout import PLAIN, layout_of, layout_text
 from ..formats.listing import EMPTY
 from ..formats.stl import Subtitle, SubtitleFile
 from ..formats.teletext import BY_WORD
 from ..recording import recording as recording_recording
+from ..recording.announced import NeverSent, refuse_elsewhere
 from ..recording.recording import Notice, Recording, refuse_files
 from ..request import commands, request
 from ..request.commands import CommandWords, Listener, Names
@@ -74,7 +76,20 @@ class Pair:
         elif is_refused:
             self.judge_beside(answer)
         else:
-            self.judge_transmission()
+            with self.naming_faults():
+                self.judge_transmission()
+
+    @contextlib.contextmanager
+    def naming_faults(self) -> Iterator[None]:
+        """Takes the fault of a page that is never sent: then nothing more is judged."""
+        try:
+            yield
+        except NeverSent as never:
+            assert self.recording
+            self.verdict.recording = self.recording.file
+            self.verdict.named.append(never.fault)
+            for line in self.recording.survey.lines():
+                self.listener.said(line)
 
     def stop(self, now: str) -> str:
         """Takes what was told before a signal came; at which time that was, and up to where the
@@ -198,11 +213,15 @@ class Pair:
                               asked.pes, self.left_out, self.verdict.was_fitted,
                               self.given is not None)
         self.recording = recording = Recording(asked, self.typed, self.names, self.listener,
-                                               self.given)
+                                               self.given, [(one.begin, one.end)
+                                                            for one in subtitles])
         recording.read(self.is_summed)
         self.verdict.recording = recording.file
         self.refuse_range(recording)
         clocks = parts_of(programme, recording, self.listener)
+        first, last = clocks.found[0], clocks.found[-1]
+        refuse_elsewhere(asked, recording.survey, pts_of(first.begin, first.origin),
+                         pts_of(last.end, last.origin))
         self.verdict.notes[:0] = clocks.delay
         return Located(recording, clocks, subtitles)
 
@@ -218,13 +237,18 @@ class Pair:
         """Judges how the subtitles were sent that are not refused. Where that can't be judged the
         subtitle file is refused all the same, and a note says why."""
         try:
-            self.judge_transmission()
-        except (Stop, Unclear) as why:
+            with self.naming_faults():
+                self.judge_transmission()
+            if self.verdict.parts:
+                return
+            why: object = self.verdict.named[0].words
+        except (Stop, Unclear) as reason:
             if self.begun:
                 raise
-            self.verdict.beside, self.verdict.count = None, 0
-            self.listener.noted(f"the other subtitles were not judged: {why}")
-            self.judge_alone(answer, True)
+            why = reason
+        self.verdict.beside, self.verdict.count = None, 0
+        self.listener.noted(f"the other subtitles were not judged: {why}")
+        self.judge_alone(answer, True)
 
     def judge_transmission(self) -> None:
         """Judges what was recorded, part by part."""

@@ -6,7 +6,7 @@ import functools
 import os
 import stat
 import subprocess
-from typing import Iterable, Iterator, NamedTuple, Sequence
+from typing import Collection, Iterable, Iterator, NamedTuple, Sequence
 
 from ..clock.start import NoFirst
 from ..common.command_line import PACKET_SIZES, Stop, counted, pid_name, shown, stream_words
@@ -23,6 +23,7 @@ from ..stream.ranges import Stage, joined_stages, stages_of
 from ..stream.receiver import FEW, PAUSE
 from ..stream.survey import (
     ANY, Announced, HEADER, KINDS, PES, PTSPair, Packets, SUBTITLE_KINDS, Survey, names_of, survey)
+from .announced import announcements_of, refuse_unsent, silent_beside
 from .piped import copy_piped
 
 
@@ -274,11 +275,12 @@ class Recording:
     `is_cut`, all that came of a feed is in a file that is `given`, by who calls this tool."""
 
     def __init__(self, asked: Request, typed: CommandWords, names: Names, listener: Listener,
-                 given: str | None = None) -> None:
+                 given: str | None = None, times: Sequence[tuple[int, int]] = ()) -> None:
         assert asked.recording is not None
         self.asked, self.typed, self.names, self.listener = asked, typed, names, listener
         self.name, self.given, self.is_cut = asked.recording, given, given is not None
         self.size = size_of(self.name)
+        self.times = times  # of the subtitles, in frames
         self.is_piped = self.size is None or self.name == STANDARD
         self.path = given or (names.whole_path if self.is_piped else
                               names.as_program(self.name, "given"))
@@ -312,16 +314,20 @@ class Recording:
             return by_pid.setdefault(PES, Packets(PES))
         if self.asked.pid is not None:
             one = by_pid.setdefault(self.asked.pid, Packets(self.asked.pid))
+            if not one.has_page:
+                refuse_unsent(self.asked, self.survey, self.times)
             if one.count:
                 return one
             why = "; ".join([f"{self.name}: {why_refused(one)}", *filter(None, [
                 self.header_words(one)])])
             raise Unclear(self.said(why), *self.other_pids())
         found = [by_pid[pid] for pid in sorted(by_pid) if by_pid[pid].has_page]
+        self.refuse_silent({one.pid for one in found})
         if len(found) == 1:
             self.say_chosen(found[0], "on no other PID")
             return found[0]
         if not found:
+            refuse_unsent(self.asked, self.survey, self.times)
             why = "; ".join([f"{self.name} has no header of page {page}", *self.why_nothing()])
             is_other = any(one.sent for one in by_pid.values())
             raise Unclear(self.said(why), *([self.again("--page", "P")] if is_other else []))
@@ -333,6 +339,18 @@ class Recording:
             return joined_stages(self.stages)
         raise Unclear(self.said(f"page {page} is sent on {len(found)} PIDs of {self.name}"),
                       *(self.again("--pid", f"0x{one.pid:X}") for one in found))
+
+    def refuse_silent(self, carriers: Collection[int]) -> None:
+        """`Unclear` where several programmes announce the page, and some of them never send it:
+        nobody but the house knows which one is meant."""
+        announced = [*announcements_of(self.survey.programmes, self.asked.page)]
+        silent = silent_beside(announced, carriers)
+        if silent and self.asked.pes is None:
+            raise Unclear(self.said(
+                f"page {self.asked.page_name} is announced by several programmes of {self.name}, "
+                f"and sent on {' and '.join(map(pid_name, sorted(carriers)))}, not on "
+                f"{' and '.join(map(pid_name, sorted(silent)))}"),
+                *(self.again("--pid", f"0x{pid:X}") for pid in sorted({*carriers} | silent)))
 
     def say_chosen(self, packets: Packets, why: str) -> None:
         """Says which PID is chosen, and by what."""
