@@ -1,5 +1,5 @@
-"""A page that the PMT announces and that never comes on its PID: refused by that name, or not judged
-where nobody can tell which programme is meant, or whether something was due."""
+"""A page that the PMT announces and that never comes on its PID: refused by that name, or not
+judged where nobody can tell which programme is meant, or whether something was due."""
 from __future__ import annotations
 
 import json

@@ -14,7 +14,7 @@ from ..stream.gaps import SECOND, why_refused
 from ..stream.ranges import announced_in
 from ..stream.survey import Packets, ProgramMap, Survey
 
-NEAR = 2 * SECOND  # ticks of the time of a PMT: that of the PCR before it, which is told each second
+NEAR = 2 * SECOND  # ticks: a PMT has the time of the PCR before it, which is told each second
 
 
 class NeverSent(Exception):
