@@ -333,6 +333,7 @@ class Heard(Survey):
         self.others = set[int]()  # PIDs that send the page, too
         self.moved = ""  # what the PMT says, until something comes of the new PID
         self.found: int | None = None  # the PTS of the first header of the page
+        self.found_at = 0  # the time then
         self.silence, self.losses = Silence(self.said), Losses(self.said)
 
     @property
@@ -388,14 +389,14 @@ class Heard(Survey):
                 abs(ticks_between(self.found or 0, run.pts or 0)) < BOTH
             if is_at_once and self.likely not in (pid, self.pid):
                 raise Stop(f"{both}: say which one by --pid")
-            if is_at_once and self.likely == pid:
+            if self.likely == pid and self.now - self.found_at < BOTH:
                 self.others = {self.pid}
                 self.begin_with(pid, run)
             self.said.append(f"{both}: {pid_name(self.pid)} is heard on")
 
     def begin_with(self, pid: int, run: Run) -> None:
         """Hears a PID from what came of it on."""
-        self.pid, self.found = pid, run.pts
+        self.pid, self.found, self.found_at = pid, run.pts, self.now
         self.changes = {is_within: Changes() for is_within in (False, True)}
         for earlier in self.by_pid[pid].runs[:-1]:
             self.go_on(earlier)
