@@ -14,7 +14,7 @@ from subtitles.cli.channel.schedule import AT_ONCE, LATER
 from subtitles.clock.start import FITTED_SHORT
 from subtitles.common.times import CLOCK, TICKS
 from .listings import BEGIN, LAST, SECOND, Judging, Lines, Pages, Programmes, Told, texts_of
-from .results import result
+from .results import FAULT, result
 from .test_channel_heard import OTHER
 from .test_channel_tables import FIRST, programme
 
@@ -129,6 +129,9 @@ class Steps(Programmes):
         for left, ended, said in (
                 (refused, 1, f"refused 72 X; {FITTED_SHORT}"),
                 ({**refused, "hints": ["72: why"]}, 1, f"refused 72 X; why; {FITTED_SHORT}"),
+                ({**refused, "faults": [{**FAULT, "line": "refused 72 X", "pes": 5,
+                                         "pes_time": "10:00:00:05"}]}, 1,
+                 f"refused 72 X, at 10:00:00:05; {FITTED_SHORT}"),
                 (refused, 0, "not judged: told: last"), (Judging.left, 1, "not judged: told: last"),
                 (Judging.left, -9, "not judged: it did not end by itself"),
                 (result("not judged", reason="why\nmore"), 2, "not judged: why")):

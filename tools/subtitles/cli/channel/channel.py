@@ -363,7 +363,8 @@ class Channel:
         else:
             known = unjudged(record.name, final or f"{due.moved}: {found.reason}")
         hint = row_of_object(known, record.name).hint
-        self.end(record, known, (f"; {hint}" if hint else "") + f"; {FITTED_SHORT}" * due.is_fitted)
+        self.end(record, known, results.time_of_lead(known) + (f"; {hint}" if hint else "") +
+                 f"; {FITTED_SHORT}" * due.is_fitted)
 
     def judged(self, record: Record, due: Due) -> Judged:
         """What a programme comes to."""

@@ -313,6 +313,14 @@ def result_at(path: str) -> dict[str, Any] | None:
     return object_at(path) if is_result else None
 
 
+def time_of_lead(known: dict[str, Any]) -> str:
+    """When the fault came that the line of a result names, where that line names a PES packet."""
+    lead = (known.get("lead") or "").partition("\n")[0]
+    fault = next((one for one in known.get("faults", ()) if one["line"] == lead), None)
+    time = fault and fault["frame"] is None and fault["pes_time"]
+    return f", at {time}" if time else ""
+
+
 def rows_of_others(out: str, names: set[str]) -> dict[str, Row]:
     """The rows of what else stands in the folder of results, but for what has some names."""
     return {name: row_of_object(known, name) for file in sorted(os.listdir(out))
