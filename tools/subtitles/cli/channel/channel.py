@@ -486,11 +486,10 @@ class Channel:
 
     def lines(self) -> machine.Lines:
         """How many lines have what result."""
-        named = [one.name for one in self.queue.planned.programmes]
-        rows = [self.rows[name] for name in named
-                if name in self.rows and name not in self.left_open
-                and not self.records.is_due(name)]
-        return lines_of(len(named) - len(rows), rows, len(self.results.failed))
+        listed = self.queue.planned.programmes
+        rows = [record.row for one in listed
+                if (record := self.records.by_name.get(one.name)) and record.row]
+        return lines_of(len(listed) - len(rows), rows, len(self.results.failed))
 
     def tell_machine(self) -> None:
         """What a machine asks, and what is wrong now."""

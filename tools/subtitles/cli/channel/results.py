@@ -202,8 +202,10 @@ class Results:
         return False
 
     def judge(self, one: Record, call: Callable[[str], int]) -> Judged:
-        """Judges a programme."""
+        """Judges a programme; where that failed before in the room that is kept for results."""
         assert one.due
+        if self.tries_of(one).count:
+            self.records.room.give()
         return judged(call, one.name, self.records.work(one.number), self.folder, one.due.parts)
 
     def needed(self, since: int) -> int | None:
