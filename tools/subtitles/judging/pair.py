@@ -3,14 +3,14 @@ from __future__ import annotations
 
 import contextlib
 import functools
-from typing import Iterator, NamedTuple
+from typing import Iterator, NamedTuple, Sequence
 
 from ..clock.start import Found
 from ..common.command_line import Stop, counted
 from ..common.files import file_of
-from ..common.times import ALL_DAY, Span, pts_of, time_of
+from ..common.times import ALL_DAY, Between, FRAMES_OF_A_DAY, Span, pts_of, time_of
 from ..formats.layout import PLAIN, layout_of, layout_text
-from ..formats.listing import EMPTY
+from ..formats.listing import CONTENT, EMPTY
 from ..formats.stl import Subtitle, SubtitleFile
 from ..formats.teletext import BY_WORD
 from ..recording import recording as recording_recording
@@ -44,6 +44,23 @@ class Located(NamedTuple):
     recording: Recording
     clocks: PartClocks
     subtitles: list[Subtitle]
+
+
+def adjoining_at(part: Part) -> int | None:
+    """The last TCO of a part of which nothing else is refused than what is shown there."""
+    fault, (_, found) = part.answer.first, part.recorded
+    is_alone = part.answer.count == 1 and fault is not None and fault.number == CONTENT
+    frame = fault.frame if fault else None
+    is_there = frame is not None and found.end <= frame <= found.end + part.asked.within
+    return found.end if is_alone and is_there else None
+
+
+def pauses_near(subtitles: Sequence[Subtitle], at: int) -> list[int]:
+    """The last TCO before a frame behind which there is a pause, and the first behind it; the end
+    of the file is one."""
+    ends = [one.end for one, other in zip(subtitles, subtitles[1:]) if one.end < other.begin]
+    ends += [subtitles[-1].end] if subtitles else []
+    return [*[end for end in ends if end < at][-1:], *[end for end in ends if end > at][:1]]
 
 
 class Pair:
@@ -302,12 +319,32 @@ class Pair:
         pace = paced_part(cut, [(subtitle.begin, subtitle.end) for subtitle in own], listener)
         self.begun = part = answered_part(pace, answer, due)
         check_part(part, self.typed, listener)
+        self.refuse_middle(part)
         self.verdict.parts.append(part)
         self.look_at_pictures(frames)
         part = Explainer(self.typed.program_path, programme, listener, self.verdict, count,
                          self.is_summed).explained(part)
         self.verdict.parts[-1] = part
         self.warn_of(part, subtitles)
+
+    def refuse_middle(self, part: Part) -> None:
+        """`Unclear` where nothing is refused but that the next subtitle of the file comes at the
+        last TCO, as it does: --to stands where subtitles adjoin, and nothing ends there."""
+        at = adjoining_at(part) if self.asked.to_time and not self.verdict.beside else None
+        if at is None or part.held is None:
+            return
+        asked, program, given = self.asked, self.typed.program_path, self.names.given
+        due = due_pages_of(program, given, asked.page, asked.option, Between(at, at + 1),
+                           asked.words_of_pages(), asked.is_open)
+        fault = part.answer.first
+        if not due.pages or not fault or part.held.page_at(fault.frame or at) != due.pages[0]:
+            return
+        # Another range than the whole day takes the subtitles of a file that has a refused one.
+        subtitles = subtitles_in(program, given, Between(0, FRAMES_OF_A_DAY + 1), asked.is_open)
+        raise Unclear(f"at {time_of(at)}, where --to cuts the file, the next subtitle adjoins: all "
+                      "before it is as it is due, and nothing ends there",
+                      *(self.again("--to", time_of(end + 1))
+                        for end in pauses_near(subtitles, at)))
 
     def look_at_pictures(self, part: PartFrames) -> None:
         """Takes where the pictures leave the subtitles of a part."""
