@@ -149,8 +149,7 @@ def numbers_of(top: str) -> list[int]:
             sum("foreign=" in line for line in lines), sum(told("axioms")),
             sum(len(re.findall(r"\bunsafe\b", text)) for text in code),
             len(files("crates", "*", "must-fail", "*.edit")),
-            len(files("crates", "*", "release-edits", "*.edit")),
-            len(files("dev", "wrong-tools", "*.edit"))]
+            len(files("crates", "*", "release-edits", "*.edit"))]
 
 
 def rows_of_numbers(top: str) -> Iterator[tuple[str, str]]:

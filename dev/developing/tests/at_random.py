@@ -29,7 +29,6 @@ from subtitles.cli.main import main
 from subtitles.common.command_line import run
 from subtitles.common.program import TOP
 from subtitles.judging import calls, faults, subtitles
-from subtitles.recording.feed import Ending
 from subtitles.report import report
 from .parts import MEANINGS
 from .results import wrong_by_schema, wrong_choices
@@ -40,11 +39,7 @@ EACH = 20  # calls of which the results are collected
 VOLATILE = [(re.compile(r"\d{4}-\d\d-\d\d[T ]\d\d:\d\d:\d\d(\.\d+)?"), "DATE"),
             (re.compile('<dl class="made">.*?</dl>|PROGRAM</td><td.*?</tr>'), "MADE"),
             (re.compile(r"subttx-qc-\w+"), "FOLDER"), (re.compile(r'"seconds": [\d.]+'), "SECONDS"),
-            (re.compile(r'(time)="[\d.]+"'), "TIME"),
-            # How much of a feed is read before it has its verdict.
-            (re.compile(r"feed \d+ [0-9a-f]{64}|feed</td><td>[\d,]+ bytes</td>.*?</code>"
-                        r'|"feed",\s*"size": \d+,\s*"sha256": "[0-9a-f]+"'), "READ")]
-OF_FEED = "verdict", "line"  # of a JSON result
+            (re.compile(r'(time)="[\d.]+"'), "TIME")]
 FILES = ("one.json", "one.csv", "one.xml", "out/one.html", "out/one.txt", "out/one.1.html",
          "out/one.2.html", "out/one.json", "out/index.html")
 
@@ -107,8 +102,6 @@ def said_of(number: int, program: str) -> Said:
         scenario = Scenario(number, program)
         words = scenario.call()
         said = called(words, program)
-        if scenario.is_feed:
-            return of_feed(said)
         told = "".join(plain(said_by(*words), program) for words in scenario.tools(words[1]))
         return said._replace(files={**said.files, "tools": told})
 
@@ -117,14 +110,6 @@ def said_by(name: str, *words: str) -> str:
     """What another tool says."""
     done = tool_here([sys.executable, os.path.join(TOP, "tools", name), *words])
     return f"{name} {done.returncode}\n{done.stdout}{done.stderr}"
-
-
-def of_feed(said: Said) -> Said:
-    """Of a feed what does not hang on how its bytes come, and when the program says something of
-    them; its result is as that of a call that is not judged."""
-    known = json.loads(said.result)
-    kept = json.dumps([known[name] for name in OF_FEED])
-    return said._replace(lines=[known["verdict"]], files={"one.json": kept}, result="{}")
 
 
 def of_several(results: Sequence[str], program: str) -> Said:
@@ -154,7 +139,6 @@ def called(words: list[str], program: str, more: Sequence[str] = ("-p", "PROGRAM
     """All that a call of qc says; not by the time, and with other words for the manual's."""
     others: list[tuple[Any, str, object]] = [
         (calls, "subprocess", Here),
-        (Ending, "is_due", lambda self, packets: packets.count > 2 * self.count + 4),
         *((module, "meanings", lambda: MEANINGS) for module in (subtitles, faults, report))]
     with contextlib.ExitStack() as stack:
         for module, name, other in others:

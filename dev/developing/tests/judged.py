@@ -74,16 +74,18 @@ class Judged(NamedTuple):
         return [tuple(part[name] for name in names) for part in self.result["parts"]]
 
 
-def judged(case: Case, *words: str, by: str | None = None, heard: Heard | None = None) -> Judged:
+def judged(case: Case, *words: str, by: str | None = None, heard: Heard | None = None,
+           is_cut: bool = False) -> Judged:
     """A pair judged by the words of a command line, and by the program or another one. The commands
     that are printed name its files alone."""
-    found = judged_by(by or case.bench.program, *words, heard=heard)
+    found = judged_by(by or case.bench.program, *words, heard=heard, is_cut=is_cut)
     for line in found.verdict.commands:
         case.must(line, set(shown_files(line)) <= found.files, found.files)
     return found
 
 
-def judged_by(program: str, *words: str, heard: Heard | None = None) -> Judged:
+def judged_by(program: str, *words: str, heard: Heard | None = None,
+              is_cut: bool = False) -> Judged:
     """A pair judged by the words of a command line, by a program."""
     heard = heard or Heard()
     known = read_options(parser_of(""), ["-p", program, *words], {}, {})
@@ -96,12 +98,12 @@ def judged_by(program: str, *words: str, heard: Heard | None = None) -> Judged:
         files = Files(PairCall(program, known.out, known.is_kept, known.json, known.csv,
                                known.junit), verdict, typed, names)
         verdict.found = found(asked)
-        pair = Pair(verdict, typed, names, listener, True)
+        pair = Pair(verdict, typed, names, listener, True, asked.recording if is_cut else None)
         judge_pair(pair, files)
         end_pair(verdict, heard, files)
         result = json.loads("".join(object_of(verdict, MadeWith("1", "0" * 64, None))))
         listed = [line for part in verdict.parts for line in part.answer.lines()]
-        # Of a feed the PES packets that were kept stand for the recording.
+        # Of what comes through a pipe what is kept stands for the recording.
         known_files = {asked.stl, asked.recording, os.devnull}
         if pair.recording:
             known_files.add(pair.recording.shown)

@@ -8,7 +8,8 @@ from typing import Optional
 from developing.multiplex import ADAPTATION_ALONE, BEGINS, PACKET, PAYLOAD, head
 from developing.pes import pes_packet
 from subtitles.common.times import CLOCK, TICKS
-from subtitles.stream.survey import Packets, Run, announced_in, jumps_at, packets_in
+from subtitles.stream.survey import (
+    Packets, Run, Survey, announced_in, jumps_at, jumps_told, packets_in)
 from .bench import Case
 
 PID = 0x101
@@ -84,8 +85,22 @@ class Announced(Case):
                 (1, (0, 2), []), (1, (3, 7), [(6, 8)]), (1, (2, 3), [(2, 5)])]
             for usual, inside, wanted in rows:
                 told = jumps_at(packets, inside, usual, path, 188)
-                self.must(f"{origin} {usual} {inside}", told == [
-                    (pts[frames.index(one)], pts[frames.index(other)]) for one, other in wanted],
-                    told)
+                pairs = [(pts[frames.index(one)], pts[frames.index(other)])
+                         for one, other in wanted]
+                self.must(f"{origin} {usual} {inside}", told == pairs, told)
+                packets.seams = [frames.index(frame) for frame in (2, 5, 8)]
+                told = jumps_told(packets, inside, usual)
+                self.must(f"{origin} {usual} {inside}: as survey tells", told == pairs, told)
+        self.must("before the first", jumps_told(Packets(PID, packets.runs, seams=[0, 99]), (0, 7),
+                                                 1) == [])
         os.remove(path)
         self.must("nothing is read", jumps_at(packets, (0, 7), 9, path, 188) == [])
+
+    def test_lines(self) -> None:
+        """Those of a program that tells jumps; of another one the stream is looked at."""
+        for line, is_told in ((f"seam {PID} 7", True), (f"seam {PID} 7 more", True),
+                              ("steps 512 0 -", True), (f"teletext {PID}", False)):
+            survey = Survey()
+            survey.take(line)
+            self.must(line, survey.tells_seams == is_told and (
+                "seam" not in line or survey.by_pid[PID].seams == [7]))

@@ -89,6 +89,46 @@ class Pids(Case):
                       [line[:20] for line in heard.said] == ["the PMT moves page 8"] * 2,
                       heard.said)
 
+    def test_heard_before(self) -> None:
+        """Of two PIDs that send the page from the first seconds on the one is heard on that was
+        heard before; one that sets in later is said, once. After a move the old one is none."""
+        both = "page 888 is sent on PID 0x101 and PID 0x102: PID 0x10{} is heard on"
+        for likely, pid, later in ((None, None, 0), (PID, PID, 0), (OTHER, OTHER, 0),
+                                   (0x103, None, 0), (PID, PID, 99), (OTHER, OTHER, 99)):
+            own, other, heard = Lines(PID), Lines(OTHER), Heard(PAGE, None, likely=likely)
+            try:
+                for second in range(9):
+                    for line in (own.pes(SECOND * second), own.rows(f"own {second}"), other.pes(
+                            SECOND * (second + later)), other.rows(f"two {second}")):
+                        heard.take(line)
+            except Stop:
+                self.must(f"{likely}: none", pid is None)
+                continue
+            self.must(f"{likely}", heard.pid == pid and not heard.anew and [
+                line for line in heard.said if "is heard on" in line] == [
+                    both.format(pid - 0x100 if pid else "")], (heard.pid, heard.said))
+            changes = heard.changes[False].letters
+            self.must("its text", changes[-1] == (b"own8" if pid == PID else b"two8"), changes)
+        own, other = Lines(PID), Lines(OTHER)
+        late = heard_of([own.pes(0), own.pes(9 * SECOND), other.pes(9 * SECOND),
+                         other.pes(10 * SECOND)])
+        self.must("later", late.pid == PID and late.said == [both.format(1)], late.said)
+        after = heard_of([*TABLE, own.pes(10 * SECOND), *MOVED, other.pes(11 * SECOND),
+                          own.pes(12 * SECOND)])
+        self.must("after a move", after.pid == OTHER and len(after.said) == 1, after.said)
+
+    def test_moves_with_other_pts(self) -> None:
+        """Where the time goes on, also some seconds back, both PIDs are one; else nothing before it
+        tells what comes, which names the PIDs."""
+        why = "the PMT moves page 888 from PID 0x101 to PID 0x102, where PTS began anew,"
+        for later, is_anew in ((1, False), (-9, False), (-11, True), (59 * 60, False),
+                               (61 * 60, True), (3600 * 14, True)):
+            own, other = Lines(PID), Lines(OTHER)
+            heard = heard_of([*TABLE, own.pes(20 * SECOND), own.rows("one"), *MOVED,
+                              other.pes((20 + later) * SECOND), other.rows("two")])
+            self.must(f"{later}", heard.anew == why * is_anew and heard.changes[False].letters ==
+                      [b"one"] * (not is_anew) + [b"two"], (heard.anew, heard.said))
+
     def test_moves_of_tables(self) -> None:
         """The last PMT of the programme that named the PID."""
         def table(number: int, **pids: str) -> ProgramMap:

@@ -13,6 +13,7 @@ from subtitles.cli.channel.recorder import (
     AHEAD, Begin, LEAST, MANY, NotWanted, PART, Recorder, Segments)
 from subtitles.cli.channel.spool import (
     ERROR, Exchange, FILE, HEARD, Journal, RESTARTS, are, numbers_in, path_of)
+from subtitles.common.command_line import Stop
 from subtitles.common.files import Input
 from .bench import Case
 from .listings import SECOND
@@ -136,6 +137,12 @@ class Read(Folders):
         self.must("a new folder", Segments(folder).begun() is None)
         self.segments(folder, 0, 5)
         self.must("as it was", Segments(folder).begun() == Begin(0, 0, True))
+        known = self.segments(self.new("two"), 0, 0)
+        self.put(known.folder, 0, b"x")
+        known.read()
+        known.begin(Begin(5, 6, True, {"888": 0x101}))
+        self.must("with its PIDs", Segments(known.folder).begun() == Begin(
+            5, 6, True, {"888": 0x101}))
         self.must("nothing was read", [*Segments(folder).before()] == [])
         for number in (0, 1):
             os.unlink(path_of(folder, number))
@@ -299,6 +306,58 @@ class Written(Folders):
             for other in (self.write("other", data), self.write(kind, data[:100])):
                 with self.recorder(folder, other) as one:
                     self.must(other, one.number == last + 2 and one.written == 0, one.number)
+
+    def test_file_that_is_written_anew(self) -> None:
+        """In its place, with at least as many bytes: it is recorded from its beginning; one that
+        grew goes on, which is said."""
+        size = recorder.SUMMED
+        old = bytes(range(256)) * (size // 64)
+        for name, new, place in (
+                ("the same", old, len(old)), ("grew", old + b"more", len(old)),
+                ("its end", old[:-1] + b"x" + b"more", 0), ("all", b"x" * len(old) * 2, 0),
+                ("shorter", old[:-1], 0)):
+            for is_ended in (False, True):
+                path, folder = self.write("feed", b"G" + old[1:]), self.new(f"{name} {is_ended}")
+                with self.recorder(folder, path) as one:
+                    one.write(b"G" + old[1:])
+                    if is_ended:
+                        one.end()
+                        one.write(b"")
+                with open(path, "r+b") as file:  # the same inode
+                    file.truncate(0)
+                    file.write(b"G" + new[1:])
+                with self.recorder(folder, path) as one:
+                    told = f"{path} goes on at byte {place}" if place else \
+                        f"{path} is another file than before, or was written anew: it is " \
+                        "recorded from its beginning"
+                    self.must(f"{name} {is_ended}", one.place + one.written == place
+                              and one.said == told and one.number == (0 if place else 2),
+                              (one.said, one.number))
+
+    def test_loses_twice(self) -> None:
+        """Each loss leaves out a number."""
+        folder = self.new("twice")
+        with self.recorder(folder) as one:
+            opened = one.opened
+            for _ in range(3):
+                one.write(b"some")
+                with mock.patch.object(one, "opened", side_effect=OSError(28, "No space")):
+                    one.write(b"lost")
+            one.write(b"some")
+            self.must("as it was", one.opened == opened)
+            one.end()
+        numbers = numbers_in(folder)
+        self.must("numbers", [after - before for before, after in zip(numbers, numbers[1:])] ==
+                  [2, 2, 2], numbers)
+
+    def test_that_can_not_begin(self) -> None:
+        """Who waits for it is told."""
+        one = recorder.Recorded.__new__(recorder.Recorded)
+        one.is_over, (alive, one.alive) = False, os.pipe()
+        one.pid = recorder.beside(lambda: False, alive)
+        with self.assertRaises(Stop):
+            while not one.has_ended():
+                pass
 
     def test_how_it_ends(self) -> None:
         """A feed that ends, one that nobody wants, and a file that is far ahead."""

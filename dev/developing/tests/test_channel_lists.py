@@ -49,6 +49,31 @@ class Edits(Case):
                 found, "".join(one.name for one in edits.gone),
                 "".join(one.name for one in edits.changed)) == (rows, gone, changed), edits)
 
+    def test_takes_as_long_as_the_list_is(self) -> None:
+        """Each word is looked at a few times, however many lines there are."""
+        looks = [0]
+
+        class Word(str):
+            """A word that counts who looks at it."""
+
+            def __eq__(self, other: object) -> bool:
+                looks[0] += 1
+                return str.__eq__(self, str(other))
+
+            __hash__ = str.__hash__
+
+        def lines(count: int) -> list[Line]:
+            return [Line(at, (Word(f"{at}.stl"), Word("--every"), Word("5")))
+                    for at in range(1, count)]
+
+        for count in (1000, 2000):
+            looks[0] = 0
+            known = [Programme(f"{line.number}", line, None, None, line.number % 2 == 0)
+                     for line in lines(count)]
+            edits = edits_of(known, [*lines(count), Line(count, (Word("new.stl"),))][1:])
+            self.must(f"{count}", len(edits.rows) == count - 1 and [one.name for one in edits.gone]
+                      == ["1"] and looks[0] < 20 * count, looks)
+
     def test_each_programme_is_one(self) -> None:
         """Whatever the lists are: each line one programme at most, each programme one line or
         gone."""

@@ -8,6 +8,7 @@ import json
 import os
 import random
 import re
+import resource
 import signal
 import statistics
 import time
@@ -133,6 +134,46 @@ class Moments(Case):
             self.must(f"{out}: nothing is left", not [
                 one for one in left if one.startswith("work-") or one.endswith(".seg")], left)
         self.tell()
+
+    def test_of_any_process(self) -> None:
+        """Those that record, hear, judge and check are ended, stopped for a while, or get no more
+        memory: what was not sent to nobody is judged as without that, however often."""
+        self.must("it ends", self.judge_file("whole"))
+        whole = self.results("whole")
+        call, moments = None, 200 if self.bench.is_timed else 12
+        while moments:
+            if call is None or call.process.poll() is not None:
+                call = self.begun("any")
+            family = [*family_of(call.process.pid)][1:]
+            self.disturb(self.chance.choice(family or [call.process.pid]))
+            moments -= 1
+            time.sleep(self.chance.uniform(0, 0.3))
+        for _ in range(9):
+            if call.process.wait(SECONDS) == 0:
+                break
+            call = self.begun("any")
+        found = self.results("any")
+        self.must("any", {name: one["line"] for name, one in found.items()} == {
+            name: one["line"] for name, one in whole.items()}, self.read("any.log").decode())
+
+    def begun(self, out: str) -> Running:
+        """A call that judges the file, once nobody records there any more."""
+        until(lambda: not os.path.isdir(self.path(f"{out}.feed")) or self.is_left(f"{out}.feed"))
+        return Running(self, "--channel", "list", "feed.ts", "-o", out, "-p", self.bench.program,
+                       log=f"{out}.log")
+
+    def disturb(self, pid: int) -> None:
+        """Does something to a process that may be gone by now."""
+        with contextlib.suppress(OSError):
+            kind = self.chance.choice(("kill", "stop", "memory"))
+            if kind == "kill":
+                os.kill(pid, signal.SIGKILL)
+            elif kind == "memory":
+                resource.prlimit(pid, resource.RLIMIT_AS, (1 << 20, 1 << 20))
+            else:
+                os.kill(pid, signal.SIGSTOP)
+                time.sleep(0.2)
+                os.kill(pid, signal.SIGCONT)
 
     def test_of_a_pipe(self) -> None:
         """The recorder and the judge are services of their own: what the recorder did not write is

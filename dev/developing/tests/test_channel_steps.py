@@ -8,15 +8,15 @@ from typing import Any
 from unittest import mock
 
 from subtitles.cli.channel.channel import BEFORE_IT
-from subtitles.cli.channel.feed import MINUTE, Move
+from subtitles.cli.channel.feed import Awaited, MINUTE, Move
 from subtitles.cli.channel.spool import ERROR
 from subtitles.cli.channel.schedule import AT_ONCE, LATER
 from subtitles.clock.start import FITTED_SHORT
 from subtitles.common.times import CLOCK, TICKS
 from .listings import BEGIN, LAST, SECOND, Judging, Lines, Pages, Programmes, Told, texts_of
-from .results import result
+from .results import FAULT, result
 from .test_channel_heard import OTHER
-from .test_channel_tables import FIRST
+from .test_channel_tables import FIRST, programme
 
 
 class Steps(Programmes):
@@ -129,6 +129,9 @@ class Steps(Programmes):
         for left, ended, said in (
                 (refused, 1, f"refused 72 X; {FITTED_SHORT}"),
                 ({**refused, "hints": ["72: why"]}, 1, f"refused 72 X; why; {FITTED_SHORT}"),
+                ({**refused, "faults": [{**FAULT, "line": "refused 72 X", "pes": 5,
+                                         "pes_time": "10:00:00:05"}]}, 1,
+                 f"refused 72 X, at 10:00:00:05; {FITTED_SHORT}"),
                 (refused, 0, "not judged: told: last"), (Judging.left, 1, "not judged: told: last"),
                 (Judging.left, -9, "not judged: it did not end by itself"),
                 (result("not judged", reason="why\nmore"), 2, "not judged: why")):
@@ -212,6 +215,42 @@ class Steps(Programmes):
         channel.give([*lines.sent(texts_of("three"), CLOCK // 2 + SECOND), lines.pes(100)])
         self.must("three", self.names() == ["three"] and
                   [one.programme.name for one in channel.queue.waiting] == ["four"], channel.said)
+
+    def test_next_one_after_a_break_off(self) -> None:
+        """It may begin before the planned end of the one that broke off."""
+        texts = [f"long {number}" for number in range(12)]
+        path = programme(self, "long.stl", FIRST, texts)
+        channel, lines = Told(self, f"{path}\n" + self.listed("two")), Lines()
+        channel.give([*lines.sent(texts, BEGIN)][:10])
+        self.must("it is sent", channel.running is not None)
+        channel.give([lines.pes(BEGIN + 10 ** 9)])  # an encoder begins anew
+        channel.give(lines.sent(texts_of("two"), BEGIN + 10 ** 9 + SECOND // 5, 20))
+        self.must("two", self.names() == ["two"], channel.said)
+
+    def test_said_before_a_loss(self) -> None:
+        """It is said behind it."""
+        channel, lines = Told(self, self.listed("one")), Lines()
+        channel.give([lines.pes(BEGIN)])
+        channel.hearing.by_page[0, 0x88].said.append("something")
+        channel.lose()
+        channel.give([lines.pes(BEGIN + SECOND)])
+        self.must("said", "something" in channel.said, channel.said)
+
+    def test_at_midnight(self) -> None:
+        """A first subtitle at 00:00:00:00 is one."""
+        path = programme(self, "midnight.stl", 0, texts_of("one"))
+        self.must("first", Awaited(path, "english", 0, 10 ** 12).first == 0)
+
+    def test_list_that_was_empty(self) -> None:
+        """Patience begins once there is a line, and goes on in another call."""
+        spool, out = self.path("spool"), self.path("out")
+        os.mkdir(spool)
+        channel, lines = Told(self, "", out, spool=spool), Lines()
+        channel.give(lines.pes(BEGIN + SECOND * at) for at in range(0, 600, 30))
+        channel.edit(self.listed("one"))
+        self.must("since then", channel.queue.since == 570 * SECOND, channel.queue.since)
+        again = Told(self, self.listed("one"), out, spool=spool)
+        self.must("in another call", again.queue.since == 570 * SECOND, again.queue.since)
 
     def test_loss(self) -> None:
         """What is sent is not judged, and the next one is heard behind it, at its time; what came

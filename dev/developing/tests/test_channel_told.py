@@ -73,8 +73,10 @@ class Machine(Programmes):
         self.must("what is kept", (found["segments"], found["bytes"]) == (1, 188), found)
         self.must("the list", found["lines"] == {**counts, "open": 1, "judged": 1, "refused": 1},
                   found)
+        channel.stop("the feed ended")
         again = Told(self, self.listed("one", "two"), self.path("out"), spool=spool)
-        self.must("again", self.look(again)["restarts"] == 1, self.told())
+        self.must("again", self.look(again)["restarts"] == 1 and self.told()["lines"] ==
+                  {**counts, "open": 1, "judged": 1, "refused": 1}, self.told())
         again.machine.state = STOPPED
         self.must("stopped", self.look(again)["state"] == "stopped")
 

@@ -187,10 +187,6 @@ class Clocks(Case):
                 self.must(f"{name} {line}", found.word == word, found.said)
             found = self.judge(both, "--pes", "99999-100000")
             self.must(f"{name}: none", found.word == "not judged", found.said)
-            found = judged(self, self.stl, in_pipe(self, joined(both)), *WORDS)
-            self.must(f"{name}: a feed", found.word == "accepted" and any(
-                line.endswith("of a feed the first run is judged") for line in found.told),
-                found.said)
 
     def test_first_and_last(self) -> None:
         """A first subtitle and a last erasing that are late or early; 63 and 74 where a recording

@@ -32,7 +32,7 @@ def left_out(folder: str, names: list[str]) -> set[str]:
         return set(names) - KEPT
     here = {"tests", "every_place"} if os.path.basename(folder) == "developing" else set()
     return set(names) & (here | {"out", "must-fail", "release-edits", "__pycache__", "vectors",
-                                 "wrong-tools", "transcripts"})
+                                 "transcripts"})
 
 
 class Clone:

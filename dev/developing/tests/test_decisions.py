@@ -10,7 +10,7 @@ from dataclasses import replace
 from developing.pes import pes_packet
 from developing.stl import gsi_block, tti_block
 from subtitles.cli.batch import Sighting, Watch, of_folder
-from subtitles.clock.origin import Agreement, Origin
+from subtitles.clock.origin import Origin
 from subtitles.clock.start import Clock, Found, RECORDING, START
 from subtitles.common.command_line import Words
 from subtitles.common.times import Between, Span, TICKS
@@ -231,13 +231,12 @@ class Fitted(Case):
 
     def test_of_which(self) -> None:
         """All of the subtitles, or most; up to the first break, or to where they are later."""
-        all_of, most = (Agreement(5, 5, 5, 5, are_all) for are_all in (True, False))
-        for agreement, shifted, printed, words in (
-                (all_of, None, 1, "all"), (most, None, 1, "most"), (None, None, 1, "all"),
-                (all_of, None, 2, "up to the first break all"),
-                (most, None, 3, "up to the first break most"), (most, 50, 1, "up to 00:00:02:00"),
-                (all_of, 50, 2, "up to 00:00:02:00"), (all_of, 0, 1, "up to 00:00:00:00")):
-            origin = Origin(0, away=TICKS, agreement=agreement, shifted_from=shifted,
+        for are_all, shifted, printed, words in (
+                (True, None, 1, "all"), (False, None, 1, "most"),
+                (True, None, 2, "up to the first break all"),
+                (False, None, 3, "up to the first break most"), (False, 50, 1, "up to 00:00:02:00"),
+                (True, 50, 2, "up to 00:00:02:00"), (True, 0, 1, "up to 00:00:00:00")):
+            origin = Origin(0, away=TICKS, are_all=are_all, shifted_from=shifted,
                             printed=["--origin 5"] * printed)
             self.must(words, with_delay(Clock(5, START), origin)[1] ==
                       [f"{words} subtitles are 1 frame late"])

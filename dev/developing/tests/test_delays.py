@@ -43,8 +43,7 @@ def shares_of(inserter: Inserter) -> Lateness:
 
 def all_agree(origin: Origin) -> bool:
     """Whether all cues agree that may."""
-    known = origin.agreement
-    return known is not None and known.agree == known.among
+    return any(part.agree == part.among for part in origin.parts[:1])
 
 
 class Clocks(unittest.TestCase):

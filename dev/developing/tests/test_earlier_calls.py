@@ -13,10 +13,10 @@ from unittest import mock
 
 from subtitles.cli import batch
 from subtitles.cli.batch import Item, Watch, refuse_folders
+from subtitles.cli.channel.listening import Stall
 from subtitles.cli.single import claimed
 from subtitles.common.command_line import Stop
 from subtitles.common.program import MadeWith, about_program
-from subtitles.recording.feed import Stall
 from subtitles.request.commands import CommandWords
 from subtitles.request.request import Request
 from subtitles.request.lateness import Lateness

@@ -4,8 +4,7 @@ from __future__ import annotations
 import unittest
 from typing import Sequence
 
-from subtitles.clock.start import (
-    Clock, First, NoFirst, PATIENCE, START, first_picture, is_known, left_out)
+from subtitles.clock.start import Clock, First, NoFirst, START, first_picture, left_out
 from subtitles.common.times import CLOCK, TICKS
 from subtitles.stream.survey import Survey
 from .muxed import H_264, HEVC, MPEG_2
@@ -124,18 +123,6 @@ class Pictures(unittest.TestCase):
                 ([*long[:245], *long[246:251]], False, 1),
                 ([(CLOCK - frame + one) % CLOCK for one in (0, frame, 3 * frame)], False, 1)):
             self.assertEqual(left_out(pts, is_cut), count, (pts[:5], is_cut))
-
-    def test_feed(self) -> None:
-        """Nothing more tells it: they are over; there is no video; or no picture comes."""
-        waits = [*programme((VIDEO, MPEG_2)), f"pcr {VIDEO} 5"]
-        rows: list[tuple[list[str], bool]] = [
-                ([], False), (programme(), True), (programme((VIDEO, MPEG_2)), False),
-                (waits, False), ([*waits, f"pcr {VIDEO} {5 + PATIENCE}"], False),
-                ([*waits, f"pcr {VIDEO} {6 + PATIENCE}"], True),
-                ([*waits, f"video {VIDEO} 3", f"pcr {VIDEO} {6 + PATIENCE}"], False),
-                (shown([0])[:-1], False), (shown([0]), True)]
-        for lines, wanted in rows:
-            self.assertEqual(is_known(surveyed(lines), TELETEXT), wanted, lines)
 
 
 if __name__ == "__main__":

@@ -9,7 +9,7 @@ import subprocess
 
 from subtitles.common.program import TOP, read
 from subtitles.results.objects import object_at
-from .bench import Case, Done, example_bytes, tool_path
+from .bench import Case, Done, example_bytes, script, tool_path
 
 # `rt help` says what `rt ci` takes; `rt ci` notes the words that it got.
 RT = """#!/bin/sh
@@ -129,3 +129,19 @@ class Engines(Case):
         self.must("again", os.path.exists(self.path("out/one~3.json")) and times["one"] == os.stat(
             self.path("out/one.json")).st_mtime_ns and times["line 6"] != os.stat(
                 self.path("out/line 6.json")).st_mtime_ns)
+
+
+class Lacking(Case):
+    """What dev/install-test-tools could have installed."""
+
+    def test_missing(self) -> None:
+        """It is missing where something was passed over for it, and apt-get knows it."""
+        of_program = script("check-program")
+        installs = read(os.path.join(TOP, "dev", "install-test-tools")) or ""
+        self.must("each package has a word", " ".join(of_program.PACKAGES) in installs, installs)
+        over = ["type hints, since there is no mypy", "4 command lines, ffmpeg not installed"]
+        for known, wanted in ((("mypy", "ffmpeg", "lintian"), ["mypy", "ffmpeg"]),
+                              (("ffmpeg",), ["ffmpeg"]), ((), [])):
+            found = of_program.missing_in(over, known.__contains__)
+            self.must(f"{known}", found == wanted, found)
+        self.must("nothing was passed over", not of_program.missing_in([], lambda _: True))

@@ -6,7 +6,7 @@ from typing import Sequence
 
 from developing.pes import MARK, data_field, packet, pes_packet, pts_in, teletext_packets
 from developing.stl import boxed, gsi_block, subtitle_blocks
-from subtitles.clock.origin import Agreement, Origin, Sought, find
+from subtitles.clock.origin import Origin, Sought, find
 from subtitles.common.times import CLOCK, TICKS, time_of
 from .bench import Case, example, example_bytes, moved, packets, random_subtitles
 from .parts import CLOSING, HEADER, asked_for, packets_told, row
@@ -196,12 +196,10 @@ class Origins(Case):
                 frames = 50 + (away or 0) // TICKS
                 self.assertIn(f"{frames / 25:.2f} s ({frames} frames) late", found.shifts[0])
                 self.assertEqual(found.parts[0].origin, origin)
-                agreed = found.agreement
-                self.assertTrue(agreed and (agreed.agree, agreed.among, agreed.edges,
-                                            agreed.are_all) == (12, 12, 12, True), agreed)
+                self.assertEqual((found.parts[0].agree, found.parts[0].among, found.are_all),
+                                 (12, 12, True))
         whole = self.find(self.own(), self.sent(5000))
-        self.assertTrue(whole.agreement and whole.agreement.are_all and not whole.shifts
-                        and whole.shifted_from is None)
+        self.assertTrue(whole.are_all and not whole.shifts and whole.shifted_from is None)
         self.assertIn("subtitles due from 11:06:40:00 to 11:07:12:10, page sent from 11:06:40:00 "
                       "to 11:07:12:10", whole.told)
 
@@ -213,24 +211,24 @@ class Origins(Case):
                 HEADER, *[row(20, b"Number %d" % number)] * (not frame), CLOSING])
                 for number, by in enumerate(late) for frame in (0, 40 + by)]
             found = self.find(self.own(), pes)
-            self.must(f"{late}", found.agreement is not None and
-                      found.agreement.are_all == are_all, found.agreement)
+            self.must(f"{late}", found.are_all == are_all, found)
 
     def test_agreement(self) -> None:
-        """How many cues agree, among how many, with how many letters, of how many: where a text is
-        another one, where less is sent, and where an edge is not."""
+        """How many cues agree, among how many, with how many letters: where a text is another one,
+        where less is sent, and where an edge is not."""
         pes, count = self.sent(5000), 2 * COUNT
         pes[6] = pes_packet(5000 + TICKS * 210, [HEADER, row(20, b"Another"), CLOSING])
-        for some, wanted in (
-                (pes, Agreement(count, count, count - 1, count, True)),
-                (pes[:-3], Agreement(count - 3, count - 3, count - 4, count, True)),
-                (pes[:10] + pes[11:], Agreement(count - 2, count, count - 3, count, False))):
+        for some, agree, among, letters in ((pes, count, count, count - 1),
+                                            (pes[:-3], count - 3, count - 3, count - 4),
+                                            (pes[:10] + pes[11:], count - 2, count, count - 3)):
             found = self.find(self.own(), some)
-            self.must(f"{wanted}", found.agreement == wanted, found)
+            part, are_all = found.parts[0], agree == among
+            self.must(f"{agree}", (part.agree, part.among, found.are_all) == (
+                agree, among, are_all) and f" {letters} with the letters " in part.line, found)
             others = [line for line in found.told if line.startswith("the first cue that does")]
-            self.must(f"{wanted}: first", others == [
+            self.must(f"{agree}: first", others == [
                 f"the first cue that does not agree is {time_of(FIRST + 350)}"] * (
-                    not wanted.are_all), others)
+                    not are_all), others)
 
     def test_breaks(self) -> None:
         """As many as are said, each part with its frames; else how many there are."""

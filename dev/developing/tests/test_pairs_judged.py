@@ -258,9 +258,10 @@ class Said(Case):
             self.must(f"{words}: to type", words[:5] == "--pes" or [
                 line.split()[-2:] for line in typed] == [
                     ["--pes", f"0-{last}"], ["--pes", f"{last + 1}-{2 * last + 1}"]], found.said)
-        found = judged(self, self.stl, in_pipe(self, joined(twice)), "--origin", "0")
-        self.must("a feed", found.word == "accepted" and found.result["parts"][0]["origin"] == 0,
-                  found.said)
+        found = judged(self, self.stl, self.write("cut.pes", joined(twice)), "--origin", "0",
+                       is_cut=True)
+        self.must("cut out of a feed", found.word == "accepted" and
+                  found.result["parts"][0]["origin"] == 0, found.said)
 
     def test_delays(self) -> None:
         """By how much all that is sent is late or early, by a clock that is given."""

@@ -6,7 +6,6 @@ import dataclasses
 from typing import Any, Sequence
 
 from developing.pes import pes_packet
-from subtitles.clock.origin import Agreement
 from subtitles.clock.start import FITTED, FITTED_LATER, GIVEN, RECORDING
 from subtitles.common.times import CLOCK, TICKS
 from subtitles.formats.listing import ENDS_READING, STL_FAULTS
@@ -16,7 +15,6 @@ from subtitles.judging.part import Explanation, Part
 from subtitles.judging.status import ERROR, OTHERS, REFUSALS, Severity, WARNING
 from subtitles.judging.verdict import Gap, MOVED, Spread, Verdict, spread_of
 from subtitles.judging.within import FIXED, OF_ENDS, OF_FRAMES, OF_PACKETS
-from subtitles.recording.feed import is_enough
 from subtitles.stream.gaps import Place
 from .bench import Case
 from .parts import CLOSING, HEADER, answer, asked_for, packets_told, part_with
@@ -271,16 +269,6 @@ class Severities(Case):
         self.must("of packets, of frames", (OF_PACKETS, OF_FRAMES, OF_ENDS) == (
             {63, 64, 65, 66, 67, 68, 69, 70, 71, 73}, {61, 62}, {72, 77}))
         self.must("pages are moved", MOVED == {30, 31, 32, 44, 45, 60, 62, 63, 71, 72, 74, 77})
-
-    def test_enough_edges_of_a_feed(self) -> None:
-        """Five that agree, or all there are; where others do not, half with their letters."""
-        for agree, among, letters, count, wanted in (
-                (5, 5, 0, 40, True), (4, 4, 4, 40, False), (4, 4, 4, 4, True), (1, 1, 0, 1, True),
-                (5, 6, 3, 40, True), (5, 6, 2, 40, False), (6, 9, 3, 40, True), (4, 5, 4, 5, False),
-                (9, 12, 0, 12, False)):
-            found = is_enough(Agreement(agree, among, letters, count, False))
-            self.must(f"{agree} of {among}, {letters}, {count}", found == wanted, found)
-        self.must("none", not is_enough(None))
 
     def test_ends_of_faults(self) -> None:
         """Of the first fault of a number, the second and the third, beside those of others."""

@@ -29,13 +29,13 @@ class Pipes(Case):
             (b"", [PES]), (example_bytes("story.pes"), [PES]), (b"x" * 2000, [PES])]
         for data, words in rows:
             name = self.write("one.stl", data)
-            of_file = self.qc(name, *words, "-o", self.path("file"))
+            of_file = self.qc(name, *words, "-o", self.path("out"))
             known = json.loads(self.read("x.json"))
             pipe = self.path("pipe/one.stl")  # the name of the pair
             shutil.rmtree(os.path.dirname(pipe), ignore_errors=True)
             os.mkdir(os.path.dirname(pipe))
             in_pipe(self, data, pipe)
-            of_pipe = self.qc(pipe, *words, "-o", self.path("of_pipe"))
+            of_pipe = self.qc(pipe, *words, "-o", self.path("out"))
             other = json.loads(self.read("x.json"))
             self.must(f"{words}", of_pipe.status == of_file.status and
                       [line.replace(pipe, name) for line in of_pipe.told] == of_file.told and

@@ -6,12 +6,14 @@ import os
 from developing.stl import gsi_block, subtitle_blocks, tti_block
 from subtitles.cli.channel.feed import Awaited, Timed
 from subtitles.cli.channel.schedule import Planned
-from subtitles.common.times import Between, FRAMES_OF_A_DAY
-from subtitles.formats.stl import SubtitleFile, subtitles_read
+from subtitles.common.times import Between, FRAMES_OF_A_DAY, TICKS, time_of
+from subtitles.formats.stl import Subtitle, SubtitleFile, subtitles_read
+from subtitles.judging.pair import pauses_near
 from subtitles.judging.subtitles import HOUR, title_words
 from subtitles.judging.transmissions import subtitles_in
 from .bench import Case
-from .judged import joined, judged, programme, sendings, shown_files
+from .judged import Change, Judged, Sent, joined, judged, programme, sendings, shown_files
+from .parts import CLOSING, HEADER, row
 from .test_channel_tables import defaults
 
 MINUTE = 1500  # frames
@@ -201,3 +203,48 @@ class Read(Case):
                 found = judged(self, whole, *recording, "--from", "10:00:02:00")
                 self.must(f"{title} {recording}: without", found.word == "accepted" and not any(
                     "00:00:00:00" in one for one in found.told), found.said)
+
+
+class Adjoining(Case):
+    """--to at the TCI of a subtitle that adjoins the one before."""
+
+    TIMES = [(100, 150), (200, 250), (250, 300), (300, 350), (400, 450), (500, 550)]
+
+    def judge(self, change: Change = lambda sent: sent, *words: str) -> Judged:
+        stl = programme(self, self.TIMES)
+        sent = change(sendings(self, stl))
+        return judged(self, stl, self.write("one.pes", joined(sent)), "--origin", "0", *words)
+
+    def test_middle(self) -> None:
+        """Where the next subtitle comes, as it does, nobody can judge the end: the pauses around
+        are to type. Where another page comes, or something else is wrong too, it is refused; at a
+        pause it is judged."""
+        for frame, near in ((250, (151, 351)), (300, (151, 351))):
+            told = self.judge(lambda sent: sent, "--to", time_of(frame))
+            self.must(f"{frame}", told.word == "not judged" and told.result["parts"] == [] and [
+                word.rpartition(" ")[2] for word in told.verdict.to_type] == [*map(time_of, near)],
+                (told.said, told.verdict.to_type))
+            for end in near:
+                told = self.judge(lambda sent: sent, "--to", time_of(end))
+                self.must(f"{frame}, {end}", told.word == "accepted", told.said)
+        told = self.judge(lambda sent: sent, "--to", time_of(500))
+        self.must("a pause", told.word == "accepted", told.said)
+
+        def other(sent: Sent) -> Sent:
+            return [(pts, [HEADER, row(22, b"Other"), CLOSING]) if pts == 250 * TICKS else
+                    (pts, some) for pts, some in sent]
+
+        def late(sent: Sent) -> Sent:
+            return [(pts + TICKS if pts == 200 * TICKS else pts, some) for pts, some in sent]
+
+        for name, change in (("another page", other), ("another fault", late)):
+            told = self.judge(change, "--to", time_of(250))
+            self.must(name, told.word == "refused", told.said)
+
+    def test_pauses(self) -> None:
+        """Before a frame and behind it; the end of the file is one."""
+        subtitles = [Subtitle(at, at, begin, end, 22, 2, b"")
+                     for at, (begin, end) in enumerate(self.TIMES)]
+        for count, frame, wanted in ((6, 300, [150, 350]), (6, 100, [150]), (6, 500, [450, 550]),
+                                     (4, 300, [150, 350]), (0, 300, [])):
+            self.assertEqual(pauses_near(subtitles[:count], frame), wanted, (count, frame))

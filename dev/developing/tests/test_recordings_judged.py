@@ -127,7 +127,8 @@ class Recordings(Case):
             "not accepted, since warnings count (blocks, subtitles): "))
 
     def test_feeds_in_parts(self) -> None:
-        """A break of a feed that is said; one that is not, of which only the first part came."""
+        """A break of what comes through a pipe; what was cut out of a feed, of which only the first
+        part came."""
         stl = programme(self, times(24))
         sent = sendings(self, stl)
         data = joined(apart(sent, 1000))
@@ -141,9 +142,10 @@ class Recordings(Case):
         data = joined([(ORIGIN + pts, some) for pts, some in fed])
         note = "from 00:00:36:00 on no subtitle was sent while the feed was read; if the " \
             "programme has a break there, say --breaks 1"
-        found = judged(self, stl, in_pipe(self, data), "--origin", str(ORIGIN), *EVERY)
+        path, words = self.write("one.pes", data), ("--origin", str(ORIGIN), *EVERY)
+        found = judged(self, stl, path, *words, is_cut=True)
         self.must("nothing more", found.word == "refused" and note in found.told, found.said)
-        found = judged(self, stl, self.write("one.pes", data), "--origin", str(ORIGIN), *EVERY)
+        found = judged(self, stl, path, *words)
         self.must("of a file", note not in found.told, found.told)
 
     def test_pids(self) -> None:

@@ -4,12 +4,14 @@ from __future__ import annotations
 
 import itertools
 import random
+import time
 import unittest
 from types import SimpleNamespace
 from typing import Any, Sequence
 
-from subtitles.clock.stretches import LACKED, LEAST_BREAK, Stretch, by_breaks
+from subtitles.clock.alignment import MOST_BASES, Shown, bases_of
 from subtitles.clock.start import Clock, Found, RECORDING
+from subtitles.clock.stretches import LACKED, LEAST_BREAK, Stretch, by_breaks, find_row
 from subtitles.common.times import CLOCK, Spans, TICKS, joined_spans
 from subtitles.judging.clocks import last_time
 from subtitles.stream.gaps import (
@@ -74,6 +76,34 @@ class Times(unittest.TestCase):
             bases = packets_with(pts).bases()
             self.assertEqual(bases, [range(*pair) for pair in zip(begins, [*begins[1:], len(pts)])],
                              pts)
+
+    def test_many_bases(self) -> None:
+        """PTS that go back at each PES packet: those stretches are looked at in which the page
+        changes most, and the time that takes is that of as many PES packets."""
+        edges = [Shown(100 * at, 100 * at + 50, at, b"%d" % at) for at in range(400)]
+        began = time.process_time()
+        for count, wanted in ((MOST_BASES, MOST_BASES), (5000, MOST_BASES)):
+            packets = packets_with([10 ** 9 - TICKS * at for at in range(count + 2)])
+            packets.changes = [Change(run.pts or 0, b"x", run.first) for run in packets.runs]
+            bases = bases_of(edges, packets, 0)
+            self.assertEqual((len(bases), find_row(bases)), (wanted, []))
+        long = [*range(9000, 9400, 10), *range(5000, 0, -1)]
+        packets = packets_with([TICKS * at for at in long])
+        packets.changes = [Change(run.pts or 0, b"x%d" % run.first, run.first)
+                           for run in packets.runs]
+        self.assertEqual(bases_of(edges, packets, 0)[0].packets, (0, 39))
+        self.assertLess(time.process_time() - began, 60)
+
+    def test_many_maps(self) -> None:
+        """A PMT that changes with each packet takes as long as it has lines; the PCR before it is
+        that of its PID, or of one before."""
+        began, survey = time.process_time(), Survey()
+        survey.take("pcr 513 7")
+        for number in range(20_000):
+            survey.take(f"programme 1 {512 + number % 2}")
+        self.assertEqual({one.after for one in survey.programmes[2:]}, {7})
+        self.assertIsNone(survey.programmes[0].after)
+        self.assertLess(time.process_time() - began, 20)
 
     def test_breaks(self) -> None:
         """An origin that is later by five seconds than in the part before, and than just before;

@@ -23,7 +23,7 @@ from .muxed import TELETEXT_PID
 from .parts import (
     CLOSING, HEADER, PAGE, answer, asked_for, in_page, packets_told, part_with, row)
 from .test_decisions import defaults
-from .test_feeds import ending_of
+from .test_listening import ending_of
 from .test_recordings_judged import in_stream
 
 STORY = example("story.stl")

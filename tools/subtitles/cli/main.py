@@ -52,7 +52,7 @@ ASKING = (
 OF_CALL = (
     Option("-o", "DIR", "the folder for report and list", CALLS, field="out"),
     Option("--keep", None, "keep in DIR the PES packets of the recording, NAME.recording.pes; of a "
-           "feed all that came, NAME.recording.ts", (PAIR, BATCH, WATCH, CHANNEL), field="is_kept",
+           "pipe all that came, NAME.recording.ts", (PAIR, BATCH, WATCH, CHANNEL), field="is_kept",
            default=False),
     Option("--json", "FILE", "the verdict as a JSON result", OUTPUT_MODES, field="json"),
     Option("--csv", "FILE", "a line for each fault", OUTPUT_MODES, field="csv"),
@@ -79,7 +79,7 @@ OF_CALL = (
     Option("--quiet", None, "print the verdict's sentence and the last line alone", (ALONE, PAIR),
            field="is_quiet", default=False),
     Option("--stall", "S", "seconds after which a feed that stands still is reported",
-           (PAIR, CHANNEL), "10", field="stall", default=10, read=seconds_word))
+           (CHANNEL,), "10", field="stall", default=10, read=seconds_word))
 TAKEN_BY = {one.name: one.modes for one in (*OPTIONS, *OF_CALL)}
 
 

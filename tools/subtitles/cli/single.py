@@ -180,7 +180,6 @@ class PairCall(NamedTuple):
     json: str | None = None
     csv: str | None = None
     junit: str | None = None
-    stall: int = 10
     name: str | None = None
     here: str | None = None
     is_claimed: bool = False
@@ -193,7 +192,7 @@ def judge_call(words: argparse.Namespace, called: str) -> int:
     """Judges the pair of a command line; answers its status."""
     return judge_request(request_of(words), PairCall(
         words.program, words.out or None, words.is_kept, words.json, words.csv, words.junit,
-        words.stall, is_quiet=words.is_quiet), called)
+        is_quiet=words.is_quiet), called)
 
 
 def judge_request(asked: Request, call: PairCall, called: str) -> int:
@@ -226,7 +225,7 @@ def judged(asked: Request, call: PairCall, called: str) -> Verdict:
         names.give(asked.stl_path)
         files = Files(call, verdict, typed, names)
         verdict.found = found(asked)
-        pair = Pair(verdict, typed, names, listener, files.are_any(), call.stall, call.given)
+        pair = Pair(verdict, typed, names, listener, files.are_any(), call.given)
         judge_pair(pair, files)
         end_pair(verdict, speech, files)
     return verdict

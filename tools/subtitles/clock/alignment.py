@@ -22,6 +22,7 @@ VOTES = 1_000_000  # pairs of edges and changes; of longer files some changes vo
 REPEATED = 20  # subtitles with the same letters; where there are more, their text does not vote
 TRIED = 64  # origins that are held against all edges
 MOST_APART = 50  # frames between all beginnings and all ends
+MOST_BASES = 32  # time bases, in which the page changes most, that are looked at
 AGAIN = 5  # frames, at most, in which a page that is erased to be sent again is whole
 
 
@@ -266,12 +267,26 @@ def bases_of(subtitles: Sequence[Shown], packets: Packets, within: int,
              inside: Range | None = None) -> list[Base]:
     """The time bases in which there is something of the page, of PES packets with some numbers."""
     edges, found = edges_of(subtitles), []
-    low, high = inside or (0, packets.count - 1)
-    for whole in packets.bases():
-        base = range(max(whole.start, low), min(whole.stop, high + 1))
-        changes = [one for one in packets.changes if one.number in base]
-        runs = [run for run in packets.timed() if HEADER in run.does and run.first in base]
-        if changes and runs and runs[0].pts is not None and runs[-1].last is not None:
+    firsts = [run.first for run in packets.runs]
+    for base, changes in most_changed(packets, inside or (0, packets.count - 1)):
+        first, end = (bisect.bisect_left(firsts, at) for at in (base.start, base.stop))
+        runs = [run for run in packets.runs[first:end] if run.pts is not None
+                and HEADER in run.does]
+        if runs and runs[0].pts is not None and runs[-1].last is not None:
             found.append(Base(edges, changes, runs[0].pts, runs[-1].last,
                               (base.start, base.stop - 1), within))
     return found
+
+
+def most_changed(packets: Packets, inside: Range) -> list[tuple[range, Sequence[Change]]]:
+    """The time bases of PES packets with some numbers in which the page changes, each with the
+    changes; where PTS go back more often, those alone in which it changes most."""
+    numbers = [one.number for one in packets.changes]
+    found = []
+    for whole in packets.bases():
+        base = range(max(whole.start, inside[0]), min(whole.stop, inside[1] + 1))
+        first, end = (bisect.bisect_left(numbers, at) for at in (base.start, base.stop))
+        if first < end:
+            found.append((base, packets.changes[first:end]))
+    kept = {base for base, _ in heapq.nlargest(MOST_BASES, found, key=lambda one: len(one[1]))}
+    return [one for one in found if one[0] in kept]

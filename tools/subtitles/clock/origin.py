@@ -13,7 +13,7 @@ from ..formats.teletext import Page, page_name
 from ..request.lateness import Lateness
 from ..stream.receiver import subcode_words, turns_of
 from ..stream.survey import Packets, Range, STRAY
-from .alignment import Base, Fit, MOST_APART, Shown, bases_of
+from .alignment import Base, Fit, MOST_APART, MOST_BASES, Shown, bases_of
 from .delays import Drift, Early, drift_of
 from .stretches import (
     Airing, FittedPart, IN_A_ROW, Stretch, by_breaks, find_row, parts_of, runs_of)
@@ -56,31 +56,21 @@ class OfPart(NamedTuple):
     line: str = ""
 
 
-class Agreement(NamedTuple):
-    """How many cues agree with the origin of the first part, among how many in the time in which
-    the page was sent, with how many the letters do, and how many `edges` there are. `are_all`: each
-    agrees, but where all beginnings are late compared with the ends, or all ends with them."""
-
-    agree: int
-    among: int
-    letters: int
-    edges: int
-    are_all: bool
-
-
 @dataclasses.dataclass
 class Origin:
     """What is found: a status, 0 where it is clear; `parts`, where they are clear; the PES
     packets of each time that the programme is there, where that is more than once; how many breaks,
     where others were said; by how many ticks the first part is later than the origin that is known;
-    from when on subtitles are late, first, and in words. `printed` and `told` are all lines."""
+    whether `are_all` of its cues agree, but where all beginnings are late compared with the ends,
+    or all ends with them; from when on subtitles are late, first, and in words. `printed` and
+    `told` are all lines."""
 
     status: int = 1
     parts: list[OfPart] = dataclasses.field(default_factory=list)
     runs: list[Range] = dataclasses.field(default_factory=list)
     breaks: int | None = None
     away: int | None = None
-    agreement: Agreement | None = None
+    are_all: bool = True
     shifted_from: int | None = None
     shifts: list[str] = dataclasses.field(default_factory=list)
     printed: list[str] = dataclasses.field(default_factory=list)
@@ -112,6 +102,9 @@ def find(asked: Sought, packets: Packets) -> Origin:
     if not bases:
         origin.told += [*other_words(packets, asked.page), "no cue agrees with any origin"]
         return origin
+    if (count := len(packets.bases())) > MOST_BASES:
+        origin.told.append(f"PTS go back at {count - 1} places: of what lies between, the "
+                           f"{MOST_BASES} stretches are looked at in which the page changes most")
     runs = runs_of(bases, asked.origin is not None)
     if len(runs) > 1:
         origin.runs = [packets_of(runs, number, bases, packets) for number in range(len(runs))]
@@ -219,9 +212,7 @@ def measure(origin: Origin, known: int | None, part: FittedPart) -> None:
     """Takes how the first part agrees with its origin, and how late it is compared with one that
     is known, or with 0 near that."""
     best, apart = part.best, part.sent.apart(part.best)
-    origin.agreement = Agreement(
-        best.agree, best.among, best.letters, len(part.sent.edges),
-        best.agree == best.among or bool(apart and apart.agree == apart.of))
+    origin.are_all = best.agree == best.among or bool(apart and apart.agree == apart.of)
     away = ticks_between(known or 0, part.origin)
     origin.away = None if known is None else away
     if known is not None or abs(away) // TICKS <= NEAR and not 0 <= abs(away) < TICKS:

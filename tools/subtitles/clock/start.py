@@ -101,7 +101,6 @@ PTS_LOOKED_AT = 1000  # PTS
 REORDERED = 16  # pictures, at most, that are sent before one that is shown before them
 LONGEST = 10 * 90_000  # ticks after which pictures are no longer listed
 CLOSED = "closed"  # a group of pictures that needs none before it
-PATIENCE = 60 * 90_000  # ticks of the PCR without a picture after which none is waited for
 
 
 class NoFirst(Exception):
@@ -201,17 +200,6 @@ def left_out(pts: list[int], is_cut: bool) -> int:
         del shown_at[-REORDERED:]
     steps = [second - first for first, second in zip(shown_at, shown_at[1:])]
     return sum(round(step / TICKS) - 1 for step in steps if step > TICKS + EARLY)
-
-
-def is_known(survey: Survey, teletext: int) -> bool:
-    """Whether nothing more of a feed tells the first picture."""
-    try:
-        pid, _ = video_of(survey, teletext)
-    except NoFirst:
-        return bool(survey.programmes_of(teletext))
-    clock = survey.clock_of(teletext)
-    return survey.videos[pid].is_over if pid in survey.videos else \
-        clock is not None and ticks_between(*clock) > PATIENCE
 
 
 def after_frame(packets: Packets, pts: int, within: int) -> int:

@@ -73,13 +73,14 @@ class Stretch(NamedTuple):
 
 def find_row(bases: Sequence[Base]) -> list[Stretch]:
     """The stretches of all edges; none where five in a row agree with no origin."""
-    for number, base in enumerate(bases):
+    long = [(number, base) for number, base in enumerate(bases) if len(base.changes) >= IN_A_ROW]
+    for number, base in long:
         best = base.by_beginnings(base.fits[0]) if base.fits else None
         if best and len(base.edges) >= IN_A_ROW and (
                 best.letters == len(base.edges) or base.apart(best)):
             return [Stretch(Track(number, best.start, base), 0, len(base.edges))]
     tracks: list[Track] = []
-    for number, base in enumerate(bases):
+    for number, base in long:
         starts = {fit.start for fit in base.fits[:TRIED]}
         starts.update(start for start, _ in base.alike().most_common(TRIED))
         tracks += [track for start in sorted(starts) if max(

@@ -7,10 +7,15 @@ causes         why the content is refused: the cause of each subtitle, those of 
 worst          what is said first of what is refused: the worst that a viewer sees
 sentence       the sentence of a verdict, which stands before the last line
 subtitles      subtitles that are refused themselves: midnight, letters
-part           a part of a pair: what is judged by itself, which subtitles it has
+part           a part of a pair, made in steps: frames, range, pace; with its answer, explained
 verdict        the verdict on a pair: all that is written of it
 losses         what is missing in the time of a part, and the pace by which it is judged
+pictures       where the pictures leave the subtitles within a part
 measurement    how a house sends: what recordings tell that are right
+calls          the calls of `check` for a part, and those that try something else
+clocks         the parts of a recording with their clocks; the PES packets of their time
+within         the least number of frames within which a part would be accepted
 faults         faults with their places and all that is known of them, and hints on some numbers
+explanation    why a part is refused, and what else follows of its answer
 pair           a pair judged, from a recording to a verdict
 """

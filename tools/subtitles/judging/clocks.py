@@ -55,7 +55,7 @@ def parts_of(programme: Programme, recording: Recording, listener: Listener) -> 
         programme = programme._replace(
             inside=last_time(recording.packets, whole._replace(clock=given), asked))
     origin = fitted_origin(programme, recording, given, listener)
-    if origin.runs and recording.is_feed:
+    if origin.runs and recording.is_cut:
         run = run_of(programme, recording, given, origin.runs)
         which = "first run" if run == origin.runs[0] else "run at the origin that was given"
         listener.noted(f"{runs_line(len(origin.runs))}: of a feed the {which} is judged")
@@ -151,7 +151,7 @@ def with_delay(clock: Clock, origin: Origin) -> tuple[Clock, list[str]]:
         return clock, []
     words = " and ".join([counted(frames, "frame")] * (frames > 0)
                          + [counted(ticks, "tick")] * (ticks > 0))
-    which = "all" if origin.agreement is None or origin.agreement.are_all else "most"
+    which = "all" if origin.are_all else "most"
     where = f"up to {time_of(origin.shifted_from)}" if origin.shifted_from is not None else \
         which if len(origin.printed) == 1 else f"up to the first break {which}"
     line = f"{where} subtitles are {words} {'early' if sign < 0 else 'late'}"

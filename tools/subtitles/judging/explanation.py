@@ -70,7 +70,7 @@ class Explainer(NamedTuple):
     def accepted_within(self, part: Part) -> int | None:
         """Within how many frames a part that is refused would be accepted."""
         recording, found = part.recorded
-        if not part.is_refused or recording.is_feed or part.explanation.is_lost or found.stage:
+        if not part.is_refused or recording.is_cut or part.explanation.is_lost or found.stage:
             return None
         return least_within(self.program, self.programme, part, self.parts)
 

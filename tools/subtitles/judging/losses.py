@@ -15,7 +15,7 @@ from ..request.request import NONE, PACE_CHOICE, Selection
 from ..stream.gaps import (
     BY_EVERY, IRREGULAR, PAUSED, Pace, Place, REGULAR, TOO_FEW, each_of, frame_rows, pace_of,
     pauses_of, unseen_from, what_of)
-from ..stream.survey import PACKET, PTSPair, jumps_at
+from ..stream.survey import PACKET, PTSPair, jumps_at, jumps_told
 from .part import Part, PartPace, PartRange, is_in
 from .verdict import Gap
 
@@ -131,8 +131,9 @@ def late_jumps(part: PartRange, pace: Pace) -> tuple[list[PTSPair], int]:
     recording = part.frames.recording
     if not recording.is_stream:
         return [], 0
-    found = jumps_at(recording.packets, part.pes, min(pace.apart, NEXT), recording.path,
-                     recording.survey.size or PACKET)
+    packets, usual = recording.packets, min(pace.apart, NEXT)
+    found = jumps_told(packets, part.pes, usual) if recording.survey.tells_seams else jumps_at(
+        packets, part.pes, usual, recording.path, recording.survey.size or PACKET)
     late = [pair for pair in found if ticks_between(*pair) > pace.apart * TICKS]
     return late, len(found) - len(late)
 

@@ -1,19 +1,20 @@
 """A pair judged, from a recording to a verdict."""
 from __future__ import annotations
 
+import contextlib
 import functools
-from typing import NamedTuple
+from typing import Iterator, NamedTuple, Sequence
 
 from ..clock.start import Found
 from ..common.command_line import Stop, counted
 from ..common.files import file_of
-from ..common.times import ALL_DAY, Span, time_of
+from ..common.times import ALL_DAY, Between, FRAMES_OF_A_DAY, Span, pts_of, time_of
 from ..formats.layout import PLAIN, layout_of, layout_text
-from ..formats.listing import EMPTY
+from ..formats.listing import CONTENT, EMPTY
 from ..formats.stl import Subtitle, SubtitleFile
 from ..formats.teletext import BY_WORD
 from ..recording import recording as recording_recording
-from ..recording.feed import Ending
+from ..recording.announced import NeverSent, refuse_elsewhere
 from ..recording.recording import Notice, Recording, refuse_files
 from ..request import commands, request
 from ..request.commands import CommandWords, Listener, Names
@@ -23,14 +24,14 @@ from ..stream.receiver import timeline_near
 from ..stream.survey import HEADER
 from .calls import check_alone, check_part, say_alone
 from .check import Answer
-from .clocks import (
-    NO_CLOCK, PartClocks, Programme, cut_part, given_clock, origin_in, parts_of, search_in)
+from .clocks import NO_CLOCK, PartClocks, Programme, cut_part, given_clock, parts_of
 from .explanation import Explainer, with_more
 from .faults import hint_words
 from .losses import gaps_in, paced_part, unsent_in
 from .part import (
     Explanation, Part, PartFrames, PartPace, PartRange, answered_part, moves_told, parted,
     refuse_others)
+from .pictures import left_by_pictures
 from .status import REFUSED, UNSAID
 from .subtitles import beside_of, due_beside, is_judged_beside, title_words
 from .transmissions import DuePages, due_pages_of, subtitles_in
@@ -45,15 +46,32 @@ class Located(NamedTuple):
     subtitles: list[Subtitle]
 
 
+def adjoining_at(part: Part) -> int | None:
+    """The last TCO of a part of which nothing else is refused than what is shown there."""
+    fault, (_, found) = part.answer.first, part.recorded
+    is_alone = part.answer.count == 1 and fault is not None and fault.number == CONTENT
+    frame = fault.frame if fault else None
+    is_there = frame is not None and found.end <= frame <= found.end + part.asked.within
+    return found.end if is_alone and is_there else None
+
+
+def pauses_near(subtitles: Sequence[Subtitle], at: int) -> list[int]:
+    """The last TCO before a frame behind which there is a pause, and the first behind it; the end
+    of the file is one."""
+    ends = [one.end for one, other in zip(subtitles, subtitles[1:]) if one.end < other.begin]
+    ends += [subtitles[-1].end] if subtitles else []
+    return [*[end for end in ends if end < at][-1:], *[end for end in ends if end > at][:1]]
+
+
 class Pair:
     """A pair that is judged step by step; what is known so far stands in the verdict. `given` is a
     file with all that came of a feed, which may be judged."""
 
     def __init__(self, verdict: Verdict, typed: CommandWords, names: Names, listener: Listener,
-                 is_summed: bool, stalled_after: int = 10, given: str | None = None) -> None:
+                 is_summed: bool, given: str | None = None) -> None:
         self.verdict, self.asked = verdict, verdict.asked
         self.typed, self.names, self.listener = typed, names, listener
-        self.is_summed, self.stalled_after, self.given = is_summed, stalled_after, given
+        self.is_summed, self.given = is_summed, given
         self.recording: Recording | None = None
         self.begun: Part | None = None  # that is being judged, or was last
 
@@ -75,7 +93,20 @@ class Pair:
         elif is_refused:
             self.judge_beside(answer)
         else:
-            self.judge_transmission()
+            with self.naming_faults():
+                self.judge_transmission()
+
+    @contextlib.contextmanager
+    def naming_faults(self) -> Iterator[None]:
+        """Takes the fault of a page that is never sent: then nothing more is judged."""
+        try:
+            yield
+        except NeverSent as never:
+            assert self.recording
+            self.verdict.recording = self.recording.file
+            self.verdict.named.append(never.fault)
+            for line in self.recording.survey.lines():
+                self.listener.said(line)
 
     def stop(self, now: str) -> str:
         """Takes what was told before a signal came; at which time that was, and up to where the
@@ -199,13 +230,15 @@ class Pair:
                               asked.pes, self.left_out, self.verdict.was_fitted,
                               self.given is not None)
         self.recording = recording = Recording(asked, self.typed, self.names, self.listener,
-                                               self.stalled_after, self.given)
-        recording.read(self.is_summed, Ending(
-            asked, programme.whole.begin, programme.whole.end,
-            lambda packets: origin_in(packets, search_in(programme, recording.shown))))
+                                               self.given, [(one.begin, one.end)
+                                                            for one in subtitles])
+        recording.read(self.is_summed)
         self.verdict.recording = recording.file
         self.refuse_range(recording)
         clocks = parts_of(programme, recording, self.listener)
+        first, last = clocks.found[0], clocks.found[-1]
+        refuse_elsewhere(asked, recording.survey, pts_of(first.begin, first.origin),
+                         pts_of(last.end, last.origin))
         self.verdict.notes[:0] = clocks.delay
         return Located(recording, clocks, subtitles)
 
@@ -221,13 +254,18 @@ class Pair:
         """Judges how the subtitles were sent that are not refused. Where that can't be judged the
         subtitle file is refused all the same, and a note says why."""
         try:
-            self.judge_transmission()
-        except (Stop, Unclear) as why:
+            with self.naming_faults():
+                self.judge_transmission()
+            if self.verdict.parts:
+                return
+            why: object = self.verdict.named[0].words
+        except (Stop, Unclear) as reason:
             if self.begun:
                 raise
-            self.verdict.beside, self.verdict.count = None, 0
-            self.listener.noted(f"the other subtitles were not judged: {why}")
-            self.judge_alone(answer, True)
+            why = reason
+        self.verdict.beside, self.verdict.count = None, 0
+        self.listener.noted(f"the other subtitles were not judged: {why}")
+        self.judge_alone(answer, True)
 
     def judge_transmission(self) -> None:
         """Judges what was recorded, part by part."""
@@ -281,11 +319,40 @@ class Pair:
         pace = paced_part(cut, [(subtitle.begin, subtitle.end) for subtitle in own], listener)
         self.begun = part = answered_part(pace, answer, due)
         check_part(part, self.typed, listener)
+        self.refuse_middle(part)
         self.verdict.parts.append(part)
+        self.look_at_pictures(frames)
         part = Explainer(self.typed.program_path, programme, listener, self.verdict, count,
                          self.is_summed).explained(part)
         self.verdict.parts[-1] = part
         self.warn_of(part, subtitles)
+
+    def refuse_middle(self, part: Part) -> None:
+        """`Unclear` where nothing is refused but that the next subtitle of the file comes at the
+        last TCO, as it does: --to stands where subtitles adjoin, and nothing ends there."""
+        at = adjoining_at(part) if self.asked.to_time and not self.verdict.beside else None
+        if at is None or part.held is None:
+            return
+        asked, program, given = self.asked, self.typed.program_path, self.names.given
+        due = due_pages_of(program, given, asked.page, asked.option, Between(at, at + 1),
+                           asked.words_of_pages(), asked.is_open)
+        fault = part.answer.first
+        if not due.pages or not fault or part.held.page_at(fault.frame or at) != due.pages[0]:
+            return
+        # Another range than the whole day takes the subtitles of a file that has a refused one.
+        subtitles = subtitles_in(program, given, Between(0, FRAMES_OF_A_DAY + 1), asked.is_open)
+        raise Unclear(f"at {time_of(at)}, where --to cuts the file, the next subtitle adjoins: all "
+                      "before it is as it is due, and nothing ends there",
+                      *(self.again("--to", time_of(end + 1))
+                        for end in pauses_near(subtitles, at)))
+
+    def look_at_pictures(self, part: PartFrames) -> None:
+        """Takes where the pictures leave the subtitles of a part."""
+        recording = part.recording
+        faults, notes = left_by_pictures(recording.survey, recording.packets.pid, part.found,
+                                         part.asked.within, part.number)
+        self.verdict.named += faults
+        self.listener.noted(*notes)
 
     def due_of(self, asked: Request, subtitles: list[Subtitle]) -> DuePages:
         """The pages that are due of a part; beside subtitles that are refused those of the others.
@@ -302,7 +369,7 @@ class Pair:
         if not any(notice.kind == "grew" for notice in verdict.warnings):
             verdict.warnings += [notice for notice in recording.strange() if notice.kind == "grew"]
         verdict.gaps += gaps_in(recording, verdict.parts)
-        if recording.is_feed and not self.asked.breaks and not is_shifted:
+        if recording.is_cut and not self.asked.breaks and not is_shifted:
             self.listener.noted(*unsent_in(verdict.parts[-1]))
 
     # What is strange, and breaks no rule.

@@ -6,11 +6,11 @@ import functools
 import os
 import stat
 import subprocess
-from typing import Iterable, Iterator, NamedTuple, Sequence
+from typing import Collection, Iterable, Iterator, NamedTuple, Sequence
 
 from ..clock.start import NoFirst
 from ..common.command_line import PACKET_SIZES, Stop, counted, pid_name, shown, stream_words
-from ..common.files import SummedFile, Sums, file_of, first_bytes, pieces_of
+from ..common.files import STANDARD, SummedFile, Sums, file_of, first_bytes, pieces_of
 from ..common.times import FRAMES_OF_A_DAY, NO_FRAME, frame_in, frames_at, ticks_between, time_of
 from ..formats.stl import SubtitleFile
 from ..formats.teletext import BY_WORD, OTHER_REGIONS, START, as_sent, of_track
@@ -23,8 +23,8 @@ from ..stream.ranges import Stage, joined_stages, stages_of
 from ..stream.receiver import FEW, PAUSE
 from ..stream.survey import (
     ANY, Announced, HEADER, KINDS, PES, PTSPair, Packets, SUBTITLE_KINDS, Survey, names_of, survey)
-from . import feed
-from .feed import Ending
+from .announced import announcements_of, refuse_unsent, silent_beside
+from .piped import copy_piped
 
 
 # What is strange of a recording and breaks no rule of `check`: said, and the status stays.
@@ -224,9 +224,6 @@ def pes_header_words(begun: bytes, pid: int) -> str:
 
 # A recording: what `subttx survey` tells of it, and how the program reads it once more.
 
-STANDARD_INPUT = "-"
-
-
 def is_recording(path: str) -> bool:
     """Whether a file that should be a subtitle file begins as a recording does."""
     head = first_bytes(path, 209)
@@ -242,13 +239,13 @@ def refuse_files(asked: Request) -> None:
         raise Unclear(f"{name or 'an empty name'} is no file, or is not there")
     if is_recording(asked.stl_path):
         raise Unclear(f"{asked.stl} is a recording: the subtitle file stands before it")
-    if asked.recording is not None and asked.recording != STANDARD_INPUT:
+    if asked.recording is not None and asked.recording != STANDARD:
         os.stat(asked.recording)
 
 
 def size_of(name: str) -> int | None:
     """The bytes of a file; `None` for one that can be read only once."""
-    about = os.fstat(0) if name == STANDARD_INPUT else os.stat(name)
+    about = os.fstat(0) if name == STANDARD else os.stat(name)
     return about.st_size if stat.S_ISREG(about.st_mode) else None
 
 
@@ -274,56 +271,41 @@ def silent_in(survey: Survey) -> list[Packets]:
 class Recording:
     """A recording that is read: `packets` are those of the PID with the page; `stages` are the PIDs
     where it moves to another one, and `packets` then stand for all of them. What is judged is a
-    range of the recording itself; what comes through a pipe is kept in a file, at `path`."""
+    range of the recording itself; what comes through a pipe is copied to a file, at `path`. Where
+    `is_cut`, all that came of a feed is in a file that is `given`, by who calls this tool."""
 
     def __init__(self, asked: Request, typed: CommandWords, names: Names, listener: Listener,
-                 stalled_after: int, given: str | None = None) -> None:
+                 given: str | None = None, times: Sequence[tuple[int, int]] = ()) -> None:
         assert asked.recording is not None
         self.asked, self.typed, self.names, self.listener = asked, typed, names, listener
-        self.name, self.stalled_after = asked.recording, stalled_after
+        self.name, self.given, self.is_cut = asked.recording, given, given is not None
         self.size = size_of(self.name)
-        self.is_feed = self.size is None
-        self.is_piped = self.is_feed or self.name == STANDARD_INPUT
-        self.path = names.whole_path if self.is_piped else names.as_program(self.name, "given")
-        self.given = given  # a file with all that came of a feed, by who calls this tool
+        self.times = times  # of the subtitles, in frames
+        self.is_piped = self.size is None or self.name == STANDARD
+        self.path = given or (names.whole_path if self.is_piped else
+                              names.as_program(self.name, "given"))
         self.survey, self.packets = Survey(), Packets(PES)
         self.stages: list[Stage] = []
         self.file: SummedFile | None = None
 
-    def read(self, is_summed: bool, ending: Ending) -> None:
-        """Reads it: a file to its end, a feed up to the last subtitle at least."""
-        try:
-            if self.given is not None:
-                self.path = self.given
-                self.read_file(False)
-                self.file = file_of(self.path, self.name)
-            elif self.is_piped:
-                self.read_feed(ending if self.is_feed else None)
-            else:
-                self.read_file(is_summed)
-        except NoFirst as reason:
-            raise self.without_first(reason) from None
+    def read(self, is_summed: bool) -> None:
+        """Reads it to its end, and takes all that is told of it."""
+        if self.given is not None:
+            self.file = file_of(self.given, self.name)
+        elif self.is_piped:
+            self.file = copy_piped(self.name, self.path, self.listener.speech)
+        files = Sums([self.name]) if is_summed and not self.is_piped else None
+        self.survey = survey(self.typed.program_path, self.path, self.asked.page, self.asked.pid,
+                             look=self.show)
+        self.file = files.all()[0] if files else self.file
         refuse_stream(self.survey, self.name)
         self.packets = self.chosen()
         self.say_read()
-
-    def read_file(self, is_summed: bool) -> None:
-        """Takes all that is told of a file."""
-        files = Sums([self.name]) if is_summed else None
-        self.survey = survey(self.typed.program_path, self.path, self.asked.page, self.asked.pid,
-                             look=self.show)
-        self.file = files.all()[0] if files else None
 
     def show(self) -> None:
         """What is read, on a terminal."""
         if self.listener.speech.progress.is_due():
             self.listener.speech.show(self.name)
-
-    def read_feed(self, ending: Ending | None) -> None:
-        """Takes what comes through a pipe, as long as more is needed."""
-        self.file = feed.read_feed(self.name, self.path, self.asked, self.typed.program_path,
-                                   self.survey, ending, self.listener.speech,
-                                   self.stalled_after)
 
     def chosen(self) -> Packets:
         """The only PID that carries the page, or the one that was asked for."""
@@ -332,16 +314,20 @@ class Recording:
             return by_pid.setdefault(PES, Packets(PES))
         if self.asked.pid is not None:
             one = by_pid.setdefault(self.asked.pid, Packets(self.asked.pid))
+            if not one.has_page:
+                refuse_unsent(self.asked, self.survey, self.times)
             if one.count:
                 return one
             why = "; ".join([f"{self.name}: {why_refused(one)}", *filter(None, [
                 self.header_words(one)])])
             raise Unclear(self.said(why), *self.other_pids())
         found = [by_pid[pid] for pid in sorted(by_pid) if by_pid[pid].has_page]
+        self.refuse_silent({one.pid for one in found})
         if len(found) == 1:
             self.say_chosen(found[0], "on no other PID")
             return found[0]
         if not found:
+            refuse_unsent(self.asked, self.survey, self.times)
             why = "; ".join([f"{self.name} has no header of page {page}", *self.why_nothing()])
             is_other = any(one.sent for one in by_pid.values())
             raise Unclear(self.said(why), *([self.again("--page", "P")] if is_other else []))
@@ -353,6 +339,18 @@ class Recording:
             return joined_stages(self.stages)
         raise Unclear(self.said(f"page {page} is sent on {len(found)} PIDs of {self.name}"),
                       *(self.again("--pid", f"0x{one.pid:X}") for one in found))
+
+    def refuse_silent(self, carriers: Collection[int]) -> None:
+        """`Unclear` where several programmes announce the page, and some of them never send it:
+        nobody but the house knows which one is meant."""
+        announced = [*announcements_of(self.survey.programmes, self.asked.page)]
+        silent = silent_beside(announced, carriers)
+        if silent and self.asked.pes is None:
+            raise Unclear(self.said(
+                f"page {self.asked.page_name} is announced by several programmes of {self.name}, "
+                f"and sent on {' and '.join(map(pid_name, sorted(carriers)))}, not on "
+                f"{' and '.join(map(pid_name, sorted(silent)))}"),
+                *(self.again("--pid", f"0x{pid:X}") for pid in sorted({*carriers} | silent)))
 
     def say_chosen(self, packets: Packets, why: str) -> None:
         """Says which PID is chosen, and by what."""
@@ -463,11 +461,11 @@ class Recording:
             found.append(Notice("grew", f"{shown(self.name)} {word} while it was read, from "
                                 f"{self.size:,} bytes to {now:,}: judge it again when it is "
                                 "complete"))
-        is_cut = self.packets.is_cut and not self.packets.refusal
-        if self.is_stream and is_cut and not self.is_feed:
+        is_open = self.packets.is_cut and not self.packets.refusal
+        if self.is_stream and is_open and not self.is_cut:
             found.append(Notice("cut", f"{shown(self.name)} ends within a PES packet of the page's "
                                 "PID, which is left out"))
-        if self.packets.damage and not self.is_feed:
+        if self.packets.damage and not self.is_cut:
             found.append(Notice("cut", f"{shown(self.name)}: {self.packets.damage}; it was read up "
                                 "to there"))
         return found

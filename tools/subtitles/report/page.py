@@ -115,6 +115,10 @@ def report_page(verdict: Verdict, typed: CommandWords) -> Markup:
     line = verdict.lead or f"{NOT_JUDGED}: {verdict.why_not}"
     if verdict.word == NOT_JUDGED:
         parts = [unjudged_box(verdict), *names_list(verdict)]
+    elif not verdict.parts:  # as of a page that is never sent
+        parts = [box_of(verdict, verdict.lead or "", [], [
+            *verdict.said(), *(warned.said() for warned in verdict.warnings)]),
+            *names_list(verdict)]
     elif len(verdict.parts) == 1:
         parts = single_parts(made.report(verdict.parts[0]))
     else:

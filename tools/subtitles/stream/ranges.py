@@ -270,8 +270,10 @@ def stages_of(survey: Survey, page: Page) -> list[Stage]:
     next. The times of a PMT are those of the PCR before it, which is told once a second: so stages
     may overlap by what came in that time."""
     carriers = {pid for pid, one in survey.by_pid.items() if one.has_page}
-    for number in dict.fromkeys(one.number for one in survey.programmes):
-        records = [one for one in survey.programmes if one.number == number]
+    by_number: dict[int, list[ProgramMap]] = {}
+    for record in survey.programmes:
+        by_number.setdefault(record.number, []).append(record)
+    for records in by_number.values():
         named = [*named_in_turn(records, page, carriers)]
         if len(named) > 1 and {pid for pid, _ in named} == carriers:
             begins = [at for _, at in named]
@@ -341,7 +343,7 @@ def joined_stages(stages: Sequence[Stage]) -> Packets:
     """What is sent of the page on all PIDs, one after another, as if it were on one: by numbers of
     their own."""
     first = stages[0].packets
-    whole = dataclasses.replace(first, runs=[], held=[], strays=[], changes=[], marks=[])
+    whole = dataclasses.replace(first, runs=[], held=[], strays=[], changes=[], marks=[], seams=[])
     for stage in stages:
         low, high = stage.inside
         more, one = whole.count - low, stage.packets

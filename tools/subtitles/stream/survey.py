@@ -10,6 +10,7 @@ from typing import BinaryIO, Callable, IO, Iterable, Iterator, NamedTuple
 from ..common.command_line import Unanswered, page_in, pid_name, shown, stream_words
 from ..common.times import TICKS, ticks_between, wrapped
 from ..formats.teletext import Page, page_name
+from .pictures import Distance, PictureClock, Step
 
 
 # PES packets of a PID with Teletext, as values: what each does with the page, and what is missing
@@ -99,6 +100,7 @@ class Packets:
     samples: list[tuple[int, int]] = dataclasses.field(default_factory=list)  # PTS, ticks ahead
     sets: list[tuple[int, int, int | None, int | None]] = dataclasses.field(default_factory=list)
     sent: dict[str, int] = dataclasses.field(default_factory=dict)  # pages with the subtitle bit
+    seams: list[int] = dataclasses.field(default_factory=list)  # before which a jump is announced
     damage: str | None = None  # why a file of PES packets can't be read on
     refusal: int = 0  # 31 or 32 where what follows is no PES packet with Teletext
     packets: int = 0  # TS packets of it
@@ -172,6 +174,7 @@ SHOWN = 12  # pages of a line
 SUBTITLE_KINDS = (2, 5)
 KINDS = {1: "initial page", 2: "subtitles", 3: "additional information", 4: "programme schedule",
          5: "subtitles for the hard of hearing"}
+LATEST = 8  # PIDs of the PCR of a programme, at most, of which one tells when its PMT changes
 ENOUGH = 1 << 16  # bytes of lines that are taken at a time
 HIT = b"\xa0"  # a space whose byte had even parity
 NO_LETTERS = bytes(range(0x21))
@@ -211,7 +214,6 @@ class Video:
     pictures: list[int | None] = dataclasses.field(default_factory=list)
     lost: int = 0
     scrambled: int = 0
-    is_over: bool = False
     is_cut: bool = False
     form: str = ""
 
@@ -247,8 +249,11 @@ class Survey:
         self.is_whole = False
         self.strange = ""  # the line of another version, or of a program that failed
         self.programmes: list[ProgramMap] = []
+        self.pcr_pids: dict[int, list[int]] = {}  # of a programme by its number, the latest last
         self.by_pid: dict[int, Packets] = {}
         self.videos: dict[int, Video] = {}
+        self.tells_seams = False  # by a line that no program had before one that tells them
+        self.picture_clocks: dict[int, PictureClock] = {}
         self.clocks: dict[int, tuple[int, int]] = {}  # the first PCR and the last one
 
     def take(self, line: str) -> None:
@@ -281,10 +286,12 @@ class Survey:
         self.size = int(size)
 
     def take_programme(self, number: str, clock: str, *_: str) -> None:
-        pids = [int(clock), *(one.pcr_pid for one in reversed(self.programmes)
-                              if one.number == int(number))]
-        known = [self.clocks[pid][1] for pid in pids if pid in self.clocks]
-        self.programmes.append(ProgramMap(int(number), int(clock), after=next(iter(known), None)))
+        pids = self.pcr_pids.setdefault(int(number), [])
+        known = (self.clocks[pid][1] for pid in (int(clock), *reversed(pids)) if pid in self.clocks)
+        self.programmes.append(ProgramMap(int(number), int(clock), after=next(known, None)))
+        if int(clock) in pids:
+            pids.remove(int(clock))
+        pids[:] = [*pids, int(clock)][-LATEST:]
 
     def take_stream(self, pid: str, kind: str, *_: str) -> None:
         self.programmes[-1].kinds[int(pid)] = int(kind)
@@ -352,13 +359,33 @@ class Survey:
     def take_picture(self, pid: str, pts: str, *_: str) -> None:
         self.videos[int(pid)].pictures.append(number_of(pts))
 
+    def take_seam(self, pid: str, number: str, *_: str) -> None:
+        self.of(pid).seams.append(int(number))
+        self.tells_seams = True
+
     def take_group(self, pid: str, flagged: str, least: str, form: str, *_: str) -> None:
         self.videos[int(pid)].form = form
+        self.tells_seams = True
+
+    def take_apart(self, pid: str, pts: str, ticks: str, video: str, *_: str) -> None:
+        self.picture_clock(video).lines.append(Distance(int(pid), int(pts), int(ticks)))
+
+    def take_step(self, pid: str, before: str, after: str, usual: str, *_: str) -> None:
+        self.picture_clock(pid).lines.append(Step(int(before), int(after), int(usual)))
+
+    def take_steps(self, pid: str, count: str, usual: str, *_: str) -> None:
+        clock = self.picture_clock(pid)
+        clock.untold = int(count) - sum(isinstance(line, Step) for line in clock.lines)
+        clock.has_step = usual != "-"
+        self.tells_seams = True
+
+    def picture_clock(self, pid: str) -> PictureClock:
+        return self.picture_clocks.setdefault(int(pid), PictureClock())
 
     def take_pictures(self, pid: str, lost: str, scrambled: str, passed: str = "",
                       *_: str) -> None:
         one = self.videos.setdefault(int(pid), Video(int(passed or 0)))
-        one.lost, one.scrambled, one.is_over = int(lost), int(scrambled), True
+        one.lost, one.scrambled = int(lost), int(scrambled)
         one.is_cut = passed != ""
 
     def take_damaged(self, pid: str, number: str, why: str, *_: str) -> None:
@@ -466,8 +493,9 @@ def names_of(code: str) -> list[str]:
 
 # Jumps of a counter that a transport stream announces (ISO/IEC 13818-1, discontinuity_indicator).
 #
-# There the counter of a PID tells no loss, and `survey` names none. So where more time passes than
-# usual from a PES packet to the next one, the packets of the PID are looked at themselves.
+# There the counter of a PID tells no loss. A later `survey` tells the PES packets behind each; of
+# an earlier one, where more time passes than usual from a PES packet to the next one, the packets
+# of the PID are looked at themselves.
 
 SYNC, ADAPTATION, ANNOUNCED, BEGINS = 0x47, 0x20, 0x80, 0x40
 PACKET, HEAD, IN_A_ROW = 188, 14, 5
@@ -476,13 +504,27 @@ IN_A_PIECE = 4096  # TS packets, at most, that are looked at at once
 PTS_AT = slice(9, 14)  # in a PES header
 
 
+def late_pairs(packets: Packets, inside: Range, usual: int) -> dict[int, int]:
+    """Of each PES packet that comes more frames after the one before than is usual the PTS, with
+    that of the one before."""
+    pts = [*packets.pts(inside)]
+    return {after: before for before, after in zip(pts, pts[1:])
+            if ticks_between(before, after) > usual * TICKS}
+
+
+def jumps_told(packets: Packets, inside: Range, usual: int) -> list[PTSPair]:
+    """Where a jump is announced of a PID, as it is told, and a PES packet comes more frames after
+    the one before than is usual: the PTS of both."""
+    late = late_pairs(packets, inside, usual)
+    found = (packets.pts_at(number) for number in packets.seams
+             if inside[0] <= number <= inside[1])
+    return [(late[one], one) for one in dict.fromkeys(found) if one in late]
+
+
 def jumps_at(packets: Packets, inside: Range, usual: int, path: str, size: int) \
         -> list[PTSPair]:
-    """Where a jump is announced of a PID and a PES packet comes more frames after the one before
-    than is usual: the PTS of both. `size` is from one TS packet to the next."""
-    pts = [*packets.pts(inside)]
-    late = {after: before for before, after in zip(pts, pts[1:])
-            if ticks_between(before, after) > usual * TICKS}
+    """The same where none is told, by the TS packets; `size` is from one to the next."""
+    late = late_pairs(packets, inside, usual)
     if not late:
         return []
     with open(path, "rb") as file:

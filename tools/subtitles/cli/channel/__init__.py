@@ -1,8 +1,12 @@
 """The programmes of a channel: a recorder and a judge, two processes that share files alone.
 
+spool          the folder of a channel: what may stand in it, and files by which processes talk
+records        the record of each programme: what has to be judged, and what has its result
 recorder       the recorder: a feed written into segments, which the judge reads as they grow
+listening      a feed that is heard while it comes: calls of `survey`, and when they have all
 feed           what is heard of a feed: its time, its pages, its silence
 schedule       the programmes of a list: those planned, those waited for, the one that is on air
-results        results of programmes, the state for machines, and the command after each
+results        results of programmes: judged, again where the machine failed, and published
+machine        the state for machines, and what is wrong
 channel        the judge of a channel: list and segments held against each other
 """

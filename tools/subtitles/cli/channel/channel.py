@@ -10,14 +10,12 @@ import tempfile
 import time
 from typing import Any, Iterator
 
-from ...clock.origin import Origin
 from ...clock.start import FITTED_SHORT
 from ...common.command_line import (
     Stop, Unanswered, counted, error_line, shown, tell)
 from ...common.files import Inputs, temporary_folder
 from ...common.times import FRAMES_OF_A_DAY, TICKS, time_of
 from ...judging.status import NOT_JUDGED, of_all
-from ...recording.feed import Ending, Stall
 from ...request.commands import CommandWords, Progress
 from ...request.request import AUTO, AUTO_OF_FEED, Request, Unclear
 from ...results.objects import ENDING, in_order, row_of_object, unjudged
@@ -25,6 +23,7 @@ from .. import collection, single
 from ..single import locking, refuse_files_of_all
 from . import machine, results
 from .feed import Hearing, MINUTE, SECOND
+from .listening import Ending, Stall
 from .machine import Alarms, DISK, Feed, LOSS, Machine, RECORDER, SILENCE, lines_of
 from .records import Due, Record
 from .recorder import Begin, Recorded, Segments, say_dated
@@ -309,7 +308,7 @@ class Channel:
         origin = self.hearing.of(one.asked).clock.pts_at(seen.midnight)
         asked = dataclasses.replace(one.asked, origin=origin, pid=None)
         self.running = OnAir(one.programme, asked, seen.midnight, first, last,
-                             Ending(asked, first, last, lambda _: Origin()))
+                             Ending(asked, first, last))
 
     def leave(self, reason: str, until: int | None = None) -> None:
         """The first programme that is waited for is not judged; the next one is waited for, since
@@ -364,7 +363,8 @@ class Channel:
         else:
             known = unjudged(record.name, final or f"{due.moved}: {found.reason}")
         hint = row_of_object(known, record.name).hint
-        self.end(record, known, (f"; {hint}" if hint else "") + f"; {FITTED_SHORT}" * due.is_fitted)
+        self.end(record, known, results.time_of_lead(known) + (f"; {hint}" if hint else "") +
+                 f"; {FITTED_SHORT}" * due.is_fitted)
 
     def judged(self, record: Record, due: Due) -> Judged:
         """What a programme comes to."""
@@ -382,9 +382,8 @@ class Channel:
         words = self.words
         placed: dict[str, Any] = {"out": words.out, "here": folder} if words.out is not None else \
             {"json": os.path.join(folder, record.name + ENDING)}
-        call = single.PairCall(words.program, is_kept=words.is_kept, stall=words.stall,
-                               name=record.name, is_claimed=True, is_fitted=due.is_fitted,
-                               given=path, **placed)
+        call = single.PairCall(words.program, is_kept=words.is_kept, name=record.name,
+                               is_claimed=True, is_fitted=due.is_fitted, given=path, **placed)
         verdict = single.judged(asked, call, self.called)
         return verdict.status if verdict.is_final else results.PASSING
 
@@ -487,11 +486,10 @@ class Channel:
 
     def lines(self) -> machine.Lines:
         """How many lines have what result."""
-        named = [one.name for one in self.queue.planned.programmes]
-        rows = [self.rows[name] for name in named
-                if name in self.rows and name not in self.left_open
-                and not self.records.is_due(name)]
-        return lines_of(len(named) - len(rows), rows, len(self.results.failed))
+        listed = self.queue.planned.programmes
+        rows = [record.row for one in listed
+                if (record := self.records.by_name.get(one.name)) and record.row]
+        return lines_of(len(listed) - len(rows), rows, len(self.results.failed))
 
     def tell_machine(self) -> None:
         """What a machine asks, and what is wrong now."""

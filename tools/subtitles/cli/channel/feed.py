@@ -12,13 +12,13 @@ from ...common.times import (
     ALL_DAY, Between, EARLY, FRAMES_A_SECOND, TICKS, pts_of, ticks_between, time_of, wrapped)
 from ...formats.stl import letters_on_page, readable, stl_bytes, subtitle_times
 from ...formats.teletext import Page, page_name
-from ...recording.feed import Listening, SOON
 from ...recording.recording import refuse_stream
 from ...request.request import Request
 from ...stream import ranges
 from ...stream.gaps import Place, hole_of, overlap, what_of
 from ...stream.ranges import MOST_OVERLAP
 from ...stream.survey import HEADER, PES, Packets, Run, Survey
+from .listening import Listening, SOON
 from .recorder import Begin
 
 
@@ -333,6 +333,7 @@ class Heard(Survey):
         self.others = set[int]()  # PIDs that send the page, too
         self.moved = ""  # what the PMT says, until something comes of the new PID
         self.found: int | None = None  # the PTS of the first header of the page
+        self.found_at = 0  # the time then
         self.silence, self.losses = Silence(self.said), Losses(self.said)
 
     @property
@@ -388,14 +389,14 @@ class Heard(Survey):
                 abs(ticks_between(self.found or 0, run.pts or 0)) < BOTH
             if is_at_once and self.likely not in (pid, self.pid):
                 raise Stop(f"{both}: say which one by --pid")
-            if is_at_once and self.likely == pid:
+            if self.likely == pid and self.now - self.found_at < BOTH:
                 self.others = {self.pid}
                 self.begin_with(pid, run)
             self.said.append(f"{both}: {pid_name(self.pid)} is heard on")
 
     def begin_with(self, pid: int, run: Run) -> None:
         """Hears a PID from what came of it on."""
-        self.pid, self.found = pid, run.pts
+        self.pid, self.found, self.found_at = pid, run.pts, self.now
         self.changes = {is_within: Changes() for is_within in (False, True)}
         for earlier in self.by_pid[pid].runs[:-1]:
             self.go_on(earlier)
@@ -515,6 +516,9 @@ class Heard(Survey):
             if floor > 0:
                 self.forget(packets, packets.runs[floor].first)
             del packets.samples[:-KEPT], packets.clocked[:-KEPT], packets.sets[:-KEPT]
+            del packets.seams[:-KEPT]
+        for clock in self.picture_clocks.values():
+            del clock.lines[:-KEPT]
         del self.programmes[:-KEPT]
 
     @staticmethod

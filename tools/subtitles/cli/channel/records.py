@@ -152,10 +152,6 @@ class Records:
 
     # ---- what is asked
 
-    def has(self, name: str) -> bool:
-        """Whether a programme has a result that stays, or gets one."""
-        return name in self.by_name
-
     def over(self) -> int:
         """When the last programme was over, of whatever list."""
         return max((one.over for one in self.all.values()), default=0)
@@ -163,10 +159,6 @@ class Records:
     def since(self) -> int:
         """Since when the next one is waited for."""
         return max((one.since for one in self.all.values()), default=0)
-
-    def is_due(self, name: str) -> bool:
-        """Whether a programme has to be judged."""
-        return name in self.by_name and self.by_name[name].due is not None
 
     def due(self) -> list[Record]:
         """Those that have to be judged."""

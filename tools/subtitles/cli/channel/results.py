@@ -202,8 +202,10 @@ class Results:
         return False
 
     def judge(self, one: Record, call: Callable[[str], int]) -> Judged:
-        """Judges a programme."""
+        """Judges a programme; where that failed before in the room that is kept for results."""
         assert one.due
+        if self.tries_of(one).count:
+            self.records.room.give()
         return judged(call, one.name, self.records.work(one.number), self.folder, one.due.parts)
 
     def needed(self, since: int) -> int | None:
@@ -311,6 +313,14 @@ def result_at(path: str) -> dict[str, Any] | None:
     is_result = isinstance(known, dict) and "verdict" in known and (
         known.get("format") != FORMAT or misfit(known) is None)
     return object_at(path) if is_result else None
+
+
+def time_of_lead(known: dict[str, Any]) -> str:
+    """When the fault came that the line of a result names, where that line names a PES packet."""
+    lead = (known.get("lead") or "").partition("\n")[0]
+    fault = next((one for one in known.get("faults", ()) if one["line"] == lead), None)
+    time = fault and fault["frame"] is None and fault["pes_time"]
+    return f", at {time}" if time else ""
 
 
 def rows_of_others(out: str, names: set[str]) -> dict[str, Row]:

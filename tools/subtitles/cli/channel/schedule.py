@@ -11,7 +11,6 @@ from typing import Any, Callable, Iterable, NamedTuple, Sequence, Union
 from ...common.command_line import Stop, Words, error_line
 from ...common.files import Line, folder_of, lines_in, list_at
 from ...common.times import FRAMES_OF_A_DAY, TICKS, time_of
-from ...recording.feed import Ending
 from ...request.commands import NamesOfList
 from ...request.lines import read_options, refuse_settings
 from ...request.request import (
@@ -20,6 +19,7 @@ from ...results.objects import found_at
 from ..batch import no_file
 from ..main import refuse_options
 from .feed import Awaited, Heard, Hearing, MINUTE, Timed
+from .listening import Ending
 from .records import Record, is_name
 from .spool import Journal, are, is_number
 

@@ -1,0 +1,187 @@
+"""A page that the PMT announces and that never comes on its PID: refused by that name, or not
+judged where nobody can tell which programme is meant, or whether something was due."""
+from __future__ import annotations
+
+import json
+from typing import Sequence
+
+from developing.pes import pes_packet, pts_in
+from subtitles.common.times import CLOCK, TICKS
+from subtitles.recording.announced import (
+    Announcement, announcements_of, is_due_in, silent_beside, unsent_by)
+from subtitles.stream.gaps import SECOND
+from subtitles.stream.survey import Survey
+from .bench import Case, packets
+from .judged import Judged, judged, programme
+from .test_moves import NEW, OLD, Sent, in_turn
+from .test_pairs_in_parts import times
+
+PAGE = (0, 0x88)
+ONE, TWO, THREE = 257, 258, 259
+
+
+def heard(*lines: str) -> list[Announcement]:
+    """What is announced of the page by lines of `survey`."""
+    survey = Survey()
+    for line in lines:
+        survey.take(line)
+    return [*announcements_of(survey.programmes, PAGE)]
+
+
+def at(seconds: float | None) -> int | None:
+    """A PCR."""
+    return None if seconds is None else int(seconds * SECOND)
+
+
+def table(number: int, *pids: int, clock: int = 100, page: str = "888") -> list[str]:
+    """The lines of a PMT that announces a page."""
+    return [f"programme {number} {clock}", *(line for pid in pids for line in (
+        f"stream {pid} 6", f"announce {pid} {page} 656e67 2"))]
+
+
+class Announced(Case):
+    """By tables."""
+
+    def test_when(self) -> None:
+        """From the PCR before a PMT up to the one before the next of that programme, of each PMT
+        that announces the page."""
+        lines = [*table(1, ONE), f"pcr 100 {SECOND}", *table(1, TWO), f"pcr 100 {9 * SECOND}",
+                 *table(2, THREE, clock=200), *table(1, ONE, page="150")]
+        found = heard(*lines)
+        self.must("when", found == [
+            Announcement(1, frozenset({ONE}), None, SECOND),
+            Announcement(1, frozenset({TWO}), SECOND, 9 * SECOND),
+            Announcement(2, frozenset({THREE}), None, None)], found)
+
+    def test_unsent(self) -> None:
+        """Of the subtitles' time, from 10 to 20 seconds, by the programme that carries the page,
+        or by any where none announces its PID: one of several PIDs is enough."""
+        begin, end = 10 * SECOND, 20 * SECOND
+        own = Announcement(1, frozenset({ONE}), None, None)
+        other = Announcement(1, frozenset({TWO}), None, None)
+        both = Announcement(1, frozenset({ONE, TWO}), None, None)
+        foreign = Announcement(2, frozenset({TWO}), None, None)
+        rows: list[tuple[str, Sequence[Announcement], set[int], Announcement | None]] = [
+            ("sent", [own], {ONE}, None), ("sent elsewhere", [other], {ONE}, other),
+            ("one of two", [both], {ONE}, None), ("sent by none", [other], set(), None),
+            ("another programme", [own, foreign], {ONE}, None),
+            ("no programme announces it", [foreign], {ONE}, foreign),
+            ("nothing announced", [], {ONE}, None),
+            *((f"from {first} to {last}", [own, one], {ONE}, one if is_in else None)
+              for first, last, is_in in (
+                  (None, 12.5, True), (None, 12, False), (None, 9, False), (17.5, None, True),
+                  (18, None, False), (25, None, False), (5, 30, True), (12, 15, True))
+              for one in [Announcement(1, frozenset({TWO}), at(first), at(last))])]
+        for name, announced, carriers, wanted in rows:
+            self.must(name, unsent_by(announced, carriers, begin, end) == wanted)
+            shifted = [one._replace(begin=one.begin and (one.begin - 15 * SECOND) % CLOCK,
+                                    end=one.end and (one.end - 15 * SECOND) % CLOCK)
+                       for one in announced]
+            found = unsent_by(shifted, carriers, (begin - 15 * SECOND) % CLOCK, 5 * SECOND)
+            self.must(f"{name}: over the wrap", (found is None) == (wanted is None), found)
+
+    def test_silent(self) -> None:
+        """Of several programmes those that never send it, where one does."""
+        rows: list[tuple[list[str], set[int], set[int]]] = [
+                ([*table(1, ONE)], {ONE}, set()), ([*table(1, ONE), *table(2, TWO)], {ONE}, {TWO}),
+                ([*table(1, ONE), *table(2, TWO), *table(3, THREE)], {ONE, TWO}, {THREE}),
+                ([*table(1, ONE), *table(2, TWO)], {ONE, TWO}, set()),
+                ([*table(1, ONE), *table(2, TWO)], set(), set()),
+                ([*table(1, ONE), *table(2, TWO)], {THREE}, set()),
+                ([*table(1, ONE, TWO)], {ONE}, set()),
+                ([*table(1, ONE), *table(2, ONE)], {ONE}, set())]
+        for lines, carriers, wanted in rows:
+            self.must(f"{lines} {carriers}", silent_beside(heard(*lines), carriers) == wanted)
+
+    def test_due(self) -> None:
+        """By an origin where all of a subtitle's time is recorded; without one where so much is as
+        the programme takes; also over the wrap."""
+        subtitles = [(100, 150), (500, 600)]
+        for first, last, origin, wanted in (
+                (0, 1000, 0, True), (100, 150, 0, True), (101, 599, 0, False),
+                (100, 149, 0, False), (500, 600, 0, True), (160, 490, 0, False),
+                (601, 9999, 0, False), (0, 90, 0, False), (0, 500, None, True),
+                (7, 507, None, True), (0, 499, None, False)):
+            for shift in (0, CLOCK - 300 * TICKS):
+                clock = (shift + first * TICKS) % CLOCK, (shift + last * TICKS) % CLOCK
+                found = is_due_in(clock, subtitles, None if origin is None else shift)
+                self.must(f"{first} {last} {origin} {shift}", found == wanted)
+        self.must("no PCR", not is_due_in(None, subtitles, 0))
+        self.must("no subtitle", not is_due_in((0, CLOCK // 2), [], 0))
+
+
+class Judgements(Case):
+    """Ten subtitles, with a page transmission a second."""
+
+    def setUp(self) -> None:
+        super().setUp()
+        self.stl = programme(self, times(10))
+        self.schedule(self.stl, "sent.pes", "--every", "25")
+        self.pes = packets(self.read("sent.pes"))
+
+    def judge(self, plan: Sequence[tuple[int, int]], sent: Sent, *words: str,
+              count: int | None = None) -> Judged:
+        data = in_turn(self.pes[:count], plan, sent)
+        return judged(self, self.stl, self.write("one.ts", data), *words)
+
+    def on_old(self, at: int) -> Sequence[tuple[int, bytes]]:
+        return [(OLD, self.pes[at])]
+
+    def bare(self, at: int) -> Sequence[tuple[int, bytes]]:
+        """The PID is there, and carries nothing of the page."""
+        return [(NEW, pes_packet(pts_in(self.pes[at]), []))]
+
+    def is_never_sent(self, name: str, told: Judged, words: str) -> None:
+        fault, = told.result["faults"]
+        known = told.result
+        self.must(name, (told.word, known["status"], known["line"], known["lead"]) == (
+            "refused", 1, "refused never sent", "refused never sent") and (
+                fault["number"], fault["name"], fault["means"]) == (None, "never sent", words)
+                  and told.verdict.sentence == f"Refused: {words}." and known["parts"] == []
+                  and known["subtitle_counts"] is None, told.said)
+
+    def test_elsewhere(self) -> None:
+        """On a PID that no PMT announces, from the beginning or from some time on; not where that
+        is behind the subtitles, nor where the PID that has the page is typed."""
+        self.must("sent", self.judge([(0, OLD)], self.on_old, "--every", "25").word == "accepted")
+        words = "page 888 is announced in PID 0x111, never sent (no TS packet of PID 0x111); " \
+            "PID 0x101 has it"
+        self.is_never_sent("announced elsewhere", self.judge([(0, NEW)], self.on_old), words)
+        half = len(self.pes) // 2
+        self.is_never_sent("moved", self.judge([(0, OLD), (half, NEW)], self.on_old), words)
+        rows: list[tuple[str, list[tuple[int, int]], list[str]]] = [
+            ("typed", [(0, NEW)], ["--pid", f"0x{OLD:X}"]),
+            ("at the end", [(0, OLD), (len(self.pes) - 1, NEW)], [])]
+        for name, plan, more in rows:
+            told = self.judge(plan, self.on_old, "--every", "25", *more)
+            self.must(name, told.word == "accepted", told.said)
+
+    def test_nowhere(self) -> None:
+        """Refused where it is due by the clock, or the recording is as long as the programme; of a
+        short one nobody knows."""
+        words = "page 888 is announced in PID 0x111, never sent"
+        rows: list[tuple[str, int | None, list[str], bool]] = [
+                ("all", None, [], True), ("a third", len(self.pes) // 3, [], False),
+                ("a third, by the clock", len(self.pes) // 3, ["--origin", "0"], True),
+                ("at another time", None, ["--origin", f"{CLOCK // 2}"], False),
+                ("typed", None, ["--pid", f"0x{NEW:X}"], True)]
+        for name, count, more, is_due in rows:
+            told = self.judge([(0, NEW)], self.bare, *more, count=count)
+            if is_due:
+                self.is_never_sent(name, told, words)
+            else:
+                self.must(name, told.word == "not judged", told.said)
+
+    def test_severity(self) -> None:
+        """A file may name it a warning: then nothing is judged."""
+        path = self.write("severity", b"never sent warning\n")
+        told = self.judge([(0, NEW)], self.bare, "--severity", path)
+        self.must("a warning", told.word == "not judged", told.said)
+
+    def test_pages(self) -> None:
+        """Its report and its result in a folder."""
+        out = self.path("out")
+        self.judge([(0, NEW)], self.bare, "-o", out)
+        page = self.read("out/one.html").decode()
+        self.must("report", "is announced in PID 0x111, never sent" in page and
+                  json.loads(self.read("out/one.json"))["status"] == 1, page[:2000])
