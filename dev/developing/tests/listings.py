@@ -12,7 +12,7 @@ from subtitles.cli import single
 from subtitles.cli.channel.channel import Channel
 from subtitles.cli.channel.feed import Heard, Hearing
 from subtitles.cli.channel.recorder import Begin
-from subtitles.cli.channel.records import Read, Record
+from subtitles.cli.channel.records import Read, Outcome
 from subtitles.cli.channel.results import Judged, PASSING
 from subtitles.common.times import CLOCK, FRAMES_A_SECOND, TICKS
 from subtitles.formats.teletext import Page
@@ -126,7 +126,7 @@ class Told(Channel):
         self.segments.between = lambda *times: [Read(1, 0)]  # type: ignore[method-assign]
         self.segments.known = -2
 
-    def judge_beside(self, one: Record, call: Callable[[str], int]) -> Judged:
+    def judge_beside(self, one: Outcome, call: Callable[[str], int]) -> Judged:
         """Stands for another process that judges."""
         folder = self.records.work(one.number)
         shutil.rmtree(folder, ignore_errors=True)

@@ -13,14 +13,15 @@ from ..stream.survey import Survey
 NOT_CHECKED = "not checked: whether the pictures leave the subtitles"
 
 
-class Left(NamedTuple):
+class PicturesFound(NamedTuple):
     """What is wrong, and what is said beside: what `--within` allows, and what is not checked."""
 
     faults: list[NamedFault]
     notes: list[str]
 
 
-def left_by_pictures(survey: Survey, pid: int, found: Found, within: int, number: int) -> Left:
+def left_by_pictures(survey: Survey, pid: int, found: Found, within: int, number: int
+                     ) -> PicturesFound:
     """What the pictures leave of a part by its number, whose Teletext is on a PID."""
     kinds = {pid for programme in survey.programmes_of(pid) for pid in programme.kinds}
     faults, notes = list[NamedFault](), list[str]()
@@ -30,7 +31,7 @@ def left_by_pictures(survey: Survey, pid: int, found: Found, within: int, number
             faults += faults_of([one for one in inside if one.ticks], found, within, number)
             notes += late_notes([one for one in inside if one.ticks], found, within)
             notes += unclear_notes(clock, sum(one.ticks is None for one in inside))
-    return Left(faults, notes)
+    return PicturesFound(faults, notes)
 
 
 def departures_in(several: Sequence[Departure], found: Found) -> list[Departure]:

@@ -25,7 +25,7 @@ from . import machine, results
 from .feed import Hearing, MINUTE, SECOND
 from .listening import Ending, Stall
 from .machine import Alarms, DISK, Feed, LOSS, Machine, RECORDER, SILENCE, lines_of
-from .records import Due, Record
+from .records import Due, Outcome
 from .recorder import Begin, Recorded, Segments, say_dated
 from .results import Judged, Results
 from .schedule import Arrival, ENDED, LOST, MARGIN, OnAir, Planned, Programme, Queue
@@ -347,7 +347,7 @@ class Channel:
         while record := self.results.next_due():
             self.judge_record(record)
 
-    def judge_record(self, record: Record) -> None:
+    def judge_record(self, record: Outcome) -> None:
         """Tries to judge a programme. As long as it can be judged another time it has no result."""
         due, tries = record.due, self.results.tries_of(record)
         assert due
@@ -366,7 +366,7 @@ class Channel:
         self.end(record, known, results.time_of_lead(known) + (f"; {hint}" if hint else "") +
                  f"; {FITTED_SHORT}" * due.is_fitted)
 
-    def judged(self, record: Record, due: Due) -> Judged:
+    def judged(self, record: Outcome, due: Due) -> Judged:
         """What a programme comes to."""
         try:
             asked = self.queue.planned.asked_of([*due.words])
@@ -375,7 +375,7 @@ class Channel:
         asked = dataclasses.replace(asked, origin=due.origin, pid=due.pid, recording="-")
         return self.results.judge(record, lambda path: self.judge_in(record, asked, due, path))
 
-    def judge_in(self, record: Record, asked: Request, due: Due, path: str) -> int:
+    def judge_in(self, record: Outcome, asked: Request, due: Due, path: str) -> int:
         """Judges a file with what came of a programme; what is written has its place in the folder
         of that now. The status is `PASSING` where the machine failed."""
         folder = tempfile.tempdir = os.path.dirname(path)
@@ -404,7 +404,7 @@ class Channel:
         self.left_open.add(name)
         self.show_result(name, known, "")
 
-    def end(self, record: Record, known: dict[str, Any], more: str) -> None:
+    def end(self, record: Outcome, known: dict[str, Any], more: str) -> None:
         """A programme has its result: kept, told, and written where it is wanted."""
         why = self.records.put(record, known)
         if why:
@@ -484,7 +484,7 @@ class Channel:
             self.leave_open(record.name, unjudged(
                 record.name, last.reason if last else BEFORE_IT, True))
 
-    def lines(self) -> machine.Lines:
+    def lines(self) -> machine.LineCounts:
         """How many lines have what result."""
         listed = self.queue.planned.programmes
         rows = [record.row for one in listed

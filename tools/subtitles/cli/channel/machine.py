@@ -23,7 +23,7 @@ OWN = re.compile(rb'\{\s*"format": [0-9]+,\s*"date": "')
 RUNNING, ENDED, STOPPED, UNREADABLE = "running", "ended", "stopped", "unreadable"
 
 
-class Lines(NamedTuple):
+class LineCounts(NamedTuple):
     """How many lines of the list have no result, have one that is a verdict, of these one that is
     not accepted, and one that is not written."""
 
@@ -34,11 +34,11 @@ class Lines(NamedTuple):
     not_written: int
 
 
-def lines_of(open_lines: int, rows: Sequence[Row], not_written: int) -> Lines:
+def lines_of(open_lines: int, rows: Sequence[Row], not_written: int) -> LineCounts:
     """The lines that are told."""
     judged = [row for row in rows if row.is_judged]
     refused = [row for row in judged if row.verdict not in (ACCEPTED, WAIVED)]
-    return Lines(open_lines, len(judged), len(refused), len(rows) - len(judged), not_written)
+    return LineCounts(open_lines, len(judged), len(refused), len(rows) - len(judged), not_written)
 
 
 class Feed(NamedTuple):
@@ -91,8 +91,8 @@ class Machine:
         """Something was lost."""
         self.loss = now()
 
-    def tell(self, sent: str | None, waiting: Sequence[str], waiting_seconds: int, lines: Lines,
-             feed: Feed, alarms: Sequence[str], inputs: Inputs) -> None:
+    def tell(self, sent: str | None, waiting: Sequence[str], waiting_seconds: int,
+             lines: LineCounts, feed: Feed, alarms: Sequence[str], inputs: Inputs) -> None:
         """Tells which programme is sent, which are waited for, since so many seconds, and what is
         known of lines and feed."""
         if self.path is None:

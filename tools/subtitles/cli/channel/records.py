@@ -11,7 +11,7 @@ from typing import Any, Iterator, NamedTuple, Sequence
 from ...common.files import BEGIN
 from ...results.objects import ENDING, MOST_READ, Row, found_at, object_text, row_of_object
 from . import spool
-from .spool import RECORD, Room, WORK, are, is_number, numbers_in, opened, path_of, put_whole
+from .spool import RECORD, KeptRoom, WORK, are, is_number, numbers_in, opened, path_of, put_whole
 
 # A record is a file that stays: its first line says what is known of the programme, and behind that
 # stands its JSON result, from which that in the folder of results is made. `told` is written in
@@ -44,7 +44,7 @@ class Due(NamedTuple):
 
 
 @dataclasses.dataclass
-class Record:
+class Outcome:
     """A programme: its name in the folder `out` of results, its subtitle file as it was, when it
     was over, and since when the next one is waited for; and what is `due`, or the `row` of its
     result. `is_told`: that is written, and somebody was told."""
@@ -74,7 +74,7 @@ class Record:
         return TOLD % self.is_told + json.dumps(known).encode()[1:] + b"\n"
 
 
-def record_of(number: int, head: bytes) -> Record:
+def record_of(number: int, head: bytes) -> Outcome:
     """The record that a first line is; `ValueError` where it is none."""
     known = json.loads(head)
     if not isinstance(known, dict) or known.get("format") != FORMAT:
@@ -83,7 +83,7 @@ def record_of(number: int, head: bytes) -> Record:
     if known["due"]:
         words, origin, pid, is_fitted, parts, moved = known["due"]
         due = Due(words, origin, pid, bool(is_fitted), [Read(*part) for part in parts], str(moved))
-    one = Record(number, known["name"], known["out"], known["stl"], known["found"], known["over"],
+    one = Outcome(number, known["name"], known["out"], known["stl"], known["found"], known["over"],
                  known["since"], due, row and Row(*row), known["size"], bool(known["told"]))
     is_right = is_name(one.name) and are((one.out, one.stl), str, str) and \
         all(map(is_number, (one.over, one.since, one.size))) and \
@@ -111,7 +111,7 @@ class Records:
     somebody has to hear of it. What can't be written is kept in `unkept` until it can be."""
 
     def __init__(self, folder: str, out: str) -> None:
-        self.folder, self.out, self.room = folder, out, Room(folder)
+        self.folder, self.out, self.room = folder, out, KeptRoom(folder)
         self.said: list[str] = []
         self.unkept: dict[int, bytes] = {}  # results
         self.all = {number: one for number in numbers_in(folder, RECORD)
@@ -121,7 +121,7 @@ class Records:
         self.sweep()
         self.room.keep()
 
-    def read(self, number: int) -> Record | None:
+    def read(self, number: int) -> Outcome | None:
         """A record; `None` where it is damaged, and was set aside."""
         try:
             with open(opened(path_of(self.folder, number, RECORD), os.O_RDONLY), "rb") as file:
@@ -160,15 +160,15 @@ class Records:
         """Since when the next one is waited for."""
         return max((one.since for one in self.all.values()), default=0)
 
-    def due(self) -> list[Record]:
+    def due(self) -> list[Outcome]:
         """Those that have to be judged."""
         return [one for one in self.by_name.values() if one.due]
 
-    def untold(self) -> list[Record]:
+    def untold(self) -> list[Outcome]:
         """Those whose results have not got their place."""
         return [one for one in self.by_name.values() if one.row and not one.is_told]
 
-    def result(self, one: Record) -> Iterator[bytes]:
+    def result(self, one: Outcome) -> Iterator[bytes]:
         """The JSON result of a programme."""
         if one.number in self.unkept:
             yield self.unkept[one.number]
@@ -180,18 +180,18 @@ class Records:
 
     # ---- what is recorded
 
-    def new(self, name: str, stl: str, over: int, since: int) -> Record:
+    def new(self, name: str, stl: str, over: int, since: int) -> Outcome:
         """The record of a programme, which is written by `put`."""
         self.next += 1
-        return Record(self.next - 1, name, self.out, stl, found_at(stl), over, since)
+        return Outcome(self.next - 1, name, self.out, stl, found_at(stl), over, since)
 
-    def put_due(self, one: Record, due: Due) -> None:
+    def put_due(self, one: Outcome, due: Due) -> None:
         """A programme has to be judged. Where that can't be written another call hears it anew."""
         one.due, self.all[one.number], self.by_name[one.name] = due, one, one
         with contextlib.suppress(OSError):
             self.room.put(lambda: self.write(one, []))
 
-    def put(self, one: Record, known: dict[str, Any], folder: str | None = None) -> str | None:
+    def put(self, one: Outcome, known: dict[str, Any], folder: str | None = None) -> str | None:
         """A programme has its result, before anybody is told; why it could not be kept. One of a
         pair is as it stands in a folder."""
         path = os.path.join(folder or self.work(one.number), one.name + ENDING)
@@ -204,7 +204,7 @@ class Records:
         self.unkept[one.number], one.size = made, len(made)
         return self.keep(one)
 
-    def keep(self, one: Record) -> str | None:
+    def keep(self, one: Outcome) -> str | None:
         """Writes a record whose result is there; why that could not be done."""
         try:
             self.room.put(lambda: self.write(one, [self.unkept[one.number]]))
@@ -215,12 +215,12 @@ class Records:
         del self.unkept[one.number]
         return None
 
-    def write(self, one: Record, result: Sequence[bytes]) -> None:
+    def write(self, one: Outcome, result: Sequence[bytes]) -> None:
         """Writes a record."""
         name = os.path.basename(path_of(self.folder, one.number, RECORD))
         put_whole(self.folder, name, [one.head(), *result])
 
-    def tell(self, one: Record) -> None:
+    def tell(self, one: Outcome) -> None:
         """A result has its place, and somebody was told."""
         one.is_told = True
         with contextlib.suppress(OSError):
@@ -231,7 +231,7 @@ class Records:
                 os.close(handle)
         self.clear(one.number)
 
-    def drop(self, one: Record) -> None:
+    def drop(self, one: Outcome) -> None:
         """A record is of no use any more."""
         self.clear(one.number)
         with contextlib.suppress(OSError):

@@ -19,7 +19,7 @@ from ...results.objects import (
 from ...results.schema import FORMAT, misfit
 from ..batch import Forked, ended_of, signals_held
 from ..single import refuse_file
-from .records import Read, Record, Records
+from .records import Read, Outcome, Records
 from .spool import Journal, OLD_FOLDER, are, opened, path_of
 
 # What came of a programme is judged by a process of its own, which makes one file of the segments.
@@ -174,26 +174,26 @@ class Results:
         self.records.said.append(f"{self.folder} was a folder of version 1.9, and is taken over")
 
     @staticmethod
-    def take_inputs_of(one: Record, known: dict[str, Any]) -> None:
+    def take_inputs_of(one: Outcome, known: dict[str, Any]) -> None:
         """Takes which subtitle file a result is of, where it says so."""
         if "asked" in known:
             one.stl, one.found = known["asked"]["stl"], known["found"]["stl"]
 
     # ---- what is judged
 
-    def next_due(self) -> Record | None:
+    def next_due(self) -> Outcome | None:
         """The programme that is judged now: the one that waits longest."""
         due = [one for one in self.records.due() if self.wait(one) <= 0]
         return min(due, key=lambda one: self.tries_of(one).next) if due else None
 
-    def tries_of(self, one: Record) -> Tries:
+    def tries_of(self, one: Outcome) -> Tries:
         return self.tries.setdefault(one.number, Tries())
 
-    def wait(self, one: Record) -> float:
+    def wait(self, one: Outcome) -> float:
         """In how many seconds a programme is tried again."""
         return self.tries_of(one).next - time.monotonic()
 
-    def are_there(self, one: Record) -> bool:
+    def are_there(self, one: Outcome) -> bool:
         """Whether all is there that has to be judged."""
         assert one.due
         with contextlib.suppress(OSError):
@@ -201,7 +201,7 @@ class Results:
                        for number, size in one.due.parts)
         return False
 
-    def judge(self, one: Record, call: Callable[[str], int]) -> Judged:
+    def judge(self, one: Outcome, call: Callable[[str], int]) -> Judged:
         """Judges a programme; where that failed before in the room that is kept for results."""
         assert one.due
         if self.tries_of(one).count:
@@ -215,7 +215,7 @@ class Results:
 
     # ---- what is written
 
-    def adopt(self, name: str, stl: str) -> Record | None:
+    def adopt(self, name: str, stl: str) -> Outcome | None:
         """The record of a programme; made where nothing but its result in the folder of results is
         there, as where somebody has emptied this one."""
         if name in self.records.by_name or self.out is None:
@@ -240,7 +240,7 @@ class Results:
                 lost.append(one.name)
         return lost
 
-    def is_written(self, one: Record) -> bool:
+    def is_written(self, one: Outcome) -> bool:
         """Whether a result is where it is wanted, as a whole."""
         assert self.out is not None
         try:
@@ -280,7 +280,7 @@ class Results:
         else:
             self.failed[name] = why
 
-    def write(self, one: Record) -> None:
+    def write(self, one: Outcome) -> None:
         """Writes the files of a programme, its result last; then somebody is told, once."""
         assert self.out is not None and one.row
         os.makedirs(self.out, exist_ok=True)

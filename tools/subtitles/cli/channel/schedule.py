@@ -20,7 +20,7 @@ from ..batch import no_file
 from ..main import refuse_options
 from .feed import Awaited, Heard, Hearing, MINUTE, Timed
 from .listening import Ending
-from .records import Record, is_name
+from .records import Outcome, is_name
 from .spool import Journal, are, is_number
 
 
@@ -90,7 +90,7 @@ class Planned:
 
     def __init__(self, path: str, defaults: argparse.Namespace, folder: str | None = None,
                  out: str = "",
-                 known: Callable[[str, str], Record | None] = lambda name, stl: None) -> None:
+                 known: Callable[[str, str], Outcome | None] = lambda name, stl: None) -> None:
         self.path, self.defaults, self.known = path, defaults, known
         self.kept = Journal(folder, "list", is_entry) if folder else None
         self.programmes: list[Programme] = []

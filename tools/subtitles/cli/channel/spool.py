@@ -114,12 +114,12 @@ def set_aside(folder: str, name: str) -> str:
     return f"{path} is damaged: it is {name}{ASIDE} now, and what it said is not known"
 
 
-# Room that is kept for results: given away where the disk is full.
+# KeptRoom that is kept for results: given away where the disk is full.
 
 ROOM, SHARE = 4 << 20, 32  # bytes, and at most such a share of the disk
 
 
-class Room:
+class KeptRoom:
     """Some bytes of the disk that nobody else gets."""
 
     def __init__(self, folder: str) -> None:
