@@ -12,7 +12,7 @@ from ..common.times import Span
 from ..formats.stl import Subtitle
 from ..formats.teletext import BY_WORD, page_name
 from ..judging.check import Answer
-from ..judging.clocks import Programme, cut_within
+from ..judging.clocks import PartSearch, cut_within
 from ..judging.losses import measured_pace
 from ..judging.measurement import (
     Delays, Finding, Repeats, Sending, delays_of, every_of, keeping_of, late_found, layout_found,
@@ -123,7 +123,7 @@ def of_pair(pair: Pair) -> Measured:
         [sending for both in sent for sending in sendings_of(asked.stl, *both, option)])
 
 
-def cut_of_part(programme: Programme, frames: PartFrames) -> PartRange:
+def cut_of_part(programme: PartSearch, frames: PartFrames) -> PartRange:
     """A part with the PES packets of its time."""
     pes = cut_within(programme, frames.recording, frames.found, programme.asked.within).range
     if pes is None:

@@ -20,7 +20,7 @@ NO_CLOCK = Clock(0, RECORDING)  # stands for one that is not found yet
 SAID = "origin: "  # before what is said of it
 
 
-class Programme(NamedTuple):
+class PartSearch(NamedTuple):
     """What is looked for in a recording: the first and the last frame of its subtitles, with the
     clock where one was given, and which of the file are left out, by their places; `inside` are the
     PES packets that may be judged. `was_fitted`: the origin that is given was found in the
@@ -40,13 +40,13 @@ class PartClocks(NamedTuple):
     may be judged then; by how much the first part is late, in words; whether subtitles are from
     some time on."""
 
-    programme: Programme
+    programme: PartSearch
     found: list[Found]
     delay: list[str]
     is_shifted: bool
 
 
-def parts_of(programme: Programme, recording: Recording, listener: Listener) -> PartClocks:
+def parts_of(programme: PartSearch, recording: Recording, listener: Listener) -> PartClocks:
     """The parts with their clocks; the first one has the one that was given, or that the first
     picture tells."""
     asked, whole = programme.asked, programme.whole
@@ -80,7 +80,7 @@ def given_clock(asked: Request, was_fitted: bool = False) -> Clock | None:
     return None if asked.origin is None else Clock(asked.origin, source)
 
 
-def by_start(programme: Programme, recording: Recording, listener: Listener) -> Clock | None:
+def by_start(programme: PartSearch, recording: Recording, listener: Listener) -> Clock | None:
     """The clock that the first picture tells, where it is asked."""
     asked, whole = programme.asked, programme.whole
     if asked.start is None:
@@ -100,7 +100,7 @@ def by_start(programme: Programme, recording: Recording, listener: Listener) -> 
 
 # What is found.
 
-def search_in(programme: Programme, name: str, clock: Clock | None = None) -> Sought:
+def search_in(programme: PartSearch, name: str, clock: Clock | None = None) -> Sought:
     """What is looked for in a recording by its name."""
     asked = programme.asked
     return Sought(asked.stl_path, name, asked.page, asked.option, clock and clock.origin,
@@ -116,7 +116,7 @@ def origin_in(packets: Packets, asked: Sought) -> Origin:
         return Origin(2, told=[error_line(reason)])
 
 
-def fitted_origin(programme: Programme, recording: Recording, clock: Clock | None,
+def fitted_origin(programme: PartSearch, recording: Recording, clock: Clock | None,
                   listener: Listener) -> Origin:
     """What is found of the clock, also compared with one that is known, which is said."""
     origin = origin_in(recording.packets, search_in(programme, recording.shown, clock))
@@ -182,13 +182,13 @@ def clock_options(recording: Recording, origin: Origin) -> Iterator[str]:
 
 # What is taken of the recording.
 
-def cut_within(programme: Programme, recording: Recording, found: Found, within: int) -> Cut:
+def cut_within(programme: PartSearch, recording: Recording, found: Found, within: int) -> Cut:
     """The PES packets of the time of the subtitles, within so many frames."""
     return cut_of(recording.packets, found.begin, found.end, found.origin, programme.asked.every,
                   within, found.packets or programme.inside)
 
 
-def cut_part(programme: Programme, part: PartFrames, listener: Listener) -> Range:
+def cut_part(programme: PartSearch, part: PartFrames, listener: Listener) -> Range:
     """The same of a part by their numbers, which is said."""
     recording, asked = part.recording, programme.asked
     cut = cut_within(programme, recording, part.found, asked.within)
@@ -207,7 +207,7 @@ def cut_part(programme: Programme, part: PartFrames, listener: Listener) -> Rang
     return cut.range
 
 
-def run_of(programme: Programme, recording: Recording, given: Clock | None,
+def run_of(programme: PartSearch, recording: Recording, given: Clock | None,
            runs: Sequence[Range]) -> Range:
     """The run that is at the origin that was given; without one, or where none is, the first."""
     own = cut_within(programme, recording, programme.whole._replace(clock=given),

@@ -10,7 +10,7 @@ from ..request.commands import Listener
 from ..stream.layout import left_lines, otherwise, otherwise_words, sent_in
 from .calls import better_options, try_part
 from .causes import Causes
-from .clocks import Programme
+from .clocks import PartSearch
 from .faults import OF_HEADERS, lead_words
 from .losses import lacks
 from .part import Explanation, Part, part_causes, tell_causes
@@ -26,7 +26,7 @@ class Explainer(NamedTuple):
     written."""
 
     program: str
-    programme: Programme
+    programme: PartSearch
     listener: Listener
     verdict: Verdict
     parts: int

@@ -24,7 +24,7 @@ from ..stream.receiver import timeline_near
 from ..stream.survey import HEADER
 from .calls import check_alone, check_part, say_alone
 from .check import Answer
-from .clocks import NO_CLOCK, PartClocks, Programme, cut_part, given_clock, parts_of
+from .clocks import NO_CLOCK, PartClocks, PartSearch, cut_part, given_clock, parts_of
 from .explanation import Explainer, with_more
 from .faults import hint_words
 from .losses import gaps_in, paced_part, unsent_in
@@ -226,7 +226,7 @@ class Pair:
         if not subtitles:
             raise Unclear(f"{asked.stl} has no subtitle")
         clock = given_clock(asked, self.verdict.was_fitted) or NO_CLOCK
-        programme = Programme(asked, Found(subtitles[0].begin, subtitles[-1].end, clock),
+        programme = PartSearch(asked, Found(subtitles[0].begin, subtitles[-1].end, clock),
                               asked.pes, self.left_out, self.verdict.was_fitted,
                               self.given is not None)
         self.recording = recording = Recording(asked, self.typed, self.names, self.listener,
@@ -290,7 +290,7 @@ class Pair:
             self.judge_part(part, programme, subtitles, len(parts))
         self.tell_losses(recording, clocks.is_shifted)
 
-    def parts_in(self, recording: Recording, found: list[Found], programme: Programme,
+    def parts_in(self, recording: Recording, found: list[Found], programme: PartSearch,
                  subtitles: list[Subtitle]) -> list[PartFrames]:
         """What is judged, one after another."""
         asked = self.asked
@@ -305,7 +305,7 @@ class Pair:
             recording.of(part.stage) if part.stage else recording, self.left_out)
             for number, part in enumerate(found, 1)]
 
-    def judge_part(self, frames: PartFrames, programme: Programme, subtitles: list[Subtitle],
+    def judge_part(self, frames: PartFrames, programme: PartSearch, subtitles: list[Subtitle],
                    count: int) -> None:
         """Judges a part, one of so many: the PES packets of its time, their pace, what `check`
         says of them, and why."""

@@ -9,7 +9,7 @@ from ..formats.listing import LOSSES, accepted_of, fault_of_line
 from ..request.request import MOST_TRIED
 from .calls import first_within
 from .causes import Cause, EARLY, ERASED, IN_PART, IN_PAUSE, LATE, NOT_ERASED, NOT_RECEIVED, UNKNOWN
-from .clocks import Programme, cut_within, found_in, origin_in, search_in
+from .clocks import PartSearch, cut_within, found_in, origin_in, search_in
 from .part import Part
 from .status import ACCEPTED, Said, word_of
 
@@ -28,7 +28,7 @@ def within_line(least: int) -> str:
     return f"within {least} it is accepted: --within {least}"
 
 
-def least_within(program: str, programme: Programme, part: Part, count: int) -> int | None:
+def least_within(program: str, programme: PartSearch, part: Part, count: int) -> int | None:
     """The least such number of a part that is refused, one of so many; `None` where there is none.
     Each one is tried as --within N would judge it."""
     clock, causes = part.recorded[1].clock, part.causes
@@ -61,7 +61,7 @@ def is_delay(cause: Cause, is_fitted: bool) -> bool:
     return cause.name in (NOT_ERASED, IN_PART, ERASED, IN_PAUSE, NOT_RECEIVED, UNKNOWN)
 
 
-def clock_within(programme: Programme, part: Part, count: int, within: int) -> Found | None:
+def clock_within(programme: PartSearch, part: Part, count: int, within: int) -> Found | None:
     """A part by its clock; one that was fitted is fitted within so many frames."""
     recording, found = part.recorded
     if not found.clock.is_fitted:
@@ -77,7 +77,7 @@ def same_part(parts: Sequence[Found], number: int, count: int, found: Found) -> 
     return other if other and other[:2] == found[:2] else None
 
 
-def check_within(program: str, programme: Programme, part: Part, found: Found) -> Check:
+def check_within(program: str, programme: PartSearch, part: Part, found: Found) -> Check:
     """What `check` says by a clock, within any number of frames."""
     pes = cut_within(programme, part.recorded[0], found, MOST_TRIED).range
     return lambda within: \
