@@ -1,4 +1,4 @@
-"""Rows of a subtitle file that no set shows, or only some: row by row, beside libzvbi, and judged."""
+"""Rows of a subtitle file that no set shows, or only some: as a table, beside libzvbi, judged."""
 from __future__ import annotations
 
 import ctypes

@@ -96,7 +96,7 @@ def hidden_words(cells: bytes, option: str) -> str:
     return "; ".join(words)
 
 
-class Found(NamedTuple):
+class HiddenRows(NamedTuple):
     """What is wrong with the rows of a file: those that no set shows, and warnings of others."""
 
     faults: list[NamedFault]
@@ -108,9 +108,9 @@ def may_hide(subtitles: Sequence[Subtitle], has_layout: bool) -> bool:
     return has_layout or any(bytes([code]) in one.text for one in subtitles for code in HIDING)
 
 
-def hidden_rows(due: DuePages, file: SubtitleFile, option: str) -> Found:
+def hidden_rows(due: DuePages, file: SubtitleFile, option: str) -> HiddenRows:
     """What is wrong with the rows of a programme."""
-    found = Found([], [])
+    found = HiddenRows([], [])
     for one, page in zip(due.subtitles, due.pages):
         for row, cells in enumerate(page, 1):
             sight = sight_of(cells)
