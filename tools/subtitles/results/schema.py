@@ -204,8 +204,8 @@ WARNING = Record(
            "repeated; how many TTI blocks (TNB) and subtitles (TNS) the GSI block counts; no PES "
            "packet for some frames, of what else sends one in each frame but few (pause); a page "
            "that the PMT moves to another PID (pid); a file that grew while it was read, or that "
-           "ends within a PES packet; a row of the subtitle file of which some sets do not show each "
-           "letter (hidden)."),
+           "ends within a PES packet; a row of the subtitle file of which some sets do not show "
+           "each letter (hidden)."),
     Member("line", Text()),
     Member("time", Maybe(TIME), "Of the first place, where there is one."))
 
