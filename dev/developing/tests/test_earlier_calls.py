@@ -21,10 +21,11 @@ from subtitles.request.commands import CommandWords
 from subtitles.request.request import Request
 from subtitles.request.lateness import Lateness
 from subtitles.request.profile import Profile
+from subtitles.results import objects
 from subtitles.results.objects import (
-    Row, found, is_current, left_by_call, may_take, object_at,
+    MOST_VALUES, Row, found, is_current, left_by_call, may_take, object_at,
     objects_in, row_of_object, unjudged)
-from subtitles.results.schema import ASKED
+from subtitles.results.schema import ASKED, FORMAT
 from .bench import Case, example_bytes
 from .parts import asked_for
 from .test_channel_tables import defaults
@@ -110,6 +111,17 @@ class EarlierCalls(Case):
 
 class Objects(Case):
     """Objects of earlier calls."""
+
+    def test_many_values(self) -> None:
+        """One of so many values that Python takes gigabytes for them is not judged, unread; as many
+        as may be are read."""
+        for count, words in ((MOST_VALUES, "has more than 4,000,000 values"), (1000, "")):
+            path = self.write("many.json", b'{"verdict":0,"format":%d,"a":[' % FORMAT +
+                              b"0," * count + b"0]}")
+            with mock.patch.object(objects.json, "loads", side_effect=ValueError("loaded")):
+                known = object_at(path)
+            self.must(f"{count}", known is not None and (words or "loaded") in known["reason"],
+                      known)
 
     def test_rows(self) -> None:
         """All that a table takes of an object, and what stands there where it has none of it."""

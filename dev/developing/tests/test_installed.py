@@ -98,6 +98,12 @@ class Installed(Case):
                   done)
         self.must("its folder", not os.path.exists(self.path("own/prefix"))
                   and os.path.isdir(self.path("own")))
+        self.tool("install", "-p", self.bench.program, "linked")
+        os.rename(self.path("linked/lib/subttx"), self.path("elsewhere"))
+        os.symlink(self.path("elsewhere"), self.path("linked/lib/subttx"))
+        done = self.tool(*tool, "linked")
+        self.must("a link", done.status == 2 and "linked/lib/subttx is a link" in done.told[0] and
+                  os.path.exists(self.path("linked/bin/subttx")), done)
         os.makedirs(self.path("shared/bin"))
         os.makedirs(self.path("shared/share/man/man1"))
         self.write("shared/bin/subttx-own", b"of somebody else")

@@ -70,6 +70,17 @@ class Lists(Case):
             with self.assertRaises(Stop):
                 pairs_at(path, defaults())
 
+    def test_inputs_of_a_line_that_is_none(self) -> None:
+        """They are inputs all the same, as typed and from the folder of the list; whatever stands
+        behind an option too."""
+        path = self.write("list", b"one.stl one.ts --bogus\none.stl one.ts --pace=two.stl\n")
+        for item in pairs_at(path, defaults()):
+            self.must(item.name, item.asked is None and {"one.stl", self.path("one.ts")} <=
+                      {*item.files} and ("two.stl" in item.files) == (item.name == "line 2"),
+                      item.files)
+            with self.assertRaises(files.IsInput):
+                batch.inputs_of([item]).refuse(self.path("one.ts"), True)
+
     def test_one_line(self) -> None:
         """The pair of a line is as that of all: it has the name that those before it leave it. What
         other lines name is looked at where a file is written over alone, and may be no list."""

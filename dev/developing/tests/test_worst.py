@@ -4,11 +4,12 @@ from __future__ import annotations
 from typing import Any
 from types import SimpleNamespace
 
-from subtitles.formats.listing import STL_FAULTS, meanings
+from subtitles.formats.listing import FAULT_NAMES, NamedFault, STL_FAULTS, meanings
 from subtitles.judging.causes import Cause, NAMES
 from subtitles.judging.check import Answer
 from subtitles.judging.status import REFUSALS
-from subtitles.judging.worst import OF_CAUSE, OF_NUMBER, Rank, lead_of, rank_of, worst_cause
+from subtitles.judging.worst import (
+    OF_CAUSE, OF_NAME, OF_NUMBER, Rank, lead_of, rank_of, worst_cause, worst_name)
 from .bench import Case
 from .parts import answer, part_with
 
@@ -72,6 +73,19 @@ class Worst(Case):
                       and part.leading and part.leading.line == wanted, part.lead)
         part = part_with(0, 9, 0, answer(["accepted 10 frames 2 transmissions"]))
         self.must("none", part.leading is None and part.lead == part.answer.line)
+
+    def test_names(self) -> None:
+        """Of faults that have a name in the place of a number too; they come first where they are
+        as bad as what else is refused."""
+        self.must("each", set(OF_NAME) == set(FAULT_NAMES))
+        never, left, hidden = (NamedFault(name, "") for name in FAULT_NAMES)
+        rows: tuple[tuple[list[NamedFault], Rank | None, NamedFault | None], ...] = (
+            ([], None, None), ([], Rank.LATER, None), ([left], None, left),
+            ([left, hidden, never], None, never), ([left, hidden], Rank.MOVED, hidden),
+            ([left], Rank.WRONG, None), ([left], Rank.MOVED, left), ([hidden], Rank.FILE, None),
+            ([never], Rank.NEVER, never))
+        for faults, rank, wanted in rows:
+            self.must(f"{[one.name for one in faults]} {rank}", worst_name(faults, rank) is wanted)
 
     def test_beside_refused(self) -> None:
         """Of the transmission, without what the subtitle file is refused for and what is not

@@ -137,9 +137,16 @@ def of_list(path: str, lines: Iterable[Line], defaults: argparse.Namespace) -> I
                 raise Stop(line.fault)
             asked = request_of_line(line.words, defaults, folder)
         except (Stop, ValueError) as reason:
-            yield Item(names.line(line.number), None, f"{path}, line {line.number}: {reason}")
+            yield Item(names.line(line.number), None, f"{path}, line {line.number}: {reason}",
+                       named_in(line.words, folder))
             continue
         yield Item(names.pair(asked.stl), asked, None)
+
+
+def named_in(words: Sequence[str], folder: str) -> list[str]:
+    """All that may be a file in the words of a line that is none: it stays as it is too."""
+    values = [value for word in words for value in {word, word.partition("=")[2]} if value]
+    return [*values, *(os.path.join(folder, value) for value in values)]
 
 
 def at_line(path: str, number: int, defaults: argparse.Namespace) -> tuple[Item, list[str]]:

@@ -158,6 +158,9 @@ def remove(prefix: str) -> list[str]:
     home = os.path.join(prefix, HOME)
     if not os.path.isfile(os.path.join(home, "tools", "qc")):
         raise Stop(f"{prefix} has no subttx: there is no {os.path.join(home, 'tools', 'qc')}")
+    if os.path.islink(home):
+        raise Stop(f"{home} is a link, which was not made by an installation: take away what it "
+                   "leads to, then the link")
     made = {os.path.normpath(os.path.join(prefix, name))
             for name in (read(os.path.join(home, FOLDERS)) or "").splitlines()}
     paths = [os.path.join(prefix, "bin", "subttx"), *links_into(prefix),

@@ -357,12 +357,14 @@ def say_verdict(verdict: Verdict, speech: Speech, page: str | None = None) -> No
 def look_words(verdict: Verdict, page: str | None) -> str:
     """Where to look behind a verdict that accepts not all: its report, or else what the manual says
     of the number that is said first."""
-    part = verdict.leading
-    if verdict.word == ACCEPTED or not page and not (part and part.leading):
+    if verdict.word == ACCEPTED:
         return ""
     if page:
         return f" See {page}."
-    return f" See refusals.md#n{part.leading.number}." if part and part.leading else ""
+    if verdict.first_named:
+        return f" See refusals.md#{verdict.first_named.name.replace(' ', '-')}."
+    told = verdict.leading.leading if verdict.leading else None
+    return f" See refusals.md#n{told.number}." if told else ""
 
 
 class Output(NamedTuple):

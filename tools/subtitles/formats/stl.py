@@ -45,7 +45,8 @@ def subtitles_in(data: bytes) -> Iterator[StoredSubtitle]:
     if data[3:8] == b"STL30":
         raise Damaged("30 frames a second: only files of 25 (STL25.01) can be read")
     first: bytes | None = None
-    text, block = b"", 0
+    texts: list[bytes] = []
+    block = 0
     for block, at in enumerate(range(GSI, len(data), TTI), 1):
         one = data[at:at + TTI]
         if len(one) < TTI:
@@ -57,11 +58,13 @@ def subtitles_in(data: bytes) -> Iterator[StoredSubtitle]:
             raise Damaged(f"block {block} has the reserved extension block number {ebn:02X}")
         if first is not None and first[:3] != one[:3]:
             raise Damaged(f"block {block} is of another subtitle than the one that it follows")
-        first, text = first or one, text + one[16:].split(UNUSED)[0]
+        first = first or one
+        texts.append(one[16:].split(UNUSED)[0])
         if ebn == LAST:
             yield StoredSubtitle(first[1] + 256 * first[2], first[5:9], first[9:13], first[13],
-                                 first[14], text)
-            first, text = None, b""
+                                 first[14], b"".join(texts))
+            first = None
+            texts.clear()
     if first is not None:
         raise Damaged(f"the subtitle of block {block} has no last block")
 

@@ -7,6 +7,7 @@ causes         why the content is refused: the cause of each subtitle, those of 
 worst          what is said first of what is refused: the worst that a viewer sees
 sentence       the sentence of a verdict, which stands before the last line
 subtitles      subtitles that are refused themselves: midnight, letters
+shown          rows of a subtitle file that no set shows, or only some
 part           a part of a pair, made in steps: frames, range, pace; with its answer, explained
 verdict        the verdict on a pair: all that is written of it
 losses         what is missing in the time of a part, and the pace by which it is judged

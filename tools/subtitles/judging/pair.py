@@ -11,7 +11,7 @@ from ..common.files import file_of
 from ..common.times import ALL_DAY, Between, FRAMES_OF_A_DAY, Span, pts_of, time_of
 from ..formats.layout import PLAIN, layout_of, layout_text
 from ..formats.listing import CONTENT, EMPTY
-from ..formats.stl import Subtitle, SubtitleFile
+from ..formats.stl import Subtitle, SubtitleFile, subtitles_read
 from ..formats.teletext import BY_WORD
 from ..recording import recording as recording_recording
 from ..recording.announced import NeverSent, refuse_elsewhere
@@ -32,6 +32,7 @@ from .part import (
     Explanation, Part, PartFrames, PartPace, PartRange, answered_part, moves_told, parted,
     refuse_others)
 from .pictures import left_by_pictures
+from .shown import hidden_rows, may_hide
 from .status import REFUSED, UNSAID
 from .subtitles import beside_of, due_beside, is_judged_beside, title_words
 from .transmissions import DuePages, due_pages_of, subtitles_in
@@ -88,6 +89,8 @@ class Pair:
                 request.OPTION_CHOICE, asked.option, option_line(asked)))
         answer = self.judge_file()
         is_refused = answer.numbers != {EMPTY}
+        if not is_refused:
+            self.look_at_rows()
         if asked.recording is None or is_refused and not self.verdict.beside:
             self.judge_alone(answer, is_refused)
         elif is_refused:
@@ -142,6 +145,15 @@ class Pair:
         if asked.from_time is None and (title := title_words(file)):
             self.listener.noted(title)
         return answer
+
+    def look_at_rows(self) -> None:
+        """Takes what no set shows of the subtitle file, and what some sets do not."""
+        asked, file = self.asked, SubtitleFile(self.names.given)
+        if not may_hide(subtitles_read(file.data), bool(asked.layout_text)):
+            return
+        found = hidden_rows(self.due_of(asked, []), file, asked.option)
+        self.verdict.named += found.faults
+        self.verdict.warn(found.warnings)
 
     def check_alone(self) -> Answer:
         """What is wrong with the subtitle file; at least there is no PES packet."""

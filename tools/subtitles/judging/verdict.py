@@ -20,7 +20,7 @@ from .sentence import Count, Facts, sentence_of
 from .status import Decision, Grounds, LOST, NOT_JUDGED, REFUSED, Severity, WAIVED, WARNED, decide
 from .subtitles import Counts, JudgedBeside
 from .transmissions import DuePages
-from .worst import Lead, Rank
+from .worst import Lead, Rank, worst_name
 
 
 # After how many frames each subtitle was whole: what a house needs to choose --within N.
@@ -228,12 +228,12 @@ class Verdict:
             self.word, self.count, option=self.asked.option, faults=self.faults,
             counts=counts_of_numbers(self.parts),
             lost=[gap.line() for gap in self.gaps if gap.is_judged], warnings=self.seen().warnings,
-            reason=self.why_not, named=self.named[0].words if self.named else "",
+            reason=self.why_not, named=self.first_named.words if self.first_named else "",
             is_file=self.asked.recording is None, within=self.asked.within,
             accepted_within=self.accepted_within)
         if refused and self.beside:
             said = self.sent_beside(said, self.beside)
-        elif refused:
+        elif refused and not self.first_named:
             said = with_lead(said._replace(hint=refused.explanation.hint, causes=refused.causes),
                              refused.worst)
         return sentence_of(said)
@@ -299,8 +299,15 @@ class Verdict:
     def lead(self) -> str | None:
         """The same with the worst fault, where there is one: reports, and tables of many pairs,
         begin with it."""
-        part = self.leading
-        return self.line_of(part.lead if part else None)
+        if self.first_named:
+            return self.line_of(self.first_named.line)
+        return self.line_of(self.leading.lead if self.leading else None)
+
+    @property
+    def first_named(self) -> NamedFault | None:
+        """The fault with a name that is said first, where it is as bad as what else is refused."""
+        worst = self.leading.worst if self.leading else None
+        return worst_name(self.named, worst.rank if worst else None)
 
     @property
     def leading(self) -> Part | None:

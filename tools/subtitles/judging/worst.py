@@ -2,10 +2,11 @@
 from __future__ import annotations
 
 import enum
-from typing import Collection, Iterable, NamedTuple
+from typing import Collection, Iterable, NamedTuple, Sequence
 
 from ..formats.listing import (
-    BEGIN, CONTENT, END, ENDS_READING, FaultLine, INCOMPLETE, LOSSES, STL_FAULTS, UNDECIDED)
+    BEGIN, CONTENT, END, ENDS_READING, FaultLine, INCOMPLETE, LOSSES, NEVER_SENT, NOT_SHOWN,
+    NamedFault, PICTURES_LEFT, STL_FAULTS, UNDECIDED)
 from .causes import (
     ATTRIBUTE, Cause, Causes, EARLY, ERASED, IN_PART, IN_PAUSE, LATE, NEVER, NOT_ERASED,
     NOT_RECEIVED, OTHER, PLACE, TEXT, UNKNOWN)
@@ -45,6 +46,16 @@ OF_NUMBER = {
     **dict.fromkeys((*range(31, 41), 60, 61, 62, 67, 68), Rank.SOME),
     **dict.fromkeys((*ENDS_READING - {31, 32}, *LOSSES, BEGIN, END, UNDECIDED), Rank.UNSEEN),
     **dict.fromkeys((64, 65, 66, 69, 70, 71, 73), Rank.LATER)}
+
+
+# Of a fault that has a name in the place of a number.
+OF_NAME = {NEVER_SENT: Rank.NEVER, NOT_SHOWN: Rank.WRONG, PICTURES_LEFT: Rank.MOVED}
+
+
+def worst_name(faults: Sequence[NamedFault], than: Rank | None) -> NamedFault | None:
+    """The first of the worst faults with a name, where it is as bad as what else is refused."""
+    worst = min(faults, key=lambda one: OF_NAME[one.name]) if faults else None
+    return worst if worst and (than is None or OF_NAME[worst.name] <= than) else None
 
 
 def rank_of(number: int, cause: str | None = None) -> Rank:

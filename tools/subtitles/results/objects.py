@@ -81,6 +81,7 @@ def fitting(shape: Shape, value: Any, name: str) -> Any:
 ENDING = ".json"
 LINES = 100  # of the faults of a pair, in a row
 MOST_READ = 2 * MOST_BYTES  # bytes of an object
+MOST_VALUES = 4_000_000  # of it, and of what they hold: Python takes 70 bytes and more for each
 MOST_DIGITS = 20  # of a number in it
 
 
@@ -159,6 +160,8 @@ def object_at(path: str) -> dict[str, Any] | None:
 def value_at(path: str) -> object:
     """What a file holds as JSON."""
     data = bounded_bytes(path, MOST_READ, is_followed=False)
+    if sum(map(data.count, (b",", b"{", b"["))) > MOST_VALUES:
+        raise ValueError(f"it has more than {MOST_VALUES:,} values")
     return json.loads(data.decode("utf-8"), parse_int=number_in, parse_constant=refuse_constant)
 
 
