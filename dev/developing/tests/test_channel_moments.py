@@ -148,6 +148,7 @@ class Moments(Case):
             self.disturb(self.chance.choice(family or [call.process.pid]))
             moments -= 1
             time.sleep(self.chance.uniform(0, 0.3))
+        call = call or self.begun("any")
         for _ in range(9):
             if call.process.wait(SECONDS) == 0:
                 break

@@ -48,17 +48,18 @@ class Departures(unittest.TestCase):
 
     def test_what_is_not_clear(self) -> None:
         """Too few on a side, or a multiplexer that puts them anywhere; without any nothing is."""
-        for before, after, wanted in (
-                (distances(FEW), distances(FEW, 4, TICKS), [Departure(TICKS, 2 * TICKS)]),
-                (distances(FEW - 1), distances(FEW, 4, TICKS), [Departure(TICKS, None)]),
-                (distances(FEW), distances(FEW - 1, 4, TICKS), [Departure(TICKS, None)]),
-                (distances(FEW), [], []), ([], [], []),
-                ([], distances(FEW, 4, TICKS), [Departure(TICKS, None, True)]),
-                (distances(50, jitter=8), distances(50, 4, TICKS), [Departure(TICKS, None)]),
-                (distances(50, jitter=1), distances(50, 4, TICKS, jitter=1),
-                 [Departure(TICKS, 2 * TICKS)]),
-                (distances(50), distances(50, 4, TICKS, pid=7), []),
-                (distances(50, pid=7), distances(50, 4, TICKS), [Departure(TICKS, None, True)])):
+        rows: list[tuple[list[Line], list[Line], list[Departure]]] = [
+            (distances(FEW), distances(FEW, 4, TICKS), [Departure(TICKS, 2 * TICKS)]),
+            (distances(FEW - 1), distances(FEW, 4, TICKS), [Departure(TICKS, None)]),
+            (distances(FEW), distances(FEW - 1, 4, TICKS), [Departure(TICKS, None)]),
+            (distances(FEW), [], []), ([], [], []),
+            ([], distances(FEW, 4, TICKS), [Departure(TICKS, None, True)]),
+            (distances(50, jitter=8), distances(50, 4, TICKS), [Departure(TICKS, None)]),
+            (distances(50, jitter=1), distances(50, 4, TICKS, jitter=1),
+             [Departure(TICKS, 2 * TICKS)]),
+            (distances(50), distances(50, 4, TICKS, pid=7), []),
+            (distances(50, pid=7), distances(50, 4, TICKS), [Departure(TICKS, None, True)])]
+        for before, after, wanted in rows:
             self.assertEqual(departures_of([*before, step(2), *after], PID), wanted)
 
     def test_several(self) -> None:
