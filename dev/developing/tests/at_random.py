@@ -28,7 +28,7 @@ from unittest import mock
 from subtitles.cli.main import main
 from subtitles.common.command_line import run
 from subtitles.common.program import TOP
-from subtitles.judging import calls, faults, subtitles
+from subtitles.judging import faults, subtitles
 from subtitles.report import report
 from .parts import MEANINGS
 from .results import wrong_by_schema, wrong_choices
@@ -138,7 +138,6 @@ def in_folder() -> Iterator[None]:
 def called(words: list[str], program: str, more: Sequence[str] = ("-p", "PROGRAM")) -> Said:
     """All that a call of qc says; not by the time, and with other words for the manual's."""
     others: list[tuple[Any, str, object]] = [
-        (calls, "subprocess", Here),
         *((module, "meanings", lambda: MEANINGS) for module in (subtitles, faults, report))]
     with contextlib.ExitStack() as stack:
         for module, name, other in others:

@@ -47,11 +47,11 @@ def result(verdict: str = "refused", **more: Any) -> dict[str, Any]:
         "lead": f"{verdict} 72 Content" if is_judged else None, "sentence": "Refused.",
         "reason": None if is_judged else "why", "judged": "transmission", "frames": None,
         "transmissions": None, "fault_count": 0, "subtitle_counts": None, "asked": ASKED,
-        "found": {"stl": None, "recording": None, "severity": None}, "layout": None,
+        "found": {"stl": None, "recording": None, "severity": None},
         "inputs": {"stl": None, "recording": None},
         "program": {"version": "1", "sha256": "0" * 64, "proved": None},
         "date": "2026-01-02T03:04:05Z", "seconds": 0.5, "cause_counts": dict.fromkeys(NAMES, 0),
-        "accepted_within": None, "whole_after": None, **{one.name: [] for one in LISTS},
+        "whole_after": None, **{one.name: [] for one in LISTS},
         "left_out": {one.name: 0 for one in LISTS}, **more}
 
 
@@ -129,8 +129,6 @@ def wrong_choices(known: dict[str, Any], lines: Sequence[str]) -> Iterator[objec
             yield from {("pes", part["pes"], number)} - own
         if part["pace"] is not None and asked["pace"] is None:
             yield from {("pace", f"{part['pace']}", number)} - own
-    if asked["layout"] == "auto" and known["layout"]:
-        yield from {("layout", known["layout"]["text"])} - chosen
     typed = {name for name in ("pid", "pace") if asked[name] is not None}
     yield from (one["what"] for one in known["chosen"] if one["what"] in typed)
 

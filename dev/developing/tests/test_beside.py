@@ -189,16 +189,15 @@ class Beside(Case):
                           "It is drawn as undecided" in page and "Refused subtitles" in page)
 
     def test_layouts(self) -> None:
-        """--layout auto is found by the subtitles that are judged, and draws what is due of them.
-        """
+        """A layout draws what is due of the subtitles that are judged."""
         self.blocks = [(begin, end, b"Number %d" % number)
                        for number, (begin, end) in enumerate(times(14), 1)]
         self.schedule(self.file(), "house.pes", "--every", "25", "--layout", "row=-2")
         for bad, words in (((), ""), ((3,), "13 other subtitles were judged: each of them is as it "
                                       "is due from the first frame on")):
-            found = self.judge(self.file(*bad), self.path("house.pes"), "--layout", "auto")
+            found = self.judge(self.file(*bad), self.path("house.pes"), "--layout", "row=-2")
             self.must(f"{bad}", found.word == ("refused" if bad else "accepted") and
-                      found.result["layout"] and words in found.verdict.sentence and
+                      words in found.verdict.sentence and
                       " --layout " in found.lines("+ ")[-1], found.said)
 
     def test_not_judged(self) -> None:

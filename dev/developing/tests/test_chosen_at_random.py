@@ -1,9 +1,11 @@
-"""What `qc` chooses by itself at random: programmes as houses draw them, of which a few subtitles
-were sent otherwise, or a wrong page was, where some TS or PES packets are lost.
+"""What `qc` chooses by itself at random, each offered a wrong one: programmes as houses draw them,
+of which a few subtitles were sent otherwise, one came a frame early, a row of one never came, or a
+wrong page was sent where some TS or PES packets are lost.
 
-None is accepted of which a wrong cell was sent, but with a note that says what is not checked. The
-gate judges those of some seeds; from dev/, `python3 -m developing.tests.test_chosen_at_random
-PROGRAM 0 300` judges as many and prints each seed with what was said of it.
+None is accepted of which a wrong cell was sent, a row is missing, or a row came early, but by what
+the profile says in words, or with a note that says what is not checked. The gate judges those of
+twenty seeds; from dev/, `python3 -m developing.tests.test_chosen_at_random PROGRAM 0 300` judges as
+many and prints each seed with what was said of it.
 """
 from __future__ import annotations
 
@@ -13,6 +15,7 @@ from typing import Callable, NamedTuple
 
 from developing.multiplex import ADAPTATION_ALONE, PACKET, head
 from developing.pes import data_field, pes_packet, pts_in, teletext_packets
+from subtitles.common.command_line import quoted
 from subtitles.common.times import TICKS
 from subtitles.formats.layout import Layout, PLAIN, Refused, drawn, layout_of, page_rows
 from subtitles.formats.teletext import ENGLISH
@@ -20,12 +23,13 @@ from .bench import BENCH, Case, packets
 from .judged import Judged, Sent, joined, judged
 from .muxed import TELETEXT_PID
 from .parts import CLOSING, HEADER, row
-from .test_as_sent import file_of
+from .test_as_sent import EACH, FIRST, LASTS, file_of
 from .test_holes import Sent as Packet
 from .test_holes import Shape, sent_of
 from .test_layouts import HOUSES, line
 
-GATE = (3, 11, 24, 42, 57, 68, 101, 150, 217, 299)  # seeds of which the gate judges the programmes
+# Seeds of which the gate judges the programmes.
+GATE = (3, 5, 11, 17, 24, 31, 42, 50, 57, 68, 77, 89, 101, 123, 150, 171, 200, 217, 260, 299)
 UNSEEN = "not checked: whether"
 WRONG = [HEADER, row(20, b"Nobody wrote this"), CLOSING]
 Said = tuple[bytes, int]  # a text with its justification code
@@ -54,6 +58,10 @@ class Programme(NamedTuple):
     is_stream: bool
     is_announced: bool
     has_wrong: bool
+    early: int | None = None  # the subtitle that comes a frame early
+    missing: int | None = None  # the subtitle of which one row never comes
+    profile: str = ""  # what the house says beside its layout
+    is_known: bool = True  # whether a clock is given
 
     @property
     def layout(self) -> Layout:
@@ -69,7 +77,8 @@ class Programme(NamedTuple):
     def is_right(self) -> bool:
         """Whether each cell that was sent is as it is due."""
         pages = [(self.page(one), self.page(other)) for one, other in zip(self.file, self.sent)]
-        return not self.has_wrong and all(one == other for one, other in pages)
+        return not self.has_wrong and self.early is None and self.missing is None and \
+            all(one == other for one, other in pages)
 
 
 def programme_of(seed: int) -> Programme:
@@ -92,7 +101,28 @@ def programme_of(seed: int) -> Programme:
         said = otherwise(found.file[at], kind)
         if not isinstance(found.page(said), Refused):
             found.file[at] = said
-    return found._replace(has_wrong=found.has_wrong and found.lost > 0)
+    # Later than all else, so that a seed is what it was.
+    kind = some.randrange(4)
+    return found._replace(
+        has_wrong=found.has_wrong and found.lost > 0,
+        early=some.randrange(1, count) if kind == 1 else None,
+        missing=some.randrange(1, count) if kind == 2 else None,
+        profile=some.choice(("", "", "--keeping\n", "--within 2\n",
+                             "--within 2\n--late 0:90,1:5,2:5/0:1\n")),
+        is_known=some.random() < 0.5)
+
+
+def spoilt(one: Programme, sent: Sent) -> Sent:
+    """What is sent of one subtitle otherwise: a frame early, or without its last row."""
+    made = []
+    for pts, some in sent:
+        place, rest = divmod(pts // TICKS - FIRST, EACH)
+        if place == one.early and rest == 0:
+            pts -= TICKS
+        if place == one.missing and rest < LASTS and len(some) > 2:
+            some = [*some[:-2], some[-1]]
+        made.append((pts, some))
+    return made
 
 
 def filled(sent: Sent, step: int) -> Sent:
@@ -131,10 +161,12 @@ def judge(case: Case, seed: int) -> tuple[Programme, Judged]:
     other = file_of(case, one.sent, f"{seed}.sent.stl")
     layout = ["--layout", one.text] if one.text else []
     pes = case.schedule(other, "planned.pes", "--every", "25", *layout)
-    sent = filled(sendings_of(case, pes), one.step)
+    sent = filled(spoilt(one, sendings_of(case, pes)), one.step)
+    profile = case.write(f"{seed}.profile", (
+        f"--layout {quoted(one.text)}\n" * bool(one.text) + one.profile).encode())
     name = f"{seed}.ts" if one.is_stream else f"{seed}.pes"
     path = case.write(name, recorded(one, sent))
-    return one, judged(case, stl, path, "--layout", "auto", "--origin", "0")
+    return one, judged(case, stl, path, "--profile", profile, *["--origin", "0"] * one.is_known)
 
 
 def sendings_of(case: Case, path: str) -> Sent:

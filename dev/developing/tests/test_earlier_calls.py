@@ -69,7 +69,7 @@ class EarlierCalls(Case):
         names = {field.name for field in dataclasses.fields(asked)}
         self.must("all words", names == {*OTHERS, "stl", "recording", "severity", "from_time",
                                              "to_time", "layout", "is_open", "may_keep",
-                                             "pace_word", "found_layout", "kept_stl", "language"},
+                                             "pace_word", "kept_stl", "language"},
                   names)  # those that are left out here: test_options
 
     def test_object_of_another_program(self) -> None:

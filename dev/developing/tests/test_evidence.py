@@ -9,11 +9,9 @@ from subtitles.formats.layout import (
     Layout, PLAIN, Refused, drawn, layout_of, layout_text, page_rows)
 from subtitles.formats.teletext import ENGLISH
 from subtitles.stream.layout import (
-    Choice, Evidence, Left, MOST_ITEMS, Rest, Sent, choices_of, items_in, taken_from, with_items,
+    Choice, Evidence, MOST_ITEMS, Rest, Sent, choices_of, items_in, taken_from, with_items,
     without)
 from .bench import Case
-from .judged import Judged, judged
-from .test_as_sent import file_of
 from .test_layouts import HOUSES, programme
 
 WORDS = [b"cat", b"dog", b"the sun", b"and then", b"who knows", b"yes"]
@@ -71,11 +69,14 @@ OVERRULING = (*range(0x01, 0x08), 0x09, 0x0C)  # behind a line's own codes
 # A layout, and what of it takes from a page what a viewer sees.
 TAKEN = [
     ("strip=0A0B", ""), ("strip=0D", "strip=0D"), ("strip=0D,before=0D0B0B", ""),
-    ("strip=0D,before=0B0B*0D", ""), ("strip=0A0B,before=", "strip=0B"), ("strip=0A,before=", ""),
+    ("strip=0D,before=0B0B*0D", ""), ("strip=0A0B,before=", "before=,strip=0B"),
+    ("strip=0A,before=", "before="), ("before=0B", "before=0B"), ("before=0B06", "before=0B06"),
+    ("before=0B0B08", "before=0B0B08"), ("before=08*0B0B", "before=08*0B0B"), ("row=2", ""),
+    ("row=-2", ""), ("row=3", "row=3"), ("row=-10,fit", "row=-10"),
     ("strip=070001090A0C", "strip=01"), ("strip=0106081C1D", "strip=0106081C1D"),
     ("strip=03,before=030B0B", "strip=03"), ("text,up", ""), ("before=07*0B0B", ""),
     ("strip=03,before=*070B0B", "before=*070B0B,strip=03"),
-    *((text, text if code in OVERRULING else "")
+    *((text, text if code in (*OVERRULING, 0x08) else "")
       for code in range(0x01, 0x0E) for text in [f"before=0B*{code:02X}0B"])]
 
 
@@ -237,68 +238,3 @@ class Taken(Case):
             found = choice if is_few else closest
             self.must(f"{text}, {count}", found.drawn == len(sent) - count
                       and choice.is_clear == is_few, (closest, choice))
-
-
-class Pairs(Case):
-    """Pairs of which a subtitle was sent otherwise than the file has it."""
-
-    def judge(self, several: Sequence[One], *words: str, drawn_by: str = "") -> Judged:
-        """A pair of which the second text of each was sent."""
-        file_of(self, [(one.sent, one.justify) for one in several], "sent.stl")
-        stl = file_of(self, [(one.text, one.justify) for one in several], "one.stl")
-        layout = ["--layout", drawn_by] if drawn_by else []
-        pes = self.schedule(self.path("sent.stl"), "one.pes", "--every", "20", *layout)
-        return judged(self, stl, pes, "--layout", "auto", "--origin", "0", *words)
-
-    def test_is_refused(self) -> None:
-        """Where one subtitle lost what an item would take, also with --strict; and it is said which
-        item draws it."""
-        for one, item in ((COLOUR, "strip=03"), (FLASH, "strip=08"), (DOUBLE, "strip=0D"),
-                          (SPACES, "trim"), (EMPTY, "pack"), (WHITE, "strip=07")):
-            told = self.judge([*plain(40), one, *plain(59)], "--strict")
-            words = f"{item} would draw 1 more of 100: say it by --layout {item} if your " \
-                "inserter " \
-                "draws so"
-            self.must(item, told.word == "refused" and told.result["layout"] == {
-                "text": "", "drawn": 99, "found": 100, "items": [],
-                "left": [{"text": item, "more": 1, "whole": item}]} and words in told.said
-                and f"72: the letters are right and drawn otherwise, {words}" in told.said
-                and {fault["number"] for fault in told.result["faults"]} == {72}, told.said)
-
-    def test_is_told(self) -> None:
-        """On how many each item rests: in the printed line, the JSON result and the report."""
-        told = self.judge([*plain(40), COLOUR, *plain(9)], "-o", self.path("out"),
-                          drawn_by="after=0A")
-        line = "layout: after=0A, 49 of 50 subtitles as they were sent; after=0A rests on 50"
-        left = "strip=03 would draw 1 more of 50: say it by --layout after=0A,strip=03 if your " \
-            "inserter draws so"
-        report = self.read("out/one.html").decode()
-        self.must("told", told.word == "refused" and line in told.said and left in told.said
-                  and told.result["layout"]["items"] == [
-                      {"text": "after=0A", "decides": 50, "drawn": 49}], told.said)
-        self.must("report", line in report and left in report)
-
-    def test_a_code_that_no_page_has(self) -> None:
-        """It is refused by the subtitle file where few texts have it; and it is said what draws
-        it."""
-        told = self.judge([*plain(40), NO_BOX, *plain(59)])
-        self.must("51", told.word == "refused" and any(line.startswith(
-            "51: strip=00 would draw 1 more of 100: ") for line in told.said), told.said)
-
-    def test_a_short_programme(self) -> None:
-        """Where nine in ten need an item that too few show nothing is judged; the whole TEXT is
-        there to type."""
-        several = [*[One(b"\3Hi", b"\3Hi")] * 9, *plain(3)]
-        told = self.judge(several, drawn_by="after=0A,before=*0B0B")
-        whole = "after=0A,before=*0B0B"
-        self.must("short", told.word == "not judged" and told.told[:3] == [
-            "--layout auto guesses nothing: what is seen in 10 subtitles at least, and takes "
-            "nothing from a page, no --layout, draws 0 of 12 subtitles as they were sent, and 9 in "
-            "10 have to be", "after=0A would draw 3 more of 12: say it by --layout after=0A if "
-            f"your inserter draws so", f"{whole} would draw 12 more of 12: say it by --layout "
-            f"'{whole}' "
-            "if your inserter draws so"] and told.told[-1].endswith(f" --layout '{whole}'"),
-            told.told)
-        told = self.judge([*several, *plain(9)], drawn_by="after=0A")
-        self.must("seen", told.word == "accepted" and told.result["layout"]["items"] == [
-            {"text": "after=0A", "decides": 21, "drawn": 21}], told.said)

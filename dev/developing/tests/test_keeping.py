@@ -5,13 +5,13 @@ from typing import Sequence
 
 from developing.pes import packet, pes_packet
 from subtitles.common.times import Span, TICKS, time_of
-from subtitles.formats.listing import CONTENT, fault_of_line
+from subtitles.formats.listing import CONTENT
 from subtitles.formats.stl import Subtitle
 from subtitles.judging.causes import Namer, REPEATED
-from subtitles.judging.check import Answer, End, NO_END
+from subtitles.judging.check import Answer
 from subtitles.judging.transmissions import (
-    DuePages, Headed, Kept, LeftOut, REPEATS, control_words, headed, judged_by, kept_in, left_at,
-    left_by, left_rows_words, unerased_words)
+    DuePages, Headed, Kept, REPEATS, control_words, headed, kept_in, left_at, left_rows_words,
+    unerased_words)
 from subtitles.stream.receiver import BLANK_PAGE, Rows, TUNED, Timeline
 from subtitles.stream.survey import Run
 from .bench import Case
@@ -80,7 +80,7 @@ class Headers(Case):
     def test_other_bits(self) -> None:
         """C4 is told first, and nothing of it where it may be clear."""
         self.must("may be", control_words(KEEPS, "english") == [])
-        found = control_words(numbers(p5=0), "english", (), REPEATS)
+        found = control_words(numbers(p5=0), "english", REPEATS)
         self.must("both", found == [REPEATS, "C6 (subtitle) is clear"], found)
 
 
@@ -101,26 +101,8 @@ class Counted(Case):
             self.must(f"{headers} {option}", (found and found[:2]) == wanted, found)
 
     def test_words(self) -> None:
-        """Where it is not known what --keeping tells, where rows are left out, where none is."""
-        left = (LeftOut(250, "row 22"), LeftOut(300, "rows 20 and 22"))
-        head = f"{CLEAR} in 3 of 10 headers"
-        out = f"{head}, and behind 2 of these rows are left out (at 00:00:10:00 row 22): " \
-            "--keeping judges by it"
-        more = ", and refuses 2 of these: the sub-code is another one than before, or the page " \
-            "was still open"
-        for kept, wanted in (
-                (Kept(10, 3), f"{head}: --keeping judges by it"),
-                (Kept(1, 1), f"{CLEAR} in 1 of 1 header: --keeping judges by it"),
-                (Kept(10, 3, (), 0, True, True),
-                 f"{head}, and what these repeat is whole: --keeping accepts that"),
-                (Kept(10, 3, (), 0, True, False),
-                 f"{head}, and what these repeat is whole: --keeping judges by it"),
-                (Kept(10, 3, (), 2, True, False),
-                 f"{head}, and what these repeat is whole: --keeping judges by it{more}"),
-                (Kept(10, 3, (), 0, False, False), f"{head}, and what these repeat is whole "
-                 "wherever the page is as it is due: --keeping judges by it"),
-                (Kept(10, 3, left), out), (Kept(10, 3, left, 2), out + more)):
-            self.must(f"{kept}", kept.words() == wanted, kept.words())
+        for kept, count in ((Kept(10, 3), "3 of 10 headers"), (Kept(1, 1), "1 of 1 header")):
+            self.assertEqual(kept.words(), f"{CLEAR} in {count}: see --keeping in the profile")
 
     def test_rows(self) -> None:
         """No row came, one is told, one is not; and how many more are left out."""
@@ -195,47 +177,6 @@ class RowsLeftOut(Case):
         held, due = self.held(*frames)
         self.must("one frame", left_at(held, due, 25, self.told_at(25)) == "rows 20 and 22")
 
-    def test_by_a_fault(self) -> None:
-        """Each header of the frames at which it stands, from the last one before them on."""
-        held, due = self.held((0, WHOLE), (25, BARE), (50, BARE), (75, WHOLE), (100, BARE))
-        every = [(25, "rows 20 and 22"), (50, "rows 20 and 22")]
-        for line, end, wanted in (
-                ("refused 72 Content frame 00:00:01:00 row 20 column 0", NO_END, every[:1]),
-                ("refused 72 Content frame 00:00:01:00 row 20 column 0",
-                 End("00:00:01:24", None), every[:1]),
-                ("refused 72 Content frame 00:00:01:00 row 20 column 0",
-                 End("00:00:02:24", None), every),
-                ("refused 72 Content frame 00:00:01:02 row 20 column 0",
-                 End("00:00:01:24", None), every[:1]),
-                ("refused 72 Content frame 00:00:00:03 row 20 column 0", NO_END, []),
-                ("refused 73 Gap frame 00:00:01:00", NO_END, []),
-                ("refused 72 Content", NO_END, [])):
-            told = fault_of_line(line)
-            assert told
-            said = answer([line, "1 faults"], path=self.path("list"))
-            found = [tuple(one) for one in left_by(told, end, said, held, lambda frame: due)]
-            self.must(f"{line} {end}", found == wanted, found)
-
-    def test_by_an_answer(self) -> None:
-        """None, one that accepts, and one that refuses the first, the second and the last."""
-        held, due = self.held((0, WHOLE), (25, BARE), (50, BARE), (75, WHOLE), (100, BARE))
-        known = Kept(5, 3)
-
-        def by(*lines: str) -> Kept:
-            said = answer(lines, path=self.path("list"))
-            return judged_by(known, said, held, lambda frame: due)
-        self.must("none", judged_by(known, None, held, lambda frame: due) == known)
-        found = by("accepted 101 frames 5 transmissions")
-        self.must("accepted", found == Kept(5, 3, (), 0, True, True), found)
-        found = by("refused 67 Control frame 00:00:01:00 packet 0", "1 faults")
-        self.must("67", found == Kept(5, 3, (), 1, True, False), found)
-        found = by("refused 72 Content frame 00:00:01:00 row 20 column 0",
-                   "ended 72 Content frame 00:00:02:24",
-                   "refused 72 Content frame 00:00:04:00 row 20 column 0",
-                   "ended 72 Content frame 00:00:04:00", "2 faults")
-        self.must("72", found == Kept(5, 3, tuple(
-            LeftOut(frame, "rows 20 and 22") for frame in (25, 50, 100))), found)
-
     def test_causes(self) -> None:
         """Why a page is not as it is due at a frame at whose end it is held."""
         held, due = self.held((0, WHOLE), (25, BARE), (50, ONE_LESS))
@@ -296,18 +237,13 @@ class Pairs(Case):
         found = self.judged("")
         keeping = sum(one != other for (_, one), (_, other) in zip(
             as_houses(self.sent), self.sent))
-        words = f"{CLEAR} in {keeping} of {len(self.sent)} headers, and what these repeat is " \
-            "whole: --keeping accepts that"
+        words = f"{CLEAR} in {keeping} of {len(self.sent)} headers: see --keeping in the profile"
         self.must("refused", found.word == "refused" and found.result["hints"] == [f"67: {words}"]
                   and words in found.verdict.sentence and found.result["asked"]["keeping"] is False
                   and all(one["means"] == REPEATS for one in found.result["faults"]), found.said)
 
     def test_left_out(self) -> None:
-        """No row comes with one of them: which one is said, and by --keeping it is the cause."""
-        found = self.judged("left out")
-        hint = found.result["hints"][0]
-        self.must("said", ", and behind 1 of these rows are left out (at 00:00:" in hint and
-                  hint.endswith(" row 22): --keeping judges by it"), hint)
+        """No row comes with one of them: by --keeping that is the cause."""
         found = self.judged("left out", "--keeping")
         self.must("a cause", found.word == "refused" and {one["number"] for one in found.result[
             "faults"]} == {CONTENT} and [one["words"] for one in found.result["causes"]] ==
@@ -316,10 +252,6 @@ class Pairs(Case):
 
     def test_subcode(self) -> None:
         """Another subcode is refused all the same."""
-        found = self.judged("subcode")
-        self.must("said", found.result["hints"][0].endswith(
-            ": --keeping judges by it, and refuses 2 of these: the sub-code is another one than "
-            "before, or the page was still open"), found.result["hints"])
         found = self.judged("subcode", "--keeping")
         self.must("by it", found.word == "refused" and found.result["hints"] == [
             f"67: {CLEAR}, and the sub-code is another one than before: 0001 after 0000"],
@@ -328,7 +260,6 @@ class Pairs(Case):
     def test_later(self) -> None:
         """Rows that come a frame later are of a page that is late, and within one it is right."""
         found = self.judged("", "--keeping", "--no-complete", frames=1)
-        self.must("late", found.word == "refused" and found.result["accepted_within"] == 1,
-                  found.said)
+        self.must("late", found.word == "refused", found.said)
         found = self.judged("", "--keeping", "--within", "1", frames=1)
         self.must("within", found.word == "accepted", found.said)

@@ -71,7 +71,7 @@ class Ends(Case):
                   "accepted 20 frames 4 transmissions in 2 parts", said)
 
     def test_lost(self) -> None:
-        """Each place, twenty at most; whether it is judged; and what accepts it."""
+        """Each place, twenty at most; whether it is judged."""
         for count, more in ((1, None), (20, None), (21, "! and at 1 more place"),
                             (23, "! and at 3 more places")):
             said = self.said(self.verdict([part_with(0, 99, 0)], gaps=[gap(True)] * count))
@@ -79,8 +79,7 @@ class Ends(Case):
             self.must(f"{count}", said.count(place) == min(count, 20) and
                       (more in said if more else not any("more place" in one for one in said[:-2])),
                       said)
-            self.must("allow", "! that part was not recorded; --allow-lost accepts the "
-                      "recording without it" in said, said)
+            self.must("not recorded", "! that part was not recorded" in said, said)
         said = self.said(self.verdict([part_with(0, 99, 0)], gaps=[gap(False)]))
         self.must("outside", said[0].endswith("3 TS packets lost, outside of what is judged") and
                   not any("not recorded" in one for one in said), said)
@@ -91,7 +90,7 @@ class Ends(Case):
         self.must("refused too", "! that part was not recorded" in said, said)
 
     def test_refused(self) -> None:
-        """The line of the first part that is refused; within how many frames it is accepted."""
+        """The line of the first part that is refused; after how many frames subtitles are whole."""
         parts = [part_with(0, 9, 0), part_with(10, 19, 0, answer(REFUSED), 2)]
         said = self.said(self.verdict(parts))
         self.must("line", said[-2].startswith("Refused: ") and said[-1] == REFUSED[0] and

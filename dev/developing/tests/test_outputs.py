@@ -199,8 +199,8 @@ class Members(unittest.TestCase):
         for asked in (own, dataclasses.replace(own, is_loss_allowed=False, is_strict=True)):
             self.assertEqual(ASKED.made(asked), {**words, "strict": asked.is_strict,
                                                   "allow_lost": not asked.is_strict})
-        drawn = dataclasses.replace(own, layout="auto", is_open=True, found_layout="fit")
-        self.assertEqual(ASKED.made(drawn), {**words, "layout": "auto", "open": True})
+        drawn = dataclasses.replace(own, layout="fit", is_open=True)
+        self.assertEqual(ASKED.made(drawn), {**words, "layout": "fit", "open": True})
 
     def test_part(self) -> None:
         """What is judged of a recording, and by which clock; what was judged of a feed has a name

@@ -80,7 +80,7 @@ class Hidden(Case):
             told = judged(self, self.path("one.stl"), self.path("one.pes"), "--origin", "0")
             self.must(f"{count}", told.word == "refused" and told.parts("pace") == [(1,)] and
                       told.result["line"] == "refused 79 Silent frame 10:00:12:00"
-                      and "--pace none" in told.verdict.sentence, told.said)
+                      and "--pace none" not in told.verdict.sentence, told.said)
             self.must(f"{count}: said", told.lines("pace: ") == [
                 "a PES packet comes within 1 frame of the one before: --pace 1"])
 

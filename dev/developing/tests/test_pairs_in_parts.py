@@ -102,17 +102,17 @@ class Parts(Case):
                                                   for at in range(1, 25)])
 
     def test_refused(self) -> None:
-        """The first, the second and the last part, by the file's numbers; the least N is that of
-        all that are refused, and of one that no N accepts there is none."""
-        for changes, least in (({3: 2}, 2), ({10: 3}, 3), ({19: 1}, 1), ({3: 2, 10: 4, 19: 3}, 4),
-                               ({3: 5, 19: 2}, 5), ({10: 2, 19: 6}, None), ({3: 7, 10: 1}, None)):
+        """The first, the second and the last part, by the file's numbers; nothing is advised."""
+        every: list[dict[int, int]] = [
+            {3: 2}, {10: 3}, {19: 1}, {3: 2, 10: 4, 19: 3}, {3: 5, 19: 2}, {10: 2, 19: 6},
+            {3: 7, 10: 1}]
+        for changes in every:
             found = self.judge((1000, 3000), changes, "--origin", str(ORIGIN))
             refused = [(number - 1) // 8 for number in changes]
             self.must(f"{changes}: parts", [one[0] for one in found.parts("verdict")] == [
                 "refused" if at in refused else "accepted" for at in range(3)], found.said)
-            self.must(f"{changes}: the least", (found.result["accepted_within"], found.lines(
-                "within ")) == (least, [f"{least} it is accepted: --within {least}"] * bool(least)),
-                found.said)
+            self.must(f"{changes}: no advice", not any(
+                "--within" in line for line in found.said), found.said)
             first = min(changes)
             line = f"refused 72 Content frame {time_of(EACH * first)} row 22 column "
             self.must(f"{changes}: line", found.said[-1].startswith(line) and
@@ -127,33 +127,22 @@ class Parts(Case):
                 ((number - 1) // 8 + 1, None, time_of(EACH * number), None, None, number, by, 22,
                  {"code": "20", "character": " "}, "0B", time_of(EACH * number + by - 1))
                 for number, by in changes.items()], found.result["faults"])
-            more = f"; --within {least} accepts it" if least else ""
             name = cause_of(first, EACH * first, 0).partition(" at ")[0]
             self.must(f"{changes}: sentence", found.lines("Refused: ") == [
                 f'at {time_of(EACH * first)} {name}, "Number {first}", is {changes[first]} '
-                f"frame{'s' * (changes[first] > 1)} late{more}."], found.said)
+                f"frame{'s' * (changes[first] > 1)} late."], found.said)
             self.must(f"{changes}: each", [one["whole_after"] for one in found.result["subtitles"]]
                       == [changes.get(number, 0) for number in range(1, 25)])
             self.must(f"{changes}: counts", found.lines("causes of ") == [
                 f"{len(changes)} subtitle{'s' * (len(changes) > 1)}: {len(changes)} late"])
 
-    def test_least_where_pts_go_back(self) -> None:
-        """The same, of parts whose PES packets have a range of their own; where they go back less
-        far the frames of one part are those of another one too."""
-        for shifts in ((-5000, 2000), (-700, -1500)):
-            for changes, least in (({3: 2}, 2), ({10: 3}, 3), ({19: 1}, 1), ({10: 2, 19: 4}, 4)):
-                found = self.judge(shifts, changes, "--origin", str(ORIGIN))
-                self.must(f"{shifts} {changes}", found.result["accepted_within"] == least and
-                          [one[0] for one in found.parts("verdict")].count("refused") ==
-                          len(changes), found.said)
-
     def test_within(self) -> None:
-        """Where parts are judged within N: the sums, and the least of more."""
+        """Where parts are judged within N: the sums."""
         found = self.judge((1000, 3000), {10: 2, 19: 4}, "--within", "1")
-        self.must("refused", found.said[-3] == "within 4 it is accepted: --within 4" and
-                  found.said[-4] == "subtitles are whole after 0 to 4 frames, 0 in the middle")
+        self.must("refused", found.said[-3] ==
+                  "subtitles are whole after 0 to 4 frames, 0 in the middle", found.said)
         found = self.judge((1000, 3000), {10: 2, 19: 4}, "--within", "4")
-        self.must("accepted", found.word == "accepted" and found.result["accepted_within"] is None)
+        self.must("accepted", found.word == "accepted")
 
     def test_losses(self) -> None:
         """A mark in the first part, the second and the last; one behind the last of a part is of
@@ -171,8 +160,7 @@ class Parts(Case):
                 (place + number, True) for number, place in enumerate(places[:len(own)])], lost)
             self.must(f"{at}: times", [one["after"] for one in lost] == [
                 time_of(self.sent[place - 1][0] // TICKS) for place in places[:len(own)]], lost)
-            self.must(f"{at}: no least", found.result["accepted_within"] is None and
-                      found.verdict.is_lost == bool(own) and
+            self.must(f"{at}: lost", found.verdict.is_lost == bool(own) and
                       ("not recorded" in "".join(found.told)) == bool(own))
             allowed = self.judge((1000, 3000), {}, *every, *clock, "--allow-lost", marks=places)
             self.must(f"{at}: allowed", allowed.word == ("waived" if own else "accepted"))
@@ -181,8 +169,8 @@ class Parts(Case):
         """A break that is not said, and one that is said and is none."""
         data = self.write("one.pes", joined(apart(self.sent, 1000, 3000)))
         found = judged(self, self.stl, data, "--breaks", "1")
-        self.must("one of two", found.word == "not judged" and any(
-            "--breaks 2" in one for one in found.told), found.said)
+        self.must("one of two", found.word == "not judged" and not any(
+            one.startswith("type ") for one in found.told), found.said)
         whole = self.write("one.pes", joined(self.sent))
         for count, word in (("1", "not judged"), ("0", "accepted")):
             self.must(count, judged(self, self.stl, whole, "--breaks", count).word == word)
@@ -236,8 +224,8 @@ class Within(Case):
         return judged(self, self.stl, self.write("one.pes", joined(sent)), *words)
 
     def test_ways(self) -> None:
-        """Refused without, accepted within the least N that is named, with the clock that is given
-        and with one that is found; and after how many frames subtitles are whole then."""
+        """Refused without, accepted within some frames, with the clock that is given and with one
+        that is found; and after how many frames subtitles are whole then."""
         ways: list[tuple[str, Change, int, int]] = [
             ("fields", in_fields, 1, 0), ("fields at once", in_fields_at_once, 1, 0),
             ("late rows", with_late_rows, 1, 1), ("jitter", with_jitter, 1, 0),
@@ -245,17 +233,16 @@ class Within(Case):
         for name, change, least, most in ways:
             some = change(self.sent)
             found = self.judge(some, "--origin", str(ORIGIN))
-            self.must(f"{name}: refused", found.word == "refused" and
-                      found.result["accepted_within"] == least, found.said)
+            self.must(f"{name}: refused", found.word == "refused", found.said)
             self.must(f"{name}: hint", name != "jitter" or found.result["hints"] == [
-                "61: PTS are up to 5.0 ms off the frame; --within 1 accepts that"], found.said)
+                "61: PTS are up to 5.0 ms off the frame"], found.said)
             for words in (["--page", "888"], ["--origin", str(ORIGIN)]):
                 found = self.judge(some, "--within", str(least), *words)
                 spread = found.result["whole_after"]
                 self.must(f"{name}: {words}", found.word == "accepted" and
                           (spread["greatest"], spread["never"]) == (most, 0), found.said)
-                self.must(f"{name}: the clock", found.result["accepted_within"] is None and
-                          abs(found.result["parts"][0]["origin"] - ORIGIN) < EARLY, found.said)
+                self.must(f"{name}: the clock", abs(
+                    found.result["parts"][0]["origin"] - ORIGIN) < EARLY, found.said)
 
     def test_origins(self) -> None:
         """The most cues agree within N frames, and of equals the one of which the first is not
@@ -341,18 +328,17 @@ class Within(Case):
         behind = [(sent[0][0] - 40 * TICKS, sent[-1][1]), sent[0],
                   *((pts + 3 * TICKS, some) for pts, some in sent[1:])]
         row = "late by 3 frames: the page is not whole for 6 frames in a row, from 00:00:08:03 on"
-        for stl, some, within, begin, cause, least in (
+        for stl, some, within, begin, cause in (
                 (HELLO, in_fields_at_once(hello), 0, "10:00:00:00", "unknown: as it is due only "
-                 "after another PES packet of the same frame", 1),
+                 "after another PES packet of the same frame"),
                 (HELLO, [*hello[:1], *with_late_rows(hello[1:2], 4), *hello[2:]], 2, "10:00:00:00",
-                 "unknown: it is gone at 10:00:01:00", 4),
-                (pauses, behind, 3, "00:00:08:06", row, None),
-                (pauses, behind, 5, "00:00:08:06", row, None)):
+                 "unknown: it is gone at 10:00:01:00"),
+                (pauses, behind, 3, "00:00:08:06", row),
+                (pauses, behind, 5, "00:00:08:06", row)):
             found = judged(self, stl, self.write("one.pes", joined(some)), "--origin", str(ORIGIN),
                            "--within", str(within))
             self.must(f"{cause} {within}", any(f" at {begin}, " in one and one.endswith(cause)
-                                               for one in found.lines("cause: ")) and
-                      found.result["accepted_within"] == least, found.said)
+                                               for one in found.lines("cause: ")), found.said)
         self.must("of six in a row", judged(self, pauses, self.path("one.pes"), "--origin",
                                             str(ORIGIN), "--within", "6").word == "accepted")
 

@@ -79,7 +79,7 @@ class Unread(Case):
                   [(time_of(self.frames[before]), time_of(self.frames[after]))
                    for before, after in ((21, 24), (60, 62))], found.result["lost"])
         told = [line for line in found.told if "between" in line or "recorded" in line]
-        self.must("told", len(told) == 3 and "--allow-lost accepts" in told[2], told)
+        self.must("told", len(told) == 3 and told[2] == "that part was not recorded", told)
         severity = self.write("severity", b"45 warning\n")
         others = self.write("others", b"others warning\n")
         rows: list[tuple[list[str], str]] = [
@@ -90,8 +90,7 @@ class Unread(Case):
             self.must(f"{words}", found.word == word, found.said)
 
     def test_promises(self) -> None:
-        """What is lost is where something else is refused too: --allow-lost is not promised then.
-        """
+        """What is lost is where something else is refused too; no option is promised."""
         first = [MARK, *self.pes[1:]]
         for name, some, is_promised in (("a repeat", [*self.pes[:2], MARK, *self.pes[3:]], True),
                                         ("a subtitle", [*self.pes[:5], MARK, *self.pes[6:]], False),
@@ -101,9 +100,8 @@ class Unread(Case):
             path = self.write("one.pes", b"".join(some))
             found = judged(self, self.stl, path, *EVERY, "--origin", str(ORIGIN))
             told = [line for line in found.told if "not recorded" in line]
-            more = "; --allow-lost accepts the recording without it" * bool(is_promised)
             self.must(name, told == ([] if is_promised is None else
-                                     [f"that part was not recorded{more}"]), found.said)
+                                     ["that part was not recorded"]), found.said)
             again = judged(self, self.stl, path, *EVERY, "--origin", str(ORIGIN), "--allow-lost")
             self.must(f"{name}: allowed", (again.word != "refused") ==
                       (is_promised or name == "before the first"), again.said)
@@ -157,7 +155,7 @@ class Said(Case):
             (moved([3]), [], 'Refused: at 00:00:12:00 subtitle 3 (SN 52), "Number 52", is 7 frames '
              "late."),
             (moved([3], 2), [], 'Refused: at 00:00:12:00 subtitle 3 (SN 52), "Number 52", is 2 '
-             "frames late; --within 2 accepts it."),
+             "frames late."),
             (self.sent, [], "Accepted: 20 subtitles, each of them as it is due from the first "
              "frame on."),
             (self.sent, ["--within", "2"], "Accepted: 20 subtitles, each of them as it is due "
@@ -170,7 +168,7 @@ class Said(Case):
              "Waived, since these faults are named warnings: from 00:00:13:24 on the longest gap "
              "is 50 frames, and 25 are usual."),
             (self.sent, ["--every", "20"], "Refused: from 00:00:04:20 on the longest gap is 25 "
-             "frames: --every 25 accepts it; in all 59 faults.")]
+             "frames; in all 59 faults.")]
         for sent, words, wanted in rows:
             found = self.judge(sent, *words)
             self.must(wanted, found.said[-2].startswith(wanted) and

@@ -8,13 +8,12 @@ from typing import Any, Sequence
 from developing.pes import pes_packet
 from subtitles.clock.start import FITTED, FITTED_LATER, GIVEN, RECORDING
 from subtitles.common.times import CLOCK, TICKS
-from subtitles.formats.listing import ENDS_READING, STL_FAULTS
+from subtitles.formats.listing import ENDS_READING
 from subtitles.judging.check import Answer, NO_END
 from subtitles.judging.losses import gap_of, gaps_of, lacks
 from subtitles.judging.part import Explanation, Part
 from subtitles.judging.status import ERROR, OTHERS, REFUSALS, Severity, WARNING
 from subtitles.judging.verdict import Gap, MOVED, Spread, Verdict, spread_of
-from subtitles.judging.within import FIXED, OF_ENDS, OF_FRAMES, OF_PACKETS
 from subtitles.stream.gaps import Place
 from .bench import Case
 from .parts import CLOSING, HEADER, answer, asked_for, packets_told, part_with
@@ -47,20 +46,6 @@ class Verdicts(Case):
                 self.must(f"{refused} {name}", (verdict.word, verdict.status, verdict.line) ==
                           ("not judged", 2, None) and verdict.why_not ==
                           ("why" if name == "reason" else "full\nbroken"), verdict.why_not)
-
-    def test_what_is_lost_alone(self) -> None:
-        """Of one part, and of two: each number counts, whatever order they are in."""
-        lost, other = "refused 45 Lost pes 3", "refused 38 UnitLength pes 7"
-        content = REFUSED[0]
-        rows: list[tuple[list[tuple[str, ...]], bool]] = [
-            ([(lost,)], True), ([(lost, lost)], True), ([(lost, other)], False),
-            ([(other, lost)], False), ([(content, lost)], False), ([(other,)], False),
-            ([(lost,), (lost,)], True), ([(lost,), (other,)], False),
-            ([(content,), (lost,)], False)]
-        for several, is_alone in rows:
-            verdict = verdict_of([part_with(0, 9, 0, answer([*lines, f"{len(lines)} faults"]))
-                                  for lines in several])
-            self.must(f"{several}", verdict.is_lost_alone == is_alone)
 
     def test_sentence_of_losses(self) -> None:
         """The first place that is judged, and how many more there are."""
@@ -144,19 +129,6 @@ class Verdicts(Case):
         for said, places, wanted in rows:
             part = part_with(100, 199, 0, said, pes=(0, 9))
             self.must(f"{said.numbers} {places}", lacks(part, places) == wanted)
-
-    def test_accepted_within(self) -> None:
-        """What is promised holds for all parts that are refused, and is known of each."""
-        for known, refused, wanted in (
-                ((2, None, None), (0,), 2), ((None, 3, None), (1,), 3), ((2, 3, 1), (0, 1, 2), 3),
-                ((3, 2, 1), (0, 1, 2), 3), ((1, 2, 3), (0, 1, 2), 3), ((2, None, 1), (0, 1, 2),
-                                                                      None),
-                ((None, None, None), (0, 2), None), ((None, None, None), (), None),
-                ((5, None, 1), (0, 2), 5)):
-            parts = [dataclasses.replace(part, explanation=Explanation(accepted_within=within))
-                     for part, within in zip(self.three(*refused), known)]
-            found = verdict_of(parts).accepted_within
-            self.must(f"{known} {refused}", found == wanted, found)
 
     def test_fitted(self) -> None:
         """The clock of the first part, or of a later one, was found in the recording."""
@@ -264,10 +236,7 @@ class Severities(Case):
         self.must("a word", OTHERS == "others")
 
     def test_sets_of_numbers(self) -> None:
-        """Of what comes of more frames, and where pages are moved."""
-        self.must("whatever N is", FIXED == STL_FAULTS | {*range(30, 41), 44, 45, 60, 79})
-        self.must("of packets, of frames", (OF_PACKETS, OF_FRAMES, OF_ENDS) == (
-            {63, 64, 65, 66, 67, 68, 69, 70, 71, 73}, {61, 62}, {72, 77}))
+        """Where pages are moved."""
         self.must("pages are moved", MOVED == {30, 31, 32, 44, 45, 60, 62, 63, 71, 72, 74, 77})
 
     def test_ends_of_faults(self) -> None:

@@ -56,8 +56,7 @@ class Reasons(Case):
         """C4 is clear in all headers: that is told, and nothing of PES packets of one frame."""
         path = self.write("one.pes", joined(all_changed(self.sent, 3, 8, 0)))
         found = judged(self, self.stl, path, "--origin", "0", *WORDS)
-        words = "C4 (erase page) is clear in 49 of 49 headers, and what these repeat is whole " \
-            "wherever the page is as it is due: --keeping judges by it"
+        words = "C4 (erase page) is clear in 49 of 49 headers: see --keeping in the profile"
         self.must("said", found.word == "refused" and found.verdict.sentence ==
                   f"Refused: at 00:00:04:00 {words}; in all 49 faults." and
                   found.result["hints"] == [f"67: {words}"] and
@@ -81,25 +80,18 @@ class Reasons(Case):
         found = Namer(DuePages([], []), held).hidden_words(5)
         self.must("behind one that goes back", found == UNSEEN, found)
 
-    def test_options_that_are_advised(self) -> None:
-        """A national option is advised where less is refused by it: some headers are of another
-        one, or all, and a letter may be of the first one alone."""
-        pound = programme(self, times(8), text=b"\xa3%d", name="pound.stl")
-        for stl, wrong, is_advised in (
-                (self.stl, range(99), True), (self.stl, [0], False), (self.stl, [5], False),
-                (self.stl, range(1, 99), True), (pound, range(99), False)):
+    def test_another_option(self) -> None:
+        """A header of another national option is told, and none is advised: in all headers, in one.
+        """
+        for wrong in (range(99), [0], [5]):
             sent = [(pts, [changed(one, 7, 14, 8) for one in some] if at in wrong else some)
-                    for at, (pts, some) in enumerate(sendings(self, stl))]
-            words = [stl, self.write("one.pes", joined(sent)), "--origin", "0", *WORDS]
-            found, german = judged(self, *words), judged(self, *words, "--option", "german")
-            self.must(f"{stl} {wrong}", found.word == "refused" and found.result["hints"] == [
-                "67: the header is German" + ": --option german" * is_advised],
-                found.result["hints"])
-            self.must(f"{stl} {wrong}: faults", all(
-                one["means"] == found.result["hints"][0][4:] for one in found.result["faults"]))
-            is_better = german.verdict.faults < found.verdict.faults and not any(
-                one["file"] == "stl" for one in german.result["faults"])
-            self.must(f"{stl} {wrong}: better", is_better == is_advised, german.said)
+                    for at, (pts, some) in enumerate(self.sent)]
+            found = judged(self, self.stl, self.write("one.pes", joined(sent)), "--origin", "0",
+                           *WORDS)
+            words = "the header is German, and english is asked for"
+            self.must(f"{wrong}", found.word == "refused" and
+                      found.result["hints"] == [f"67: {words}"] and all(
+                          one["means"] == words for one in found.result["faults"]), found.said)
 
     def test_scrambled(self) -> None:
         """A PID that is scrambled is told so, in files and feeds; no other page is advised."""

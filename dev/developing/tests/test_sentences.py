@@ -29,24 +29,22 @@ class Words(unittest.TestCase):
         cases: list[tuple[str, bytes, str, list[str]]] = [
             ("C11, serial mode", header()[:7] + b"\x01", "english", []),
             ("C8 and C9", header(suppress=1 | 2 | 4), "english", []),
-            ("back", header(), "french", ["the header is English: --option english"]),
+            ("back", header(), "french", ["the header is English, and french is asked for"]),
             ("reserved", header(national=7), "czech",
              ["C12, C13 and C14 are set, which is reserved"]),
             ("two", header(subtitle=0, national=4), "english",
-             ["C6 (subtitle) is clear", "the header is German: --option german"]),
+             ["C6 (subtitle) is clear", "the header is German, and english is asked for"]),
         ]
         for name, numbers, option, words in cases:
             with self.subTest(name):
-                self.assertEqual(control_words(numbers, option, ["english", "german"]), words)
+                self.assertEqual(control_words(numbers, option), words)
 
     def test_each_option_in_each_other(self) -> None:
         for sent in OPTIONS:
             for asked in OPTIONS:
-                words, numbers = f"the header is {sent.name}", header(national=sent.bits)
+                words = f"the header is {sent.name}, and {asked.word} is asked for"
                 with self.subTest(sent=sent.word, asked=asked.word):
-                    self.assertEqual(control_words(numbers, asked.word, [sent.word]),
-                                     [f"{words}: --option {sent.word}"] * (sent != asked))
-                    self.assertEqual(control_words(numbers, asked.word, [asked.word]),
+                    self.assertEqual(control_words(header(national=sent.bits), asked.word),
                                      [words] * (sent != asked))
 
 
@@ -72,11 +70,8 @@ class Sentences(unittest.TestCase):
                  "warnings, which count (page, fitted); what was seen is as it is due."),
                 (Facts(REFUSED, 2, first=fault, faults=1, hint="no header"),
                  "Refused: from 10:00:00:00 on no header."),
-                (Facts(REFUSED, 2, first=fault, faults=3, hint="no header", accepted_within=2),
-                 "Refused: from 10:00:00:00 on no header; in all 3 faults; --within 2 accepts it."),
-                (Facts(REFUSED, 2, first=fault, faults=1, hint="x: --within 1 accepts that",
-                      accepted_within=1),
-                 "Refused: from 10:00:00:00 on x: --within 1 accepts that.")):
+                (Facts(REFUSED, 2, first=fault, faults=3, hint="no header"),
+                 "Refused: from 10:00:00:00 on no header; in all 3 faults.")):
             found = sentence_of(seen)
             self.assertEqual(found, wanted)
         for told, begin in ((packet, "Refused: in PES packet 7 "), (block, "Refused: in block 12 "),

@@ -207,33 +207,33 @@ class Words(Case):
             self.must(f"{line} {within}", found.pes == pes, found)
 
     def test_gaps(self) -> None:
-        """The longest gap, the last among them, and behind the last header; what accepts it, where
-        nothing else is refused, all that was sent is known, and no repeat is missing."""
+        """The longest gap, the last among them, and behind the last header, where all that was sent
+        is known."""
         each = tuple(range(0, 1001, 100))
-        for frames, last, every, numbers, is_lost, wanted in (
-                (each, 1000, 50, {73}, False,
-                 "the longest gap is 100 frames: --every 100 accepts it"),
-                (each, 1000, 99, {73}, False,
-                 "the longest gap is 100 frames: --every 100 accepts it"),
-                (each, 1000, 100, {73}, False, ""), (each, 1000, 50, {73, 38}, False, ""),
-                (each, 1000, 50, {73, 72}, False, "the longest gap is 100 frames"),
-                (each, 1000, 50, {73}, True, "the longest gap is 100 frames"),
-                ((*each[:5], *each[6:]), 1000, 100, {73}, False,
+        for frames, last, every, numbers, wanted in (
+                (each, 1000, 50, {73},
+                 "the longest gap is 100 frames"),
+                (each, 1000, 99, {73},
+                 "the longest gap is 100 frames"),
+                (each, 1000, 100, {73}, ""), (each, 1000, 50, {73, 38}, ""),
+                (each, 1000, 50, {73, 72}, "the longest gap is 100 frames"),
+                (each, 1000, 50, {73}, "the longest gap is 100 frames"),
+                ((*each[:5], *each[6:]), 1000, 100, {73},
                  "the longest gap is 200 frames, and 100 are usual"),
-                ((*each[:5], *each[6:]), 1000, 99, {73}, False, "the longest gap is 200 frames"),
-                (each[1:], 1000, 50, {73}, False,
-                 "the longest gap is 100 frames: --every 100 accepts it"),
-                (each, 1100, 100, {73}, False,
+                ((*each[:5], *each[6:]), 1000, 99, {73}, "the longest gap is 200 frames"),
+                (each[1:], 1000, 50, {73},
+                 "the longest gap is 100 frames"),
+                (each, 1100, 100, {73},
                  "the longest gap is 101 frames, and 100 are usual"),
-                (each, 1098, 99, {73}, False,
-                 "the longest gap is 100 frames: --every 100 accepts it"),
-                ((0, 101), 101, 100, {73}, False, "the longest gap is 101 frames"),
-                ((), 5, 1, {73}, False, "")):
+                (each, 1098, 99, {73},
+                 "the longest gap is 100 frames"),
+                ((0, 101), 101, 100, {73}, "the longest gap is 101 frames"),
+                ((), 5, 1, {73}, "")):
             for origin in (ORIGIN, CLOCK - 60 * TICKS):
                 headers, ends = ([(origin + TICKS * frame) % CLOCK for frame in some]
                                  for some in (frames, (last,)))
                 asked = asked_for("one.stl", "one.pes", "--every", str(every))
-                found = gap_words((headers, ends), origin, asked, numbers, [], is_lost)
+                found = gap_words((headers, ends), origin, asked, numbers, [])
                 self.must(f"{frames} {numbers} {origin}", found.replace(",", "") ==
                           wanted.replace(",", ""), found)
 

@@ -1,5 +1,5 @@
-"""What is decided about a pair, by tables: within how many frames it would be accepted, what is
-strange of a recording, how PTS lie, when the first picture was.
+"""What is decided about a pair, by tables: what is strange of a recording, how PTS lie, when the
+first picture was.
 """
 from __future__ import annotations
 
@@ -15,11 +15,7 @@ from subtitles.clock.origin import OfPart, Origin
 from subtitles.clock.start import Clock, Found, GIVEN, RECORDING, most_off, off_words, start_frame
 from subtitles.common.times import CLOCK, TICKS
 from subtitles.formats.stl import SubtitleFile
-from subtitles.judging.causes import (
-    ATTRIBUTE, Cause, EARLY, LATE, NEVER, NOT_ERASED, OTHER, PLACE, TEXT, UNKNOWN)
 from subtitles.judging.clocks import found_in
-from subtitles.judging.within import (
-    NOTHING, is_accepted, is_delay, least_of, may_be, same_part, within_line)
 from subtitles.recording.recording import (
     Notice, count_notices, length_words, of_character_sets, of_jumps, of_pauses, of_repeat,
     of_tables, there_are)
@@ -30,89 +26,20 @@ from .bench import Case
 from .parts import CLOSING, HEADER, PAGE, asked_for, packets_told
 from .test_character_sets import naming
 
-ACCEPTED = ("accepted 10 frames 2 transmissions", 0)
-LATER = ("refused 72 Content frame 00:00:01:00 row 20 column 1", 1)
-AT_THE_END = ("refused 77 Repeat frame 00:00:01:00", 1)
-OTHERS = ("refused 61 OffFrame pes 1", 1)
+def said(warned: Iterable[Notice]) -> list[tuple[str, str, str | None]]:
+    return [(one.kind, one.line, one.time) for one in warned]
 
 
-class Within(unittest.TestCase):
-    """The least number of frames within which a part would be accepted."""
+class Clocks(unittest.TestCase):
+    """The parts with the clocks that are found."""
 
-    def test_least(self) -> None:
-        """The first that accepts, of those above what is asked and up to 5; what is refused by
-        another fault than late content ends it."""
-        later: list[tuple[str, int]] = [LATER] * 5
-        of_answers: list[tuple[Sequence[tuple[str, int]], int, int | None, list[int]]] = [
-            ([ACCEPTED] * 5, 0, 1, [1]), ([*later[:4], ACCEPTED], 0, 5, [1, 2, 3, 4, 5]),
-            (later, 0, None, [1, 2, 3, 4, 5]), ([LATER, AT_THE_END, ACCEPTED], 0, 3, [1, 2, 3]),
-            ([LATER, OTHERS, ACCEPTED], 0, None, [1, 2]), ([OTHERS], 0, None, [1]),
-            ([*later[:2], ACCEPTED], 2, 3, [3]), (later, 4, None, [5]), (later, 5, None, []),
-            ([("accepted 10 frames 2 transmissions", 1)], 0, None, [1]),
-            ([("", 0)], 0, None, [1]), ([LATER[:1] + (2,)], 0, None, [1]),
-            ([(LATER[0], 0)], 0, None, [1]), ([("", 1)], 0, None, [1]), ([NOTHING], 0, None, [1])]
-        for said, asked, wanted, checked in of_answers:
-            tried: list[int] = []
-
-            def check(within: int) -> tuple[str, int]:
-                tried.append(within)
-                return said[within - 1]
-
-            self.assertEqual((least_of(asked + 1, check), tried), (wanted, checked), said)
-
-    def test_delays(self) -> None:
-        """A cause that may be a delay: of each kind, by how many frames, of a clock that was given
-        and of one that was fitted."""
-        late = Cause(0, LATE, 1, None, None, "", 0)
-        for is_fitted, most in ((False, 5), (True, 10)):
-            for name, frames, wanted in (
-                    (LATE, most, True), (LATE, most + 1, False), (LATE, 1, True),
-                    (LATE, None, True), (EARLY, most, True), (EARLY, most + 1, False),
-                    (NOT_ERASED, 99, True), (UNKNOWN, None, True), (NEVER, None, False),
-                    (OTHER, None, False), (TEXT, None, False), (PLACE, None, False),
-                    (ATTRIBUTE, 1, False)):
-                cause = late._replace(name=name, frames=frames)
-                self.assertEqual(is_delay(cause, is_fitted), wanted, (is_fitted, name, frames))
-                for named in ((cause, late), (late, cause)):
-                    self.assertEqual(may_be({72}, named, is_fitted), wanted)
-
-    def test_what_more_frames_may_accept(self) -> None:
-        """None of the faults is one that stays; of packets some may go where frames are others."""
-        of_numbers: list[tuple[set[int], bool]] = [
-            ({72}, True), ({72, 77}, True), ({61}, True), ({72, 61}, True), ({72, 10}, False),
-            ({57}, False), ({72, 44}, False), ({60}, False), ({63}, False), ({63, 61}, True),
-            ({71}, False), ({71, 62}, True), ({73, 72}, False), ({73, 61, 40}, False)]
-        for numbers, wanted in of_numbers:
-            self.assertEqual(may_be(numbers, (), False), wanted, numbers)
-
-    def test_clock_of_a_part(self) -> None:
-        """Fitted once more: of one part, the second of three; where other parts are found, or none,
-        there is none."""
-        three = [Found(begin, begin + 9, Clock(origin, RECORDING))
-                 for begin, origin in ((0, 5), (10, 6), (20, 8))]
-        for number, count, begin, end, wanted in (
-                (1, 3, 0, 9, 5), (2, 3, 10, 19, 6), (3, 3, 20, 29, 8), (2, 2, 10, 19, None),
-                (2, 3, 10, 18, None), (2, 3, 9, 19, None), (1, 1, 0, 9, None)):
-            found = same_part(three, number, count, Found(begin, end, Clock(7, RECORDING)))
-            self.assertEqual(found and found.origin, wanted, (number, count, begin, end))
-        self.assertIsNone(same_part([], 1, 1, three[0]))
+    def test_found(self) -> None:
+        """None where that is not clear; else with what agrees."""
         whole = Found(3, 9, Clock(7, GIVEN))
         self.assertEqual(found_in(Origin(1, [OfPart(5)]), whole), [])
         told = Selection("origin", "5", "origin: 3 of 4", 3, 4)
         self.assertEqual(found_in(Origin(0, [OfPart(5, (1, 2), None, 3, 4, "3 of 4")]), whole),
                          [Found(3, 9, Clock(5, RECORDING, evidence=told), (1, 2))])
-
-    def test_words(self) -> None:
-        self.assertEqual(within_line(3), "within 3 it is accepted: --within 3")
-        for line, status, wanted in (
-                (ACCEPTED[0], 0, True), (ACCEPTED[0], 1, False), (ACCEPTED[0], 2, False),
-                (ACCEPTED[0], -9, False), (LATER[0], 0, False), (LATER[0], 1, False),
-                ("", 0, False)):
-            self.assertEqual(is_accepted(line, status), wanted)
-
-
-def said(warned: Iterable[Notice]) -> list[tuple[str, str, str | None]]:
-    return [(one.kind, one.line, one.time) for one in warned]
 
 
 class Warnings(Case):
@@ -232,10 +159,9 @@ class Grids(Case):
             for offs, most in of_offs:
                 several = [(origin + TICKS * (5 + at) + off) % CLOCK for at, off in enumerate(offs)]
                 self.assertEqual(most_off(several, origin), most, offs)
-        for most, within, words in (
-                (0, 1, ""), (9, None, "PTS are up to 0.1 ms off the frame"),
-                (900, 2, "PTS are up to 10.0 ms off the frame; --within 2 accepts that")):
-            self.assertEqual(off_words(most, within), words)
+        for most, words in ((0, ""), (9, "PTS are up to 0.1 ms off the frame"),
+                            (900, "PTS are up to 10.0 ms off the frame")):
+            self.assertEqual(off_words(most), words)
 
     def test_start_frames(self) -> None:
         """As it is given, and as the GSI block has it; what is none there."""

@@ -19,7 +19,7 @@ from subtitles.recording.recording import is_recording
 from subtitles.request.commands import (
     CommandWords, Names, NamesOfList, again, files_in, pair_name, part_name, shell_line)
 from subtitles.stream import gaps
-from subtitles.stream.gaps import FEWEST, NEAR, are_usual, longest_gap, repeat_distance
+from subtitles.stream.gaps import FEWEST, longest_gap, repeat_distance
 from subtitles.stream.receiver import BLANK_PAGE
 from .bench import Case
 from .parts import asked_for
@@ -204,8 +204,8 @@ class Pages(Case):
             self.assertEqual(len(found), len(words), (place, value, found))
             self.assertTrue(all(one.startswith(word) for one, word in zip(found, words)), found)
         self.assertEqual(control_words(bytes([*good[:7], 8]), "german"), [])
-        self.assertEqual(control_words(bytes(good), "german", ["english"]),
-                         ["the header is English: --option english"])
+        self.assertEqual(control_words(bytes(good), "german"),
+                         ["the header is English, and german is asked for"])
 
     def test_letters_of_a_file(self) -> None:
         """A subtitle of two blocks among comments and user data: its text, its bytes, advice."""
@@ -259,37 +259,3 @@ class Repeats(unittest.TestCase):
         of_gaps: list[tuple[list[int], int]] = [([], 0), ([5], 0), ([5, 5], 0), ([9, 5, 30], 21)]
         for frames, gap in of_gaps:
             self.assertEqual(longest_gap(frames), gap)
-
-    def test_usual(self) -> None:
-        """Gaps that are longer than a bound: all of them, or in each long pause up to its end; not
-        the first, a middle one or the last alone, nor in some pauses, nor where one is twice as
-        long."""
-        steady, pair = list(range(0, 1001, 100)), [0, 1, 100, 101, 200, 201, 300, 301, 400, 401]
-        of_repeats: list[tuple[list[int], int, bool]] = [
-            (steady, 50, True), (steady, 99, True), (steady, 100, False), (steady[:5], 50, True),
-            (steady[:4], 50, False), ([], 5, False), ([7], 5, False), (pair, 50, True),
-            (steady + [1194], 50, True), (steady + [1195], 50, False), (steady + [1200], 50, False),
-            (steady[:1] + steady[2:], 50, False), (steady[:5] + steady[6:], 50, False),
-            (steady[:5] + steady[6:], 100, False), (steady + [1030], 50, False),
-            (steady + [1005], 50, True), ([0, 25, 50, 75, 300], 100, False)]
-        for frames, every, wanted in of_repeats:
-            self.assertEqual(are_usual(frames, [], every), wanted, (frames, every))
-        # Four subtitles of a second with a repeat after ten frames, and pauses of 200 frames.
-        begins = [0, 225, 450, 675]
-        times = [(begin, begin + 25) for begin in begins]
-        sent = [begin + at for begin in begins for at in (0, 10, 20, 25, 27)]
-        of_pauses: list[tuple[list[int], list[tuple[int, int]], int, bool]] = [
-            (sent, times, 100, True), (sent, times, 194, True), (sent, times, 195, False),
-            (sent, times[:3], 100, False), (sent + [100], times, 100, True),
-            (sent + [100, 300, 500], times, 90, True), (sent + [130], times, 90, False),
-            (sent + [130, 360, 580], times, 90, True), (sent + [801], times, 100, True),
-            (sent + [802], times, 100, True), (sent + [803], times, 100, False),
-            ([one for one in sent if one != 450], times, 100, False),
-            ([one - 5 * (one in begins) for one in sent], times, 100, True)]
-        for frames, known, every, wanted in of_pauses:
-            self.assertEqual(are_usual(frames, known, every), wanted, (frames, known, every))
-        for end, wanted in ((0, True), (1000, True), (1194, True), (1195, False), (1300, False)):
-            self.assertEqual(are_usual(steady, [], 50, end), wanted, end)
-        for end, wanted in ((702, True), (802, True), (803, False)):
-            self.assertEqual(are_usual(sent, times, 100, end), wanted, end)
-        self.assertEqual(NEAR, 5)

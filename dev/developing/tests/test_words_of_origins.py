@@ -120,15 +120,12 @@ class Words(unittest.TestCase):
         self.assertEqual(self.shifts(0, 26, 0), [
             f"from 00:01:00:00 {said} 1.04 s (26 frames) late", f"from 00:02:00:00 {said} on time"])
         self.assertEqual(self.shifts(0, -1500), [
-            f"from 00:01:00:00 {said} 60.00 s (1500 frames) early; if the programme has a break "
-            "there, say --breaks 1"])
+            f"from 00:01:00:00 {said} 60.00 s (1500 frames) early"])
         self.assertEqual(self.shifts(0, -1500, -3000), [
             f"from 00:01:00:00 {said} 60.00 s (1500 frames) early",
-            f"from 00:02:00:00 {said} 120.00 s (3000 frames) early; if the programme has breaks "
-            "there, say --breaks 2"])
+            f"from 00:02:00:00 {said} 120.00 s (3000 frames) early"])
         self.assertEqual(self.shifts(0, 5, bases=(0, 1)), [
-            "from 00:01:00:00 on, where PTS go back, subtitles are 0.20 s (5 frames) late; if the "
-            "programme has a break there, say --breaks 1"])
+            "from 00:01:00:00 on, where PTS go back, subtitles are 0.20 s (5 frames) late"])
         for count, left in ((20, 0), (21, 1), (25, 5)):
             found = self.shifts(*((at * 7) % 5 * 30 for at in range(count + 1)))
             words = f"and so on, {left} time{'s' * (left != 1)} more"

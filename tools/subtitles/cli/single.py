@@ -24,12 +24,11 @@ from ..judging.faults import faults_of, hints_of
 from ..judging.pair import Pair
 from ..judging.status import ACCEPTED, NOT_JUDGED, Severity
 from ..judging.verdict import Verdict
-from ..judging.within import within_line
-from ..recording.recording import Recording, size_of
+from ..recording.recording import Recording
 from ..request.commands import (
     CommandWords, LOCK, Listener, Names, Progress, Speech, files_in, index_in, lock_of, pair_name,
     profile_line)
-from ..request.request import AUTO_OF_FEED, Request, Unclear, Unsaid, keep_stl, request_of
+from ..request.request import Request, Unclear, Unsaid, keep_stl, request_of
 from ..results import objects, tables
 from ..results.objects import found, object_text, unjudged
 from ..stream.gaps import first_lines
@@ -202,7 +201,6 @@ def judge_request(asked: Request, call: PairCall, called: str) -> int:
 
 def judged(asked: Request, call: PairCall, called: str) -> Verdict:
     """Judges a pair; answers its verdict, which is said and written by then."""
-    refuse_auto(asked)
     out, here = call.out, call.here or call.out
     is_output_taken = any(path in OWN_OUTPUT for path in (call.json, call.csv, call.junit))
     speech = Speech(Progress(), is_output_taken)
@@ -248,17 +246,6 @@ def refuse_outputs(call: PairCall, asked: Request, out: str | None, name: str) -
             refuse_name(path)
     if out is not None:
         refuse_files_of(out, name, inputs)
-
-
-def refuse_auto(asked: Request) -> None:
-    """A layout is looked for in a recording that is there, and in no feed."""
-    if not asked.is_layout_sought:
-        return
-    if asked.recording is None:
-        raise Stop("--layout auto looks at what was sent: give a recording")
-    with contextlib.suppress(OSError):  # a name that is wrong is told later
-        if size_of(asked.recording) is None:
-            raise Stop(AUTO_OF_FEED)
 
 
 def judge_pair(pair: Pair, files: Files) -> None:
@@ -327,8 +314,7 @@ def say_verdict(verdict: Verdict, speech: Speech, page: str | None = None) -> No
                              for gap in verdict.gaps]):
         speech.tell(line)
     if verdict.is_lost and not verdict.asked.is_loss_allowed:
-        would = "; --allow-lost accepts the recording without it" if verdict.is_lost_alone else ""
-        speech.tell(f"that part was not recorded{would}")
+        speech.tell("that part was not recorded")
     for line in verdict.notes:
         speech.tell(line)
     for warned in verdict.warnings:
@@ -336,8 +322,6 @@ def say_verdict(verdict: Verdict, speech: Speech, page: str | None = None) -> No
     if verdict.line is not None:
         if verdict.asked.within and verdict.delays:
             speech.say(verdict.delays.words())
-        if verdict.accepted_within is not None:
-            speech.say(within_line(verdict.accepted_within))
         if verdict.fitted:
             speech.say(verdict.fitted)
         for line in verdict.hints:

@@ -321,8 +321,7 @@ def drift_line(drift: Drift) -> str:
 
 
 def shift_lines(row: Sequence[Stretch], parts: Sequence[FittedPart], known: int) -> list[str]:
-    """From when on subtitles are late, compared with an origin, and what to say if it is a break.
-    """
+    """From when on subtitles are late, compared with an origin."""
     lines = []
     for stretch, before, part in zip(row[1:], parts, parts[1:]):
         late = ticks_between(known, part.origin)
@@ -335,9 +334,6 @@ def shift_lines(row: Sequence[Stretch], parts: Sequence[FittedPart], known: int)
     left = lines[LISTED - 1:-1]
     lines = lines[:LISTED - 1] + [f"and so on, {counted(len(left), 'time')} more"] * bool(left) \
         + lines[LISTED - 1:][-1:]
-    if len(by_breaks(row)) == len(row):
-        breaks = "a break" if len(row) == 2 else "breaks"
-        lines[-1] += f"; if the programme has {breaks} there, say --breaks {len(row) - 1}"
     return lines
 
 

@@ -269,7 +269,6 @@ def most_off(several: Sequence[int], origin: int) -> int:
                 for pts in several[:MOST_PTS]), default=0)
 
 
-def off_words(most: int, within: int | None) -> str:
-    """What a person needs to know, with the frames within which it is accepted."""
-    words = f"PTS are up to {most / MILLISECOND:.1f} ms off the frame" if most else ""
-    return f"{words}; --within {within} accepts that" if words and within is not None else words
+def off_words(most: int) -> str:
+    """What a person needs to know."""
+    return f"PTS are up to {most / MILLISECOND:.1f} ms off the frame" if most else ""

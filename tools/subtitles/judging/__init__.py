@@ -13,9 +13,9 @@ verdict        the verdict on a pair: all that is written of it
 losses         what is missing in the time of a part, and the pace by which it is judged
 pictures       where the pictures leave the subtitles within a part
 measurement    how a house sends: what recordings tell that are right
-calls          the calls of `check` for a part, and those that try something else
+calls          the calls of `check` for a subtitle file, and for a part
 clocks         the parts of a recording with their clocks; the PES packets of their time
-within         the least number of frames within which a part would be accepted
+drawing        subtitles whose letters are right and that are drawn otherwise
 faults         faults with their places and all that is known of them, and hints on some numbers
 explanation    why a part is refused, and what else follows of its answer
 pair           a pair judged, from a recording to a verdict

@@ -174,10 +174,9 @@ def clock_options(recording: Recording, origin: Origin) -> Iterator[str]:
         yield from (again("--pid", f"0x{stage.pid:X}") for stage in recording.stages)
     elif origin.runs:
         yield from (again("--pes", f"{first}-{last}") for first, last in origin.runs)
-    elif origin.breaks is not None:
-        yield again("--breaks", str(origin.breaks))
-    else:
-        yield from (again("--origin", "T"), again("--page", "P"))
+    elif origin.breaks is None:
+        yield from () if origin.breaks is not None else (
+            again("--origin", "T"), again("--page", "P"))
 
 
 # What is taken of the recording.

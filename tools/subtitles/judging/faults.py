@@ -5,7 +5,7 @@ import itertools
 from typing import Iterator, NamedTuple, Sequence
 
 from ..clock.start import most_off, off_words
-from ..common.command_line import MOST_EVERY, counted, pid_name
+from ..common.command_line import counted, pid_name
 from ..common.shapes import Members
 from ..common.times import frame_at, frame_of, time_of
 from ..formats.listing import (
@@ -15,8 +15,7 @@ from ..formats.listing import (
 from ..formats.stl import NamedSubtitle, SubtitleFile
 from ..formats.teletext import BY_WORD, letters
 from ..request.request import Request
-from ..stream.gaps import are_usual, edges_of, frame_rows, longest_gap, repeat_distance, why_refused
-from ..stream.layout import BY_LAYOUT, left_lines
+from ..stream.gaps import edges_of, frame_rows, longest_gap, repeat_distance, why_refused
 from ..stream.receiver import HIT, OLD, Rows, Timeline
 from ..stream.survey import HEADER, Packets, Run
 from .causes import Wording
@@ -87,7 +86,7 @@ def code_at(rows: Rows | None, row: int, column: int) -> int | None:
 # What a person should know of the first fault of some numbers, beside its place.
 
 HINTED = {EMPTY_TIME, CHARACTER, OUT_OF_ORDER, OFF_FRAME, CONTROL, GAP, PARITY, SILENT}
-NAMED = {DISPLAY, CONTENT, *BY_LAYOUT}  # for which an option is named, where one helps
+NAMED = {DISPLAY, CONTENT}  # for which what helps is named, or what differs
 OF_HEADERS = {32, 35}  # of PES packets: their length, and that of their headers
 OF_ENDS = {BEGIN, END}  # where the page moves to another PID, or that has no more Teletext
 HINTS = HINTED | NAMED | OF_HEADERS | OF_ENDS
@@ -124,27 +123,23 @@ def hint_words(told: FaultLine, part: Part, verdict: Verdict) -> str:
         return end_words(told.number, part, asked.page_name)
     if told.number == CONTENT:
         return part.explanation.otherwise
-    if told.number in BY_LAYOUT:
-        return ", ".join(left_lines(verdict.layout)) if verdict.layout else ""
     if told.number in (EMPTY_TIME, OUT_OF_ORDER):
         return midnight_words(told, part.subtitle_file())
     if part.pes is None or part.origin is None:
         return ""
     if told.number == OFF_FRAME:
-        return off_words(most_off(part.pts(), part.origin),
-                         part.explanation.accepted_within)
+        return off_words(most_off(part.pts(), part.origin))
     if told.number == SILENT:
         return silent_words(told, part)
     if told.number == GAP:
         times = [(one.begin, one.end) for one in part.due().subtitles]
         return gap_words((part.pts(HEADER), part.pts()[-1:]), part.origin, asked,
-                         part.answer.numbers, times, part.explanation.is_lost)
+                         part.answer.numbers, times)
     if told.number == PARITY:
         return letter_words(told, part)
     if part.explanation.kept:
         return part.explanation.kept.words()
-    return header_words(fault_place(told, part.packets, part.held).headers, asked,
-                        part.explanation.better)
+    return header_words(fault_place(told, part.packets, part.held).headers, asked)
 
 
 def lead_words(told: FaultLine, part: Part, verdict: Verdict) -> str:
@@ -206,23 +201,21 @@ def open_words(subtitles: SubtitleFile) -> str:
 
 
 def silent_words(told: FaultLine, part: Part) -> str:
-    """From when on, and for how long, no PES packet came; and what does not ask for one."""
+    """From when on, and for how long, no PES packet came."""
     asked, pes, origin = part.asked, part.pes, part.origin
     if asked is None or asked.pace is None or pes is None or origin is None or told.frame is None:
         return ""
     before = told.frame - asked.pace
     after = next((frame for row in frame_rows(part.packets, pes, origin, asked.within)
                   for frame in row if frame > before), None)
-    return "" if after is None else f"none for {counted(after - before - 1, 'frame')} from " \
-        f"{time_of(before + 1)} on; where nothing was sent then, --pace none does not ask for it"
+    return "" if after is None else \
+        f"none for {counted(after - before - 1, 'frame')} from {time_of(before + 1)} on"
 
 
 def gap_words(sent: tuple[Sequence[int], Sequence[int]], origin: int, asked: Request,
-              numbers: set[int], times: Sequence[tuple[int, int]], is_lost: bool) -> str:
+              numbers: set[int], times: Sequence[tuple[int, int]]) -> str:
     """The longest gap between headers of the page, or behind the last one, where all that was sent
-    can be read; and the repeat bound that accepts it, where nothing else is refused, nothing is
-    lost and no repeat is missing. What was sent are the PTS of headers, and that of the last PES
-    packet."""
+    can be read. What was sent are the PTS of headers, and that of the last PES packet."""
     headers, last = ([frame for pts in some if (frame := frame_at(pts, origin, asked.within))
                       is not None] for some in sent)
     end = last[0] + 1 if last else 0
@@ -230,9 +223,6 @@ def gap_words(sent: tuple[Sequence[int], Sequence[int]], origin: int, asked: Req
     if gap <= asked.every or numbers & PASSED_OVER:
         return ""
     words = f"the longest gap is {counted(gap, 'frame')}"
-    if numbers == {GAP} and not is_lost and gap <= MOST_EVERY and \
-            are_usual(headers, times, asked.every, end):
-        return f"{words}: --every {gap} accepts it"
     usual = repeat_distance(headers, edges_of(times))
     return f"{words}, and {usual} are usual" if usual and usual <= asked.every else words
 
@@ -272,8 +262,7 @@ class PartFaults:
         if told.number == CONTENT:
             do = self.part.explanation.otherwise or do
         do = midnight_words(told, self.subtitles) or do
-        means = header_words(place.headers, self.asked,
-                             self.part.explanation.better) or means
+        means = header_words(place.headers, self.asked) or means
         return {
             "part": self.part.number, "line": told.line, "number": told.number,
             "name": told.name, "severity": self.verdict.severity.of(told.number),

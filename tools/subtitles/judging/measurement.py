@@ -8,7 +8,7 @@ from typing import Callable, Iterable, Iterator, NamedTuple, Sequence
 from ..common.command_line import MOST_WITHIN, counted, quoted
 from ..common.times import FRAMES_OF_A_DAY, NO_FRAME, frames_at, time_of
 from ..formats.layout import (
-    PLAIN, Refused, SPACE, drawn, layout_text, letters_of_text, letters_on, page_rows)
+    Refused, SPACE, drawn, layout_text, letters_of_text, letters_on, page_rows)
 from ..formats.stl import Subtitle
 from ..formats.teletext import NationalOption
 from ..request.lateness import Lateness, late_text

@@ -8,19 +8,16 @@ from typing import Iterator, NamedTuple, Sequence
 from ..clock.start import Found
 from ..common.command_line import Stop, counted
 from ..common.files import file_of
-from ..common.times import ALL_DAY, Between, FRAMES_OF_A_DAY, Span, pts_of, time_of
-from ..formats.layout import PLAIN, layout_of, layout_text
+from ..common.times import ALL_DAY, Between, FRAMES_OF_A_DAY, pts_of, time_of
+from ..formats.layout import PLAIN, layout_of
 from ..formats.listing import CONTENT, EMPTY
 from ..formats.stl import Subtitle, SubtitleFile, subtitles_read
-from ..formats.teletext import BY_WORD
 from ..recording import recording as recording_recording
 from ..recording.announced import NeverSent, refuse_elsewhere
 from ..recording.recording import Notice, Recording, refuse_files
 from ..request import commands, request
 from ..request.commands import CommandWords, Listener, Names
 from ..request.request import Request, Selection, Unclear, Unsaid, option_line
-from ..stream.layout import BY_LAYOUT, choices_of, layout_line, left_lines, sent_in, why_none
-from ..stream.receiver import timeline_near
 from ..stream.survey import HEADER
 from .calls import check_alone, check_part, say_alone
 from .check import Answer
@@ -131,13 +128,6 @@ class Pair:
         if self.is_summed:
             verdict.stl = file_of(asked.stl_path, asked.stl)
         answer = self.check_alone()
-        is_by_layout = not answer.numbers - {EMPTY} - BY_LAYOUT
-        if is_judged_beside(answer.numbers) and not is_by_layout:
-            answer = self.take_beside(answer)
-        if asked.is_layout_sought and (verdict.beside or is_by_layout):
-            self.find_layout()
-            verdict.beside = None
-            answer = self.check_alone()
         if is_judged_beside(answer.numbers):
             answer = self.take_beside(answer)
         file = SubtitleFile(self.names.given)
@@ -149,7 +139,7 @@ class Pair:
     def look_at_rows(self) -> None:
         """Takes what no set shows of the subtitle file, and what some sets do not."""
         asked, file = self.asked, SubtitleFile(self.names.given)
-        if not may_hide(subtitles_read(file.data), bool(asked.layout_text)):
+        if not may_hide(subtitles_read(file.data), bool(asked.layout)):
             return
         found = hidden_rows(self.due_of(asked, []), file, asked.option)
         self.verdict.named += found.faults
@@ -206,26 +196,6 @@ class Pair:
             raise Unclear(f"no subtitle of {self.asked.stl} is left: none comes at "
                           f"{time_of(between.begin)} or later and before {time_of(between.end)}")
         return found
-
-    def find_layout(self) -> None:
-        """Finds how the house draws by what was sent; `Unclear` where that is not clear."""
-        asked, option = self.asked, BY_WORD[self.asked.option]
-        recording, clocks, subtitles = self.located
-        sent = [one for part in clocks.found for one in sent_in(
-            (subtitle for subtitle in subtitles
-             if part.begin <= subtitle.begin and subtitle.end <= part.end),
-            timeline_near(recording.packets, asked.page, part.origin, asked.within,
-                          Span(part.begin, part.end), asked.every, part.packets), option)]
-        closest, choice = choices_of(sent, option)
-        text = layout_text(closest.layout)
-        if not choice.is_clear:
-            raise Unclear(why_none(closest, choice, sent, option), *(
-                [self.again("--layout", text)] if text and closest.drawn else []))
-        asked.found_layout, self.verdict.layout = layout_text(choice.layout), choice
-        self.listener.chosen(Selection(request.LAYOUT_CHOICE, asked.found_layout,
-                                       layout_line(choice), choice.drawn, choice.found))
-        for line in left_lines(choice):
-            self.listener.said(line)
 
     # The recording.
 
@@ -334,8 +304,7 @@ class Pair:
         self.refuse_middle(part)
         self.verdict.parts.append(part)
         self.look_at_pictures(frames)
-        part = Explainer(self.typed.program_path, programme, listener, self.verdict, count,
-                         self.is_summed).explained(part)
+        part = Explainer(programme, listener, self.verdict, self.is_summed).explained(part)
         self.verdict.parts[-1] = part
         self.warn_of(part, subtitles)
 
@@ -370,7 +339,7 @@ class Pair:
         """The pages that are due of a part; beside subtitles that are refused those of the others.
         """
         if self.verdict.beside:
-            layout = layout_of(asked.layout_text) or PLAIN
+            layout = layout_of(asked.layout or "") or PLAIN
             return due_beside(subtitles, asked.page, asked.option, layout)
         return due_pages_of(self.typed.program_path, self.names.given, asked.page, asked.option,
                             asked.between, asked.words_of_pages(), asked.is_open)

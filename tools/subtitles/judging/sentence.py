@@ -134,7 +134,6 @@ class Facts(NamedTuple):
     is_file: bool = False  # a subtitle file alone
     refused: str = ""  # which subtitles are refused, beside which the others are judged
     within: int = 0
-    accepted_within: int | None = None
     named: str = ""
 
 
@@ -187,15 +186,13 @@ def since(seen: Facts) -> str:
 
 
 def what_is_wrong(seen: Facts) -> str:
-    """What is wrong: the worst with its first place, then how many of what else; and what accepts
-    it."""
+    """What is wrong: the worst with its first place, then how many of what else."""
     if seen.refused:
         return beside_refused(seen)
     words = fault_clause(seen)
     if seen.is_caused and seen.causes:
         words = of_causes(seen.causes, seen.option) + also(seen)
-    is_said = seen.accepted_within is None or f"--within {seen.accepted_within}" in words
-    return words if is_said else f"{words}; --within {seen.accepted_within} accepts it"
+    return words
 
 
 def fault_clause(seen: Facts) -> str:

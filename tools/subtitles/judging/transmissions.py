@@ -5,12 +5,12 @@ import bisect
 import functools
 import os
 import subprocess
-from typing import Callable, Collection, Iterator, Mapping, NamedTuple, Sequence
+from typing import Mapping, NamedTuple, Sequence
 
 from ..common.command_line import counted
 from ..common.files import temporary_folder
-from ..common.times import ALL_DAY, Between, Span, time_of
-from ..formats.listing import CHANGED, CONTENT, CONTROL, FaultLine, frame_of_place
+from ..common.times import ALL_DAY, Between, Span
+from ..formats.listing import CHANGED
 from ..formats.stl import Subtitle, SubtitleList, stl_bytes, subtitles_read, subtitles_shown
 from ..formats.teletext import (
     BY_BITS, BY_WORD, ERASE, INHIBIT, NEWSFLASH, Page, RESERVED, SUBTITLE, SUPPRESS, has_bit,
@@ -18,7 +18,7 @@ from ..formats.teletext import (
 from ..request.request import Request, Unclear, Unsaid
 from ..stream.receiver import BLANK_PAGE, LEAST, Rows, State, Timeline, national_option, subcode_of
 from ..stream.survey import CLOSED, HEADER, PES, Packets, Run, survey
-from .check import Answer, End
+from .check import Answer
 
 
 # What is wrong with the control bits of headers of the page.
@@ -92,78 +92,51 @@ def unerased_words(one: Headed, asked: Request) -> str:
     return ""
 
 
-def control_words(header: bytes, option: str, better: Collection[str] = (),
-                  unerased: str = "") -> list[str]:
-    """What is wrong with the control bits of a header of the page, with its national option; that
-    is advised where it is one by which less is refused. What is wrong with C4 is known."""
+def control_words(header: bytes, option: str, unerased: str = "") -> list[str]:
+    """What is wrong with the control bits of a header of the page, with its national option. What
+    is wrong with C4 is known."""
     found = [unerased] if unerased else []
     found += [words for bit, is_set, words in ASKED if has_bit(header, bit) != is_set]
     bits = national_option(header)
     if bits == RESERVED:
         found.append("C12, C13 and C14 are set, which is reserved")
     elif bits != BY_WORD[option].bits:
-        one = BY_BITS[bits]
-        advice = f": --option {one.word}" if one.word in better else ""
-        found.append(f"the header is {one.name}{advice}")
+        found.append(f"the header is {BY_BITS[bits].name}, and {option} is asked for")
     return found
 
 
 def effect_of(headers: Sequence[Headed], asked: Request) -> str:
     """What the page does on some sets, by the first header of some of which something is wrong."""
     numbers = next((one.numbers for one in headers if control_words(
-        one.numbers, asked.option, (), unerased_words(one, asked))), b"")
+        one.numbers, asked.option, unerased_words(one, asked))), b"")
     wrong = (words for bit, is_set, words in EFFECTS if numbers and has_bit(numbers, bit) != is_set
              and not (bit == ERASE and asked.may_keep))
     return next(wrong, OTHER_LETTERS)
 
 
-def header_words(headers: Sequence[Headed], asked: Request, better: Collection[str]) -> str:
+def header_words(headers: Sequence[Headed], asked: Request) -> str:
     """What is wrong with the control bits of the first header of some of which something is."""
-    wrong = (control_words(one.numbers, asked.option, better, unerased_words(one, asked))
+    wrong = (control_words(one.numbers, asked.option, unerased_words(one, asked))
              for one in headers)
     return "; ".join(next(filter(None, wrong), []))
 
 
-# Headers that keep the page (C4 clear): how many do, and whether what is sent with them is whole.
+# Headers that keep the page (C4 clear): how many do, and which rows they leave out.
 #
 # A receiver that keeps the page holds what was sent before. So the page may be held as it is due,
 # and `check` tells 72 all the same: behind the last header a row of it did not come.
 
 
-class LeftOut(NamedTuple):
-    """A header that keeps the page, behind which rows of it are left out: its frame, and which."""
-
-    frame: int
-    rows: str
-
-
 class Kept(NamedTuple):
-    """How many headers of the page there are, and how many keep it. By --keeping: behind which of
-    these rows are left out, `None` where that is not known; how many are refused all the same;
-    whether the content is right, and whether all is accepted."""
+    """How many headers of the page there are, and how many keep it."""
 
     headers: int
     keeping: int
-    left: tuple[LeftOut, ...] | None = None
-    refused: int = 0
-    is_right: bool = False
-    is_accepted: bool = False
 
     def words(self) -> str:
         """It in words."""
-        head = f"{CLEAR} in {self.keeping} of {counted(self.headers, 'header')}"
-        judges = f"--keeping {'accepts that' if self.is_accepted else 'judges by it'}"
-        if self.refused:
-            judges += f", and refuses {self.refused} of these: the sub-code is another one than " \
-                "before, or the page was still open"
-        if self.left is None:
-            return f"{head}: {judges}"
-        if self.left:
-            first = self.left[0]
-            return f"{head}, and behind {len(self.left)} of these rows are left out (at " \
-                f"{time_of(first.frame)} {first.rows}): {judges}"
-        where = "" if self.is_right else " wherever the page is as it is due"
-        return f"{head}, and what these repeat is whole{where}: {judges}"
+        return f"{CLEAR} in {self.keeping} of {counted(self.headers, 'header')}: see --keeping " \
+            "in the profile"
 
 
 def kept_in(headers: Mapping[bytes, int], option: str) -> Kept | None:
@@ -173,32 +146,6 @@ def kept_in(headers: Mapping[bytes, int], option: str) -> Kept | None:
     if not keeping or any(control_words(one, option) for one in headers):
         return None
     return Kept(sum(headers.values()), keeping)
-
-
-def judged_by(kept: Kept, answer: Answer | None, held: Timeline, due: Callable[[int], Rows]
-              ) -> Kept:
-    """The same with what `check` tells by --keeping, where it is answered; `due` gives the page
-    that is due at a frame."""
-    if answer is None:
-        return kept
-    found = {one.frame: one for told, end in answer.told()
-             for one in left_by(told, end, answer, held, due)}
-    return kept._replace(left=tuple(found[frame] for frame in sorted(found)),
-                         refused=answer.counts[CONTROL], is_right=CONTENT not in answer.numbers,
-                         is_accepted=answer.is_accepted)
-
-
-def left_by(told: FaultLine, end: End, answer: Answer, held: Timeline, due: Callable[[int], Rows]
-            ) -> Iterator[LeftOut]:
-    """The headers behind which rows are left out, by a fault that stands up to an end."""
-    if told.number != CONTENT or told.frame is None:
-        return
-    last = told.frame if end.time is None else frame_of_place(end.time)
-    at = max(bisect.bisect_right(held.sendings, told.frame) - 1, 0)
-    for sent in held.sendings[at:bisect.bisect_right(held.sendings, last)]:
-        frame = max(sent, told.frame)
-        if rows := left_at(held, due(frame), frame, answer):
-            yield LeftOut(sent, rows)
 
 
 def left_at(held: Timeline, due: Rows, frame: int, answer: Answer | None) -> str:

@@ -8,12 +8,11 @@ from typing import Callable, Collection, Iterable, NamedTuple, Sequence
 from ..clock.start import FITTED, FITTED_LATER
 from ..common.command_line import range_words
 from ..common.files import SummedFile
-from ..formats.listing import LOSSES, NamedFault, STL_FAULTS, UNDECIDED
+from ..formats.listing import NamedFault, STL_FAULTS, UNDECIDED
 from ..formats.stl import Subtitle
 from ..recording.recording import Notice
 from ..request.request import Request, Selection
 from ..stream.gaps import Place
-from ..stream.layout import Choice
 from ..stream.receiver import Rows, Timeline
 from .part import Part
 from .sentence import Count, Facts, sentence_of
@@ -159,7 +158,6 @@ class Verdict:
     seconds: float = 0.0
     was_fitted: bool = False
     count: int = 0  # of the subtitles
-    layout: Choice | None = None  # that was found
     beside: JudgedBeside | None = None  # where some subtitles are refused, and others are judged
     named: list[NamedFault] = dataclasses.field(default_factory=list)  # faults without a number
 
@@ -167,13 +165,6 @@ class Verdict:
     def is_lost(self) -> bool:
         """Whether the verdict speaks of frames of which TS packets are lost."""
         return any(gap.is_judged for gap in self.gaps)
-
-    @property
-    def is_lost_alone(self) -> bool:
-        """Whether nothing but that is refused."""
-        numbers = {number for part in self.parts for number in part.answer.numbers}
-        return self.word == LOST or \
-            self.word == REFUSED and numbers <= LOSSES and not self.named
 
     def warn(self, found: Iterable[Notice]) -> None:
         """Takes warnings that are not known yet."""
@@ -229,8 +220,7 @@ class Verdict:
             counts=counts_of_numbers(self.parts),
             lost=[gap.line() for gap in self.gaps if gap.is_judged], warnings=self.seen().warnings,
             reason=self.why_not, named=self.first_named.words if self.first_named else "",
-            is_file=self.asked.recording is None, within=self.asked.within,
-            accepted_within=self.accepted_within)
+            is_file=self.asked.recording is None, within=self.asked.within)
         if refused and self.beside:
             said = self.sent_beside(said, self.beside)
         elif refused and not self.first_named:
@@ -264,14 +254,6 @@ class Verdict:
     def of_part(self, part: Part, gaps: list[Gap]) -> Verdict:
         """The verdict on a part alone, with what is missing of it."""
         return dataclasses.replace(self, parts=[part], gaps=gaps)
-
-    @property
-    def accepted_within(self) -> int | None:
-        """The least number of frames within which all parts would be accepted, where one is
-        refused and it is known."""
-        refused = [part.explanation.accepted_within for part in self.parts if part.is_refused]
-        known = [one for one in refused if one is not None]
-        return max(known) if known and len(known) == len(refused) else None
 
     @property
     def delays(self) -> Spread | None:

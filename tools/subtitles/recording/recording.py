@@ -62,7 +62,7 @@ def of_jumps(packets: Packets, origin: int, first: int, last: int) -> Iterator[N
         if first <= frame <= last:
             way = "by" if jump.ticks > 0 else "back by"
             yield Notice("clock_jump", f"the clock jumps {way} {length_words(abs(jump.ticks))} at "
-                         f"{time_of(frame)}: an encoder that was started anew? --breaks 1",
+                         f"{time_of(frame)}: an encoder that was started anew?",
                          time_of(frame))
 
 

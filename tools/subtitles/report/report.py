@@ -15,7 +15,6 @@ from ..judging.causes import Cause, Causes, Wording, names_line
 from ..judging.part import Part
 from ..judging.verdict import Verdict
 from ..stream.gaps import first_lines
-from ..stream.layout import layout_line
 from ..stream.receiver import Timeline
 from .faults import FaultList, Faults, fault_place_words, heads, table_row
 from .pictures import Figures
@@ -192,8 +191,7 @@ class Report:
         """What stands beside the verdict on the pair."""
         judged, recording = self.subject.judged, self.asked.recording
         unread = [f"{shown(recording)} was not read"] if recording and self.part.pes is None else []
-        return [*unread, *judged.said(), *(one.said() for one in judged.warnings),
-                *([layout_line(judged.layout)] if judged.layout else [])]
+        return [*unread, *judged.said(), *(one.said() for one in judged.warnings)]
 
     def scope(self) -> Scope | None:
         """What the page speaks of; `None` where the subtitle file is refused."""

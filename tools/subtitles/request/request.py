@@ -143,15 +143,14 @@ NONE = "none"  # in the place of a pace: none is looked for either
 
 def layout_word(text: str) -> str:
     """A layout, as the program takes it."""
+    if text == AUTO:
+        raise argparse.ArgumentTypeError(
+            "auto is no layout any more: `--measure STL RECORDING ..` finds how a house draws; "
+            "read it, and keep its TEXT in a profile")
     fault = fault_in(text)
     if fault is not None:
         raise argparse.ArgumentTypeError(f"{text!r} is no layout: {fault}")
     return text
-
-
-def layout_or_auto(text: str) -> str:
-    """A layout, or the word for one that is to be found."""
-    return text if text == AUTO else layout_word(text)
 
 
 def pace_or_none(text: str) -> str:
@@ -227,11 +226,10 @@ OPTIONS: tuple[Option, ...] = (
     Option("--to", "TIME", "only the subtitles whose TCI is before TIME", MEASURED, "all",
            field="to_time", read=time_text, of_check=None, shape=Maybe(TIME),
            said="Only the subtitles whose TCI is before were judged."),
-    Option("--layout", "TEXT|auto", "how the house draws its subtitles; `auto`: [the layout]"
-           "(#the-layout) that draws them as they were sent", JUDGED, "as of `check`",
-           field="layout", read=layout_or_auto, of_check=None, of_pages=True, in_profile=True,
-           shape=Maybe(Text()),
-           said="How pages are drawn that are due; auto: as they were sent, see layout."),
+    Option("--layout", "TEXT", "how the house draws its subtitles: [its layout]"
+           "(subtitle-files.md#layouts)", JUDGED, "as of `check`", field="layout", read=layout_word,
+           of_check=None, of_pages=True, in_profile=True, shape=Maybe(Text()),
+           said="How pages are drawn that are due."),
     Option("--open", None, "take a file of open subtitles too", MEASURED, "it is refused",
            field="is_open", default=False, of_check=False, of_pages=True, shape=Flag(),
            said="Whether open subtitles are taken too."),
@@ -293,9 +291,6 @@ def members() -> list[Member]:
 
 # What is asked of a pair: the words of the command line as values.
 
-AUTO_OF_FEED = ("--layout auto reads all that was sent before it judges: try a recording of the "
-                "feed first, and give the TEXT that is found there")
-MOST_TRIED = 5  # frames within which a recording is tried, where it is not judged or refused
 LC = slice(14, 16)  # the field in the GSI block
 KEPT = "subtitles.stl"  # in the temporary folder
 
@@ -325,13 +320,12 @@ class Request:
     is_strict: bool = False  # warnings count
     from_time: str | None = None  # as it was typed
     to_time: str | None = None
-    layout: str | None = None  # or `auto`
+    layout: str | None = None
     is_open: bool = False  # whether open subtitles are taken too
     may_keep: bool = False  # whether headers that repeat the page may keep it
     pace_word: str | None = None  # frames, or `none`
     late: Lateness | None = None  # of a right inserter, where the house knows it
     profile: Profile | None = None  # of which the fields here have what it says
-    found_layout: str | None = None  # by --layout auto; the empty one is that without an option
     kept_stl: str | None = None  # what came through a pipe as the subtitle file
     language: str | None = None  # of the subtitle file, where that names the option
 
@@ -361,16 +355,6 @@ class Request:
         return dataclasses.replace(self, from_time=time_of(begin), to_time=time_of(end))
 
     @property
-    def is_layout_sought(self) -> bool:
-        """Whether the layout is still to be found."""
-        return self.layout == AUTO and self.found_layout is None
-
-    @property
-    def layout_text(self) -> str:
-        """The layout, also one that was found; empty where none is asked for."""
-        return (self.found_layout if self.layout == AUTO else self.layout) or ""
-
-    @property
     def pace(self) -> int | None:
         """How many frames apart PES packets may be at most, where that is asked for."""
         word = self.pace_word
@@ -384,10 +368,9 @@ class Request:
                 and self.profile.value(one.field, None) == one.value_in(self)]
 
     def of_check(self) -> Request:
-        """The same as `check` is asked: for `auto`, and no layout or pace, it has no word."""
+        """The same as `check` is asked: for no pace it has no word."""
         return dataclasses.replace(
-            self, layout=self.layout_text or None,
-            pace_word=None if self.pace_word == NONE else self.pace_word)
+            self, pace_word=None if self.pace_word == NONE else self.pace_word)
 
     def words_of_pages(self) -> list[str]:
         """The options of `check` that say how pages are drawn that are due."""
@@ -459,8 +442,8 @@ def option_line(asked: Request) -> str:
 
 # By the option that would say it.
 PID_CHOICE, ORIGIN_CHOICE, PES_CHOICE = "pid", "origin", "pes"
-LAYOUT_CHOICE, PACE_CHOICE, OPTION_CHOICE = "layout", "pace", "option"
-CHOICES = (PID_CHOICE, ORIGIN_CHOICE, PES_CHOICE, LAYOUT_CHOICE, PACE_CHOICE, OPTION_CHOICE)
+PACE_CHOICE, OPTION_CHOICE = "pace", "option"
+CHOICES = (PID_CHOICE, ORIGIN_CHOICE, PES_CHOICE, PACE_CHOICE, OPTION_CHOICE)
 
 
 class Selection(NamedTuple):

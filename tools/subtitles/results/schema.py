@@ -10,19 +10,17 @@ from ..common.shapes import (
     COUNT, Flag, Integer, Listed, MOST_NUMBER, Maybe, Member, Number, OneOf, PID, PTS, Record,
     Rules, SUM, Schema, TIME, Text, definitions, named)
 from ..common.times import FRAMES_OF_A_DAY, time_of
-from ..formats.layout import layout_text
 from ..judging.causes import NAMES, Wording, counts_of
 from ..judging.faults import faults_of, words_of_subtitle
 from ..judging.part import Part
 from ..judging.status import NOT_JUDGED, STATUSES
 from ..judging.verdict import Verdict
-from ..request.request import CHOICES, MOST_TRIED, members
+from ..request.request import CHOICES, members
 
 
 # Rows of the table of JSON results: what stands in a result, by what it is of. `result` has the
 # result itself.
 
-MOST_ITEMS = 1000  # of a layout
 FIRST_FAULT, LAST_FAULT = 10, 79  # numbers of what is refused
 
 CODE_TIME = named("code_time", Text(r"[0-9]{2,3}(:[0-9]{2,3}){3}"))
@@ -222,41 +220,15 @@ WHOLE = Record(
            "where complete pages are asked for ended; null where it never was while it was due, or "
            "nobody saw it: of one too that was due before the recording has anything of the page."))
 
-LAYOUT_ITEM = Record(
-    "layout_item", "",
-    Member("text", Text()),
-    Member("decides", Integer(10, MOST_NUMBER),
-           "How many subtitles are drawn otherwise without it."),
-    Member("drawn", Integer(9, MOST_NUMBER),
-           "How many of these were sent as they are drawn with it."))
-
-LAYOUT_LEFT = Record(
-    "layout_left", "",
-    Member("text", Text()),
-    Member("more", Integer(1, MOST_NUMBER),
-           "How many more subtitles would be drawn as they were sent."),
-    Member("whole", Text(), "The whole TEXT for --layout."))
-
-LAYOUT = Record(
-    "layout", "The layout that --layout auto found; text is empty where it is that without an "
-    "option.",
-    Member("text", Text(), of=lambda choice: layout_text(choice.layout)),
-    Member("drawn", COUNT, "How many subtitles it draws as they were sent."),
-    Member("found", COUNT, "How many were sent with their letters."),
-    Member("items", Listed(LAYOUT_ITEM, MOST_ITEMS),
-           "On what each item rests; of strip each code is one."),
-    Member("left", Listed(LAYOUT_LEFT, MOST_ITEMS), "Items that are not taken, and would draw "
-           "more: too few subtitles show them, or they take from a page what a viewer sees."))
-
 CHOSEN = Record(
     "chosen", "",
     Member("part", Maybe(PART), "The part that it is of; null where it is of all."),
     Member("what", OneOf(*CHOICES), "The option that would say it."),
-    Member("value", Maybe(Text()), "The value that is taken, as the option has it; empty for the "
-           "layout without an option; null where none is asked for."),
+    Member("value", Maybe(Text()), "The value that is taken, as the option has it; null where none "
+           "is asked for."),
     Member("agree", Maybe(COUNT), "How many agree: of pid PES packets with a header of the page, "
-           "of origin cues, of pes PES packets in the time of the subtitles, of layout subtitles "
-           "that it draws as they were sent, of pace places where a loss takes longer; else null."),
+           "of origin cues, of pes PES packets in the time of the subtitles, of pace places where "
+           "a loss takes longer; else null."),
     Member("among", Maybe(COUNT), "Of how many."),
     Member("line", Text(), "The evidence as it was printed."))
 
@@ -401,7 +373,6 @@ VERDICT = Record(
            "where none is judged.", lambda known: known.verdict.counts),
     Member("asked", ASKED, of=lambda known: known.verdict.asked),
     Member("found", FOUND, of=lambda known: known.verdict.found),
-    Member("layout", Maybe(LAYOUT), of=lambda known: known.verdict.layout),
     Member("inputs", INPUTS, of=lambda known: known.verdict),
     Member("program", PROGRAM),
     Member("date", DATE, of=lambda known: known.verdict.date),
@@ -409,10 +380,6 @@ VERDICT = Record(
            lambda known: known.verdict.seconds),
     Member("cause_counts", CAUSE_COUNTS, of=lambda known: counts_of(
         part.causes for part in known.verdict.parts if part.causes)),
-    Member("accepted_within", Maybe(Integer(1, MOST_TRIED)), "The least N above asked.within "
-           "within which it would be accepted, where it is refused; null where there is none, "
-           "where nobody looked, as of a feed, and else.",
-           lambda known: known.verdict.accepted_within),
     Member("whole_after", Maybe(SPREAD), "After how many frames subtitles were whole: the least, "
            "the middle one, the greatest, and how many nobody saw whole; null where none was seen "
            "so, or nobody looked.", lambda known: known.verdict.delays),

@@ -213,28 +213,6 @@ def longest_gap(frames: Iterable[int]) -> int:
     return max((second - first for first, second in zip(known, known[1:])), default=0)
 
 
-def are_usual(frames: Iterable[int], times: Sequence[tuple[int, int]], every: int, end: int = 0
-              ) -> bool:
-    """Whether gaps of more frames than a bound, up to an end behind the last sending, are how the
-    page is repeated, and in none of them a repeat is missing; `times` are the frames of the
-    subtitles, rising. Either all repeats are so far apart, or nothing is sent up to its end in each
-    pause that is as long."""
-    known = sorted(set(frames))
-    repeats = [gap for gap in repeats_of(known, edges_of(times)) if gap > NEAR]
-    if len(repeats) >= FEWEST and repeats[0] > every:
-        return longest_gap([*known, max(end, known[-1])]) < 2 * repeats[0] - NEAR
-    pauses = [(first[1], second[0]) for first, second in zip(times, times[1:])
-              if second[0] - first[1] > every + NEAR]
-    gaps = [gap for gap in zip(known, [*known[1:], end]) if gap[1] - gap[0] > every]
-    silent = [pause for pause in pauses if any(is_silent(gap, pause) for gap in gaps)]
-    return len(silent) >= FEWEST and len(silent) == len(pauses) == len(gaps)
-
-
-def is_silent(gap: tuple[int, int], pause: tuple[int, int]) -> bool:
-    """Whether a gap is of a pause, and goes on to its end."""
-    return pause[0] <= gap[0] and abs(pause[1] - gap[1]) <= NEAR
-
-
 def edges_of(times: Iterable[tuple[int, int]]) -> list[int]:
     """The frames at which something becomes due, by those of the subtitles."""
     return sorted({frame for pair in times for frame in pair})

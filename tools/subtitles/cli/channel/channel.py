@@ -17,7 +17,7 @@ from ...common.files import Inputs, temporary_folder
 from ...common.times import FRAMES_OF_A_DAY, TICKS, time_of
 from ...judging.status import NOT_JUDGED, of_all
 from ...request.commands import CommandWords, Progress
-from ...request.request import AUTO, AUTO_OF_FEED, Request, Unclear
+from ...request.request import Request, Unclear
 from ...results.objects import ENDING, in_order, row_of_object, unjudged
 from .. import collection, single
 from ..single import locking, refuse_files_of_all
@@ -539,8 +539,6 @@ class Channel:
 
 def judge_channel(words: argparse.Namespace, called: str) -> int:
     """Judges the programmes of a channel until the feed has ended, or a signal ends it."""
-    if words.layout == AUTO:
-        raise Stop(AUTO_OF_FEED)
     for command in (words.on_result, words.on_alarm):
         if command is not None:
             results.refuse_command(command)

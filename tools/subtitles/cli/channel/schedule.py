@@ -14,7 +14,7 @@ from ...common.times import FRAMES_OF_A_DAY, TICKS, time_of
 from ...request.commands import NamesOfList
 from ...request.lines import read_options, refuse_settings
 from ...request.request import (
-    AUTO_OF_FEED, CHANNEL_LINE, Request, add_options, pair_options, request_of)
+    CHANNEL_LINE, Request, add_options, pair_options, request_of)
 from ...results.objects import found_at
 from ..batch import no_file
 from ..main import refuse_options
@@ -264,8 +264,6 @@ class Planned:
         asked = request_of(words)
         if asked.profile and asked.profile != self.defaults.profile:
             refuse_settings(asked.profile, CHANNEL_LINE)
-        if asked.is_layout_sought:
-            raise Stop(AUTO_OF_FEED)
         return asked
 
 
