@@ -36,7 +36,7 @@ class Meanwhile(Case):
         """While it is read, or while `check` judges it, the first byte more or less is told; by
         --strict it counts."""
         whole = in_stream((TELETEXT_PID, example_bytes("story.pes")))
-        for when in ("survey*", "check*--pes*--all*"):
+        for when in ("survey*one.ts", "check*--pes*--all*"):
             for does, words in (("printf x >>one.ts", "grew"),
                                 ("truncate -s -188 one.ts", "became shorter"), ("", "")):
                 path = self.write("one.ts", whole + b"\x47\x1f\xff\x10" + b"\xff" * 184)

@@ -12,7 +12,6 @@ from .bench import Case, example, tool_path
 
 STL, PES = example("hello.stl"), example("hello.pes")
 WRONG: dict[str, list[list[str]]] = {
-    "text": [[], ["none.stl"], [PES], [STL, STL], [TOP], [STL, "--colour"]],
     "poke": [[], ["none.stl"], [STL, "x"], [STL, "1=0"], [STL, "1=@3"], [STL, "1152=00"],
              [STL, "0=@1150+3"], [STL, "-c", "-1"], [STL, "-c", "x"], [STL, "1=00", "--colour"],
              [STL, "9" * 5000 + "=00"], [TOP]],
@@ -105,9 +104,8 @@ class WrongWords(Case):
     def test_tells_a_full_device(self) -> None:
         if not os.path.exists("/dev/full"):
             self.skipTest("a full device, since there is no /dev/full")
-        for name, *words in (["text", STL], ["qc", STL, PES, "-p", self.bench.program],
-                             ["pes2ts", PES, "0x101"], ["poke", STL], ["text", "--version"],
-                             ["ts2pes", "--help"]):
+        for name, *words in (["qc", STL, PES, "-p", self.bench.program],
+                             ["pes2ts", PES, "0x101"], ["poke", STL], ["ts2pes", "--help"]):
             done = self.call(["sh", "-c", 'exec "$@" >/dev/full', "sh",
                               tool_path(name), *words])
             self.must(name, done.status == 2 and done.told and "No space" in done.told[-1], done)
@@ -119,7 +117,7 @@ class WrongWords(Case):
             if not os.path.exists(device):
                 self.bench.over.append(f"a device that does not end, since there is no {device}")
                 continue
-            for words in (["poke", device], ["poke", device, "-c", "4"], ["text", device],
+            for words in (["poke", device], ["poke", device, "-c", "4"],
                           ["qc", STL, "--severity", device], ["qc", "--batch", device]):
                 done = self.tool(*words)
                 wanted = "a file" if "--severity" in words else "a file or a pipe"
@@ -156,10 +154,8 @@ class WrongWords(Case):
         for words, named in ((["qc", STL, "no/folder.pes"], "no/folder.pes"),
                              (["qc", "-"], "qc: - is"), (["qc", ""], "an empty name"),
                              (["qc", "--", "-x.stl"], "qc: -x.stl"),
-                             (["text", ""], "an empty name"), (["text", "none.stl"], "none.stl"),
                              (["qc", STL, self.write("cut.pes", b"\0\0\1"), "-p",
-                               self.bench.program], self.path("cut.pes")),
-                             (["text", "/dev/null"], "/dev/null")):
+                               self.bench.program], self.path("cut.pes"))):
             done = self.tool(*words)
             self.must(" ".join(words), done.status in (1, 2) and named in done.told[-1]
                       and "subttx-" not in done.told[-1], done)
