@@ -101,10 +101,6 @@ class Ends(Case):
             one = part_with(0, 9, 0, explanation=Explanation(delays=delays, was_read=True))
             said = self.said(self.verdict([one], *(["--within", str(within)] if within else [])))
             self.must(f"{delays} {within}", len(said) == 2 + is_said, said)
-        refused = part_with(0, 9, 0, answer(REFUSED),
-                            explanation=Explanation(accepted_within=4))
-        self.must("accepted within", any("--within 4" in one for one in self.said(
-            self.verdict([refused]))[:-2]))
         accepted = [part_with(0, 9, 0)]
         for some, page, where in (
                 (parts, None, ". See refusals.md#n72."), (accepted, "a.html", "."),
