@@ -114,7 +114,7 @@ class Told(Channel):
         self.said: list[str] = []
         self.back = back
         super().__init__(words, "tools/qc", spool or tempfile.mkdtemp(dir=case.folder))
-        self.results.judge = self.judge_beside  # type: ignore[method-assign]
+        self.results.judge = self.judge_beside  # type: ignore[assignment]
         self.go_on()
         self.hearing.turn_to([self.words.page])
 
@@ -123,7 +123,7 @@ class Told(Channel):
         ended = self.queue.ended and self.queue.ended - self.back
         known = Begin(ended, (BEGIN + ended) % CLOCK, True) if ended else None
         self.hearing = Pages("none", self.words.pid, known, lambda: ())
-        self.segments.between = lambda *times: [Read(1, 0)]  # type: ignore[method-assign]
+        self.segments.between = lambda *times: [Read(1, 0)]  # type: ignore[assignment]
         self.segments.known = -2
 
     def judge_beside(self, one: Outcome, call: Callable[[str], int]) -> Judged:

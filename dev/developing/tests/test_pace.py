@@ -346,7 +346,8 @@ class Holes(Case):
         packets and more is 79, and what a frame without them has is not; one that is shorter may be
         unseen, which is said."""
         sent = filled(sendings(self, programme(self, TIMES)))
-        both = [one for pts, some in sent for one in ((pts, some), (pts + TICKS // 2, []))]
+        none: list[bytes] = []
+        both = [one for pts, some in sent for one in ((pts, some), (pts + TICKS // 2, none))]
         made = self.multiplexed(both, 400)
         note = "not checked: whether up to 0.08 s of this PID alone is missing, at "
         for count in (0, 16, 32, 48, 160):

@@ -289,7 +289,7 @@ class Said(Case):
         at = DATA + 4 + 2 + 7  # in the first PES packet: C11 to C14 of its first header
         data[at:at + 1] = mirrored(b"\xd0")  # the code word of 8: C12 to C14 are those of German
         found = judged(self, HELLO, self.write("one.pes", data))
-        words = "the header is German"  # one of two: by German the other one would be refused
+        words = "the header is German, and english is asked for"
         self.must("header", found.result["hints"] == [f"67: {words}"] and found.said[-3::2] == [
             f"67: {words}", "refused 67 Control frame 10:00:00:00 packet 0"] and
             found.result["faults"][0]["means"] == words, found.said)

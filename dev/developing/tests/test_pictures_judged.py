@@ -52,20 +52,21 @@ class Left(unittest.TestCase):
     def test_faults(self) -> None:
         """On: early; back: late, but for what is allowed of that; there and back; outside."""
         middle, end = "00:01:00:00", "00:01:19:24"
-        for steps, within, wanted in (
-                ([], 0, []), ([(2, 1500)], 0, [(middle, end, "2 frames early")]),
-                ([(2, 1500)], 5, [(middle, end, "2 frames early")]),
-                ([(-2, 1500)], 0, [(middle, end, "2 frames late")]),
-                ([(-2, 1500)], 1, [(middle, end, "2 frames late")]), ([(-2, 1500)], 2, []),
-                ([(0.5, 1500)], 0, [(middle, end, "0.5 frames early")]),
-                ([(250, 1500)], 0, [(middle, end, "250 frames early")]),
-                ([(2, 1500), (-2, 1600)], 0, [(middle, "00:01:03:24", "2 frames early")]),
-                ([(-1, 1500), (-1, 1600)], 1, [("00:01:04:00", end, "2 frames late")]),
-                ([(2, 1000)], 0, [("00:00:40:00", end, "2 frames early")]),
-                ([(2, 999)], 0, []), ([(2, 2000)], 0, []),
-                ([(2, 1999)], 0, [(end, end, "2 frames early")])):
-            survey = surveyed(*(lines_of_step(*step, before=sum(by for by, _ in steps[:place]))
-                                for place, step in enumerate(steps)))
+        rows: list[tuple[list[tuple[float, int]], int, list[tuple[str, str, str]]]] = [
+            ([], 0, []), ([(2, 1500)], 0, [(middle, end, "2 frames early")]),
+            ([(2, 1500)], 5, [(middle, end, "2 frames early")]),
+            ([(-2, 1500)], 0, [(middle, end, "2 frames late")]),
+            ([(-2, 1500)], 1, [(middle, end, "2 frames late")]), ([(-2, 1500)], 2, []),
+            ([(0.5, 1500)], 0, [(middle, end, "0.5 frames early")]),
+            ([(250, 1500)], 0, [(middle, end, "250 frames early")]),
+            ([(2, 1500), (-2, 1600)], 0, [(middle, "00:01:03:24", "2 frames early")]),
+            ([(-1, 1500), (-1, 1600)], 1, [("00:01:04:00", end, "2 frames late")]),
+            ([(2, 1000)], 0, [("00:00:40:00", end, "2 frames early")]),
+            ([(2, 999)], 0, []), ([(2, 2000)], 0, []),
+            ([(2, 1999)], 0, [(end, end, "2 frames early")])]
+        for steps, within, wanted in rows:
+            survey = surveyed(*(lines_of_step(by, at, before=sum(by for by, _ in steps[:place]))
+                                for place, (by, at) in enumerate(steps)))
             self.assertEqual(self.told(survey, within)[0], wanted, steps)
 
     def test_first_picture(self) -> None:
@@ -101,8 +102,10 @@ class Pairs(Case):
         """By a name of its own, with the time; another programme's video says nothing."""
         data = stream_with(example_bytes("story.pes"), FIRST_PTS).data
         path, end = self.write("one.ts", data), Survey.take_over
-        for frames, words, word in ((12, [], "refused"), (-3, [], "refused"),
-                                    (-3, ["--within", "3"], "accepted"), (0, [], "accepted")):
+        rows: list[tuple[int, list[str], str]] = [
+            (12, [], "refused"), (-3, [], "refused"), (-3, ["--within", "3"], "accepted"),
+            (0, [], "accepted")]
+        for frames, words, word in rows:
             def take_over(survey: Survey, *more: str) -> None:
                 for line in lines_of_step(frames, BEGIN + 100) if frames else []:
                     survey.take(line)

@@ -32,7 +32,7 @@ from ..stream.survey import HEADER
 from .single import now
 
 
-class KeptSpeech(Speech):
+class Unprinted(Speech):
     """What a pair says while it is read, which is kept."""
 
     def __init__(self) -> None:
@@ -90,7 +90,7 @@ def measured(asked: Request, typed: CommandWords, folder: str) -> Measured:
     os.mkdir(folder)
     names = Names("measured", folder, None)
     names.give(asked.stl)
-    listener = Listener(KeptSpeech())
+    listener = Listener(Unprinted())
     pair = Pair(Verdict(asked, Severity(None), now()), typed, names, listener, False)
     try:
         refuse_files(asked)

@@ -11,7 +11,7 @@ from ..stream.receiver import Rows, Timeline
 from .transmissions import DuePages
 
 
-class DrawnLine(NamedTuple):
+class LetterRow(NamedTuple):
     """A row with letters: its number, the column of its first cell, the codes before its letters,
     what stands from the first letter to the last one, the codes behind."""
 
@@ -22,13 +22,13 @@ class DrawnLine(NamedTuple):
     behind: bytes
 
 
-def lines_of(rows: Rows) -> Iterator[DrawnLine]:
+def lines_of(rows: Rows) -> Iterator[LetterRow]:
     """The rows of a page that have letters."""
     for number, row in enumerate(rows, 1):
         cells = row.strip(b" ")
         at = [place for place, cell in enumerate(cells) if cell > SPACE]
         if at:
-            yield DrawnLine(number, len(row) - len(row.lstrip(b" ")), cells[:at[0]],
+            yield LetterRow(number, len(row) - len(row.lstrip(b" ")), cells[:at[0]],
                        cells[at[0]:at[-1] + 1], cells[at[-1] + 1:])
 
 
