@@ -8,6 +8,7 @@ from typing import Iterator
 from unittest import mock
 
 from developing.pes import MARK, pes_packet
+from subtitles.cli.batch import beside
 from subtitles.cli.channel import recorder
 from subtitles.cli.channel.recorder import (
     AHEAD, Begin, LEAST, MANY, NotWanted, PART, Recorder, Segments)
@@ -354,7 +355,7 @@ class Written(Folders):
         """Who waits for it is told."""
         one = recorder.Recorded.__new__(recorder.Recorded)
         one.is_over, (alive, one.alive) = False, os.pipe()
-        one.pid = recorder.beside(lambda: False, alive)
+        one.pid = beside(lambda: False, alive)
         with self.assertRaises(Stop):
             while not one.has_ended():
                 pass

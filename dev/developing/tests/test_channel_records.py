@@ -59,7 +59,7 @@ class Again(Programmes):
 
     def let_down(self, channel: Told) -> None:
         """What has to be judged is there."""
-        channel.results.are_there = lambda one: True  # type: ignore[method-assign]
+        channel.results.are_there = lambda one: True  # type: ignore[assignment]
 
     def test_tried_again(self) -> None:
         """It is said once, is open meanwhile, lets others pass, and gets its verdict; also in

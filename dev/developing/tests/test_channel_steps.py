@@ -364,7 +364,7 @@ class Steps(Programmes):
         channel = Told(self, self.listed("one", "two"), patience=60)
         channel.give([*Lines().sent(texts_of("one"), BEGIN)][:14])
         floors = list[int]()
-        channel.segments.drop = (  # type: ignore[method-assign]
+        channel.segments.drop = (  # type: ignore[assignment]
             lambda floor, needed=None: floors.append(floor))
         assert channel.running
         for is_sent, later, ended, floor in (

@@ -86,10 +86,11 @@ class Machine(Programmes):
         channel = Told(self, self.listed("one"), self.path("out"), alarm="alarm")
         with mock.patch.object(results, "failure_of", lambda command, *words: told.append(words)):
             channel.give([Lines().pes(BEGIN)])
-            for still, is_losing, folder, failed in (
-                    (0, False, "-", {}), (99, False, "-", {}), (99, False, "-", {}),
-                    (0, True, "-", {}), (0, False, "-", {}), (0, False, channel.folder, {}),
-                    (0, False, "-", {"one": "No space left"}), (0, False, "-", {})):
+            rows: list[tuple[int, bool, str, dict[str, str]]] = [
+                (0, False, "-", {}), (99, False, "-", {}), (99, False, "-", {}),
+                (0, True, "-", {}), (0, False, "-", {}), (0, False, channel.folder, {}),
+                (0, False, "-", {"one": "No space left"}), (0, False, "-", {})]
+            for still, is_losing, folder, failed in rows:
                 channel.stall.take(still)
                 channel.words.stl, channel.results.failed = folder, dict(failed)
                 if is_losing:

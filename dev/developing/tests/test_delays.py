@@ -187,9 +187,10 @@ class Airings(unittest.TestCase):
 
     def test_alike(self) -> None:
         """Half of the frames are others moved by a distance: a grid, and no programme."""
-        for frames, wanted in (
-                ([0, 10, 20, 30], True), ([0, 1, 10, 11, 20, 21], True), ([0, 3, 9, 27, 81], False),
-                ([at * at for at in range(40)], False), ([5], False), ([], True)):
+        rows: list[tuple[list[int], bool]] = [
+            ([0, 10, 20, 30], True), ([0, 1, 10, 11, 20, 21], True), ([0, 3, 9, 27, 81], False),
+            ([at * at for at in range(40)], False), ([5], False), ([], True)]
+        for frames, wanted in rows:
             self.assertEqual(are_alike(frames), wanted, frames)
 
     def test_again(self) -> None:
@@ -220,8 +221,9 @@ class Judgements(Case):
             at = evenly(count)[3][0] * TICKS
             path = self.write("one.pes", joined(sorted(late(-2, at, at)(sends))))
             words = [stl, path, "--every", "25", "--no-complete", "--within", "3"]
-            for more, wanted in (([], word), (["--origin", "0"], "refused"),
-                                 (["--late", "0:1/0:1"], "refused")):
+            rows: list[tuple[list[str], str]] = [
+                ([], word), (["--origin", "0"], "refused"), (["--late", "0:1/0:1"], "refused")]
+            for more, wanted in rows:
                 one = judged(self, *words, *more)
                 self.must(f"{count} {more}", one.word == wanted, one.said)
                 self.must(f"{count} {more}: named", wanted != "refused" or "subtitle 4" in
@@ -261,12 +263,12 @@ class Judgements(Case):
         other = sendings(self, programme(self, times, text=b"Other words %d", name="other.stl"))
         few = [one for at in (0, 8, 16) for one in sendings(self, programme(
             self, times[at:at + 3], first=at + 1, name="few.stl"))]
-        for name, second, words, word in (
-                ("wrong texts", other, [], "not judged"),
-                ("wrong texts, a clock", other, ["--origin", "0"], "accepted"),
-                ("few", few, [], "not judged"), ("few, a clock", few, ["--origin", "0"],
-                                                 "not judged"),
-                ("none", [], [], "accepted")):
+        rows: list[tuple[str, list[tuple[int, list[bytes]]], list[str], str]] = [
+            ("wrong texts", other, [], "not judged"),
+            ("wrong texts, a clock", other, ["--origin", "0"], "accepted"),
+            ("few", few, [], "not judged"),
+            ("few, a clock", few, ["--origin", "0"], "not judged"), ("none", [], [], "accepted")]
+        for name, second, words, word in rows:
             both = [*right, *((pts + hour, some) for pts, some in second)]
             one = judged(self, stl, self.write("one.pes", joined(both)), "--every", "25",
                          "--no-complete", *words)

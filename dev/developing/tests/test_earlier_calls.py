@@ -21,7 +21,6 @@ from subtitles.request.commands import CommandWords
 from subtitles.request.request import Request
 from subtitles.request.lateness import Lateness
 from subtitles.request.profile import Profile
-from subtitles.results import objects
 from subtitles.results.objects import (
     MOST_VALUES, Row, found, is_current, left_by_call, may_take, object_at,
     objects_in, row_of_object, unjudged)
@@ -118,7 +117,7 @@ class Objects(Case):
         for count, words in ((MOST_VALUES, "has more than 4,000,000 values"), (1000, "")):
             path = self.write("many.json", b'{"verdict":0,"format":%d,"a":[' % FORMAT +
                               b"0," * count + b"0]}")
-            with mock.patch.object(objects.json, "loads", side_effect=ValueError("loaded")):
+            with mock.patch("json.loads", side_effect=ValueError("loaded")):
                 known = object_at(path)
             self.must(f"{count}", known is not None and (words or "loaded") in known["reason"],
                       known)
