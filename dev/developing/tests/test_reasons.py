@@ -59,7 +59,7 @@ class Reasons(Case):
         words = "C4 (erase page) is clear in 49 of 49 headers: see --keeping in the profile"
         self.must("said", found.word == "refused" and found.verdict.sentence ==
                   'Refused: at 00:00:04:00 subtitle 1, "Number 1", may stand over old text on some '
-                  f"sets: {words}; in all 49 faults. See refusals.md#n67." and
+                  f"sets: {words}; in all 49 faults." and
                   found.result["hints"] == [f"67: {words}"] and
                   not any(IN_PARTS in line for line in found.said), found.said)
 

@@ -228,9 +228,8 @@ OPTIONS: tuple[Option, ...] = (
            said="Only the subtitles whose TCI is before were judged."),
     Option("--layout", "TEXT", "how the house draws its subtitles: [its layout]"
            "(subtitle-files.md#as-your-inserter-draws-it---layout)", JUDGED, "as of `check`",
-           field="layout", read=layout_word,
-           of_check=None, of_pages=True, in_profile=True, shape=Maybe(Text()),
-           said="How pages are drawn that are due."),
+           field="layout", read=layout_word, of_check=None, of_pages=True, in_profile=True,
+           shape=Maybe(Text()), said="How pages are drawn that are due."),
     Option("--open", None, "take a file of open subtitles too", MEASURED, "it is refused",
            field="is_open", default=False, of_check=False, of_pages=True, shape=Flag(),
            said="Whether open subtitles are taken too."),
