@@ -32,7 +32,7 @@ PROGRAM = r"""#!/bin/sh
 case "$*" in
     show*) printf '%s\n' '00001 10:00:00:00 10:00:02:00 vp 22 jc 2 text 0d0b0b48690a0a' \
         '1 subtitles' ;;
-    survey*) exec '{program}' "$@" ;;
+    survey* | schedule*) exec '{program}' "$@" ;;
     *' /dev/null') printf '%s\n' 'refused 60 Empty' '1 faults'; exit 1 ;;
     *) {said} ;;
 esac

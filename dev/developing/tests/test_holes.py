@@ -161,7 +161,7 @@ class Holes(Case):
                 ("and the pace", without(made, 27, 16), "refused", "--page=888", hole),
                 ("allowed", without(made, 27, 16), "waived", "--allow-lost", hole),
                 ("a jump", jumped, "accepted", "--page=888", "the clock jumps by 2:24:01 at "
-                 "10:00:02:08: an encoder that was started anew? --breaks 1"),
+                 "10:00:02:08: an encoder that was started anew?"),
                 ("alone", own, "accepted", "--pid=0x101", ""),
                 ("not asked", own, "accepted", "--pace=none",
                  "there is no PCR of the programme of ")):

@@ -214,10 +214,14 @@ class Sites(Case):
             self.write(f"in/{name}", example_bytes(name.replace("one", "hello")))
         self.write("in/one.done", b"")
         slow = self.program_but("*check*", f"touch '{self.path('begun')}'; exec sleep {SECONDS}")
-        for program, wanted in ((slow, "begun"), (self.bench.program, "out/one.json")):
+        # The line of a pair comes behind its result, when nothing of it can be stopped any more.
+        for program, wanted, words_in in ((slow, "begun", b""),
+                                          (self.bench.program, "said", b"accepted")):
             words = [tool_path("qc"), "--watch", "in", "-o", "out", "-p", program]
-            with subprocess.Popen(words, cwd=self.folder, stdout=subprocess.DEVNULL) as process:
-                until(lambda: os.path.exists(self.path(wanted)))
+            with open(self.path("said"), "wb") as said, \
+                    subprocess.Popen(words, cwd=self.folder, stdout=said) as process:
+                until(lambda: os.path.exists(self.path(wanted)) and
+                      words_in in self.read(wanted))
                 process.send_signal(signal.SIGTERM)
                 self.must(f"{wanted}: it ends", process.wait(SECONDS) == 2)
             self.must(f"{wanted}: its result", os.path.exists(self.path("out/one.json")) ==

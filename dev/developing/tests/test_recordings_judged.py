@@ -255,9 +255,10 @@ class Recordings(Case):
                       self.read(f"{out}/one.recording.pes") == pes)
 
     def test_recording_that_is_not_read(self) -> None:
-        """A subtitle file that is refused: the report says so."""
+        """A subtitle file alone, and one that is refused: the report says so."""
         judged(self, STORY, "-o", self.path("alone"))
-        self.must("no report", sorted(os.listdir(self.path("alone"))) == ["one.json", "one.txt"])
+        self.must("alone", sorted(os.listdir(self.path("alone"))) == [
+            "one.html", "one.json", "one.txt"])
         found = judged(self, ACCENT, self.write("one.ts", b"x"), "-o", self.path("out"))
         self.must("said", found.word == "refused" and b"one.ts was not read" in
                   self.read("out/one.html"), found.said)
