@@ -103,8 +103,9 @@ def programme_of(seed: int) -> Programme:
             found.file[at] = said
     # Later than all else, so that a seed is what it was.
     kind = some.randrange(4)
+    lost = found.lost if kind == 0 else 0  # alone, so that nothing else refuses it
     return found._replace(
-        has_wrong=found.has_wrong and found.lost > 0,
+        lost=lost, has_wrong=found.has_wrong and lost > 0,
         early=some.randrange(1, count) if kind == 1 else None,
         missing=some.randrange(1, count) if kind == 2 else None,
         profile=some.choice(("", "", "--keeping\n", "--within 2\n",
