@@ -13,13 +13,14 @@ from typing import Any, Callable, NamedTuple, Sequence
 from developing.pes import data_field, pes_packet, pts_in, teletext_packets
 from developing.stl import gsi_block, subtitle_blocks
 from subtitles.cli.main import parser_of
+from subtitles.cli.measure import Unprinted
 from subtitles.cli.single import Files, PairCall, claimed, end_pair, judge_pair, verdict_of
 from subtitles.common.program import MadeWith
 from subtitles.common.times import CLOCK, TICKS
 from subtitles.formats.stl import NEW_LINE
 from subtitles.judging.pair import Pair
 from subtitles.judging.verdict import Verdict
-from subtitles.request.commands import CommandWords, Listener, Names, Progress, Speech
+from subtitles.request.commands import CommandWords, Listener, Names
 from subtitles.request.lines import read_options
 from subtitles.request.request import request_of
 from subtitles.results.objects import found, object_of
@@ -31,16 +32,8 @@ Change = Callable[[Sent], Sent]
 FEW = "are too few to measure a pace"  # the end of a note
 
 
-class Heard(Speech):
+class Heard(Unprinted):
     """What is said, and told with `! ` before it, in its order."""
-
-    def __init__(self) -> None:
-        super().__init__(Progress())
-        self.lines: list[str] = []
-
-    def say(self, line: str) -> None:
-        self.last = line
-        self.lines.append(line)
 
     def tell(self, line: str) -> None:
         self.lines.append(f"! {line}")

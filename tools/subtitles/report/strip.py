@@ -155,15 +155,20 @@ class Strip:
         words.append(markup('<span class="end" style="{}">nothing heard after {}</span>', side,
                             time_of(end - 1)))
 
+    def boxes(self, spans: Iterable[tuple[int, int]], kind: str, what: str, top: int,
+              height: int) -> Iterator[Markup]:
+        """A box for each span of frames: its class in the page's style, and `what` it is of."""
+        for begin, end in spans:
+            left = self.x(begin)
+            width = max(self.x(end + 1) - left, 2)
+            yield markup('<rect class="{}" x="{:g}" y="{}" width="{:.4g}" height="{}">'
+                         "<title>{}: {} to {}</title></rect>", kind, left, top, width, height,
+                         what, time_of(begin), time_of(end))
+
     def undecided_frames(self) -> Iterator[Markup]:
         """The frames at which it is not known what is due."""
         _, top, height = UNKNOWN
-        for begin, end in self.undecided:
-            left = self.x(begin)
-            width = max(self.x(end + 1) - left, 2)
-            yield markup('<rect class="unknown" x="{:g}" y="{}" width="{:.4g}" height="{}">'
-                         "<title>undecided: {} to {}</title></rect>", left, top, width, height,
-                         time_of(begin), time_of(end))
+        return self.boxes(self.undecided, "unknown", "undecided", top, height)
 
     def ticks(self) -> Iterator[Markup]:
         """The sendings, those that are close to each other as one block."""
@@ -199,12 +204,7 @@ class Strip:
 
     def trusted_frames(self) -> Iterator[Markup]:
         """The frames that may be trusted: a line below the axis, thinner than a fault's mark."""
-        for begin, end in self.trusted:
-            left = self.x(begin)
-            width = max(self.x(end + 1) - left, 2)
-            yield markup('<rect class="trusted" x="{:g}" y="{}" width="{:.4g}" height="{}">'
-                         "<title>trusted: {} to {}</title></rect>", left, TRUSTED, width, THIN,
-                         time_of(begin), time_of(end))
+        return self.boxes(self.trusted, "trusted", "trusted", TRUSTED, THIN)
 
     def faults(self) -> Iterator[Markup]:
         """What is told: a mark for each span that has room for one, which leads to the list."""
