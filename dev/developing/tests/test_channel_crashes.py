@@ -8,7 +8,7 @@ import shutil
 from typing import Any, Callable
 from unittest import mock
 
-from subtitles.cli.channel import results
+from subtitles.cli.channel import machine
 from subtitles.cli.channel.records import Records
 from subtitles.cli.channel.spool import Journal
 from subtitles.common.times import CLOCK, TICKS
@@ -19,7 +19,7 @@ STARTS = {"one": BEGIN, "two": BEGIN + 60 * SECOND, "one~2": BEGIN + 120 * SECON
 # The calls by which something is written, and how many of them there are at least.
 STEPS: list[tuple[Any, str]] = [
     (os, "mkdir"), (os, "rename"), (os, "replace"), (os, "unlink"), (shutil, "rmtree"),
-    (os, "fsync"), (os, "pwrite"), (Journal, "add"), (Records, "put_due"), (results, "failure_of")]
+    (os, "fsync"), (os, "pwrite"), (Journal, "add"), (Records, "put_due"), (machine, "failure_of")]
 LEAST = 30
 
 
@@ -60,7 +60,7 @@ class Crashes(Programmes):
         def note(command: str, path: str, verdict: str) -> None:
             told.append(os.path.basename(path))
 
-        with mock.patch.object(results, "failure_of", note):
+        with mock.patch.object(machine, "failure_of", note):
             with contextlib.ExitStack() as stack, contextlib.suppress(Crash):
                 for owner, step in STEPS:
                     stack.enter_context(mock.patch.object(owner, step, crashing(

@@ -51,11 +51,11 @@ class Edits(Programmes):
             self.must(f"{kept}", channel.verdicts == ["refused"] * kept and channel.said ==
                       [f"{kept} programme{'s' * (kept > 1)} of an earlier call kept"] * (kept > 0),
                       channel.said)
-            self.must(f"{kept}: next", [one.programme.name for one in channel.queue.waiting] ==
+            self.must(f"{kept}: next", [one.name for one in channel.queue.waiting] ==
                       names[kept:])
         self.write("out/one.json", json.dumps(unjudged("one", "why", True)).encode())
         channel = Told(self, self.listed("one", "two"), self.path("out"))
-        self.must("open", [one.programme.name for one in channel.queue.waiting] == ["one"],
+        self.must("open", [one.name for one in channel.queue.waiting] == ["one"],
                   channel.said)
         self.must("rows", set(channel.rows) == {*names}, channel.rows)
 
@@ -67,4 +67,4 @@ class Edits(Programmes):
             channel = Told(self, lines)
             channel.give([Lines().pes(0)])
             self.must(lines, len(channel.said) == said and
-                      channel.queue.waiting[0].programme.name == "one", channel.said)
+                      channel.queue.waiting[0].name == "one", channel.said)

@@ -10,10 +10,10 @@ import time
 from typing import Any, Callable
 from unittest import mock
 
-from subtitles.cli.channel import results
+from subtitles.cli.channel import machine, records
 from subtitles.cli.channel.channel import BEFORE_IT
-from subtitles.cli.channel.records import Due, Read, Records
-from subtitles.cli.channel.results import Judged, PASSING, Tries
+from subtitles.cli.channel.records import Due, Judged, Read, Records, Tries
+from subtitles.cli.channel.results import PASSING, Results
 from subtitles.cli.channel.spool import MARK, path_of
 from subtitles.common.files import Inputs
 from subtitles.common.command_line import Stop
@@ -71,7 +71,7 @@ class Again(Programmes):
         with mock.patch.object(Judging, "ended", PASSING):
             channel.give(lines.sent(texts_of("one"), BEGIN, 20))
             for _ in range(3):
-                channel.results.tries_of(channel.records.due()[0]).next = 0.0
+                channel.records.due()[0].tries.next = 0.0
                 channel.judge_due()
         said = "one: it was not judged, and is tried again: the machine failed"
         self.must("said", channel.said == [said] and not os.listdir(out), channel.said)
@@ -98,7 +98,7 @@ class Again(Programmes):
                     return real(*words)
 
             with mock.patch.object(channel.results, "judge", judge), \
-                    mock.patch.object(results, "AGAIN", 0.01):
+                    mock.patch.object(records, "AGAIN", 0.01):
                 channel.give(Lines().sent(texts_of("one"), BEGIN, 20))
                 channel.stop(BEFORE_IT)
             known = json.loads(self.read(f"{out}/one.json"))
@@ -115,7 +115,7 @@ class Again(Programmes):
             self.must("needed", channel.results.needed(0) == 1 and
                       channel.results.needed(1 << 60) is None)
             os.unlink(path_of(channel.folder, 1))
-            channel.results.tries_of(channel.records.due()[0]).next = 0.0
+            channel.records.due()[0].tries.next = 0.0
             channel.judge_due()
         self.must("said", channel.said[-1] == "one  not judged: the machine failed", channel.said)
 
@@ -138,7 +138,7 @@ class Kept(Programmes):
     def test_results_that_were_spoiled(self) -> None:
         """They are written again, byte by byte, and nobody judges or is told once more."""
         told = list[str]()
-        with mock.patch.object(results, "failure_of", lambda *words: told.append(words[1])):
+        with mock.patch.object(machine, "failure_of", lambda *words: told.append(words[1])):
             self.sent("one", "two", "three", spool=self.path("spool"), out=self.path("out"))
             before = {name: self.read(f"out/{name}.json") for name in ("one", "two", "three")}
             self.write("out/one.json", before["one"][:100])
@@ -159,7 +159,7 @@ class Kept(Programmes):
         first = self.sent("one", "two", spool=spool, out=self.path("out"))
         for out, names in (("tuesday", ["one", "three"]), ("wednesday", ["one"])):
             other = Told(self, self.listed(*names), self.path(out), spool=spool)
-            self.must(f"{out}: all are open", [one.programme.name for one in other.queue.waiting]
+            self.must(f"{out}: all are open", [one.name for one in other.queue.waiting]
                       == names and not other.verdicts and len(other.said) == 1 and
                       "begins anew: the list before was " in other.said[0], other.said)
             self.must(f"{out}: nothing is told", not os.path.exists(self.path(f"{out}/two.json")))
@@ -202,7 +202,7 @@ class Kept(Programmes):
             os.mkdir(self.path("out"))
             if known is not None:
                 self.write("out/a.json", json.dumps(known).encode())
-            made = results.Results(self.new_folder(name), self.path("out"), lambda *_: None)
+            made = Results(self.new_folder(name), self.path("out"), lambda *_: None, self.fail)
             record = made.adopt("a", stl)
             self.must(name, (record and record.is_of(line)) == is_one, record)
             if record:
@@ -237,7 +237,7 @@ class Kept(Programmes):
                   channel.said)
         self.must("results", self.read("out/two.json") == known and
                   self.read("out/two.html") == b"page" and channel.queue.ended == 900_000 and
-                  [one.programme.name for one in channel.queue.waiting] == ["three"])
+                  [one.name for one in channel.queue.waiting] == ["three"])
         again = Told(self, self.listed("one", "two", "three"), self.path("out"), spool=spool)
         self.must("once", again.said == ["2 programmes of an earlier call kept"] and
                   not {"done", "journal"} & {*os.listdir(spool)}, again.said)

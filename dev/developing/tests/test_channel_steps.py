@@ -214,7 +214,7 @@ class Steps(Programmes):
             self.must("forgotten", not heard.changes[False].times)
         channel.give([*lines.sent(texts_of("three"), CLOCK // 2 + SECOND), lines.pes(100)])
         self.must("three", self.names() == ["three"] and
-                  [one.programme.name for one in channel.queue.waiting] == ["four"], channel.said)
+                  [one.name for one in channel.queue.waiting] == ["four"], channel.said)
 
     def test_next_one_after_a_break_off(self) -> None:
         """It may begin before the planned end of the one that broke off."""

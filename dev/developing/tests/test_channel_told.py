@@ -9,9 +9,8 @@ import subprocess
 from typing import Any
 from unittest import mock
 
-from subtitles.cli.channel import results
-from subtitles.cli.channel.machine import ALARMS, STOPPED
-from subtitles.cli.channel.results import failure_of, refuse_command
+from subtitles.cli.channel import machine
+from subtitles.cli.channel.machine import ALARMS, STOPPED, failure_of, refuse_command
 from subtitles.cli.channel.schedule import LOST
 from subtitles.cli.channel.spool import path_of
 from subtitles.common.command_line import Stop
@@ -84,7 +83,7 @@ class Machine(Programmes):
         """Each once when it sets in, and once when it ends."""
         told = list[tuple[str, ...]]()
         channel = Told(self, self.listed("one"), self.path("out"), alarm="alarm")
-        with mock.patch.object(results, "failure_of", lambda command, *words: told.append(words)):
+        with mock.patch.object(machine, "failure_of", lambda command, *words: told.append(words)):
             channel.give([Lines().pes(BEGIN)])
             rows: list[tuple[int, bool, str, dict[str, str]]] = [
                 (0, False, "-", {}), (99, False, "-", {}), (99, False, "-", {}),
@@ -95,9 +94,9 @@ class Machine(Programmes):
                 channel.words.stl, channel.results.failed = folder, dict(failed)
                 if is_losing:
                     channel.lose()
-                    channel.is_losing = True
+                    channel.loss = "lost"
                 channel.tell_machine()
-                channel.is_losing = False
+                channel.loss = None
         self.must("told", sorted((kind, what) for kind, what, _ in told) == [
             (kind, what) for kind in sorted(ALARMS) for what in ("begins", "ends")], told)
         self.must("lines", [line for _, what, line in told if what == "begins"] == [
@@ -161,12 +160,13 @@ class Folders(Programmes):
         channel = Told(self, self.listed("one"), self.path("out"))
         with mock.patch("os.fsync", side_effect=OSError(30, "Read-only")):
             channel.give(Lines().sent(texts_of("one"), BEGIN, 20))
-            why = "its result can't be kept, and is tried again: "
+            why = "its record can't be written, and is tried again: "
             self.must("written", json.loads(self.read("out/one.json"))["verdict"] == "accepted"
                       and any(f"one: {why}" in line for line in channel.said), channel.said)
-        self.must("not kept", channel.records.unkept)
+        [record] = channel.records.all.values()
+        self.must("not kept", record.unkept)
         channel.publish()
-        self.must("kept", not channel.records.unkept and not channel.results.failed)
+        self.must("kept", record.unkept is None and not channel.results.failed)
 
     def test_lists_that_are_none(self) -> None:
         """A device, a pipe, and one that stands in the place of a result: that stays."""
@@ -199,7 +199,7 @@ class Commands(Case):
 
         self.write("told", b"")
         command = self.write_program(name, f"#!/bin/sh\n{text}\n")
-        with mock.patch.object(results, "HOOK_SECONDS", longest), \
+        with mock.patch.object(machine, "HOOK_SECONDS", longest), \
                 mock.patch.object(subprocess.Popen, "wait", wait_then):
             failure = failure_of(command, "a b.json", "not judged")
         return failure and failure.removeprefix(f"{command} ")

@@ -2,16 +2,18 @@
 from __future__ import annotations
 
 from developing.pes import pes_packet
-from subtitles.cli.channel.listening import Ending
+from subtitles.cli.channel.schedule import OnAir, Programme
+from subtitles.common.files import Line
 from subtitles.common.times import CLOCK, TICKS
 from subtitles.stream.survey import Survey
 from .bench import Case
 from .parts import CLOSING, HEADER, asked_for, packets_told
 
 
-def ending_of(*words: str) -> Ending:
-    """The end of a programme whose subtitles are due in the first two seconds."""
-    return Ending(asked_for("a.stl", "feed", "--every", "25", *words), 0, 50)
+def sent(*words: str, midnight: int = 0, first: int = 0, last: int = 50) -> OnAir:
+    """A programme whose subtitles are due in some frames of the day."""
+    asked = asked_for("a.stl", "feed", "--every", "25", *words)
+    return OnAir(Programme("a", Line(1, ("a.stl",)), asked, None), asked, midnight, first, last)
 
 
 class Ended(Case):
@@ -24,5 +26,5 @@ class Ended(Case):
             packets = packets_told(self, b"".join(
                 pes_packet((origin + TICKS * at) % CLOCK, [HEADER, CLOSING])
                 for at in sorted({min(frame, 0) - 3, min(frame, 0), frame})))
-            ending = ending_of("--origin", str(origin))
+            ending = sent("--origin", str(origin))
             self.must(f"{frame}", ending.is_over(Survey(), packets, True) == is_over)

@@ -209,7 +209,8 @@ class ReadBack(Case):
         asked = asked_for(self.path("story.stl"), self.path("x.pes"))
         kept_rows(calls, [Item(name, asked, None) for name in names])
         os.makedirs(self.path("kept"), exist_ok=True)
-        channel = Results(self.path("kept"), self.path("out"), lambda path, word: None)
+        channel = Results(self.path("kept"), self.path("out"), lambda path, word: None,
+                          self.fail)
         for name in names:
             record = channel.adopt(name, asked.stl)
             self.must(f"channel: {name}", record is None or record.row and

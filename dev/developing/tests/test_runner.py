@@ -30,7 +30,7 @@ class Found(Case):
         self.must("no module", not runner.of_module("subtitles.none", everything))
         for module, test, most in (("judging.losses", "test_parts_of_verdicts", 3),
                                    ("judging.clocks", "test_decisions", 5),
-                                   ("cli.channel.listening", "test_listening", 9),
+                                   ("cli.channel.schedule", "test_listening", 12),
                                    ("judging.transmissions", "test_reasons", 30)):
             kinds = {type(one).__module__.rpartition(".")[2] for one in
                      runner.of_module(f"subtitles.{module}", everything)}

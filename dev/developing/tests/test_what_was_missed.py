@@ -8,7 +8,7 @@ from typing import Any
 
 from developing.pes import pes_packet
 from subtitles.cli.channel.feed import Losses
-from subtitles.cli.channel.schedule import OnAir, Planned, Queue
+from subtitles.cli.channel.schedule import Planned, Queue
 from subtitles.clock.alignment import back_at
 from subtitles.clock.start import Clock, Found, GIVEN
 from subtitles.common.times import CLOCK, NO_FRAME, Span, TICKS
@@ -23,7 +23,7 @@ from .muxed import TELETEXT_PID
 from .parts import (
     CLOSING, HEADER, PAGE, answer, asked_for, in_page, packets_told, part_with, row)
 from .test_decisions import defaults
-from .test_listening import ending_of
+from .test_listening import sent
 from .test_recordings_judged import in_stream
 
 STORY = example("story.stl")
@@ -97,7 +97,7 @@ class Values(Case):
                                                   for at in (0, 20, 40)))
             packets.samples.append((0, -late * TICKS))
             survey: Any = SimpleNamespace(clock_of=lambda _, pcr=pcr: (0, TICKS * pcr))
-            found = ending_of("--origin", "0").is_over(survey, packets, False)
+            found = sent("--origin", "0").is_over(survey, packets, False)
             self.must(f"{late} {pcr}", found == is_over)
 
     def test_pauses(self) -> None:
@@ -177,9 +177,8 @@ class Channels(Case):
         """What is sent may be of it from two minutes before its first TCI on, or from as many
         frames before it as the repeat bound."""
         for every, wanted in ((25, 3000), (3000, 3000), (3001, 3001)):
-            asked = asked_for(STORY, None, "--every", str(every), "--origin", "0")
-            item: Any = None
-            one = OnAir(item, asked, 9, 10_000, 20_000, ending_of("--origin", "0"))
+            one = sent("--every", str(every), "--origin", "0", midnight=9, first=10_000,
+                       last=20_000)
             self.must(f"{every}", one.begin - one.since == TICKS * wanted)
 
     def test_a_loss_that_is_told_once(self) -> None:

@@ -5,7 +5,7 @@ import collections
 import json
 import os
 import time
-from typing import Any, Iterator, NamedTuple, Sequence
+from typing import Any, Collection, Iterator, NamedTuple, Sequence
 
 from ..common.command_line import Stop, error_line
 from ..common.files import bounded_bytes, first_bytes, is_replaced, result_file
@@ -224,17 +224,21 @@ def causes_in(known: dict[str, Any]) -> dict[str, int]:
     return {name: count for name, count in known["cause_counts"].items() if count} | dict(counts)
 
 
-def objects_in(folder: str) -> Iterator[tuple[str, dict[str, Any] | None]]:
-    """The files of a folder that can hold an object, in the order of their names."""
+def objects_in(folder: str, besides: Collection[str] = ()
+               ) -> Iterator[tuple[str, dict[str, Any] | None]]:
+    """The files of a folder that can hold an object, in the order of their names, besides those of
+    some pairs."""
     for file in sorted(os.listdir(folder)):
-        path = os.path.join(folder, file)
-        if file.endswith(ENDING) and not file.startswith(".") and os.path.isfile(path):
+        path, name = os.path.join(folder, file), file.removesuffix(ENDING)
+        if name != file and name not in besides and not file.startswith(".") \
+                and os.path.isfile(path):
             yield path, object_at(path)
 
 
-def rows_in(folder: str) -> dict[str, Row]:
+def rows_in(folder: str, besides: Collection[str] = ()) -> dict[str, Row]:
     """The rows of a folder, by their names."""
-    known = {os.path.basename(path).removesuffix(ENDING): one for path, one in objects_in(folder)}
+    known = {os.path.basename(path).removesuffix(ENDING): one
+             for path, one in objects_in(folder, besides)}
     return {name: row_of_object(one, name) for name, one in known.items() if one is not None}
 
 

@@ -5,7 +5,9 @@ import argparse
 import contextlib
 import dataclasses
 import errno
+import functools
 import os
+import shutil
 import tempfile
 import time
 from typing import Any, Iterator
@@ -15,20 +17,20 @@ from ...common.command_line import (
     Stop, Unanswered, counted, error_line, shown, tell)
 from ...common.files import Inputs, temporary_folder
 from ...common.times import FRAMES_OF_A_DAY, TICKS, time_of
-from ...judging.status import NOT_JUDGED, of_all
+from ...judging.status import ACCEPTED, NOT_JUDGED, WAIVED, of_all
 from ...request.commands import CommandWords, Progress
 from ...request.request import Request, Unclear
-from ...results.objects import ENDING, in_order, row_of_object, unjudged
+from ...results.objects import ENDING, in_order, row_of_object, rows_in, unjudged
 from .. import collection, single
-from ..single import locking, refuse_files_of_all
-from . import machine, results
+from ..single import locking, now, refuse_files_of_all
+from . import machine, records
 from .feed import Hearing, MINUTE, SECOND
-from .listening import Ending, Stall
-from .machine import Alarms, DISK, Feed, LOSS, Machine, RECORDER, SILENCE, lines_of
-from .records import Due, Outcome
+from .listening import Stall
+from .machine import Alarms, DISK, LOSS, LineCounts, Machine, RECORDER, SILENCE
+from .records import Due, Judged, Outcome
 from .recorder import Begin, Recorded, Segments, say_dated
-from .results import Judged, Results
-from .schedule import Arrival, ENDED, LOST, MARGIN, OnAir, Planned, Programme, Queue
+from .results import PASSING, Results
+from .schedule import ENDED, LOST, MARGIN, OnAir, Planned, Programme, Queue
 from .spool import ERROR, Exchange, RESTARTS, claim
 
 
@@ -51,23 +53,24 @@ class Channel:
         self.words, self.called, self.folder = words, called, folder
         self.patience: int = words.patience * MINUTE
         self.program = CommandWords(called, words.program).program_path
-        self.results = Results(folder, words.out, self.call_on_result)
-        self.records = self.results.records
+        self.progress = Progress()
         state = Exchange(folder)
         self.machine = Machine(words.out, state[RESTARTS])
         state[RESTARTS] += 1
-        self.alarms = Alarms(self.call_on_alarm)
-        self.progress = Progress()
+        self.alarms = Alarms(functools.partial(self.call, words.on_alarm))
+        self.results = Results(folder, words.out, functools.partial(self.call, words.on_result),
+                               self.fail)
+        self.records = self.results.records
         self.stall = Stall(words.stall, self.say)
         self.queue = Queue(Planned(words.channel, words, folder, self.records.out,
                                    self.results.adopt), self.patience,
                            self.records.over(), self.records.since())
         self.running: OnAir | None = None
         self.verdicts: list[str] = []
-        self.left_open = set[str]()
-        self.came, self.header, self.headers = time.monotonic(), time.time(), 0
+        self.came, self.headers = time.monotonic(), 0
+        self.header: float | None = None  # when the last of `headers` came
+        self.loss: str | None = None  # that nothing has come behind yet
         self.next_write = 0.0
-        self.is_stopped = self.is_losing = False
         self.open()
         self.begin()
 
@@ -78,14 +81,14 @@ class Channel:
         if known is None and self.queue.ended:  # somebody has emptied the folder
             known = Begin(self.queue.ended, None, False)
         self.hearing = Hearing(self.program, self.words.pid, known, self.segments.before)
-        self.queue.latest = max((one.time for one in self.segments.begins.values()), default=0)
+        self.queue.latest = max((begin.time for begin in self.segments.begins.values()), default=0)
         if self.running:
             self.running.programme.has_ended, self.running = False, None
         self.queue.wait_anew(self.queue.since)
 
     def begin(self) -> None:
         """Takes what an earlier call has left."""
-        planned = self.queue.planned
+        planned, by_name = self.queue.planned, self.records.by_name
         planned.look(True)
         self.take_inputs()
         self.machine.refuse(self.results.inputs)
@@ -95,15 +98,14 @@ class Channel:
         lost = self.results.mend()
         if lost:
             self.say(f"written once more, since it is not there as a whole: {', '.join(lost)}")
-        self.rows = {one.name: one.row for one in self.records.by_name.values() if one.row}
+        self.rows = {name: record.row for name, record in by_name.items() if record.row}
         if self.words.out and os.path.isdir(self.words.out):
-            self.rows.update(results.rows_of_others(self.words.out, {*self.records.by_name}))
+            self.rows.update(rows_in(self.words.out, {*by_name}))
         self.publish()
-        kept = [row.verdict for one in planned.programmes if one.has_ended
-                and (row := self.rows.get(one.name))]
-        self.verdicts += kept
-        if kept:
-            self.say(f"{counted(len(kept), 'programme')} of an earlier call kept")
+        self.verdicts += [row.verdict for programme in planned.programmes if programme.has_ended
+                          and (row := self.rows.get(programme.name))]
+        if self.verdicts:
+            self.say(f"{counted(len(self.verdicts), 'programme')} of an earlier call kept")
 
     def take_inputs(self) -> None:
         """Takes what is read, and so never written to."""
@@ -129,7 +131,7 @@ class Channel:
 
     def hear(self, name: str) -> str:
         """Hears what is recorded of a feed, to its end; why what is left is not judged."""
-        deaths, place, pause = 0, -1, results.AGAIN
+        deaths, place, pause = 0, -1, records.AGAIN
         with contextlib.closing(Recorded(name, self.folder)) as recording:
             while True:
                 try:
@@ -172,8 +174,10 @@ class Channel:
                 continue
             still = 0.0 if data else time.monotonic() - self.came
             if data:
-                self.came = time.monotonic()
-                self.index()
+                self.came, self.loss = time.monotonic(), None
+                begin = self.hearing.begin(self.segments.at == self.segments.oldest)
+                if begin:
+                    self.segments.begin(begin)
             elif has_ended:
                 return
             else:
@@ -185,38 +189,26 @@ class Channel:
             self.keep()
             self.show()
 
-    def index(self) -> None:
-        """Keeps when the segment began that is read."""
-        self.is_losing = False
-        begin = self.hearing.begin(self.segments.at == self.segments.oldest)
-        if begin:
-            self.segments.begin(begin)
-
     def lose(self) -> None:
         """What comes next is behind a loss: it is heard anew."""
         self.take_all(self.hearing.end())
         if self.segments.at >= self.segments.known:
-            line = f"{LOST}: {self.why_lost()}"
-            self.fail(line)
-            self.is_losing = True
-            self.alarms.take(LOSS, line)
-        self.machine.lose()
+            error = self.segments.state[ERROR]
+            self.loss = f"{LOST}: {os.strerror(error) if error else 'it was recorded anew'}"
+            self.fail(self.loss)
+            self.alarms.take(LOSS, self.loss)
+        self.machine.loss = now()
         self.begin_anew(LOST)
         self.hearing.renew()
-
-    def why_lost(self) -> str:
-        """Why something was lost, as far as the recorder could tell."""
-        error = self.segments.state[ERROR]
-        return os.strerror(error) if error else "it was recorded anew"
 
     def why_not_kept(self) -> str:
         """Why something of the feed is not there."""
         error = self.segments.state[ERROR] or errno.ENOENT
         return f"the feed could not be kept: {os.strerror(error)}"
 
-    def take_all(self, told: Iterator[None]) -> None:
+    def take_all(self, lines: Iterator[None]) -> None:
         """Takes each line that is told of the feed."""
-        for _ in told:
+        for _ in lines:
             self.take()
 
     def take(self, is_still: bool = False) -> None:
@@ -267,18 +259,19 @@ class Channel:
         if not queue.waiting:
             return False
         first = queue.waiting[0]
-        if first.reason is not None:
-            self.leave(first.reason)
+        if first.why_not is not None:
+            self.leave(first.why_not, queue.since)
             return True
-        seen = queue.seen(self.hearing)
-        if seen is None and self.now <= queue.until:
+        place, midnight = queue.seen(self.hearing) or (None, 0)
+        if place is not None:
+            self.begin_seen(place, midnight)
+        elif self.now <= queue.until:
             return False
-        if seen is None:
-            what = "its first five cues were not seen" if first.asked.origin is None else \
-                f"its first TCI did not come, by --origin {first.asked.origin},"
-            self.leave(f"{what} within {counted(self.words.patience, 'minute')}", queue.until)
         else:
-            self.begin_seen(seen)
+            origin = first.asked and first.asked.origin
+            what = "its first five cues were not seen" if origin is None else \
+                f"its first TCI did not come, by --origin {origin},"
+            self.leave(f"{what} within {counted(self.words.patience, 'minute')}", queue.until)
         return True
 
     def look(self) -> None:
@@ -292,51 +285,48 @@ class Channel:
         planned.said.clear()
         while planned.gone:
             self.unjudged(planned.gone.pop(0), f"it is gone from {planned.path}", self.queue.since)
-        self.hearing.turn_to(one.asked.page for one in self.queue.waiting if one.programme.asked)
+        self.hearing.turn_to(programme.asked.page for programme in self.queue.waiting
+                             if programme.asked)
 
-    def begin_seen(self, seen: Arrival) -> None:
+    def begin_seen(self, place: int, midnight: int) -> None:
         """Begins with a programme that is there; those before it in the list were not."""
-        name = self.queue.waiting[seen.place].programme.name
-        for _ in range(seen.place):
-            one = self.queue.leave()
-            self.unjudged(one.programme, one.reason or
+        name = self.queue.waiting[place].name
+        for _ in range(place):
+            before = self.queue.leave()
+            self.unjudged(before, before.why_not or
                           f"not seen: {name}, which is behind it in the list, is sent",
                           self.queue.since)
-        one = self.queue.leave()
-        assert one.awaited
-        first, last = one.awaited.first, one.awaited.last
-        origin = self.hearing.of(one.asked).clock.pts_at(seen.midnight)
-        asked = dataclasses.replace(one.asked, origin=origin, pid=None)
-        self.running = OnAir(one.programme, asked, seen.midnight, first, last,
-                             Ending(asked, first, last))
+        programme = self.queue.leave()
+        assert programme.asked and programme.awaited
+        origin = self.hearing.of(programme.asked).clock.pts_at(midnight)
+        self.running = OnAir(
+            programme, dataclasses.replace(programme.asked, origin=origin, pid=None), midnight,
+            programme.awaited.first, programme.awaited.last)
 
-    def leave(self, reason: str, until: int | None = None) -> None:
+    def leave(self, reason: str, since: int) -> None:
         """The first programme that is waited for is not judged; the next one is waited for, since
         a time."""
-        since = self.queue.since if until is None else until
-        self.unjudged(self.queue.leave().programme, reason, since)
+        self.unjudged(self.queue.leave(), reason, since)
         self.queue.wait_anew(since)
 
     # ---- its verdict
 
     def judge(self, running: OnAir, why: str = ENDED) -> None:
         """Judges a programme by what came of it; one that did not come whole is not judged."""
-        programme, heard = running.programme, self.hearing.of(running.asked)
+        programme, asked, heard = running.programme, running.asked, self.hearing.of(running.asked)
+        parts = self.segments.between(running.begin - TICKS * (asked.every + AROUND),
+                                      running.since, running.until)
         missing = running.missing(heard.start, self.now, why)
-        needed = running.begin - TICKS * (running.asked.every + AROUND)
-        parts = self.segments.between(needed, running.since, running.until)
-        over = min(running.end, self.now)
-        self.running = None
-        if missing is not None:
-            self.unjudged(programme, missing, over, over, why == ENDED and self.now < running.end)
-        elif parts is None:
-            self.unjudged(programme, self.why_not_kept(), over, over)
+        over, self.running = min(running.end, self.now), None
+        if missing is not None or parts is None:
+            self.unjudged(programme, missing or self.why_not_kept(), over, over,
+                          why == ENDED and self.now < running.end)
         else:
             move = heard.move_since(running.begin)
-            record = self.records.new(programme.name, running.asked.stl, over, over)
+            record = self.records.new(programme.name, asked.stl, over, over)
             self.records.put_due(record, Due(
-                programme.line.words, running.asked.origin or 0,
-                None if move else heard.pid or None, running.is_fitted, parts,
+                programme.line.words, asked.origin or 0, None if move else heard.pid or None,
+                bool(programme.asked and programme.asked.origin is None), parts,
                 f"{move.words} at {running.time_at(move.time)}" if move else ""))
             self.judge_due()
         self.queue.wait_anew(over, over)
@@ -344,26 +334,25 @@ class Channel:
     def judge_due(self) -> None:
         """Judges what has come whole, again where the machine failed, those first that wait
         longest."""
-        while record := self.results.next_due():
-            self.judge_record(record)
+        while (due := self.records.due()) and due[0].tries.next <= time.monotonic():
+            self.judge_record(due[0])
 
     def judge_record(self, record: Outcome) -> None:
         """Tries to judge a programme. As long as it can be judged another time it has no result."""
-        due, tries = record.due, self.results.tries_of(record)
+        due, tries = record.due, record.tries
         assert due
-        is_gone = tries.last is not None and not self.results.are_there(record)
-        found = tries.last if is_gone and tries.last else self.judged(record, due)
-        final = tries.take(found, self.results.are_there(record), time.monotonic())
+        is_gone = tries.last and not self.results.are_there(record)
+        judged = tries.last if tries.last and is_gone else self.judged(record, due)
+        final = tries.take(judged, self.results.are_there(record), time.monotonic())
         if final is None:
             if tries.count == 1:
-                self.fail(f"{record.name}: it was not judged, and is tried again: {found.reason}")
+                self.fail(f"{record.name}: it was not judged, and is tried again: {judged.reason}")
             return
-        if found.known and not final and not (due.moved and found.reason):
-            known = found.known
-        else:
-            known = unjudged(record.name, final or f"{due.moved}: {found.reason}")
+        known = judged.known
+        if not known or final or due.moved and judged.reason:
+            known = unjudged(record.name, final or f"{due.moved}: {judged.reason}")
         hint = row_of_object(known, record.name).hint
-        self.end(record, known, results.time_of_lead(known) + (f"; {hint}" if hint else "") +
+        self.end(record, known, time_of_lead(known) + (f"; {hint}" if hint else "") +
                  f"; {FITTED_SHORT}" * due.is_fitted)
 
     def judged(self, record: Outcome, due: Due) -> Judged:
@@ -385,7 +374,7 @@ class Channel:
         call = single.PairCall(words.program, is_kept=words.is_kept, name=record.name,
                                is_claimed=True, is_fitted=due.is_fitted, given=path, **placed)
         verdict = single.judged(asked, call, self.called)
-        return verdict.status if verdict.is_final else results.PASSING
+        return verdict.status if verdict.is_final else PASSING
 
     def unjudged(self, programme: Programme, reason: str, since: int, over: int | None = None,
                  is_open: bool = False) -> None:
@@ -396,52 +385,38 @@ class Channel:
             return
         stl = programme.asked.stl if programme.asked else ""
         self.end(self.records.new(programme.name, stl, self.queue.ended if over is None else over,
-                                  since), known, "")
+                                  since), known)
 
     def leave_open(self, name: str, known: dict[str, Any]) -> None:
         """A programme has no result that stays when this call ends."""
-        self.results.open[name] = known
-        self.left_open.add(name)
-        self.show_result(name, known, "")
+        self.show_result(name, known)
+        self.results.leave_open(name, known)
 
-    def end(self, record: Outcome, known: dict[str, Any], more: str) -> None:
+    def end(self, record: Outcome, known: dict[str, Any], more: str = "") -> None:
         """A programme has its result: kept, told, and written where it is wanted."""
-        why = self.records.put(record, known)
-        if why:
-            self.fail(f"{record.name}: its result can't be kept, and is tried again: {why}")
+        self.records.put(record, known)
+        self.results.keep()
         self.show_result(record.name, known, more)
 
-    def show_result(self, name: str, known: dict[str, Any], more: str) -> None:
+    def show_result(self, name: str, known: dict[str, Any], more: str = "") -> None:
         """Tells a result."""
         row = self.rows[name] = row_of_object(known, name)
         self.verdicts.append(row.verdict)
         line = row.line.splitlines()[0] if row.line else row.verdict
         self.say(f"{name}  " + (line + more if row.is_judged else f"{NOT_JUDGED}: {line}"))
-        self.machine.judge(row)
+        self.machine.verdict = {"name": row.name, "verdict": row.verdict, "date": now()}
         self.publish(True)
 
     def publish(self, is_new: bool = False) -> None:
         """Writes what is to be written, again where that failed, and the page of all."""
-        before = dict(self.results.failed)
-        written = self.results.publish()
-        for name, why in self.results.failed.items():
-            if name not in before:
-                self.fail(f"{name}: its result can't be written, and is tried again: {why}")
-        if self.words.out is not None and (written or is_new):
+        is_new |= self.results.publish()
+        if self.words.out is not None and is_new:
             with contextlib.suppress(OSError):
                 collection.write_index(self.words.out, in_order(self.rows))
 
-    def call_on_result(self, path: str, verdict: str) -> None:
-        """Calls what the house wants to have called after each result."""
-        self.call(self.words.on_result, path, verdict)
-
-    def call_on_alarm(self, kind: str, what: str, line: str) -> None:
-        """Calls what the house wants to have called where something is wrong."""
-        self.call(self.words.on_alarm, kind, what, line)
-
     def call(self, command: str | None, *words: str) -> None:
-        """Calls a command; a failure changes nothing."""
-        failure = command is not None and results.failure_of(command, *words)
+        """Calls what the house wants to have called; a failure changes nothing."""
+        failure = command and machine.failure_of(command, *words)
         if failure:
             self.fail(failure)
 
@@ -451,7 +426,7 @@ class Channel:
         """At the feed's end what is there of all that was kept is judged, and nothing else."""
         if self.running:
             self.judge(self.running)
-        self.queue.end()
+        self.queue.is_whole, self.queue.next_look = True, 0.0
         while self.begin_next():
             if self.running:
                 self.judge(self.running)
@@ -462,76 +437,100 @@ class Channel:
             self.unjudged(programme, programme.reason or reason, self.queue.since,
                           is_open=programme.reason is None)
         self.publish()
-        if not self.left_open:
+        if not self.results.open:
             self.segments.take_away(self.segments.at + 1)
         self.tell_machine()
-
-    def say_ended(self) -> None:
-        """The last line: how it ended, and what came of the list."""
-        one = self.lines()
-        self.say(f"{self.machine.state}: {counted(one.judged, 'line')} judged, {one.not_judged} "
-                 f"not judged, {one.open} open")
 
     def end_due(self) -> None:
         """Tries a few more times what could not be judged; then it is open."""
         for _ in range(AT_END):
             due = self.records.due()
             if due:
-                time.sleep(max(min(map(self.results.wait, due)), 0))
+                time.sleep(max(due[0].tries.next - time.monotonic(), 0))
                 self.judge_due()
         for record in self.records.due():
-            last = self.results.tries_of(record).last
+            last = record.tries.last
             self.leave_open(record.name, unjudged(
                 record.name, last.reason if last else BEFORE_IT, True))
 
-    def lines(self) -> machine.LineCounts:
+    def lines(self) -> LineCounts:
         """How many lines have what result."""
         listed = self.queue.planned.programmes
-        rows = [record.row for one in listed
-                if (record := self.records.by_name.get(one.name)) and record.row]
-        return lines_of(len(listed) - len(rows), rows, len(self.results.failed))
+        rows = [record.row for programme in listed
+                if (record := self.records.by_name.get(programme.name)) and record.row]
+        judged = [row for row in rows if row.is_judged]
+        refused = [row for row in judged if row.verdict not in (ACCEPTED, WAIVED)]
+        return LineCounts(len(listed) - len(rows), len(judged), len(refused),
+                          len(rows) - len(judged), len(self.results.failed))
 
     def tell_machine(self) -> None:
         """What a machine asks, and what is wrong now."""
-        segments, stall = self.segments, self.stall
-        headers = sum(heard.headers for heard in self.hearing.by_page.values())
-        if headers != self.headers:
-            self.headers, self.header = headers, segments.read_date() or self.header
-        is_silent = any(heard.silence.still for heard in self.hearing.by_page.values())
-        is_recorded = segments.is_recorded()
+        segments, queue, heard = self.segments, self.queue, [*self.hearing.by_page.values()]
+        headers = sum(page.headers for page in heard)
+        if headers and headers != self.headers:
+            self.headers, self.header = headers, segments.read_date() or time.time()
+        is_silent = self.stall.is_told or any(page.silence.still for page in heard)
+        self.take_alarms(is_silent)
+        came, waiting = segments.came(), [programme.name for programme in queue.waiting]
+        with contextlib.suppress(OSError):
+            self.free_bytes = shutil.disk_usage(self.folder).free
+        count, size = segments.size()
+        self.machine.tell(
+            {"sent": self.running and self.running.programme.name, "waiting": waiting,
+             "lines": self.lines()._asdict(), "alarms": [*self.alarms.on],
+             "recorder": segments.is_recorded()},
+            {"came": came, "header": self.header,
+             "silent_since": (self.header or came) if is_silent else None,
+             "behind_seconds": segments.behind(), "segments": count, "bytes": size,
+             "free_bytes": self.free_bytes,
+             "waiting_seconds": max(self.now - queue.since, 0) // SECOND if waiting else 0},
+            self.results.inputs)
+
+    free_bytes = 0  # of the disk of the feed
+
+    def take_alarms(self, is_silent: bool) -> None:
+        """Tells what is wrong now, and what is well again."""
         self.records.room.keep()
-        failed = [f"{name}: {why}" for name, why in self.results.failed.items()]
+        failed = [f"{what}: {why}" for what, why in self.results.failed.items()]
         if not self.records.room.is_there():
             failed.append(f"{self.folder}: there is no room for results")
-        self.alarms.take(SILENCE, f"nothing has come for {counted(stall.seconds, 'second')}"
-                         if stall.is_told else "nothing comes of the page" if is_silent else None)
-        self.alarms.take(DISK, failed[0] if failed else None)
-        self.alarms.take(RECORDER, None if is_recorded or not os.path.isdir(self.words.stl) else
-                         f"nobody records into {self.words.stl}")
-        if not self.is_losing:
-            self.alarms.take(LOSS, None)
-        came = segments.came()
-        feed = Feed(came, self.header if self.headers else None,
-                    (self.header if self.headers else came) if is_silent or stall.is_told else None,
-                    segments.behind(), *segments.size(), results.free_bytes(self.folder),
-                    is_recorded)
-        waiting = [one.programme.name for one in self.queue.waiting]
-        self.machine.tell(self.running.programme.name if self.running else None, waiting,
-                          max(self.now - self.queue.since, 0) // SECOND if waiting else 0,
-                          self.lines(), feed,
-                          [*self.alarms.on], self.results.inputs)
+        is_recorded = self.segments.is_recorded() or not os.path.isdir(self.words.stl)
+        for kind, line in (
+                (SILENCE, None if not is_silent else "nothing comes of the page"
+                 if not self.stall.is_told else
+                 f"nothing has come for {counted(self.stall.seconds, 'second')}"),
+                (DISK, failed[0] if failed else None), (LOSS, self.loss),
+                (RECORDER, None if is_recorded else f"nobody records into {self.words.stl}")):
+            self.alarms.take(kind, line)
 
     def show(self) -> None:
         """What is done, on a terminal."""
         if self.progress.is_due():
             waiting = self.queue.waiting
             what = f"{self.running.programme.name} is sent" if self.running else \
-                f"waiting for {waiting[0].programme.name if waiting else 'a programme'}"
+                f"waiting for {waiting[0].name if waiting else 'a programme'}"
             self.progress.show(f"{shown(what)}; {self.time_of_feed()} of the feed")
 
     def time_of_feed(self) -> str:
         """How long the feed has been heard."""
         return time_of(self.now // TICKS % FRAMES_OF_A_DAY)
+
+    def say_ended(self) -> None:
+        """The last line: how it ended, and what came of the list."""
+        if self.machine.state == machine.STOPPED:
+            self.say(f"stopped at {self.time_of_feed()} of the feed")
+            return
+        count = self.lines()
+        self.say(f"{self.machine.state}: {counted(count.judged, 'line')} judged, "
+                 f"{count.not_judged} not judged, {count.open} open")
+
+
+def time_of_lead(known: dict[str, Any]) -> str:
+    """When the fault came that the line of a result names, where that line names a PES packet."""
+    lead = (known.get("lead") or "").partition("\n")[0]
+    fault = next((fault for fault in known.get("faults", ()) if fault["line"] == lead), None)
+    time = fault and fault["frame"] is None and fault["pes_time"]
+    return f", at {time}" if time else ""
 
 
 # A call that judges a channel: where its files are, and how it ends.
@@ -541,7 +540,7 @@ def judge_channel(words: argparse.Namespace, called: str) -> int:
     """Judges the programmes of a channel until the feed has ended, or a signal ends it."""
     for command in (words.on_result, words.on_alarm):
         if command is not None:
-            results.refuse_command(command)
+            machine.refuse_command(command)
     single.heed_signals()
     inputs = Inputs(words.channel, words.stl, words.severity)
     if words.out is not None:
@@ -555,22 +554,20 @@ def judge_channel(words: argparse.Namespace, called: str) -> int:
             stack.enter_context(locking(words.out, "", "another call is judging into "))
         channel = Channel(words, called, folder)
         try:
-            reason = channel.hear(words.stl)
-            channel.stop(reason)
+            channel.stop(channel.hear(words.stl))
         except KeyboardInterrupt:
             single.ignore_signals()
-            channel.is_stopped, channel.machine.state = True, machine.STOPPED
+            channel.machine.state = machine.STOPPED
             channel.tell_machine()
-            channel.say(f"stopped at {channel.time_of_feed()} of the feed")
-        else:
-            channel.say_ended()
         finally:
             channel.hearing.close()
-    for name, why in channel.results.failed.items():
-        tell(f"{shown(name)}: its result was not written: {why}")
-    if not channel.verdicts and not channel.is_stopped:
+        channel.say_ended()
+    is_stopped, failed = channel.machine.state == machine.STOPPED, channel.results.failed
+    for what, why in failed.items():
+        tell(f"{shown(what)} was not written: {why}")
+    if not channel.verdicts and not is_stopped:
         tell(f"{words.channel} names no programme")
-    return of_all(channel.verdicts, channel.is_stopped or bool(channel.results.failed))
+    return of_all(channel.verdicts, is_stopped or bool(failed))
 
 
 def spool_of(words: argparse.Namespace) -> str | None:

@@ -11,11 +11,8 @@ import termios
 from typing import BinaryIO, Callable
 
 from ...common.command_line import Stop, counted
-from ...common.times import FRAMES_OF_A_DAY, frame_in
 from ...formats.teletext import Page
-from ...request.request import Request
-from ...stream.gaps import late_of, why_refused
-from ...stream.ranges import cut_of
+from ...stream.gaps import why_refused
 from ...stream.survey import Lines, Packets, Survey, survey_call
 
 
@@ -42,34 +39,6 @@ def waiting_in(pipe: BinaryIO) -> int:
     count = array.array("i", [0])
     fcntl.ioctl(pipe, termios.FIONREAD, count)
     return count[0]
-
-
-# When a programme has come as a whole: its last page transmission has, or can't any more.
-
-LAST = 10 ** 12 - 1  # stands for the number of a PES packet that is still to come
-
-
-class Ending:
-    """Follows a programme from its first TCI to its last TCO."""
-
-    def __init__(self, asked: Request, begin: int, end: int) -> None:
-        self.asked, self.begin, self.end = asked, begin, end
-
-    def is_over(self, survey: Survey, packets: Packets, is_still: bool = False) -> bool:
-        """Whether nothing more is needed; of one that stands still, whether the last has come."""
-        asked, origin = self.asked, self.asked.origin
-        if origin is None or asked.breaks:
-            return False
-        clock = survey.clock_of(packets.pid)
-        now = packets.runs[-1].last if packets.runs else None
-        frames = [frame_in(one, origin, asked.within)
-                  for one in (now, clock and clock[1] - late_of(packets)) if one is not None]
-        latest = max((one for one in frames if one < FRAMES_OF_A_DAY), default=-1)
-        if latest < self.end:
-            return False
-        cut = cut_of(packets, self.begin, self.end, origin, asked.every, asked.within, (0, LAST))
-        return cut.is_over or is_still and cut.has_end or \
-            latest > self.end + max(asked.every, asked.within)
 
 
 # Who hears a feed, and its silence.

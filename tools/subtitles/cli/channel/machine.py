@@ -1,18 +1,19 @@
-"""What a channel tells machines: the file channel.json, and a command where something is wrong."""
+"""What a channel tells machines: the file channel.json, and commands that a house has called."""
 from __future__ import annotations
 
 import contextlib
 import json
 import os
 import re
+import shutil
+import signal
+import subprocess
 import time
-from typing import Any, Callable, NamedTuple, Sequence
+from typing import Any, Callable, NamedTuple
 
-from ...common.command_line import Stop
+from ...common.command_line import Stop, counted, error_line
 from ...common.files import Inputs, first_bytes, kind_of, result_file
-from ...judging.status import ACCEPTED, WAIVED
 from ...request.commands import CHANNEL
-from ...results.objects import Row
 from ..single import now
 
 # The file is written whole each time: where something has changed once a second, else each ten.
@@ -21,11 +22,12 @@ CHANNEL_FORMAT = 2
 EACH = 10.0  # seconds after which it is written, whatever it says
 OWN = re.compile(rb'\{\s*"format": [0-9]+,\s*"date": "')
 RUNNING, ENDED, STOPPED, UNREADABLE = "running", "ended", "stopped", "unreadable"
+DATES = ("came", "header", "silent_since")
 
 
 class LineCounts(NamedTuple):
     """How many lines of the list have no result, have one that is a verdict, of these one that is
-    not accepted, and one that is not written."""
+    not accepted, have one that is none; and how many results are not written."""
 
     open: int
     judged: int
@@ -34,33 +36,8 @@ class LineCounts(NamedTuple):
     not_written: int
 
 
-def lines_of(open_lines: int, rows: Sequence[Row], not_written: int) -> LineCounts:
-    """The lines that are told."""
-    judged = [row for row in rows if row.is_judged]
-    refused = [row for row in judged if row.verdict not in (ACCEPTED, WAIVED)]
-    return LineCounts(open_lines, len(judged), len(refused), len(rows) - len(judged), not_written)
-
-
-class Feed(NamedTuple):
-    """What is known of a feed: dates in seconds of the epoch, `None` where there is none."""
-
-    came: float | None  # the last byte
-    header: float | None  # the last header of the page
-    silent_since: float | None
-    behind_seconds: int  # by which the judge is behind the recorder
-    segments: int
-    bytes: int
-    free_bytes: int
-    is_recorded: bool
-
-
-def date_of(seconds: float | None) -> str | None:
-    """A date, as all in JSON are."""
-    return None if seconds is None else time.strftime("%Y-%m-%dT%H:%M:%SZ", time.gmtime(seconds))
-
-
 class Machine:
-    """What is told. `error` is the last line about something that failed."""
+    """What is told: how the call goes on, and the last that was lost, judged, and that failed."""
 
     def __init__(self, out: str | None, restarts: int) -> None:
         self.path = out and os.path.join(out, f"{CHANNEL}.json")
@@ -83,31 +60,18 @@ class Machine:
                 raise Stop(f"{self.path} is there, and no channel wrote it: move it away, or give "
                            "another folder")
 
-    def judge(self, row: Row) -> None:
-        """A programme has its result."""
-        self.verdict = {"name": row.name, "verdict": row.verdict, "date": now()}
-
-    def lose(self) -> None:
-        """Something was lost."""
-        self.loss = now()
-
-    def tell(self, sent: str | None, waiting: Sequence[str], waiting_seconds: int,
-             lines: LineCounts, feed: Feed, alarms: Sequence[str], inputs: Inputs) -> None:
-        """Tells which programme is sent, which are waited for, since so many seconds, and what is
-        known of lines and feed."""
+    def tell(self, known: dict[str, Any], feed: dict[str, Any], inputs: Inputs) -> None:
+        """Tells what is known, and what is known of the feed, which changes all the time; dates are
+        seconds of the epoch, `None` where there is none."""
         if self.path is None:
             return
-        known = {"state": self.state, "sent": sent, "waiting": [*waiting],
-                 "lines": lines._asdict(), "alarms": [*alarms], "recorder": feed.is_recorded,
-                 "last_loss": self.loss, "last_verdict": self.verdict, "restarts": self.restarts,
-                 "last_error": self.error}
+        known = {"state": self.state, **known, "last_loss": self.loss, "restarts": self.restarts,
+                 "last_verdict": self.verdict, "last_error": self.error}
         if known == self.known and time.monotonic() < self.next:
             return
         self.known, self.next = known, time.monotonic() + EACH
-        more: dict[str, Any] = {**feed._asdict(), "waiting_seconds": waiting_seconds}
-        del more["is_recorded"]
-        more.update((name, date_of(more[name])) for name in ("came", "header", "silent_since"))
-        whole = {"format": CHANNEL_FORMAT, "date": now(), **known, **more}
+        dates = {name: feed[name] if feed[name] is None else now(feed[name]) for name in DATES}
+        whole = {"format": CHANNEL_FORMAT, "date": now(), **known, **feed, **dates}
         with contextlib.suppress(OSError, Stop):
             self.refuse(inputs)
             with result_file(self.path) as file:
@@ -133,3 +97,31 @@ class Alarms:
             self.call(kind, BEGINS, line)
         elif line is None and kind in self.on:
             self.call(kind, ENDS, self.on.pop(kind))
+
+
+# What a house has called after each result, and when something is wrong.
+
+HOOK_SECONDS = 10  # seconds that it may take
+
+
+def refuse_command(command: str) -> None:
+    """`Stop` where it can't be called."""
+    if shutil.which(command) is None:
+        raise Stop(f"{command} is no program that can be called")
+
+
+def failure_of(command: str, *words: str) -> str | None:
+    """Calls it with some words; why that failed. What it prints goes to standard error."""
+    try:
+        with subprocess.Popen([command, *words], stdin=subprocess.DEVNULL, stdout=2,
+                              start_new_session=True) as process:
+            try:
+                status = process.wait(HOOK_SECONDS)
+            except BaseException:
+                os.killpg(process.pid, signal.SIGKILL)
+                raise
+    except subprocess.TimeoutExpired:
+        return f"{command} did not end within {counted(HOOK_SECONDS, 'second')}"
+    except OSError as reason:
+        return error_line(reason)
+    return f"{command} ended with status {status}" if status else None

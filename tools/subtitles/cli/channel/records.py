@@ -9,6 +9,7 @@ import shutil
 from typing import Any, Iterator, NamedTuple, Sequence
 
 from ...common.files import BEGIN
+from ...judging.status import NOT_JUDGED
 from ...results.objects import ENDING, MOST_READ, Row, found_at, object_text, row_of_object
 from . import spool
 from .spool import RECORD, KeptRoom, WORK, are, is_number, numbers_in, opened, path_of, put_whole
@@ -20,7 +21,9 @@ from .spool import RECORD, KeptRoom, WORK, are, is_number, numbers_in, opened, p
 FORMAT = 2
 TOLD = b'{"told": %d, '
 TOLD_AT = TOLD.index(b"%")  # of the digit in the file
+MEMBERS = ("name", "out", "stl", "found", "over", "since", "due", "row", "size")
 MOST_OF_HEAD = 1 << 20  # bytes
+AGAIN, LONGEST = 1.0, 60.0  # seconds until something is tried again: the first time, and at most
 
 
 class Read(NamedTuple):
@@ -43,11 +46,52 @@ class Due(NamedTuple):
     moved: str = ""
 
 
+class Judged(NamedTuple):
+    """What a process that judges came to: a result, or without one why there is none; whether that
+    was for want of time."""
+
+    known: dict[str, Any] | None
+    why: str = ""
+    is_late: bool = False
+
+    @property
+    def reason(self) -> str:
+        """Why it is not judged, in a line."""
+        told = self.why if self.known is None else self.known["reason"] or ""
+        return str(told).partition("\n")[0]
+
+
+@dataclasses.dataclass
+class Tries:
+    """How often a programme was tried, when it is tried next, and what came of the last time."""
+
+    count: int = 0
+    next: float = 0.0
+    last: Judged | None = None
+
+    def take(self, judged: Judged, are_there: bool, now: float) -> str | None:
+        """Takes what one more try came to; why that is final, where it is, empty where it is by
+        itself. What is not judged is final the second time that the same is said, a limit of time
+        the second time, all else only once the segments are gone."""
+        before, self.last = self.last, judged
+        self.count += 1
+        self.next = now + min(LONGEST, AGAIN * 2 ** (self.count - 1))
+        if judged.known:
+            is_same = before is not None and before.known is not None and \
+                before.known["reason"] == judged.known["reason"]
+            is_judged = judged.known["verdict"] != NOT_JUDGED
+            return "" if is_judged or is_same or not are_there else None
+        if judged.is_late and before and before.is_late:
+            return f"{judged.why}, twice"
+        return None if are_there else judged.why
+
+
 @dataclasses.dataclass
 class Outcome:
     """A programme: its name in the folder `out` of results, its subtitle file as it was, when it
     was over, and since when the next one is waited for; and what is `due`, or the `row` of its
-    result. `is_told`: that is written, and somebody was told."""
+    result. `is_told`: that is written, and somebody was told. This call alone knows how often it
+    was tried, the `unkept` result that could not be written yet, and that one is written again."""
 
     number: int
     name: str
@@ -60,17 +104,18 @@ class Outcome:
     row: Row | None = None
     size: int = 0  # bytes of the JSON result
     is_told: bool = False
+    tries: Tries = dataclasses.field(default_factory=Tries, compare=False)
+    unkept: bytes | None = None
+    is_mended: bool = False
 
-    def is_of(self, stl: str | None) -> bool:
+    def is_of(self, stl: str) -> bool:
         """Whether it is that of a line with a subtitle file, which is as it was, and no call need
         look for it once more."""
         return not self.stl or stl == self.stl and self.found == found_at(stl)
 
     def head(self) -> bytes:
         """The first line."""
-        known = {"format": FORMAT, "name": self.name, "out": self.out, "stl": self.stl,
-                 "found": self.found, "over": self.over, "since": self.since, "due": self.due,
-                 "row": self.row, "size": self.size}
+        known = {"format": FORMAT, **{name: getattr(self, name) for name in MEMBERS}}
         return TOLD % self.is_told + json.dumps(known).encode()[1:] + b"\n"
 
 
@@ -79,25 +124,24 @@ def record_of(number: int, head: bytes) -> Outcome:
     known = json.loads(head)
     if not isinstance(known, dict) or known.get("format") != FORMAT:
         raise ValueError
-    row, due = known["row"], None
-    if known["due"]:
-        words, origin, pid, is_fitted, parts, moved = known["due"]
-        due = Due(words, origin, pid, bool(is_fitted), [Read(*part) for part in parts], str(moved))
-    one = Outcome(number, known["name"], known["out"], known["stl"], known["found"], known["over"],
-                 known["since"], due, row and Row(*row), known["size"], bool(known["told"]))
-    is_right = is_name(one.name) and are((one.out, one.stl), str, str) and \
-        all(map(is_number, (one.over, one.since, one.size))) and \
-        (one.due is None) != (one.row is None) and \
-        (one.found is None or are(one.found.values(), int, str))
-    if one.due:
-        is_right &= all(isinstance(word, str) for word in one.due.words) and is_number(
-            one.due.origin) and all(map(is_number, sum(one.due.parts, ())))
-    if one.row:
-        row = one.row._replace(seconds=float(one.row.seconds))
+    record = Outcome(number, *(known[name] for name in MEMBERS), is_told=bool(known["told"]))
+    is_right = is_name(record.name) and are((record.out, record.stl), str, str) and \
+        all(map(is_number, (record.over, record.since, record.size))) and \
+        (record.due is None) != (record.row is None) and \
+        (record.found is None or are(record.found.values(), int, str))
+    if record.due is not None:
+        words, origin, pid, is_fitted, parts, moved = record.due
+        record.due = Due(words, origin, pid, bool(is_fitted), [Read(*part) for part in parts],
+                         str(moved))
+        is_right &= are(words, *[str] * len(words)) and is_number(origin) and \
+            all(map(is_number, sum(record.due.parts, ())))
+    if record.row is not None:
+        record.row = Row(*record.row)
+        row = record.row._replace(seconds=float(record.row.seconds))
         is_right &= are(row, str, str, str, int, str, int, dict, list, float, str, str)
     if not is_right:
         raise ValueError
-    return one
+    return record
 
 
 def is_name(name: object) -> bool:
@@ -108,27 +152,26 @@ def is_name(name: object) -> bool:
 
 class Records:
     """The records in a folder, those of the folder `out` of results by their names; `said` is what
-    somebody has to hear of it. What can't be written is kept in `unkept` until it can be."""
+    somebody has to hear of it."""
 
     def __init__(self, folder: str, out: str) -> None:
         self.folder, self.out, self.room = folder, out, KeptRoom(folder)
         self.said: list[str] = []
-        self.unkept: dict[int, bytes] = {}  # results
-        self.all = {number: one for number in numbers_in(folder, RECORD)
-                    if (one := self.read(number))}
-        self.by_name = {one.name: one for one in self.all.values() if one.out == out}
+        self.all = {number: record for number in numbers_in(folder, RECORD)
+                    if (record := self.read(number))}
+        self.by_name = {record.name: record for record in self.all.values() if record.out == out}
         self.next = max([*numbers_in(folder, RECORD), *numbers_in(folder, WORK), 0]) + 1
         self.sweep()
         self.room.keep()
 
     def read(self, number: int) -> Outcome | None:
         """A record; `None` where it is damaged, and was set aside."""
+        path = path_of(self.folder, number, RECORD)
         try:
-            with open(opened(path_of(self.folder, number, RECORD), os.O_RDONLY), "rb") as file:
+            with open(opened(path, os.O_RDONLY), "rb") as file:
                 return record_of(number, file.readline(MOST_OF_HEAD))
         except (OSError, ValueError, TypeError, KeyError, AttributeError, RecursionError):
-            self.said.append(spool.set_aside(self.folder, os.path.basename(
-                path_of(self.folder, number, RECORD))))
+            self.said.append(spool.set_aside(self.folder, os.path.basename(path)))
             return None
 
     def sweep(self) -> None:
@@ -154,26 +197,23 @@ class Records:
 
     def over(self) -> int:
         """When the last programme was over, of whatever list."""
-        return max((one.over for one in self.all.values()), default=0)
+        return max((record.over for record in self.all.values()), default=0)
 
     def since(self) -> int:
         """Since when the next one is waited for."""
-        return max((one.since for one in self.all.values()), default=0)
+        return max((record.since for record in self.all.values()), default=0)
 
     def due(self) -> list[Outcome]:
-        """Those that have to be judged."""
-        return [one for one in self.by_name.values() if one.due]
+        """Those that have to be judged, the one first that waits longest."""
+        return sorted((record for record in self.by_name.values() if record.due),
+                      key=lambda record: record.tries.next)
 
-    def untold(self) -> list[Outcome]:
-        """Those whose results have not got their place."""
-        return [one for one in self.by_name.values() if one.row and not one.is_told]
-
-    def result(self, one: Outcome) -> Iterator[bytes]:
+    def result(self, record: Outcome) -> Iterator[bytes]:
         """The JSON result of a programme."""
-        if one.number in self.unkept:
-            yield self.unkept[one.number]
+        if record.unkept is not None:
+            yield record.unkept
             return
-        with open(opened(path_of(self.folder, one.number, RECORD), os.O_RDONLY), "rb") as file:
+        with open(opened(path_of(self.folder, record.number, RECORD), os.O_RDONLY), "rb") as file:
             file.readline(MOST_OF_HEAD)
             while data := file.read(1 << 20):
                 yield data
@@ -185,65 +225,55 @@ class Records:
         self.next += 1
         return Outcome(self.next - 1, name, self.out, stl, found_at(stl), over, since)
 
-    def put_due(self, one: Outcome, due: Due) -> None:
+    def put_due(self, record: Outcome, due: Due) -> None:
         """A programme has to be judged. Where that can't be written another call hears it anew."""
-        one.due, self.all[one.number], self.by_name[one.name] = due, one, one
+        record.due = due
+        self.all[record.number] = self.by_name[record.name] = record
         with contextlib.suppress(OSError):
-            self.room.put(lambda: self.write(one, []))
+            self.write(record)
 
-    def put(self, one: Outcome, known: dict[str, Any], folder: str | None = None) -> str | None:
-        """A programme has its result, before anybody is told; why it could not be kept. One of a
-        pair is as it stands in a folder."""
-        path = os.path.join(folder or self.work(one.number), one.name + ENDING)
-        made = object_text(known)
+    def put(self, record: Outcome, known: dict[str, Any], folder: str | None = None) -> None:
+        """A programme has its result, which `keep` writes; one of a pair is as it stands in a
+        folder."""
+        path = os.path.join(folder or self.work(record.number), record.name + ENDING)
+        record.unkept = object_text(known)
         if folder or "asked" in known:
             with contextlib.suppress(OSError), open(opened(path, os.O_RDONLY), "rb") as file:
-                made = file.read(MOST_READ)
-        one.row, one.due, one.is_told = row_of_object(known, one.name), None, not self.out
-        self.all[one.number] = self.by_name[one.name] = one
-        self.unkept[one.number], one.size = made, len(made)
-        return self.keep(one)
+                record.unkept = file.read(MOST_READ)
+        record.row, record.due = row_of_object(known, record.name), None
+        record.size, record.is_told = len(record.unkept), not self.out
+        self.all[record.number] = self.by_name[record.name] = record
 
-    def keep(self, one: Outcome) -> str | None:
-        """Writes a record whose result is there; why that could not be done."""
-        try:
-            self.room.put(lambda: self.write(one, [self.unkept[one.number]]))
-        except OSError as error:
-            return f"{error.filename}: {error.strerror}"
+    def keep(self, record: Outcome) -> None:
+        """Writes a record whose result is there."""
+        self.write(record, record.unkept or b"")
         with contextlib.suppress(OSError):
-            os.unlink(os.path.join(self.work(one.number), one.name + ENDING))
-        del self.unkept[one.number]
-        return None
+            os.unlink(os.path.join(self.work(record.number), record.name + ENDING))
+        record.unkept = None
 
-    def write(self, one: Outcome, result: Sequence[bytes]) -> None:
-        """Writes a record."""
-        name = os.path.basename(path_of(self.folder, one.number, RECORD))
-        put_whole(self.folder, name, [one.head(), *result])
+    def write(self, record: Outcome, result: bytes = b"") -> None:
+        """Writes a record, with its result."""
+        name = os.path.basename(path_of(self.folder, record.number, RECORD))
+        self.room.put(lambda: put_whole(self.folder, name, [record.head(), result]))
 
-    def tell(self, one: Outcome) -> None:
+    def tell(self, record: Outcome) -> None:
         """A result has its place, and somebody was told."""
-        one.is_told = True
+        record.is_told = True
         with contextlib.suppress(OSError):
-            handle = opened(path_of(self.folder, one.number, RECORD), os.O_WRONLY)
+            handle = opened(path_of(self.folder, record.number, RECORD), os.O_WRONLY)
             try:
                 os.pwrite(handle, b"1", TOLD_AT)
             finally:
                 os.close(handle)
-        self.clear(one.number)
-
-    def drop(self, one: Outcome) -> None:
-        """A record is of no use any more."""
-        self.clear(one.number)
-        with contextlib.suppress(OSError):
-            os.unlink(path_of(self.folder, one.number, RECORD))
-        del self.all[one.number]
-        if self.by_name.get(one.name) is one:
-            del self.by_name[one.name]
+        self.clear(record.number)
 
     def drop_old(self) -> None:
         """Those of other folders of results go, once somebody was told, but for the last one that
         was over: so what is heard once more is none of this list."""
-        last = max(self.all.values(), key=lambda one: one.over, default=None)
-        for one in [*self.all.values()]:
-            if one.out != self.out and one.is_told and one is not last:
-                self.drop(one)
+        last = max(self.all.values(), key=lambda record: record.over, default=None)
+        for number, record in [*self.all.items()]:
+            if record.out != self.out and record.is_told and record is not last:
+                self.clear(number)
+                with contextlib.suppress(OSError):
+                    os.unlink(path_of(self.folder, number, RECORD))
+                del self.all[number]

@@ -6,20 +6,22 @@ import collections
 import dataclasses
 import os
 import time
-from typing import Any, Callable, Iterable, NamedTuple, Sequence, Union
+from typing import Any, Callable, NamedTuple, Sequence, Union
 
 from ...common.command_line import Stop, Words, error_line
 from ...common.files import Line, folder_of, lines_in, list_at
-from ...common.times import FRAMES_OF_A_DAY, TICKS, time_of
+from ...common.times import FRAMES_OF_A_DAY, TICKS, frame_in, time_of
 from ...request.commands import NamesOfList
 from ...request.lines import read_options, refuse_settings
 from ...request.request import (
     CHANNEL_LINE, Request, add_options, pair_options, request_of)
 from ...results.objects import found_at
+from ...stream.gaps import late_of
+from ...stream.ranges import cut_of
+from ...stream.survey import Packets, Survey
 from ..batch import no_file
 from ..main import refuse_options
 from .feed import Awaited, Heard, Hearing, MINUTE, Timed
-from .listening import Ending
 from .records import Outcome, is_name
 from .spool import Journal, are, is_number
 
@@ -32,13 +34,43 @@ MISSING = 60.0  # seconds for which a list that is not there is waited for
 @dataclasses.dataclass(eq=False)
 class Programme:
     """A programme of the list, from the first reading that had it on; or, without what is asked of
-    it, why a line is none. `has_ended`: it has its result, or gets it now."""
+    it, why a line is none. `has_ended`: it has its result, or gets it now. What is `awaited` of it,
+    or why that is nothing now, is known once it is waited for."""
 
     name: str
     line: Line
     asked: Request | None
     reason: str | None
     has_ended: bool = False
+    awaited: Union[Awaited, Timed, None] = None
+    why_not: str | None = None
+
+    @property
+    def is_waited_for(self) -> bool:
+        return self.awaited is not None or self.why_not is not None
+
+    def wait(self, since: int, until: int) -> None:
+        """Reads its subtitle file, and waits for what has come from one time to another."""
+        self.awaited, self.why_not, asked = None, self.reason, self.asked
+        if asked is None:
+            return
+        try:
+            self.why_not = no_file(asked.stl)
+            if not self.why_not:
+                self.awaited = Awaited(asked.stl, asked.option, since, until, asked.within,
+                                       asked.between) if asked.origin is None else \
+                    Timed(asked.stl, asked.option, asked.origin, since, asked.between)
+        except (Stop, OSError) as reason:
+            self.why_not = error_line(reason)
+
+    def midnight(self, hearing: Hearing) -> int | None:
+        """The time of its midnight, once it is there."""
+        if self.asked is None or self.awaited is None:
+            return None
+        heard = hearing.of(self.asked)
+        if isinstance(self.awaited, Timed):
+            return self.awaited.midnight(heard.clock)
+        return self.awaited.midnight(heard.changes[self.asked.within > 0])
 
 
 class Edits(NamedTuple):
@@ -84,35 +116,33 @@ class Planned:
 
     A list that is being written is not taken at its word: what is more than lines at its end counts
     once it stood there at two looks. `said` is what is to be told of it; `gone` are programmes that
-    have left it and never had a result. `result` is that of a name. The list as it is known is kept
-    in a file, so that an edit is one whenever somebody looks.
+    have left it and never had a result. `known` gives the record of a name. The list as it is known
+    is kept in a file of the folder, so that an edit is one whenever somebody looks.
     """
 
-    def __init__(self, path: str, defaults: argparse.Namespace, folder: str | None = None,
+    def __init__(self, path: str, defaults: argparse.Namespace, folder: str = os.devnull,
                  out: str = "",
                  known: Callable[[str, str], Outcome | None] = lambda name, stl: None) -> None:
         self.path, self.defaults, self.known = path, defaults, known
-        self.kept = Journal(folder, "list", is_entry) if folder else None
+        self.journal = Journal(folder, "list", is_entry)
         self.programmes: list[Programme] = []
         self.gone: list[Programme] = []
         self.said: list[str] = []
         self.names = NamesOfList()
         self.taken: str | None = None  # the text that is known
         self.seen: str | None = None  # that of the last look
-        self.first: str | None = None  # that of the first one
         self.missing: float | None = None  # since when the file is not there
         self.is_missed = False  # for so long that it was said
         self.day = [os.path.abspath(path), out]  # whose results a record is of
         self.since: int | None = None  # since when there is a line without a result
         self.next_file = 0  # the programme whose subtitle file is looked at next
-        self.told_files = set[tuple[str, str]]()
-        self.take_kept(self.kept.entries() if self.kept else [])
-        self.was_known = bool(self.programmes)
+        self.other_files = set[tuple[str, str]]()  # those that were said
+        self.take_kept(self.journal.entries())
+        self.is_known = bool(self.programmes)
 
     def take_kept(self, entries: list[list[Any]]) -> None:
         """Takes the list as an earlier call knew it, unless that was another day's."""
-        if self.kept:
-            self.said += self.kept.said
+        self.said += self.journal.said
         if entries and len(entries[0]) == 3:
             *day, since = entries.pop(0)
             if day != self.day:
@@ -125,15 +155,13 @@ class Planned:
             line = Line(number, tuple(words), fault)
             has_ended = self.known(self.names.take(name), "") is not None
             asked, reason = (None, None) if has_ended else self.read_line(line)
-            one = Programme(name, line, asked, reason, has_ended)
-            if not is_gone:
-                self.programmes.append(one)
-            elif not one.has_ended:
-                self.gone.append(one)
+            if not is_gone or not has_ended:
+                (self.gone if is_gone else self.programmes).append(
+                    Programme(name, line, asked, reason, has_ended))
 
     def open(self) -> list[Programme]:
         """Those that have no result."""
-        return [one for one in self.programmes if not one.has_ended]
+        return [programme for programme in self.programmes if not programme.has_ended]
 
     def look(self, is_whole: bool = False) -> bool:
         """Looks into the list; whether there is something else in it. `is_whole`: nobody writes to
@@ -142,7 +170,6 @@ class Planned:
         if text is None:
             return False
         is_same, self.seen = text == self.seen, text
-        self.first = text if self.first is None else self.first
         if not is_same and not is_whole:
             text = text[:text.rfind("\n") + 1]  # the last line may be half of one
             if self.taken is not None and not text.startswith(self.taken):
@@ -150,18 +177,16 @@ class Planned:
         if text == self.taken:
             self.look_at_file()
             return False
-        is_first = not self.was_known and (self.taken is None or text == self.first)
         self.taken = text
-        self.take(edits_of(self.programmes, lines_in(text)), is_first)
+        self.take(edits_of(self.programmes, lines_in(text)))
         self.keep()
         return True
 
     def keep(self) -> None:
         """Keeps the list as it is known, with those that are gone and have no result yet."""
-        if self.kept:
-            self.kept.replace([(*self.day, self.since)] + [
-                (one.name, is_gone, *one.line) for is_gone, several in (
-                    (True, self.gone), (False, self.programmes)) for one in several])
+        self.journal.replace([(*self.day, self.since)] + [
+            (one.name, is_gone, *one.line) for is_gone, several in (
+                (True, self.gone), (False, self.programmes)) for one in several])
 
     def wait_since(self, since: int | None) -> None:
         """Keeps since when a line has no result."""
@@ -175,28 +200,27 @@ class Planned:
         if not self.programmes:
             return
         self.next_file = (self.next_file + 1) % len(self.programmes)
-        one = self.programmes[self.next_file]
-        record = self.known(one.name, "") if one.has_ended else None
-        if record is None or not record.stl or record.found is None:
-            return
-        found = found_at(record.stl)
-        if found not in (None, record.found) and (one.name, str(found)) not in self.told_files:
-            self.told_files.add((one.name, str(found)))
-            self.said.append(f"{one.name}: {record.stl} is another file than the one that has its "
-                             "result, and is not judged: give it a line of its own, or each day a "
-                             "LIST and a DIR")
+        programme = self.programmes[self.next_file]
+        record = self.known(programme.name, "") if programme.has_ended else None
+        about = found_at(record.stl) if record and record.found else None
+        other = programme.name, str(about)
+        if record and about not in (None, record.found) and other not in self.other_files:
+            self.other_files.add(other)
+            self.said.append(f"{programme.name}: {record.stl} is another file than the one that "
+                             "has its result, and is not judged: give it a line of its own, or "
+                             "each day a LIST and a DIR")
 
     def files(self) -> list[str]:
         """The files that lines name."""
-        return [name for one in self.programmes if one.asked
-                for name in (one.asked.stl, one.asked.severity) if name]
+        return [name for programme in self.programmes if (asked := programme.asked)
+                for name in (asked.stl, asked.severity) if name]
 
     def read(self) -> str | None:
         """The text of the list; `None` as long as it is not there."""
         try:
             text = list_at(self.path)
         except (Stop, OSError) as error:
-            if self.taken is None and not self.was_known:
+            if not self.is_known:
                 raise
             self.missing = time.monotonic() if self.missing is None else self.missing
             if not self.is_missed and time.monotonic() - self.missing >= MISSING:
@@ -209,49 +233,49 @@ class Planned:
         self.missing, self.is_missed = None, False
         return text
 
-    def take(self, edits: Edits, is_first: bool) -> None:
-        """Takes what became of the list."""
-        rows = [(one or self.programme(line), line, one is None) for one, line in edits.rows]
-        before = [one for one, _, is_new in rows if not is_new]
-        gone, changed = set(edits.gone), set(edits.changed)
-        kept = [one for one in self.programmes if one not in gone]
-        for one, line, is_new in rows:
-            if one in changed and not one.has_ended:
-                one.asked, one.reason = self.read_line(line)
-            one.line = line
-        self.programmes = [one for one, _, _ in rows]
-        lost = [one for one in edits.gone if not one.has_ended]
-        self.gone += lost
-        if is_first:
-            return
-        told = {"new": [one for one, _, is_new in rows if is_new], "changed": edits.changed,
-                "gone": edits.gone}
-        said = [f"{word}: {', '.join(one.name for one in several)}"
+    def take(self, edits: Edits) -> None:
+        """Takes what became of the list; the first time there is nothing to say of it."""
+        programmes, new, gone = list[Programme](), list[Programme](), {*edits.gone}
+        for programme, line in edits.rows:
+            if programme is None:
+                programme = self.programme(line)
+                new.append(programme)
+            elif programme.line.words != line.words and not programme.has_ended:
+                programme.asked, programme.reason = self.read_line(line)
+                programme.awaited = programme.why_not = None
+            programme.line = line
+            programmes.append(programme)
+        is_in_order = [programme for programme, _ in edits.rows if programme] == [
+            programme for programme in self.programmes if programme not in gone]
+        self.programmes = programmes
+        self.gone += [programme for programme in edits.gone if not programme.has_ended]
+        told = {"new": new, "changed": edits.changed, "gone": edits.gone}
+        said = [f"{word}: {', '.join(programme.name for programme in several)}"
                 for word, several in told.items() if several]
-        said += ["in another order"] if before != kept else []
-        self.said += [f"{self.path}: {'; '.join(said)}"] if said else []
+        said += [] if is_in_order else ["in another order"]
+        if said and self.is_known:
+            self.said.append(f"{self.path}: {'; '.join(said)}")
+        self.is_known = True
 
     def programme(self, line: Line) -> Programme:
         """The programme of a line that is new. A result that is there is its own, or takes the
         name."""
         asked, reason = self.read_line(line)
+        stl = asked.stl if asked else ""
         while True:
-            name = self.names.pair(asked.stl) if asked else self.names.line(line.number)
-            record = self.known(name, asked.stl if asked else "")
-            if record is None:
-                return Programme(name, line, asked, reason)
-            if record.is_of(asked.stl if asked else None):
-                return Programme(name, line, asked, reason, True)
+            name = self.names.pair(stl) if asked else self.names.line(line.number)
+            record = self.known(name, stl)
+            if record is None or record.is_of(stl):
+                return Programme(name, line, asked, reason, record is not None)
 
     def read_line(self, line: Line) -> tuple[Request | None, str | None]:
         """What a line asks, or why that is nothing."""
-        fault = line.fault
         try:
-            if not fault:
-                return self.asked_of([*line.words]), None
+            if line.fault:
+                raise Stop(line.fault)
+            return self.asked_of([*line.words]), None
         except (Stop, ValueError) as reason:
-            fault = str(reason)
-        return None, f"{self.path}, line {line.number}: {fault}"
+            return None, f"{self.path}, line {line.number}: {reason}"
 
     def asked_of(self, line: list[str]) -> Request:
         """What the words of a line ask."""
@@ -290,53 +314,6 @@ AT_ONCE = 4  # programmes that are looked for at the same time
 LOOK = 1.0  # seconds between two looks into the list
 
 
-class Arrival(NamedTuple):
-    """A programme that is there: how many stand before it, and the time of its midnight."""
-
-    place: int
-    midnight: int
-
-
-class Waiting:
-    """A programme that is waited for; `reason` is why that can't be done now."""
-
-    def __init__(self, programme: Programme) -> None:
-        self.programme = programme
-        self.line = programme.line.words
-        self.awaited: Union[Awaited, Timed, None] = None
-        self.reason = programme.reason
-
-    @property
-    def asked(self) -> Request:
-        """What is asked of it, where it is a programme."""
-        assert self.programme.asked
-        return self.programme.asked
-
-    def begin(self, since: int, until: int) -> None:
-        """Reads its subtitle file, and waits for what has come from one time to another."""
-        asked = self.programme.asked
-        if asked is None:
-            return
-        self.awaited, self.reason = None, no_file(asked.stl)
-        if self.reason:
-            return
-        try:
-            self.awaited = Awaited(asked.stl, asked.option, since, until, asked.within,
-                                   asked.between) if asked.origin is None else \
-                Timed(asked.stl, asked.option, asked.origin, since, asked.between)
-        except (Stop, OSError) as reason:
-            self.reason = error_line(reason)
-
-    def midnight(self, hearing: Hearing) -> int | None:
-        """The time of its midnight, once it is there."""
-        if self.awaited is None:
-            return None
-        heard = hearing.of(self.asked)
-        if isinstance(self.awaited, Timed):
-            return self.awaited.midnight(heard.clock)
-        return self.awaited.midnight(heard.changes[self.asked.within > 0])
-
-
 class Queue:
     """The programmes that are waited for, and those of the list behind them.
 
@@ -346,12 +323,12 @@ class Queue:
 
     def __init__(self, planned: Planned, patience: int, ended: int = 0, since: int = 0) -> None:
         self.planned, self.patience = planned, patience
-        self.waiting: list[Waiting] = []
+        self.waiting: list[Programme] = []
         self.ended = ended
         self.since = max(ended, since, planned.since or 0)
         self.latest = 0
         self.next_look = 0.0
-        self.is_whole = False  # the list
+        self.is_whole = False  # the list: nothing more comes to it
 
     @property
     def until(self) -> int:
@@ -361,59 +338,47 @@ class Queue:
     def fill(self, now: int) -> bool:
         """Looks into the list each second, and waits for as many as can be waited for; whether
         there is something else in it. Where there was nothing to wait for, patience begins now."""
-        is_new = False
+        planned, is_new = self.planned, False
         if time.monotonic() >= self.next_look:
-            is_new = self.planned.look(self.is_whole)
+            is_new = planned.look(self.is_whole)
             self.next_look = time.monotonic() + LOOK
-        first = self.planned.open()[:AT_ONCE]
-        if first and self.planned.since is None:
+        before, self.waiting = self.waiting, planned.open()[:AT_ONCE]
+        if self.waiting and planned.since is None:
             self.since = max(self.since, now, self.latest)
-        self.planned.wait_since(self.since if first else None)
-        self.take(first)
+        planned.wait_since(self.since if self.waiting else None)
+        for one in self.waiting:
+            if one not in before or not one.is_waited_for:
+                one.wait(self.ended, self.until)
         return is_new
 
-    def take(self, programmes: Iterable[Programme]) -> None:
-        """Waits for these; for one for which it does already, as long as its line is the same."""
-        known = {one.programme: one for one in self.waiting}
-        self.waiting = []
-        for programme in programmes:
-            one = known.get(programme)
-            if one is None or one.line != programme.line.words:
-                one = Waiting(programme)
-                one.begin(self.ended, self.until)
-            self.waiting.append(one)
-
-    def end(self) -> None:
-        """Takes that nothing more comes to the list, and looks into it at once."""
-        self.is_whole, self.next_look = True, 0.0
-
-    def seen(self, hearing: Hearing) -> Arrival | None:
-        """The first of them that is there."""
+    def seen(self, hearing: Hearing) -> tuple[int, int] | None:
+        """Of the first of them that is there how many stand before it, and the time of its
+        midnight."""
         for place, one in enumerate(self.waiting):
             midnight = one.midnight(hearing)
             if midnight is not None:
-                return Arrival(place, midnight)
+                return place, midnight
         return None
 
-    def leave(self) -> Waiting:
+    def leave(self) -> Programme:
         """Takes the first one away, for which nothing is waited any more."""
-        one = self.waiting.pop(0)
-        one.programme.has_ended = True
-        return one
+        programme = self.waiting.pop(0)
+        programme.has_ended = True
+        return programme
 
-    def wait_anew(self, since: int, ended: int | None = None) -> None:
+    def wait_anew(self, since: int, ended: int = 0) -> None:
         """The first one is another one than before, and is waited for since a time; its subtitle
         file may have come meanwhile. What an earlier call has judged may be heard once more, and is
         over all the same: `ended` never goes back."""
-        self.since = since
-        self.ended = max(self.ended, self.ended if ended is None else ended)
+        self.since, self.ended = since, max(self.ended, ended)
         for one in self.waiting:
-            one.begin(self.ended, self.until)
+            one.wait(self.ended, self.until)
 
 
 # A programme of a channel that is sent, and what came of it.
 
 LATER = MARGIN = 2 * MINUTE  # after a last TCO; before a first TCI what is sent may be of it
+LAST = 10 ** 12 - 1  # stands for the number of a PES packet that is still to come
 ENDED = "the feed ended"
 LOST = "something of the feed was not recorded"
 
@@ -428,7 +393,6 @@ class OnAir:
     midnight: int
     first: int
     last: int
-    ending: Ending
 
     @property
     def begin(self) -> int:
@@ -450,15 +414,27 @@ class OnAir:
         """Up to when what is sent may be of it."""
         return self.end + LATER + TICKS * self.asked.every
 
-    @property
-    def is_fitted(self) -> bool:
-        """Whether its clock was found in the feed."""
-        return bool(self.programme.asked and self.programme.asked.origin is None)
-
     def has_come(self, heard: Heard, now: int, is_still: bool) -> bool:
         """Whether all has come of it, and nothing more of it can."""
         return now >= self.end and (
-            now > self.end + LATER or self.ending.is_over(heard, heard.packets, is_still))
+            now > self.end + LATER or self.is_over(heard, heard.packets, is_still))
+
+    def is_over(self, survey: Survey, packets: Packets, is_still: bool) -> bool:
+        """Whether its last page transmission has come, or can't any more; of one that stands still,
+        whether the last that has come may be it."""
+        asked, origin = self.asked, self.asked.origin
+        if origin is None or asked.breaks:
+            return False
+        clock = survey.clock_of(packets.pid)
+        now = packets.runs[-1].last if packets.runs else None
+        frames = [frame_in(pts, origin, asked.within)
+                  for pts in (now, clock and clock[1] - late_of(packets)) if pts is not None]
+        latest = max((frame for frame in frames if frame < FRAMES_OF_A_DAY), default=-1)
+        if latest < self.last:
+            return False
+        cut = cut_of(packets, self.first, self.last, origin, asked.every, asked.within, (0, LAST))
+        return cut.is_over or is_still and cut.has_end or \
+            latest > self.last + max(asked.every, asked.within)
 
     def missing(self, start: int, now: int, why: str) -> str | None:
         """Why it is not judged, where it did not come whole: the feed was heard from one time to
