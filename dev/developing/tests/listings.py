@@ -10,7 +10,7 @@ from unittest import mock
 
 from subtitles.cli import single
 from subtitles.cli.channel.channel import Channel
-from subtitles.cli.channel.feed import Heard, Hearing
+from subtitles.cli.channel.hearing import Heard, Hearing
 from subtitles.cli.channel.recorder import Begin
 from subtitles.cli.channel.records import Judged, Outcome, Read
 from subtitles.cli.channel.results import PASSING
@@ -91,12 +91,9 @@ class Judging:
 class Pages(Hearing):
     """Pages that are heard without a process."""
 
-    def hear(self, page: Page, heard: Heard) -> None:
-        self.by_page[page] = heard
-        self.calls.append(mock.MagicMock(room=1, has_ended=True))
-
-    def hand(self, call: object, data: bytes) -> Iterator[None]:
-        yield from ()
+    def hear(self, heard: Heard) -> None:
+        self.by_page[heard.page] = heard
+        self.calls.append(mock.MagicMock())
 
 
 class Told(Channel):

@@ -9,7 +9,8 @@ from typing import Iterable
 
 from developing.pes import MARK, packet, pes_packet
 from developing.stl import gsi_block
-from subtitles.cli.channel.feed import ANEW, BACK, GAP, Heard, Hearing, MINUTE, clock_times, jump_of
+from subtitles.cli.channel.feed import ANEW, BACK, GAP, MINUTE, clock_times, jump_of
+from subtitles.cli.channel.hearing import Heard, Hearing
 from subtitles.common.command_line import Stop
 from subtitles.common.times import CLOCK, TICKS
 from subtitles.request.request import Unclear

@@ -8,7 +8,8 @@ from typing import Any
 from unittest import mock
 
 from subtitles.cli.channel.channel import BEFORE_IT
-from subtitles.cli.channel.feed import Awaited, MINUTE, Move
+from subtitles.cli.channel.feed import Awaited, MINUTE
+from subtitles.cli.channel.hearing import Move
 from subtitles.cli.channel.spool import ERROR
 from subtitles.cli.channel.schedule import AT_ONCE, LATER
 from subtitles.clock.start import FITTED_SHORT

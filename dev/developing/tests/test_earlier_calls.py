@@ -13,7 +13,7 @@ from unittest import mock
 
 from subtitles.cli import batch
 from subtitles.cli.batch import Item, Watch, refuse_folders
-from subtitles.cli.channel.listening import Stall
+from subtitles.cli.channel.feed import Stall
 from subtitles.cli.single import claimed
 from subtitles.common.command_line import Stop
 from subtitles.common.program import MadeWith, about_program

@@ -24,8 +24,8 @@ from ...results.objects import ENDING, in_order, row_of_object, rows_in, unjudge
 from .. import collection, single
 from ..single import locking, now, refuse_files_of_all
 from . import machine, records
-from .feed import Hearing, MINUTE, SECOND
-from .listening import Stall
+from .feed import MINUTE, SECOND, Stall
+from .hearing import Hearing
 from .machine import Alarms, DISK, LOSS, LineCounts, Machine, RECORDER, SILENCE
 from .records import Due, Judged, Outcome
 from .recorder import Begin, Recorded, Segments, say_dated

@@ -21,7 +21,8 @@ from ...stream.ranges import cut_of
 from ...stream.survey import Packets, Survey
 from ..batch import no_file
 from ..main import refuse_options
-from .feed import Awaited, Heard, Hearing, MINUTE, Timed
+from .feed import Awaited, MINUTE, Timed
+from .hearing import Heard, Hearing
 from .records import Outcome, is_name
 from .spool import Journal, are, is_number
 
