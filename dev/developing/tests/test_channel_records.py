@@ -247,8 +247,10 @@ class Kept(Programmes):
         spool = self.path("spool")
         os.mkdir(spool)
         records = Records(spool, "/out")
-        for name, known in (("one", unjudged("one", "why")), ("two", unjudged("two", "why"))):
-            records.put(records.new(name, "", 5, 6), known)
+        for name in ("one", "two"):
+            record = records.new(name, "", 5, 6)
+            records.put(record, unjudged(name, "why"))
+            records.keep(record)
         due = records.new("three", "", 7, 8)
         records.put_due(due, Due(["three.stl"], 5, None, True, [Read(1, 2)]))
         again = Records(spool, "/out")
