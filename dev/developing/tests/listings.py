@@ -2,18 +2,18 @@
 from __future__ import annotations
 
 import argparse
+import dataclasses
 import os
 import shutil
 import tempfile
-from typing import Any, Callable, Iterable, Iterator
+from typing import Any, Iterable, Iterator
 from unittest import mock
 
-from subtitles.cli import single
 from subtitles.cli.channel.channel import Channel
 from subtitles.cli.channel.hearing import Heard, Hearing
 from subtitles.cli.channel.recorder import Begin
-from subtitles.cli.channel.records import Judged, Outcome, Read
-from subtitles.cli.channel.results import PASSING
+from subtitles.cli.channel.records import Due, Judged, Outcome, Read
+from subtitles.cli.channel.results import PASSING, Results
 from subtitles.common.times import CLOCK, FRAMES_A_SECOND, TICKS
 from subtitles.formats.teletext import Page
 from subtitles.results.objects import found_at, left_by_call, put_object
@@ -111,7 +111,7 @@ class Told(Channel):
         self.said: list[str] = []
         self.back = back
         super().__init__(words, "tools/qc", spool or tempfile.mkdtemp(dir=case.folder))
-        self.results.judge = self.judge_beside  # type: ignore[assignment]
+        self.results.judged = self.judge_beside  # type: ignore[method-assign]
         self.go_on()
         self.hearing.turn_to([self.words.page])
 
@@ -123,16 +123,16 @@ class Told(Channel):
         self.segments.between = lambda *times: [Read(1, 0)]  # type: ignore[assignment]
         self.segments.known = -2
 
-    def judge_beside(self, one: Outcome, call: Callable[[str], int]) -> Judged:
+    def judge_beside(self, record: Outcome, due: Due) -> Judged:
         """Stands for another process that judges."""
-        folder = self.records.work(one.number)
+        folder = self.records.work(record.number)
         shutil.rmtree(folder, ignore_errors=True)
         os.mkdir(folder)
-        with mock.patch.object(single, "judged") as judge, mock.patch.object(tempfile, "tempdir"):
-            judge.return_value.status = 0
-            call(os.path.join(folder, "recording"))
-        asked, called, _ = judge.call_args.args
-        known = Judging(argparse.Namespace(**vars(asked), **called._asdict())).leave(folder)
+        asked = dataclasses.replace(self.results.asked_of([*due.words]), origin=due.origin,
+                                    pid=due.pid)
+        call = self.results.call_of(record, due, os.path.join(folder, "recording"))
+        known = Judging(argparse.Namespace(**{**vars(asked), "recording": "-"},
+                                           **call._asdict())).leave(folder)
         return Judged(None, Judging.why) if Judging.ended == PASSING else Judged(known)
 
     def say(self, line: str) -> None:
@@ -151,6 +151,12 @@ class Told(Channel):
         for _ in range(2):
             self.queue.next_look = 0.0
             self.go_on()
+
+
+def results_in(case: Case, folder: str, out: str) -> Results:
+    """The results of a channel that has said nothing yet."""
+    words = argparse.Namespace(out=out, on_result=None)
+    return Results(words, "tools/qc", folder, lambda line: None, case.fail)
 
 
 def files_of(case: Case, *names: str) -> dict[str, str]:

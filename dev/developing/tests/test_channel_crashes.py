@@ -89,8 +89,8 @@ class Crashes(Programmes):
         lines = Lines()
         for name, begin in STARTS.items():
             channel.give(lines.sent(texts_of(name.partition("~")[0]), begin, 20))
-        channel.judge_due()
-        channel.publish()
+        channel.results.judge_due()
+        channel.results.publish()
 
     def results(self, out: str) -> dict[str, bytes]:
         """The results that are there."""

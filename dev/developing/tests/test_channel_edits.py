@@ -48,7 +48,7 @@ class Edits(Programmes):
                 known = result(asked=ASKED.made(asked), found=found(asked))
                 self.write(f"out/{name}.json", json.dumps(known).encode())
             channel = Told(self, self.listed(*names).rstrip(), self.path("out"))
-            self.must(f"{kept}", channel.verdicts == ["refused"] * kept and channel.said ==
+            self.must(f"{kept}", channel.results.verdicts == ["refused"] * kept and channel.said ==
                       [f"{kept} programme{'s' * (kept > 1)} of an earlier call kept"] * (kept > 0),
                       channel.said)
             self.must(f"{kept}: next", [one.name for one in channel.queue.waiting] ==
@@ -57,7 +57,7 @@ class Edits(Programmes):
         channel = Told(self, self.listed("one", "two"), self.path("out"))
         self.must("open", [one.name for one in channel.queue.waiting] == ["one"],
                   channel.said)
-        self.must("rows", set(channel.rows) == {*names}, channel.rows)
+        self.must("rows", set(channel.results.rows) == {*names}, channel.results.rows)
 
     def test_lines_that_are_none(self) -> None:
         """Each is told when its turn has come, and not what stands before it."""

@@ -13,7 +13,7 @@ from unittest import mock
 from subtitles.cli.channel import machine, records
 from subtitles.cli.channel.channel import BEFORE_IT
 from subtitles.cli.channel.records import Due, Judged, Read, Records, Tries
-from subtitles.cli.channel.results import PASSING, Results
+from subtitles.cli.channel.results import PASSING
 from subtitles.cli.channel.spool import MARK, path_of
 from subtitles.common.files import Inputs
 from subtitles.common.command_line import Stop
@@ -22,7 +22,8 @@ from subtitles.results.objects import found, unjudged
 from subtitles.results.schema import ASKED, FORMAT
 from .bench import Case, example
 from .channels import Running, family_of, until
-from .listings import BEGIN, LAST, SECOND, Judging, Lines, Programmes, Told, texts_of
+from .listings import (
+    BEGIN, LAST, SECOND, Judging, Lines, Programmes, Told, results_in, texts_of)
 from .parts import asked_for
 from .results import result
 
@@ -59,7 +60,7 @@ class Again(Programmes):
 
     def let_down(self, channel: Told) -> None:
         """What has to be judged is there."""
-        channel.results.are_there = lambda one: True  # type: ignore[assignment]
+        channel.results.are_there = lambda due: True  # type: ignore[assignment]
 
     def test_tried_again(self) -> None:
         """It is said once, is open meanwhile, lets others pass, and gets its verdict; also in
@@ -72,15 +73,15 @@ class Again(Programmes):
             channel.give(lines.sent(texts_of("one"), BEGIN, 20))
             for _ in range(3):
                 channel.records.due()[0].tries.next = 0.0
-                channel.judge_due()
+                channel.results.judge_due()
         said = "one: it was not judged, and is tried again: the machine failed"
         self.must("said", channel.said == [said] and not os.listdir(out), channel.said)
         self.must("counts", channel.lines().open == 2, channel.lines())
         channel.give(lines.sent(texts_of("two"), BEGIN + 60 * SECOND, 20))
-        self.must("two", self.names()[-1] == "two" and channel.verdicts == ["accepted"])
+        self.must("two", self.names()[-1] == "two" and channel.results.verdicts == ["accepted"])
         again = Told(self, self.listed("one", "two", "three"), out, spool=spool)
-        again.judge_due()
-        self.must("one", self.names() == ["one"] and again.verdicts == ["accepted", "accepted"]
+        again.results.judge_due()
+        self.must("one", self.names() == ["one"] and again.results.verdicts == ["accepted", "accepted"]
                   and Judging.made[0].words.origin is not None, again.said)
         self.must("its time", again.queue.ended == 60 * SECOND + TICKS_OF_ALL, again.queue.ended)
 
@@ -90,14 +91,14 @@ class Again(Programmes):
             out = self.path(f"out{turn}")
             channel = Told(self, self.listed("one"), out)
             self.let_down(channel)
-            real, count = channel.results.judge, [0]
+            real, count = channel.results.judged, [0]
 
             def judge(*words: Any) -> Judged:
                 count[0] += 1
                 with mock.patch.object(Judging, "ended", 0 if count[0] == turn else PASSING):
                     return real(*words)
 
-            with mock.patch.object(channel.results, "judge", judge), \
+            with mock.patch.object(channel.results, "judged", judge), \
                     mock.patch.object(records, "AGAIN", 0.01):
                 channel.give(Lines().sent(texts_of("one"), BEGIN, 20))
                 channel.stop(BEFORE_IT)
@@ -116,7 +117,7 @@ class Again(Programmes):
                       channel.results.needed(1 << 60) is None)
             os.unlink(path_of(channel.folder, 1))
             channel.records.due()[0].tries.next = 0.0
-            channel.judge_due()
+            channel.results.judge_due()
         self.must("said", channel.said[-1] == "one  not judged: the machine failed", channel.said)
 
 
@@ -160,7 +161,7 @@ class Kept(Programmes):
         for out, names in (("tuesday", ["one", "three"]), ("wednesday", ["one"])):
             other = Told(self, self.listed(*names), self.path(out), spool=spool)
             self.must(f"{out}: all are open", [one.name for one in other.queue.waiting]
-                      == names and not other.verdicts and len(other.said) == 1 and
+                      == names and not other.results.verdicts and len(other.said) == 1 and
                       "begins anew: the list before was " in other.said[0], other.said)
             self.must(f"{out}: nothing is told", not os.path.exists(self.path(f"{out}/two.json")))
             self.must(f"{out}: what was over", other.queue.ended == first.queue.ended)
@@ -202,11 +203,12 @@ class Kept(Programmes):
             os.mkdir(self.path("out"))
             if known is not None:
                 self.write("out/a.json", json.dumps(known).encode())
-            made = Results(self.new_folder(name), self.path("out"), lambda *_: None, self.fail)
+            made = results_in(self, self.new_folder(name), self.path("out"))
             record = made.adopt("a", stl)
             self.must(name, (record and record.is_of(line)) == is_one, record)
             if record:
-                self.must(f"{name} stays", made.mend() == [] and json.loads(self.read(
+                made.begin([])
+                self.must(f"{name} stays", not record.is_mended and json.loads(self.read(
                     "out/a.json")) == known)
 
     def new_folder(self, name: str) -> str:

@@ -46,8 +46,8 @@ class Steps(Programmes):
                     (words.here is None) == (out is None) == (words.json is not None), words)
                 self.must("said", channel.said == [f"one  accepted 5 frames; {FITTED_SHORT}"],
                           channel.said)
-                self.must("over", channel.running is None and channel.verdicts == ["accepted"]
-                          and list(channel.rows) == ["one"] and
+                self.must("over", channel.running is None and channel.results.verdicts == ["accepted"]
+                          and list(channel.results.rows) == ["one"] and
                           os.path.exists(self.path("out/index.html")) == (out is not None))
                 self.must("waits since then", channel.queue.since == channel.queue.ended ==
                           TICKS * LAST, channel.queue.since)
@@ -84,8 +84,8 @@ class Steps(Programmes):
                   ["one", "two", "three", "four", "five"], channel.said)
         self.must("why", channel.said[1].endswith(
             "not judged: not seen: three, which is behind it in the list, is sent"), channel.said)
-        self.must("verdicts", channel.verdicts == ["accepted", "not judged", "accepted",
-                                                   "not judged", "accepted"], channel.verdicts)
+        self.must("verdicts", channel.results.verdicts == ["accepted", "not judged", "accepted",
+                                                   "not judged", "accepted"], channel.results.verdicts)
         # What is waited for at the same time is waited for anew, and its file may come meanwhile.
         for late in ("two", "three"):
             os.rename(self.files[late], self.path("away"))
@@ -141,7 +141,7 @@ class Steps(Programmes):
                 channel.give(Lines().sent(texts_of("one"), BEGIN, 20))
             self.must(said, channel.said == [f"one  {said}"], channel.said)
             with open(self.path("out/one.json"), encoding="ascii") as file:
-                self.must("its object", [json.load(file)["verdict"]] == channel.verdicts)
+                self.must("its object", [json.load(file)["verdict"]] == channel.results.verdicts)
             os.unlink(self.path("out/one.json"))
 
     def test_patience(self) -> None:
@@ -170,7 +170,7 @@ class Steps(Programmes):
             self.must(f"{back}: since", channel.queue.since == over, channel.queue.since)
             lines = Lines()
             channel.give(lines.pes(BEGIN + over + SECOND * at) for at in range(-back, 91, 30))
-            self.must(f"{back}: waits", "not judged" not in channel.verdicts, channel.said)
+            self.must(f"{back}: waits", "not judged" not in channel.results.verdicts, channel.said)
         channel.give(lines.sent(texts_of("two"), BEGIN + over + SECOND * 100, 20))
         self.must("two", self.names() == ["two"], channel.said)
 
@@ -313,7 +313,7 @@ class Steps(Programmes):
         self.must("reasons", known["three"]["reason"] == BEFORE_IT and known["three"]["open"]
                   and "--pes goes with" in known["line 3"]["reason"]
                   and "open" not in known["line 3"], known)
-        self.must("verdicts", channel.verdicts.count("not judged") == 2)
+        self.must("verdicts", channel.results.verdicts.count("not judged") == 2)
         self.must("in their order", [line.partition("  ")[0] for line in channel.said] == [
             "one", f"{self.path('list')}: new: two, line 3, three", "two", "line 3", "three"],
             channel.said)

@@ -165,7 +165,7 @@ class Folders(Programmes):
                       and any(f"one: {why}" in line for line in channel.said), channel.said)
         [record] = channel.records.all.values()
         self.must("not kept", record.unkept)
-        channel.publish()
+        channel.results.publish()
         self.must("kept", record.unkept is None and not channel.results.failed)
 
     def test_lists_that_are_none(self) -> None:

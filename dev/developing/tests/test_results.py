@@ -16,7 +16,6 @@ from unittest import mock
 
 from subtitles.cli import collection
 from subtitles.cli.batch import Calls, Item, Watch, kept_rows
-from subtitles.cli.channel.results import Results
 from subtitles.common.command_line import Stop
 from subtitles.common.files import Inputs
 from subtitles.common.program import MadeWith, TOP, read
@@ -30,6 +29,7 @@ from .. import DEV
 from ..pages import SCHEMA, laid_out
 from .bench import Case, example_bytes
 from .judged import judged
+from .listings import results_in
 from .parts import asked_for
 from .results import FAULT, result, schema as read_schema, second_reader, wrong_in
 from .test_channel_tables import defaults
@@ -209,8 +209,7 @@ class ReadBack(Case):
         asked = asked_for(self.path("story.stl"), self.path("x.pes"))
         kept_rows(calls, [Item(name, asked, None) for name in names])
         os.makedirs(self.path("kept"), exist_ok=True)
-        channel = Results(self.path("kept"), self.path("out"), lambda path, word: None,
-                          self.fail)
+        channel = results_in(self, self.path("kept"), self.path("out"))
         for name in names:
             record = channel.adopt(name, asked.stl)
             self.must(f"channel: {name}", record is None or record.row and

@@ -10,28 +10,27 @@ import os
 import shutil
 import tempfile
 import time
-from typing import Any, Iterator
+from typing import Iterator
 
-from ...clock.start import FITTED_SHORT
 from ...common.command_line import (
     Stop, Unanswered, counted, error_line, shown, tell)
 from ...common.files import Inputs, temporary_folder
 from ...common.times import FRAMES_OF_A_DAY, TICKS, time_of
-from ...judging.status import ACCEPTED, NOT_JUDGED, WAIVED, of_all
+from ...judging.status import of_all
 from ...request.commands import CommandWords, Progress
-from ...request.request import Request, Unclear
-from ...results.objects import ENDING, in_order, row_of_object, rows_in, unjudged
-from .. import collection, single
+from ...request.request import Unclear
+from ...results.objects import unjudged
+from .. import single
 from ..single import locking, now, refuse_files_of_all
 from . import machine, records
 from .feed import MINUTE, SECOND, Stall
 from .hearing import Hearing
-from .machine import Alarms, DISK, LOSS, LineCounts, Machine, RECORDER, SILENCE
-from .records import Due, Judged, Outcome
+from .machine import Alarms, DISK, LOSS, LineCounts, Machine, RECORDER, SILENCE, lines_of
+from .records import Due
 from .recorder import Begin, Recorded, Segments, say_dated
-from .results import PASSING, Results
+from .results import Results
 from .schedule import ENDED, LOST, MARGIN, OnAir, Planned, Programme, Queue
-from .spool import ERROR, Exchange, RESTARTS, claim
+from .spool import ERROR, Exchange, RESTARTS, claim, spool_of
 
 
 # The judge of a channel: a list and the segments of a feed, held against each other, one programme
@@ -41,7 +40,6 @@ AROUND = 50  # frames before the last page transmission before it that have to b
 OVERLAP = 10 * MINUTE  # by which a programme may begin before the one before it is over
 PATIENCE = 1.0  # seconds for which nothing comes, until somebody hears of it
 LOOK = 0.05  # seconds between two looks for more
-AT_END = 3  # more times that something is tried at the end of a feed
 DEATHS = 5  # of the process that hears a feed, without anything new, until that can't be read
 BEFORE_IT = f"{ENDED} before it"
 
@@ -57,16 +55,15 @@ class Channel:
         state = Exchange(folder)
         self.machine = Machine(words.out, state[RESTARTS])
         state[RESTARTS] += 1
-        self.alarms = Alarms(functools.partial(self.call, words.on_alarm))
-        self.results = Results(folder, words.out, functools.partial(self.call, words.on_result),
-                               self.fail)
+        self.alarms = Alarms(functools.partial(machine.hook, words.on_alarm, self.fail))
+        self.results = Results(words, called, folder, self.say, self.fail)
         self.records = self.results.records
         self.stall = Stall(words.stall, self.say)
         self.queue = Queue(Planned(words.channel, words, folder, self.records.out,
                                    self.results.adopt), self.patience,
                            self.records.over(), self.records.since())
+        self.results.asked_of = self.queue.planned.asked_of
         self.running: OnAir | None = None
-        self.verdicts: list[str] = []
         self.came, self.headers = time.monotonic(), 0
         self.header: float | None = None  # when the last of `headers` came
         self.loss: str | None = None  # that nothing has come behind yet
@@ -88,24 +85,14 @@ class Channel:
 
     def begin(self) -> None:
         """Takes what an earlier call has left."""
-        planned, by_name = self.queue.planned, self.records.by_name
+        planned = self.queue.planned
         planned.look(True)
         self.take_inputs()
         self.machine.refuse(self.results.inputs)
         for line in (*self.records.said, *self.segments.index.said):
             self.say(line)
-        self.records.drop_old()
-        lost = self.results.mend()
-        if lost:
-            self.say(f"written once more, since it is not there as a whole: {', '.join(lost)}")
-        self.rows = {name: record.row for name, record in by_name.items() if record.row}
-        if self.words.out and os.path.isdir(self.words.out):
-            self.rows.update(rows_in(self.words.out, {*by_name}))
-        self.publish()
-        self.verdicts += [row.verdict for programme in planned.programmes if programme.has_ended
-                          and (row := self.rows.get(programme.name))]
-        if self.verdicts:
-            self.say(f"{counted(len(self.verdicts), 'programme')} of an earlier call kept")
+        self.results.begin([programme.name for programme in planned.programmes
+                            if programme.has_ended])
 
     def take_inputs(self) -> None:
         """Takes what is read, and so never written to."""
@@ -185,7 +172,7 @@ class Channel:
             self.take_all(self.hearing.take(data))
             self.stall.take(still)
             self.take(is_still=still >= PATIENCE)
-            self.judge_due()
+            self.results.judge_due()
             self.keep()
             self.show()
 
@@ -236,7 +223,7 @@ class Channel:
             max(self.now - self.patience, self.queue.ended - OVERLAP) - MARGIN
         self.segments.drop(floor, self.results.needed(self.now - self.patience))
         self.hearing.drop(floor)
-        self.publish()
+        self.results.publish()
         self.tell_machine()
 
     # ---- one programme after another
@@ -318,9 +305,10 @@ class Channel:
                                       running.since, running.until)
         missing = running.missing(heard.start, self.now, why)
         over, self.running = min(running.end, self.now), None
-        if missing is not None or parts is None:
-            self.unjudged(programme, missing or self.why_not_kept(), over, over,
-                          why == ENDED and self.now < running.end)
+        if missing is not None and why == ENDED and self.now < running.end:
+            self.results.leave_open(programme.name, missing)  # the next call may judge it
+        elif missing is not None or parts is None:
+            self.unjudged(programme, missing or self.why_not_kept(), over, over)
         else:
             move = heard.move_since(running.begin)
             record = self.records.new(programme.name, asked.stl, over, over)
@@ -328,97 +316,16 @@ class Channel:
                 programme.line.words, asked.origin or 0, None if move else heard.pid or None,
                 bool(programme.asked and programme.asked.origin is None), parts,
                 f"{move.words} at {running.time_at(move.time)}" if move else ""))
-            self.judge_due()
+            self.results.judge_due()
         self.queue.wait_anew(over, over)
 
-    def judge_due(self) -> None:
-        """Judges what has come whole, again where the machine failed, those first that wait
-        longest."""
-        while (due := self.records.due()) and due[0].tries.next <= time.monotonic():
-            self.judge_record(due[0])
-
-    def judge_record(self, record: Outcome) -> None:
-        """Tries to judge a programme. As long as it can be judged another time it has no result."""
-        due, tries = record.due, record.tries
-        assert due
-        is_gone = tries.last and not self.results.are_there(record)
-        judged = tries.last if tries.last and is_gone else self.judged(record, due)
-        final = tries.take(judged, self.results.are_there(record), time.monotonic())
-        if final is None:
-            if tries.count == 1:
-                self.fail(f"{record.name}: it was not judged, and is tried again: {judged.reason}")
-            return
-        known = judged.known
-        if not known or final or due.moved and judged.reason:
-            known = unjudged(record.name, final or f"{due.moved}: {judged.reason}")
-        hint = row_of_object(known, record.name).hint
-        self.end(record, known, time_of_lead(known) + (f"; {hint}" if hint else "") +
-                 f"; {FITTED_SHORT}" * due.is_fitted)
-
-    def judged(self, record: Outcome, due: Due) -> Judged:
-        """What a programme comes to."""
-        try:
-            asked = self.queue.planned.asked_of([*due.words])
-        except (Stop, ValueError, OSError) as reason:
-            return Judged(None, error_line(reason))
-        asked = dataclasses.replace(asked, origin=due.origin, pid=due.pid, recording="-")
-        return self.results.judge(record, lambda path: self.judge_in(record, asked, due, path))
-
-    def judge_in(self, record: Outcome, asked: Request, due: Due, path: str) -> int:
-        """Judges a file with what came of a programme; what is written has its place in the folder
-        of that now. The status is `PASSING` where the machine failed."""
-        folder = tempfile.tempdir = os.path.dirname(path)
-        words = self.words
-        placed: dict[str, Any] = {"out": words.out, "here": folder} if words.out is not None else \
-            {"json": os.path.join(folder, record.name + ENDING)}
-        call = single.PairCall(words.program, is_kept=words.is_kept, name=record.name,
-                               is_claimed=True, is_fitted=due.is_fitted, given=path, **placed)
-        verdict = single.judged(asked, call, self.called)
-        return verdict.status if verdict.is_final else PASSING
-
-    def unjudged(self, programme: Programme, reason: str, since: int, over: int | None = None,
-                 is_open: bool = False) -> None:
-        """A programme is not judged; of one that is open the next call may do that."""
-        known = unjudged(programme.name, reason, is_open)
-        if is_open:
-            self.leave_open(programme.name, known)
-            return
+    def unjudged(self, programme: Programme, reason: str, since: int, over: int | None = None
+                 ) -> None:
+        """A programme is not judged; the next one is waited for since a time."""
         stl = programme.asked.stl if programme.asked else ""
-        self.end(self.records.new(programme.name, stl, self.queue.ended if over is None else over,
-                                  since), known)
-
-    def leave_open(self, name: str, known: dict[str, Any]) -> None:
-        """A programme has no result that stays when this call ends."""
-        self.show_result(name, known)
-        self.results.leave_open(name, known)
-
-    def end(self, record: Outcome, known: dict[str, Any], more: str = "") -> None:
-        """A programme has its result: kept, told, and written where it is wanted."""
-        self.records.put(record, known)
-        self.results.keep()
-        self.show_result(record.name, known, more)
-
-    def show_result(self, name: str, known: dict[str, Any], more: str = "") -> None:
-        """Tells a result."""
-        row = self.rows[name] = row_of_object(known, name)
-        self.verdicts.append(row.verdict)
-        line = row.line.splitlines()[0] if row.line else row.verdict
-        self.say(f"{name}  " + (line + more if row.is_judged else f"{NOT_JUDGED}: {line}"))
-        self.machine.verdict = {"name": row.name, "verdict": row.verdict, "date": now()}
-        self.publish(True)
-
-    def publish(self, is_new: bool = False) -> None:
-        """Writes what is to be written, again where that failed, and the page of all."""
-        is_new |= self.results.publish()
-        if self.words.out is not None and is_new:
-            with contextlib.suppress(OSError):
-                collection.write_index(self.words.out, in_order(self.rows))
-
-    def call(self, command: str | None, *words: str) -> None:
-        """Calls what the house wants to have called; a failure changes nothing."""
-        failure = command and machine.failure_of(command, *words)
-        if failure:
-            self.fail(failure)
+        record = self.records.new(programme.name, stl, self.queue.ended if over is None else over,
+                                  since)
+        self.results.end(record, unjudged(programme.name, reason))
 
     # ---- how it ends
 
@@ -431,37 +338,24 @@ class Channel:
             if self.running:
                 self.judge(self.running)
         self.look()
-        self.end_due()
+        self.results.end_due(BEFORE_IT)
         for programme in self.queue.planned.open():
             programme.has_ended = True
-            self.unjudged(programme, programme.reason or reason, self.queue.since,
-                          is_open=programme.reason is None)
-        self.publish()
+            if programme.reason is None:
+                self.results.leave_open(programme.name, reason)
+            else:
+                self.unjudged(programme, programme.reason, self.queue.since)
+        self.results.publish()
         if not self.results.open:
             self.segments.take_away(self.segments.at + 1)
         self.tell_machine()
 
-    def end_due(self) -> None:
-        """Tries a few more times what could not be judged; then it is open."""
-        for _ in range(AT_END):
-            due = self.records.due()
-            if due:
-                time.sleep(max(due[0].tries.next - time.monotonic(), 0))
-                self.judge_due()
-        for record in self.records.due():
-            last = record.tries.last
-            self.leave_open(record.name, unjudged(
-                record.name, last.reason if last else BEFORE_IT, True))
-
     def lines(self) -> LineCounts:
         """How many lines have what result."""
-        listed = self.queue.planned.programmes
-        rows = [record.row for programme in listed
-                if (record := self.records.by_name.get(programme.name)) and record.row]
-        judged = [row for row in rows if row.is_judged]
-        refused = [row for row in judged if row.verdict not in (ACCEPTED, WAIVED)]
-        return LineCounts(len(listed) - len(rows), len(judged), len(refused),
-                          len(rows) - len(judged), len(self.results.failed))
+        listed, by_name = self.queue.planned.programmes, self.records.by_name
+        return lines_of(len(listed), [
+            record.row for programme in listed
+            if (record := by_name.get(programme.name)) and record.row], len(self.results.failed))
 
     def tell_machine(self) -> None:
         """What a machine asks, and what is wrong now."""
@@ -478,7 +372,7 @@ class Channel:
         self.machine.tell(
             {"sent": self.running and self.running.programme.name, "waiting": waiting,
              "lines": self.lines()._asdict(), "alarms": [*self.alarms.on],
-             "recorder": segments.is_recorded()},
+             "recorder": segments.is_recorded(), "last_verdict": self.results.last},
             {"came": came, "header": self.header,
              "silent_since": (self.header or came) if is_silent else None,
              "behind_seconds": segments.behind(), "segments": count, "bytes": size,
@@ -525,14 +419,6 @@ class Channel:
                  f"{count.not_judged} not judged, {count.open} open")
 
 
-def time_of_lead(known: dict[str, Any]) -> str:
-    """When the fault came that the line of a result names, where that line names a PES packet."""
-    lead = (known.get("lead") or "").partition("\n")[0]
-    fault = next((fault for fault in known.get("faults", ()) if fault["line"] == lead), None)
-    time = fault and fault["frame"] is None and fault["pes_time"]
-    return f", at {time}" if time else ""
-
-
 # A call that judges a channel: where its files are, and how it ends.
 
 
@@ -565,19 +451,6 @@ def judge_channel(words: argparse.Namespace, called: str) -> int:
     is_stopped, failed = channel.machine.state == machine.STOPPED, channel.results.failed
     for what, why in failed.items():
         tell(f"{shown(what)} was not written: {why}")
-    if not channel.verdicts and not is_stopped:
+    if not channel.results.verdicts and not is_stopped:
         tell(f"{words.channel} names no programme")
-    return of_all(channel.verdicts, is_stopped or bool(failed))
-
-
-def spool_of(words: argparse.Namespace) -> str | None:
-    """The folder with the segments: the one in which another call records, that of --spool, or one
-    beside that of -o; `None` where it is temporary."""
-    if os.path.isdir(words.stl):
-        if words.spool is not None:
-            raise Stop(f"{words.stl} is a folder in which a feed is recorded: --spool is too many")
-        return str(words.stl)
-    if words.spool is None and words.out is not None:
-        return f"{os.path.abspath(words.out)}.feed" if os.path.basename(words.out) in (".", "..") \
-            else f"{os.path.normpath(words.out)}.feed"
-    return str(words.spool) if words.spool is not None else None
+    return of_all(channel.results.verdicts, is_stopped or bool(failed))

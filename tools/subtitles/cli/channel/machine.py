@@ -9,11 +9,13 @@ import shutil
 import signal
 import subprocess
 import time
-from typing import Any, Callable, NamedTuple
+from typing import Any, Callable, NamedTuple, Sequence
 
 from ...common.command_line import Stop, counted, error_line
 from ...common.files import Inputs, first_bytes, kind_of, result_file
+from ...judging.status import ACCEPTED, WAIVED
 from ...request.commands import CHANNEL
+from ...results.objects import Row
 from ..single import now
 
 # The file is written whole each time: where something has changed once a second, else each ten.
@@ -36,13 +38,20 @@ class LineCounts(NamedTuple):
     not_written: int
 
 
+def lines_of(count: int, rows: Sequence[Row], not_written: int) -> LineCounts:
+    """The same, of so many lines, by the rows of those that have a result."""
+    judged = [row for row in rows if row.is_judged]
+    refused = [row for row in judged if row.verdict not in (ACCEPTED, WAIVED)]
+    return LineCounts(count - len(rows), len(judged), len(refused), len(rows) - len(judged),
+                      not_written)
+
+
 class Machine:
-    """What is told: how the call goes on, and the last that was lost, judged, and that failed."""
+    """What is told: how the call goes on, and the last that was lost, and that failed."""
 
     def __init__(self, out: str | None, restarts: int) -> None:
         self.path = out and os.path.join(out, f"{CHANNEL}.json")
         self.state, self.restarts = RUNNING, restarts
-        self.verdict: dict[str, Any] | None = None
         self.loss: str | None = None
         self.error: str | None = None
         self.known: dict[str, Any] = {}
@@ -66,7 +75,7 @@ class Machine:
         if self.path is None:
             return
         known = {"state": self.state, **known, "last_loss": self.loss, "restarts": self.restarts,
-                 "last_verdict": self.verdict, "last_error": self.error}
+                 "last_error": self.error}
         if known == self.known and time.monotonic() < self.next:
             return
         self.known, self.next = known, time.monotonic() + EACH
@@ -125,3 +134,10 @@ def failure_of(command: str, *words: str) -> str | None:
     except OSError as reason:
         return error_line(reason)
     return f"{command} ended with status {status}" if status else None
+
+
+def hook(command: str | None, fail: Callable[[str], None], *words: str) -> None:
+    """Calls a command, where there is one; a failure is told, and changes nothing."""
+    failure = command and failure_of(command, *words)
+    if failure:
+        fail(failure)

@@ -1,19 +1,31 @@
 """Results of programmes: judged by processes, again where the machine failed, and published."""
 from __future__ import annotations
 
+import argparse
 import contextlib
+import dataclasses
+import functools
 import os
 import shutil
 import signal
+import tempfile
+import time
 from typing import Any, Callable, Sequence
 
-from ...common.command_line import Stop, ended, error_line, tell
+from ...clock.start import FITTED_SHORT
+from ...common.command_line import Stop, counted, ended, error_line, tell
 from ...common.files import Inputs, NOTHING, result_file
-from ...results.objects import ENDING, left_by_call, object_at, put_object, value_at
+from ...judging.status import NOT_JUDGED
+from ...request.request import Request
+from ...results.objects import (
+    ENDING, Row, in_order, left_by_call, object_at, put_object, row_of_object, rows_in, unjudged,
+    value_at)
 from ...results.schema import FORMAT, misfit
+from .. import collection, single
 from ..batch import Forked, ended_of, signals_held
-from ..single import refuse_file
-from .records import Judged, Outcome, Read, Records
+from ..single import now, refuse_file
+from .machine import hook
+from .records import Due, Judged, Outcome, Read, Records
 from .spool import Journal, OLD_FOLDER, are, opened, path_of
 
 # What came of a programme is judged by a process of its own, which makes one file of the segments.
@@ -24,6 +36,7 @@ JUDGING_SECONDS, SLOWEST = 60.0, 2_000_000  # seconds, and one more for each so 
 PASSING = 3  # the status of a call that the machine let down
 RECORDING = "all.recording"  # what is judged, in the folder of a programme
 GONE = "the feed could not be kept as long as it was judged"
+AT_END = 3  # more times that something is tried at the end of a feed
 
 
 def join(path: str, spool: str, parts: Sequence[Read]) -> None:
@@ -58,14 +71,21 @@ def called(does: Callable[[], int], longest: float) -> tuple[int, list[str]]:
 
 class Results:
     """The results of programmes: what the records say, with its place in the folder `out`, where
-    that is wanted. Somebody is `told` of each, and that one `failed` to be written, once. `inputs`
-    are files that are never written to."""
+    that is wanted. Each is said, and so is what can't be written, once. `inputs` are files that are
+    never written to; `rows` are those of the page of all, `verdicts` those of this call."""
 
-    def __init__(self, folder: str, out: str | None, told: Callable[[str, str], None],
-                 fail: Callable[[str], None]) -> None:
-        self.folder, self.out, self.told, self.fail = folder, out, told, fail
-        self.records = Records(folder, os.path.abspath(out) if out else "")
+    asked_of: Callable[[list[str]], Request]  # what the words of a line of the list ask
+
+    def __init__(self, words: argparse.Namespace, called: str, folder: str,
+                 say: Callable[[str], None], fail: Callable[[str], None]) -> None:
+        self.words, self.called, self.folder, self.say, self.fail = words, called, folder, say, fail
+        self.out: str | None = words.out
+        self.hook = functools.partial(hook, words.on_result, fail)
+        self.records = Records(folder, os.path.abspath(self.out) if self.out else "")
         self.inputs = NOTHING
+        self.rows: dict[str, Row] = {}
+        self.verdicts: list[str] = []
+        self.last: dict[str, Any] | None = None  # verdict
         self.failed: dict[str, str] = {}  # what could not be written, and why
         self.open: dict[str, dict[str, Any]] = {}  # results that don't stay
         self.old_overs: dict[str, int] = {}  # when programmes were over, by version 1.9
@@ -106,25 +126,62 @@ class Results:
 
     # ---- what is judged
 
-    def are_there(self, record: Outcome) -> bool:
+    def judge_due(self) -> None:
+        """Judges what has come whole, again where the machine failed, those first that wait
+        longest."""
+        while (due := self.records.due()) and due[0].tries.next <= time.monotonic():
+            self.judge_record(due[0])
+
+    def judge_record(self, record: Outcome) -> None:
+        """Tries to judge a programme. As long as it can be judged another time it has no result."""
+        due, tries = record.due, record.tries
+        assert due
+        is_gone = tries.last and not self.are_there(due)
+        judged = tries.last if tries.last and is_gone else self.judged(record, due)
+        final = tries.take(judged, self.are_there(due), time.monotonic())
+        if final is None:
+            if tries.count == 1:
+                self.fail(f"{record.name}: it was not judged, and is tried again: {judged.reason}")
+            return
+        known = judged.known
+        if not known or final or due.moved and judged.reason:
+            known = unjudged(record.name, final or f"{due.moved}: {judged.reason}")
+        hint = row_of_object(known, record.name).hint
+        self.end(record, known, time_of_lead(known) + (f"; {hint}" if hint else "") +
+                 f"; {FITTED_SHORT}" * due.is_fitted)
+
+    def end_due(self, reason: str) -> None:
+        """At the end tries a few more times what could not be judged; then it is open, for a reason
+        where none is known."""
+        for _ in range(AT_END):
+            due = self.records.due()
+            if due:
+                time.sleep(max(due[0].tries.next - time.monotonic(), 0))
+                self.judge_due()
+        for record in self.records.due():
+            last = record.tries.last
+            self.leave_open(record.name, last.reason if last else reason)
+
+    def are_there(self, due: Due) -> bool:
         """Whether all is there that has to be judged."""
         with contextlib.suppress(OSError):
             return all(os.stat(path_of(self.folder, number), follow_symlinks=False).st_size >= size
-                       for number, size in (record.due.parts if record.due else ()))
+                       for number, size in due.parts)
         return False
 
-    def judge(self, record: Outcome, call: Callable[[str], int]) -> Judged:
-        """Judges a programme by a call, which gets the file of what came of it, and writes into
-        its folder; where that failed before in the room that is kept for results."""
-        assert record.due
-        parts, folder = record.due.parts, self.records.work(record.number)
-        longest = JUDGING_SECONDS + sum(part.size for part in parts) / SLOWEST
+    def judged(self, record: Outcome, due: Due) -> Judged:
+        """What a programme comes to; where that failed before in the room that is kept for results.
+        What is written has its place in the folder of the programme."""
+        folder = self.records.work(record.number)
+        longest = JUDGING_SECONDS + sum(part.size for part in due.parts) / SLOWEST
         path = os.path.join(folder, RECORDING)
 
         def does(_: Sequence[str]) -> int:
+            tempfile.tempdir = folder
             try:
-                join(path, self.folder, parts)
-                return call(path)
+                join(path, self.folder, due.parts)
+                verdict = single.judged(asked, self.call_of(record, due, path), self.called)
+                return verdict.status if verdict.is_final else PASSING
             except (OSError, MemoryError) as reason:
                 tell(error_line(reason))
                 return PASSING
@@ -135,16 +192,26 @@ class Results:
         if record.tries.count:
             self.records.room.give()
         try:
+            asked = dataclasses.replace(self.asked_of([*due.words]), origin=due.origin,
+                                        pid=due.pid, recording="-")
             shutil.rmtree(folder, ignore_errors=True)
             os.mkdir(folder)
             status, told = called(lambda: ended(does, []), longest)
         except TimeoutError:
             return Judged(None, f"it was not judged within {longest:.0f} seconds", True)
-        except (OSError, Stop) as reason:
+        except (OSError, Stop, ValueError) as reason:
             return Judged(None, error_line(reason))
         known = left_by_call(os.path.join(folder, record.name + ENDING), record.name,
                              2 if status == PASSING else status, told)
         return Judged(None if status == PASSING or status < 0 else known, known["reason"] or "")
+
+    def call_of(self, record: Outcome, due: Due, path: str) -> single.PairCall:
+        """The call that judges a file with what came of a programme."""
+        words, folder = self.words, os.path.dirname(path)
+        placed: dict[str, Any] = {"out": words.out, "here": folder} if words.out is not None else \
+            {"json": os.path.join(folder, record.name + ENDING)}
+        return single.PairCall(words.program, is_kept=words.is_kept, name=record.name,
+                               is_claimed=True, is_fitted=due.is_fitted, given=path, **placed)
 
     def needed(self, since: int) -> int | None:
         """The first segment that is needed for those that are due and were over since a time."""
@@ -164,12 +231,24 @@ class Results:
             records.tell(record)
         return record
 
-    def mend(self) -> list[str]:
-        """Takes results that were cut or taken away as not written; their names."""
-        for record in self.records.by_name.values():
+    def begin(self, names: Sequence[str]) -> None:
+        """Takes what an earlier call has left: results that were cut or taken away are written
+        again; those of a list that has some names were kept."""
+        by_name = self.records.by_name
+        self.records.drop_old()
+        for record in by_name.values():
             if record.is_told and self.out is not None and not self.is_written(record):
                 record.is_told, record.is_mended = False, True
-        return [record.name for record in self.records.by_name.values() if record.is_mended]
+        lost = [name for name, record in by_name.items() if record.is_mended]
+        if lost:
+            self.say(f"written once more, since it is not there as a whole: {', '.join(lost)}")
+        self.rows = {name: record.row for name, record in by_name.items() if record.row}
+        if self.out and os.path.isdir(self.out):
+            self.rows.update(rows_in(self.out, {*by_name}))
+        self.publish()
+        self.verdicts += [self.rows[name].verdict for name in names if name in self.rows]
+        if self.verdicts:
+            self.say(f"{counted(len(self.verdicts), 'programme')} of an earlier call kept")
 
     def is_written(self, record: Outcome) -> bool:
         """Whether a result is where it is wanted, as a whole."""
@@ -187,13 +266,16 @@ class Results:
             if record.unkept is not None:
                 self.attempt(f"{record.name}: its record", lambda: self.records.keep(record))
 
-    def publish(self) -> bool:
-        """Writes results where they are wanted; whether there was one that could be."""
+    def publish(self, is_new: bool = False) -> None:
+        """Writes results where they are wanted, again where that failed, and the page of all."""
         self.keep()
         untold = [record for record in self.records.by_name.values()
                   if record.row and not record.is_told]
-        return any([self.attempt(f"{record.name}: its result", lambda: self.write(record))
-                    for record in untold])
+        written = [self.attempt(f"{record.name}: its result", lambda: self.write(record))
+                   for record in untold]
+        if self.out is not None and (is_new or any(written)):
+            with contextlib.suppress(OSError):
+                collection.write_index(self.out, in_order(self.rows))
 
     def attempt(self, what: str, does: Callable[[], None]) -> bool:
         """Writes something; whether that could be done. Where it fails that is told once."""
@@ -219,12 +301,12 @@ class Results:
         with result_file(path) as written:
             written.writelines(self.records.result(record))
         if not record.is_mended:
-            self.told(path, record.row.verdict)
+            self.hook(path, record.row.verdict)
         self.records.tell(record)
 
-    def leave_open(self, name: str, known: dict[str, Any]) -> None:
+    def leave_open(self, name: str, reason: str) -> None:
         """A programme has no result that stays when this call ends: nobody is told."""
-        self.open[name] = known
+        self.open[name] = known = unjudged(name, reason, True)
 
         def write() -> None:
             os.makedirs(self.out or "", exist_ok=True)
@@ -233,6 +315,22 @@ class Results:
 
         if self.out is not None:
             self.attempt(f"{name}: its result", write)
+        self.show(name, known)
+
+    def end(self, record: Outcome, known: dict[str, Any], more: str = "") -> None:
+        """A programme has its result: kept, said, and written where it is wanted."""
+        self.records.put(record, known)
+        self.keep()
+        self.show(record.name, known, more)
+
+    def show(self, name: str, known: dict[str, Any], more: str = "") -> None:
+        """Says a result."""
+        row = self.rows[name] = row_of_object(known, name)
+        self.verdicts.append(row.verdict)
+        self.last = {"name": name, "verdict": row.verdict, "date": now()}
+        line = row.line.splitlines()[0] if row.line else row.verdict
+        self.say(f"{name}  " + (line + more if row.is_judged else f"{NOT_JUDGED}: {line}"))
+        self.publish(True)
 
 
 def result_at(path: str) -> dict[str, Any] | None:
@@ -244,6 +342,14 @@ def result_at(path: str) -> dict[str, Any] | None:
     is_result = isinstance(known, dict) and "verdict" in known and (
         known.get("format") != FORMAT or misfit(known) is None)
     return object_at(path) if is_result else None
+
+
+def time_of_lead(known: dict[str, Any]) -> str:
+    """When the fault came that the line of a result names, where that line names a PES packet."""
+    lead = (known.get("lead") or "").partition("\n")[0]
+    fault = next((fault for fault in known.get("faults", ()) if fault["line"] == lead), None)
+    time = fault and fault["frame"] is None and fault["pes_time"]
+    return f", at {time}" if time else ""
 
 
 def move(source: str, target: str, inputs: Inputs) -> None:

@@ -284,9 +284,8 @@ class Planned:
         known, bare = (pair_options(words) for words in (
             self.defaults, getattr(self.defaults, "bare", self.defaults)))
         feed = {"recording": "-"}
-        words = read_options(line_parser(), line, {**known, **feed}, {**bare, **feed},
-                             folder_of(self.path))
-        asked = request_of(words)
+        asked = request_of(read_options(line_parser(), line, {**known, **feed}, {**bare, **feed},
+                                        folder_of(self.path)))
         if asked.profile and asked.profile != self.defaults.profile:
             refuse_settings(asked.profile, CHANNEL_LINE)
         return asked

@@ -1,6 +1,7 @@
 """The folder of a channel: what may stand in it, and the small files by which processes talk."""
 from __future__ import annotations
 
+import argparse
 import contextlib
 import errno
 import json
@@ -25,6 +26,19 @@ OWN_FOLDER = re.compile(rf"[0-9]{{9,18}}{WORK}")
 # What version 1.9 made beside that.
 OLD_FILE, OLD_FOLDER = re.compile("journal"), re.compile("done|work-[0-9a-f]{16}")
 OLD_STATE = 48  # bytes of its `state`, which was always there
+
+
+def spool_of(words: argparse.Namespace) -> str | None:
+    """The folder with the segments: the one in which another call records, that of --spool, or one
+    beside that of -o; `None` where it is temporary."""
+    if os.path.isdir(words.stl):
+        if words.spool is not None:
+            raise Stop(f"{words.stl} is a folder in which a feed is recorded: --spool is too many")
+        return str(words.stl)
+    if words.spool is None and words.out is not None:
+        return f"{os.path.abspath(words.out)}.feed" if os.path.basename(words.out) in (".", "..") \
+            else f"{os.path.normpath(words.out)}.feed"
+    return str(words.spool) if words.spool is not None else None
 
 
 def claim(folder: str, inputs: Inputs) -> None:
