@@ -297,7 +297,7 @@ class Written(Folders):
                 for turn in range(len(data) // size + 2):
                     with self.recorder(folder, path) as one:
                         for _ in range(2):
-                            one.write(one.whole(one.source.read(size + max(one.written, 0))))
+                            one.write(one.whole(one.source.read(size)))
                         if turn % 2:
                             one.end()
                 found = self.kept(folder)
@@ -306,7 +306,7 @@ class Written(Folders):
             last = numbers_in(folder)[-1]
             for other in (self.write("other", data), self.write(kind, data[:100])):
                 with self.recorder(folder, other) as one:
-                    self.must(other, one.number == last + 2 and one.written == 0, one.number)
+                    self.must(other, one.number == last + 2 and one.place == 0, one.number)
 
     def test_file_that_is_written_anew(self) -> None:
         """In its place, with at least as many bytes: it is recorded from its beginning; one that
@@ -331,8 +331,9 @@ class Written(Folders):
                     told = f"{path} goes on at byte {place}" if place else \
                         f"{path} is another file than before, or was written anew: it is " \
                         "recorded from its beginning"
-                    self.must(f"{name} {is_ended}", one.place + one.written == place
-                              and one.said == told and one.number == (0 if place else 2),
+                    self.must(f"{name} {is_ended}", one.said == told and
+                              os.lseek(one.source.file.fileno(), 0, os.SEEK_CUR) == place and
+                              one.number == (0 if place else 2),
                               (one.said, one.number))
 
     def test_loses_twice(self) -> None:

@@ -226,6 +226,11 @@ BEHIND_TIME, SYNC = 4, b"\x47"  # bytes before the first TS packet of 192 bytes
 SUMMED = 1 << 16  # bytes of a file by which it is known again, before where it was left
 
 
+def is_pes(head: bytes) -> bool:
+    """Whether a feed that begins so is PES packets, and no TS packets with a time before each."""
+    return head.startswith(START) and head[BEHIND_TIME:][:1] != SYNC
+
+
 class NotWanted(Exception):
     """Nobody wants more of the feed."""
 
@@ -245,8 +250,7 @@ class Recorder:
         self.is_pes: bool | None = None
         self.rest = b""  # of PES packets, what comes behind the last whole one
         self.is_damaged = self.is_lost = False
-        self.written = 0  # bytes of a file that stand in segments already, of those that come next
-        self.place = 0  # in a file, of what is written next
+        self.place = 0  # in a file, of the segment that is written
         self.said = ""
         known, heard = numbers_in(folder), self.state[HEARD]
         self.number = max([heard - 1, *known[-1:]]) + 2 if heard or known else 0
@@ -257,13 +261,13 @@ class Recorder:
         """Of the same file, goes on where it was; it is known by its device, its number there, its
         size, and its bytes before that."""
         *own, number, place, sum_before = self.state.several(FILE, 5)
-        written = size_in(self.folder, number)
-        if self.own == tuple(own) and number >= self.number - 2 and place + written <= size and \
-                sum_before == self.sum_at(place) and self.is_written(number, written, place):
-            self.number, self.place, self.written = number, place, written
-            os.lseek(self.source.file.fileno(), place, os.SEEK_SET)
-        where = f"goes on at byte {self.place + self.written}" if self.place + self.written else \
-            "is another file than before, or was written anew: it is recorded from its beginning"
+        end = place + size_in(self.folder, number)
+        where = "is another file than before, or was written anew: it is recorded from its beginning"
+        if self.own == tuple(own) and number >= self.number - 2 and end <= size and \
+                sum_before == self.sum_at(place) and self.is_written(number, end - place, end):
+            self.number, self.place, where = number, place, f"goes on at byte {end}"
+            self.is_pes = is_pes(os.pread(self.source.file.fileno(), HEAD, 0))
+            os.lseek(self.source.file.fileno(), end, os.SEEK_SET)
         self.said = f"{self.source.name} {where}"
 
     def bytes_at(self, place: int) -> bytes:
@@ -275,15 +279,14 @@ class Recorder:
         """A number for them."""
         return int.from_bytes(hashlib.sha256(self.bytes_at(place)).digest()[:7], "big")
 
-    def is_written(self, number: int, written: int, place: int) -> bool:
+    def is_written(self, number: int, written: int, end: int) -> bool:
         """Whether the end of what stands in a segment is in the file, too."""
-        count = min(written, SUMMED)
-        data = b""
+        count, data = min(written, SUMMED), b""
         with contextlib.suppress(OSError), open(opened(
                 path_of(self.folder, number), os.O_RDONLY), "rb") as file:
             file.seek(written - count)
             data = file.read(count)
-        return len(data) == count and self.bytes_at(place + written).endswith(data)
+        return len(data) == count and self.bytes_at(end).endswith(data)
 
     def wait(self) -> None:
         """Waits a little."""
@@ -315,7 +318,7 @@ class Recorder:
             if len(data) < HEAD:
                 self.rest = data
                 return b""
-            self.is_pes = data.startswith(START) and data[BEHIND_TIME:][:1] != SYNC
+            self.is_pes = is_pes(data)
         if not self.is_pes or self.is_damaged:
             return data
         end = begins_in(data)[-1]
@@ -325,9 +328,7 @@ class Recorder:
 
     def write(self, data: bytes) -> None:
         """Writes bytes, once there is room for them."""
-        known = min(self.written, len(data))
-        self.written -= known
-        left, tries = memoryview(data)[known:], 0
+        left, tries = memoryview(data), 0
         while left:
             try:
                 count = self.opened().write(left)

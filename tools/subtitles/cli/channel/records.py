@@ -259,12 +259,10 @@ class Records:
     def tell(self, record: Outcome) -> None:
         """A result has its place, and somebody was told."""
         record.is_told = True
-        with contextlib.suppress(OSError):
-            handle = opened(path_of(self.folder, record.number, RECORD), os.O_WRONLY)
-            try:
-                os.pwrite(handle, b"1", TOLD_AT)
-            finally:
-                os.close(handle)
+        with contextlib.suppress(OSError), open(opened(
+                path_of(self.folder, record.number, RECORD), os.O_WRONLY), "wb",
+                buffering=0) as file:
+            os.pwrite(file.fileno(), b"1", TOLD_AT)
         self.clear(record.number)
 
     def drop_old(self) -> None:

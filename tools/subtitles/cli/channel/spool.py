@@ -7,6 +7,7 @@ import errno
 import json
 import os
 import re
+import shutil
 import stat
 from typing import Any, Callable, Iterable, Iterator
 
@@ -17,15 +18,15 @@ from ...common.files import BEGIN, Inputs, kind_of, new_name
 # nobody else made the folder.
 
 MARK = "subttx-spool-2"
-FILES = ("state", "list", "index", "room", MARK)
+FILES = ("state", "list", "index", "room", "journal", MARK)
 SEGMENT, RECORD, WORK = ".seg", ".done", ".files"  # behind numbers
 ASIDE = ".damaged"
 OWN_FILE = re.compile(rf"[0-9]{{9,18}}({SEGMENT}|{RECORD})|{'|'.join(FILES)}|\.(recorder\.)?lock"
                       rf"|{re.escape(BEGIN)}[0-9a-f]{{16}}|([0-9]{{9,18}}\.done|list|index){ASIDE}")
-OWN_FOLDER = re.compile(rf"[0-9]{{9,18}}{WORK}")
-# What version 1.9 made beside that.
-OLD_FILE, OLD_FOLDER = re.compile("journal"), re.compile("done|work-[0-9a-f]{16}")
-OLD_STATE = 48  # bytes of its `state`, which was always there
+# What version 1.9 made beside `journal`; its `state` was always there, and had so many bytes.
+OLD_FOLDER = re.compile("done|work-[0-9a-f]{16}")
+OLD_STATE = 48
+OWN_FOLDER = re.compile(rf"[0-9]{{9,18}}{WORK}|{OLD_FOLDER.pattern}")
 
 
 def spool_of(words: argparse.Namespace) -> str | None:
@@ -63,12 +64,11 @@ def is_own(folder: str, name: str) -> bool:
         mode = os.lstat(os.path.join(folder, name)).st_mode
     except FileNotFoundError:
         return True  # it has just got its name, or is gone
-    if stat.S_ISDIR(mode):
-        return bool(OWN_FOLDER.fullmatch(name)) or bool(OLD_FOLDER.fullmatch(name)) and (
-            name != "done" or all(is_old_result(os.path.join(folder, name, one))
-                                  for one in os.listdir(os.path.join(folder, name))))
-    is_file = kind_of(mode) is None
-    return is_file and bool(OWN_FILE.fullmatch(name) or OLD_FILE.fullmatch(name))
+    if not stat.S_ISDIR(mode):
+        return kind_of(mode) is None and bool(OWN_FILE.fullmatch(name))
+    return bool(OWN_FOLDER.fullmatch(name)) and (name != "done" or all(
+        is_old_result(os.path.join(folder, name, result))
+        for result in os.listdir(os.path.join(folder, name))))
 
 
 def is_old(folder: str, names: Iterable[str]) -> bool:
@@ -141,11 +141,10 @@ class KeptRoom:
 
     def keep(self) -> None:
         """Keeps it, where there is room for it."""
+        if self.is_there():
+            return
         with contextlib.suppress(OSError):
-            if os.path.exists(self.path):
-                return
-            about = os.statvfs(os.path.dirname(self.path))
-            size = min(ROOM, about.f_frsize * about.f_blocks // SHARE)
+            size = min(ROOM, shutil.disk_usage(os.path.dirname(self.path)).total // SHARE)
             handle = opened(self.path, os.O_WRONLY | os.O_CREAT)
             try:
                 os.posix_fallocate(handle, 0, size)
@@ -193,7 +192,7 @@ class Journal:
 
     def entries(self) -> list[list[Any]]:
         """All of them; none where one does not fit."""
-        found = list[list[Any]]()
+        entries = list[list[Any]]()
         with contextlib.suppress(OSError), open(opened(self.path, os.O_RDONLY), "rb") as file:
             for line in file.read(MOST_OF_JOURNAL).splitlines():
                 try:
@@ -206,8 +205,8 @@ class Journal:
                 if not is_right:
                     self.said.append(set_aside(self.folder, self.name))
                     return []
-                found += [entry] * bool(entry)
-        return found
+                entries += [entry] * bool(entry)
+        return entries
 
     def add(self, *values: Any) -> None:
         """One more."""
@@ -252,23 +251,18 @@ class Exchange:
     def several(self, at: int, count: int) -> list[int]:
         """So many numbers; 0 for those that nobody has written."""
         data = b""
-        with contextlib.suppress(OSError):
-            handle = opened(self.path, os.O_RDONLY)
-            try:
-                data = os.pread(handle, SIZE * count, at)
-            finally:
-                os.close(handle)
+        with contextlib.suppress(OSError), open(opened(self.path, os.O_RDONLY), "rb") as file:
+            data = os.pread(file.fileno(), SIZE * count, at)
         data = data.ljust(SIZE * count, b"\0")
-        return [int.from_bytes(data[one:one + SIZE], "big") for one in range(0, len(data), SIZE)]
+        return [int.from_bytes(data[place:place + SIZE], "big")
+                for place in range(0, len(data), SIZE)]
 
     def put(self, at: int, *values: int) -> None:
         """Writes numbers, all at once."""
-        with contextlib.suppress(OSError):
-            handle = opened(self.path, os.O_WRONLY | os.O_CREAT)
-            try:
-                os.pwrite(handle, b"".join(one.to_bytes(SIZE, "big") for one in values), at)
-            finally:
-                os.close(handle)
+        data = b"".join(value.to_bytes(SIZE, "big") for value in values)
+        with contextlib.suppress(OSError), open(opened(
+                self.path, os.O_WRONLY | os.O_CREAT), "wb", buffering=0) as file:
+            os.pwrite(file.fileno(), data, at)
 
 
 def is_number(value: object) -> bool:
