@@ -137,25 +137,41 @@ class Moments(Case):
 
     def test_of_any_process(self) -> None:
         """Those that record, hear, judge and check are ended, stopped for a while, or get no more
-        memory: what was not sent to nobody is judged as without that, however often."""
+        memory, before the last result of a day: what was not sent to nobody is judged as without
+        that, however often."""
         self.must("it ends", self.judge_file("whole"))
-        whole = self.results("whole")
-        call, moments = None, 200 if self.bench.is_timed else 12
-        while moments:
-            if call is None or call.process.poll() is not None:
-                call = self.begun("any")
+        whole = {name: one["line"] for name, one in self.results("whole").items()}
+        moments, days = 200 if self.bench.is_timed else 12, list[int]()
+        while sum(days) < moments:
+            out = f"any {len(days)}"
+            days.append(self.disturb_day(out, moments - sum(days)))
+            found = {name: one["line"] for name, one in self.results(out).items()}
+            self.must(out, found == whole, self.read(f"{out}.log").decode())
+        if self.bench.is_timed:
+            print(f"{moments} moments before the last result of {len(days)} days of "
+                  f"{len(whole)} programmes: {days}")
+
+    def disturb_day(self, out: str, most: int) -> int:
+        """Judges a day that is disturbed so many times at most; how often before its last result.
+        """
+        call, count = self.begun(out), 0
+        while count < most and self.is_open(out):
+            if call.process.poll() is not None:
+                call = self.begun(out)
             family = [*family_of(call.process.pid)][1:]
             self.disturb(self.chance.choice(family or [call.process.pid]))
-            moments -= 1
+            count += self.is_open(out)
             time.sleep(self.chance.uniform(0, 0.3))
-        call = call or self.begun("any")
         for _ in range(9):
             if call.process.wait(SECONDS) == 0:
                 break
-            call = self.begun("any")
-        found = self.results("any")
-        self.must("any", {name: one["line"] for name, one in found.items()} == {
-            name: one["line"] for name, one in whole.items()}, self.read("any.log").decode())
+            call = self.begun(out)
+        return count
+
+    def is_open(self, out: str) -> bool:
+        """Whether a programme has no result yet that stays."""
+        found = self.results(out)
+        return len(found) < len(self.names) or any(one.get("open") for one in found.values())
 
     def begun(self, out: str) -> Running:
         """A call that judges the file, once nobody records there any more."""
