@@ -157,7 +157,7 @@ class Kept(Programmes):
         """Another list or another folder of results begins without the programmes of the day
         before; what was over then is over."""
         spool = self.path("spool")
-        first = self.sent("one", "two", spool=spool, out=self.path("out"))
+        first = self.sent("two", "one", spool=spool, out=self.path("out"))
         for out, names in (("tuesday", ["one", "three"]), ("wednesday", ["one"])):
             other = Told(self, self.listed(*names), self.path(out), spool=spool)
             self.must(f"{out}: all are open", [one.name for one in other.queue.waiting]
