@@ -2,6 +2,7 @@
 """
 from __future__ import annotations
 
+import argparse
 import contextlib
 import os
 import re
@@ -13,7 +14,10 @@ from typing import Callable, Iterator, NamedTuple, Sequence
 
 from developing.pes import pts_bytes
 from developing.stl import boxed, gsi_block, subtitle_blocks
+from subtitles.common.command_line import Words
 from subtitles.common.times import CLOCK, FRAMES_A_SECOND, TICKS
+from subtitles.request.lines import read_options
+from subtitles.request.request import add_options
 from .bench import SECONDS, Case, loaded, packets, tool_path
 
 SECOND = TICKS * FRAMES_A_SECOND
@@ -23,23 +27,31 @@ ACCEPTED = f"accepted 276 frames 12 transmissions{FITTED}"
 # With the last blank sending before it.
 WITH_BLANK = f"accepted 326 frames 13 transmissions{FITTED}"
 LASTS = 12  # seconds of a programme of four subtitles
+FIRST = 1_000_000  # the frame of a programme's first subtitle
+SHOWN, EACH = 50, 75  # frames of a subtitle, and from one to the next
 THREE = [f"one  {ACCEPTED}",
          "lost  not judged: not seen: two, which is behind it in the list, is sent",
          f"two  {WITH_BLANK}", f"three  {WITH_BLANK}"]  # what is said of those
 
 
-def make_subtitles(case: Case, name: str, first: int, words: str) -> str:
-    """A subtitle file with a subtitle for each word, from the frame `first` on."""
-    texts = words.split()
-    blocks = b"".join(subtitle_blocks(number, first + 75 * number, first + 75 * number + 50, 20, 2,
-                                      boxed(text.encode())) for number, text in enumerate(texts))
+def defaults(*words: str) -> argparse.Namespace:
+    """The options of a call that has these."""
+    parser = Words("")
+    add_options(parser)
+    return read_options(parser, words, {}, {})
+
+
+def make_subtitles(case: Case, name: str, first: int, texts: Sequence[str]) -> str:
+    """A subtitle file with a subtitle for each text, from the frame `first` on."""
+    blocks = [subtitle_blocks(number, first + EACH * number, first + EACH * number + SHOWN, 20, 2,
+                              boxed(text.encode())) for number, text in enumerate(texts)]
     return case.write(f"{name}.stl", gsi_block(name.encode(), len(texts), len(texts), first)
-                      + blocks)
+                      + b"".join(blocks))
 
 
 def make_programme(case: Case, name: str, first: int, words: str, pts: int) -> bytes:
     """The same, and its transmission, which begins at a PTS."""
-    stl = make_subtitles(case, name, first, words)
+    stl = make_subtitles(case, name, first, words.split())
     origin = (pts - TICKS * first) % CLOCK
     case.schedule(stl, f"{name}.pes", "--origin", str(origin), "--every", "25")
     return case.read(f"{name}.pes")
@@ -63,7 +75,7 @@ def three(case: Case, starts: Sequence[int], end: int, missing: int = 0) -> list
         made = make_programme(case, name, first, words, (BEGIN + SECOND * start) % CLOCK)
         begin = start + LASTS + missing * (name == "two")
         found += [made, blank(made, BEGIN + SECOND * begin, following - begin - 1)]
-    make_subtitles(case, "lost", 200_000, "Never was sent here")
+    make_subtitles(case, "lost", 200_000, ["Never", "was", "sent", "here"])
     case.write("list", b"one.stl\nlost.stl\ntwo.stl # at night\n\nthree.stl --every 50\n")
     return found
 

@@ -14,16 +14,15 @@ from subtitles.cli.channel.hearing import Heard, Hearing
 from subtitles.cli.channel.recorder import Begin
 from subtitles.cli.channel.records import Due, Judged, Outcome, Read
 from subtitles.cli.channel.results import PASSING, Results
-from subtitles.common.times import CLOCK, FRAMES_A_SECOND, TICKS
+from subtitles.common.times import CLOCK, TICKS
 from subtitles.formats.teletext import Page
 from subtitles.results.objects import found_at, left_by_call, put_object
 from .bench import Case
+from .channels import EACH, FIRST, SECOND, SHOWN, defaults, make_subtitles
 from .results import result
-from .test_channel_tables import EACH, FIRST, LASTS, defaults, programme
 
-SECOND = TICKS * FRAMES_A_SECOND
 TEXTS = ["Alpha", "Beta", "Gamma", "Delta"]
-LAST = EACH * (len(TEXTS) - 1) + LASTS  # frames from a programme's first TCI to its last TCO
+LAST = EACH * (len(TEXTS) - 1) + SHOWN  # frames from a programme's first TCI to its last TCO
 CONTROL = "08080810"
 BEGIN = 900_000  # the PTS of a first TCI
 
@@ -56,7 +55,7 @@ class Lines:
         """A programme from a PTS on, then a header each second up to some seconds behind it."""
         end = 0
         for number, text in enumerate(texts):
-            for frame, shown in ((EACH * number, text), (EACH * number + LASTS, "")):
+            for frame, shown in ((EACH * number, text), (EACH * number + SHOWN, "")):
                 end = frame
                 yield self.pes(begin + TICKS * frame, "heco" if shown else "hecb")
                 yield self.rows(shown)
@@ -161,7 +160,7 @@ def results_in(case: Case, folder: str, out: str) -> Results:
 
 def files_of(case: Case, *names: str) -> dict[str, str]:
     """Subtitle files of four subtitles each."""
-    return {name: programme(case, f"{name}.stl", FIRST, texts_of(name)) for name in names}
+    return {name: make_subtitles(case, name, FIRST, texts_of(name)) for name in names}
 
 
 def texts_of(name: str) -> list[str]:

@@ -22,7 +22,7 @@ FOLDER = os.path.dirname(os.path.realpath(__file__))
 PATTERN = "test_*.py"
 # What takes long is begun first, so that none of it is left alone in the end.
 LONG = ("test_hints", "test_channel_moments", "test_channel_streams", "test_channel_feeds",
-        "test_channel_days", "test_channel_at_random", "test_at_random", "test_installed",
+        "test_channel_folders", "test_channel_lists", "test_at_random", "test_installed",
         "test_clones", "test_proving", "test_gate", "test_evidence", "test_hostile")
 Error = Union[Tuple[Type[BaseException], BaseException, TracebackType], Tuple[None, None, None]]
 Several = Sequence[unittest.TestCase]

@@ -7,7 +7,7 @@ import contextlib
 import os
 from typing import Iterable
 
-from developing.pes import MARK, packet, pes_packet
+from developing.pes import packet, pes_packet
 from developing.stl import gsi_block
 from subtitles.cli.channel.feed import ANEW, BACK, GAP, MINUTE, clock_times, jump_of
 from subtitles.cli.channel.hearing import Heard, Hearing

@@ -1,11 +1,11 @@
-"""What of a channel stays: the record of each programme, and the folder in which it stands."""
+"""What of a channel stays: the record of each programme, whenever a judge ends."""
 from __future__ import annotations
 
+import contextlib
 import json
 import os
 import shutil
 import signal
-import subprocess
 import time
 from typing import Any, Callable
 from unittest import mock
@@ -13,17 +13,15 @@ from unittest import mock
 from subtitles.cli.channel import machine, records
 from subtitles.cli.channel.channel import BEFORE_IT
 from subtitles.cli.channel.records import Due, Judged, Read, Records, Tries
-from subtitles.cli.channel.results import PASSING
-from subtitles.cli.channel.spool import MARK, path_of
+from subtitles.cli.channel.results import PASSING, called
+from subtitles.cli.channel.spool import Journal, claim, path_of
 from subtitles.common.files import Inputs
-from subtitles.common.command_line import Stop
-from subtitles.cli.channel.spool import claim
+from subtitles.common.times import CLOCK, TICKS
 from subtitles.results.objects import found, unjudged
 from subtitles.results.schema import ASKED, FORMAT
-from .bench import Case, example
-from .channels import Running, family_of, until
-from .listings import (
-    BEGIN, LAST, SECOND, Judging, Lines, Programmes, Told, results_in, texts_of)
+from .bench import SECONDS
+from .channels import FIRST
+from .listings import BEGIN, LAST, SECOND, Judging, Lines, Programmes, Told, results_in, texts_of
 from .parts import asked_for
 from .results import result
 
@@ -81,8 +79,8 @@ class Again(Programmes):
         self.must("two", self.names()[-1] == "two" and channel.results.verdicts == ["accepted"])
         again = Told(self, self.listed("one", "two", "three"), out, spool=spool)
         again.results.judge_due()
-        self.must("one", self.names() == ["one"] and again.results.verdicts == ["accepted", "accepted"]
-                  and Judging.made[0].words.origin is not None, again.said)
+        self.must("one", self.names() == ["one"] and
+                  again.results.verdicts == ["accepted", "accepted"] and Judging.made[0].words.origin is not None, again.said)
         self.must("its time", again.queue.ended == 60 * SECOND + TICKS_OF_ALL, again.queue.ended)
 
     def test_at_the_end(self) -> None:
@@ -105,6 +103,19 @@ class Again(Programmes):
             known = json.loads(self.read(f"{out}/one.json"))
             self.must(verdict, known["verdict"] == verdict and known.get("open", False) ==
                       (turn == 9) and count[0] == min(turn, 4), (known, count))
+
+    def test_how_a_judging_ends(self) -> None:
+        """With its status, below 0 where a signal ended it after its last word; what takes too long
+        is ended."""
+        def killed() -> int:
+            os.kill(os.getpid(), signal.SIGKILL)
+            return 0
+
+        for does, wanted in ((lambda: 0, 0), (lambda: 7, 7), (killed, -signal.SIGKILL)):
+            status, _ = called(does, SECONDS)
+            self.must(f"{wanted}", status == wanted, status)
+        with self.assertRaises(TimeoutError):
+            called(lambda: time.sleep(SECONDS) or 0, 0.01)
 
     def test_segments_that_go(self) -> None:
         """Then it is not judged, for the reason for which it was not; until then they stay."""
@@ -270,186 +281,85 @@ class Kept(Programmes):
             os.unlink(self.path("spool/000000001.done.damaged"))
 
 
-class Own(Case):
-    """A folder that is the channel's own."""
-
-    def claimed(self, make: Callable[[str], object], *inputs: str) -> str:
-        """Why a folder is refused in which something stands; nothing of that is changed."""
-        folder = self.path("spool")
-        shutil.rmtree(folder, ignore_errors=True)
-        os.mkdir(folder)
-        make(folder)
-        before = self.state(folder)
-        try:
-            claim(folder, Inputs(*inputs))
-        except Stop as reason:
-            self.must("as it was", self.state(folder) == before)
-            return str(reason).removeprefix(folder)
-        return ""
-
-    def state(self, folder: str) -> dict[str, object]:
-        """All that stands in a folder."""
-        return {path: os.lstat(os.path.join(folder, path)).st_mtime_ns
-                for top, folders, files in os.walk(folder) for path in (
-                    os.path.relpath(os.path.join(top, one), folder)
-                    for one in (*folders, *files))}
-
-    def put(self, name: str, data: bytes = b"x") -> Callable[[str], object]:
-        def make(folder: str) -> None:
-            os.makedirs(os.path.dirname(os.path.join(folder, name)), exist_ok=True)
-            with open(os.path.join(folder, name), "wb") as file:
-                file.write(data)
-        return make
-
-    def test_what_stands_in_it(self) -> None:
-        """Nothing, what a channel made, and what version 1.9 made, by its form: all else is
-        refused, by name."""
-        def all_of(*several: Callable[[str], object]) -> Callable[[str], None]:
-            def make(folder: str) -> None:
-                for one in several:
-                    one(folder)
-            return make
-
-        old = all_of(self.put("state", bytes(48)), self.put("journal"), self.put("list"),
-                     self.put("done/one/one.json"), self.put("done/one/one.html"),
-                     self.put("work-0123456789abcdef/a"), self.put("000000001.seg"))
-        own = self.put(MARK, b"")
-        rows: list[tuple[str, Callable[[str], object], str]] = [
-            ("nothing", lambda _: None, ""), ("locks", self.put(".lock", b""), ""),
-            ("own", all_of(own, self.put("000000007.done"), self.put("000000007.files/a"),
-                           self.put("list.damaged")), ""),
-            ("of 1.9", old, ""), ("of 1.9 and more", all_of(old, self.put("notes")), "notes"),
-            ("LIST", self.put("list"), "list"), ("a file", all_of(own, self.put("a.stl")), "a.stl"),
-            ("done", self.put("done/monday/notes"), "done"),
-            ("done beside", all_of(old, self.put("done/monday/notes")), "done"),
-            ("work", self.put("work-mine/a"), "work-mine"),
-            ("a folder", all_of(own, self.put("000000001.seg/a")), "000000001.seg"),
-            ("a link", all_of(own, lambda folder: os.symlink("x", f"{folder}/state")), "state"),
-            ("a pipe", all_of(own, lambda folder: os.mkfifo(f"{folder}/index")), "index")]
-        for name, make, refused in rows:
-            why = self.claimed(make)
-            wanted = refused and f" holds {refused}, which no channel made: move that away, or " \
-                "give another folder by --spool"
-            self.must(name, why == wanted, why)
-        self.must("an input", "is an input too" in self.claimed(
-            all_of(own, self.put("list")), self.path("spool/list")))
-
-    def test_of_the_call_itself(self) -> None:
-        """LIST, severity, STL and FEED under the name channel.json, and one of somebody's own."""
-        self.write("one.stl", self.read_example("story.stl"))
-        for name, words, lines in (
-                ("LIST", ["--channel", "out/channel.json", example("story.pes")], b"one.stl\n"),
-                ("severity", ["--channel", "list", example("story.pes"), "--severity",
-                              "out/channel.json"], b"72 error\n"),
-                ("FEED", ["--channel", "list", "out/channel.json"], self.read_example("story.pes")),
-                ("STL", ["--channel", "of", example("story.pes")], self.read_example("story.stl")),
-                ("his own", ["--channel", "list", example("story.pes")], b'{"a": 1}')):
-            shutil.rmtree(self.path("out"), ignore_errors=True)
-            os.mkdir(self.path("out"))
-            self.write("list", b"one.stl\n")
-            self.write("of", b"out/channel.json\n")
-            self.write("out/channel.json", lines)
-            done = self.tool("qc", *words, "-o", "out", "-p", self.bench.program)
-            self.must(name, done.status == 2 and self.read("out/channel.json") == lines and
-                      "channel.json is" in done.told[-1], done)
-
-    def read_example(self, name: str) -> bytes:
-        with open(example(name), "rb") as file:
-            return file.read()
-
-    def test_what_stands_in_the_way(self) -> None:
-        """Of a result or a subtitle file: it ends no channel, and is no programme's end but its
-        own."""
-        kinds: dict[str, Callable[[str], object]] = {
-            "link": lambda path: os.symlink("/etc/hostname", path), "folder": os.mkdir,
-            "pipe": os.mkfifo, "large": lambda path: os.truncate(
-                os.open(path, os.O_CREAT | os.O_WRONLY), 200 << 20)}
-        story = example("story.stl")
-        for name, make in kinds.items():
-            os.mkdir(self.path(name))
-            make(self.path(f"{name}/story.json"))
-            lines = [story]
-            if name in ("pipe", "link"):
-                make(self.path(f"{name}.stl"))
-                lines.append(self.path(f"{name}.stl"))
-            self.write("list", "".join(f"{one}\n" for one in lines).encode())
-            done = self.tool("qc", "--channel", "list", example("story.pes"), "-o", name, "-p",
-                             self.bench.program)
-            out = done.out.decode()
-            self.must(name, "story  accepted 226 frames" in out and "Traceback" not in out and (
-                name != "pipe" or "pipe  not judged: " in out and "is a pipe" in out), done)
-            if name == "link":
-                self.must("its own", json.loads(self.read("link/story.json"))["verdict"] ==
-                          "accepted" and not os.path.islink(self.path("link/story.json")))
-
-    def test_two_channels(self) -> None:
-        """One folder of results is that of one."""
-        self.write("list", b"none.stl\n")
-        call = Running(self, "--channel", "list", "-", "-o", "out", "-p", self.bench.program,
-                       stdin=subprocess.PIPE)
-        self.must("it has begun", call.says("none  not judged"), call.lines())
-        done = self.tool("qc", "--channel", "list", example("story.pes"), "-o", "out", "--spool",
-                         "other", "-p", self.bench.program)
-        self.must("refused", done.status == 2 and done.told == [
-            "qc: another call is judging into out"], done)
-        call.end(signal.SIGTERM)
+STARTS = {"one": BEGIN, "two": BEGIN + 60 * SECOND, "one~2": BEGIN + 120 * SECOND}
+# The calls by which something is written, and how many of them there are at least.
+STEPS: list[tuple[Any, str]] = [
+    (os, "mkdir"), (os, "rename"), (os, "replace"), (os, "unlink"), (shutil, "rmtree"),
+    (os, "fsync"), (os, "pwrite"), (Journal, "add"), (Records, "put_due"), (machine, "failure_of")]
+LEAST = 30
 
 
-class Killed(Case):
-    """Processes that somebody ends, as where memory is short."""
+class Crash(BaseException):
+    """Stands for a signal that nobody can catch."""
 
-    def test_of_a_judging(self) -> None:
-        """Those that judge, and the one that hears: each programme has its verdict."""
-        self.write("list", f"{example('story.stl')}\n".encode())
-        stalls = self.write_program("stalls", "#!/bin/sh\n"
-                                    f"case $1 in $(cat {self.path('which')})) test -e "
-                                    f"{self.path('killed')} || {{ touch {self.path('killed')}; "
-                                    f"kill -9 $$; }} ;; esac\nexec '{self.bench.program}' \"$@\"\n")
-        for which in ("check", "survey", "show", "held"):
-            self.write("which", which.encode())
-            if os.path.exists(self.path("killed")):
-                os.unlink(self.path("killed"))
-            done = self.tool("qc", "--channel", "list", example("story.pes"), "-o", which, "-p",
-                             stalls)
-            self.must(which, done.status == 0 and b"story  accepted 226 frames" in done.out, done)
 
-    def test_of_the_process_itself(self) -> None:
-        """The one that judges a programme: it is judged once more."""
-        self.write("list", f"{example('story.stl')}\n".encode())
-        slow = self.program_but("check*", f"test -e {self.path('on')} || sleep 600")
-        call = Running(self, "--channel", "list", example("story.pes"), "-o", "out", "-p", slow)
-        self.must("it is judged", until(lambda: len([*family_of(call.process.pid)]) > 3))
-        time.sleep(0.1)
-        until(lambda: any("check" in self.words_of(pid) for pid in family_of(call.process.pid)))
-        children = [pid for pid in family_of(call.process.pid)
-                    if self.parent_of(pid) == call.process.pid and self.is_forked(pid)]
-        self.write("on", b"")
-        for pid in children[-1:]:
-            os.killpg(pid, signal.SIGKILL)
-        self.must("again", call.end() == 0 and call.says("story  accepted 226 frames") and
-                  call.says("it was not judged, and is tried again: it did not end by itself"),
-                  call.lines())
+class Crashes(Programmes):
+    """Three programmes, the third of which is the first one again."""
 
-    @staticmethod
-    def words_of(pid: int) -> str:
-        try:
-            with open(f"/proc/{pid}/cmdline", encoding="utf-8", errors="replace") as file:
-                return file.read()
-        except OSError:
-            return ""
+    def test_each_step(self) -> None:
+        """Before each and after it: the results are those of a day without that; one that was there
+        is as it was, and somebody is told of each, the last one twice at most."""
+        count = at = 0
+        while count >= at:
+            at += 1
+            for is_after in (False, True):
+                count = self.crash(at, is_after)
+        self.must("steps", at > LEAST, at)
 
-    @staticmethod
-    def parent_of(pid: int) -> int:
-        try:
-            with open(f"/proc/{pid}/stat", encoding="utf-8", errors="replace") as file:
-                return int(file.read().rpartition(") ")[2].split()[1])
-        except OSError:
-            return 0
+    def crash(self, at: int, is_after: bool) -> int:
+        """Ends a day at a step, and does the rest in another one; how many steps there were."""
+        name = f"{at} {is_after}"
+        out, steps, told = self.path(f"out {name}"), [0], list[str]()
+        os.makedirs(f"{out}.feed")
 
-    @staticmethod
-    def is_forked(pid: int) -> bool:
-        """Whether a process judges: its standard input is nothing, and it has children."""
-        try:
-            return os.readlink(f"/proc/{pid}/fd/0") == "/dev/null" and len([*family_of(pid)]) > 1
-        except OSError:
-            return False
+        def crashing(real: Callable[..., Any]) -> Callable[..., Any]:
+            def call(*words: Any, **more: Any) -> Any:
+                steps[0] += 1
+                if steps[0] == at and not is_after:
+                    raise Crash
+                done = real(*words, **more)
+                if steps[0] == at:
+                    raise Crash
+                return done
+            return call
+
+        def note(command: str, path: str, verdict: str) -> None:
+            told.append(os.path.basename(path))
+
+        with mock.patch.object(machine, "failure_of", note):
+            with contextlib.ExitStack() as stack, contextlib.suppress(Crash):
+                for owner, step in STEPS:
+                    stack.enter_context(mock.patch.object(owner, step, crashing(
+                        getattr(owner, step))))
+                self.day(out)
+            before = self.results(out)
+            self.day(out)
+        known = self.results(out)
+        self.must(name, {one: json.loads(text)["asked"]["origin"] for one, text in known.items()}
+                  == {f"{one}.json": (begin - TICKS * FIRST) % CLOCK
+                      for one, begin in STARTS.items()}, known)
+        self.must(f"{name}: unchanged", before.items() <= known.items(), before)
+        self.must(f"{name}: told", [*dict.fromkeys(told)] == [f"{one}.json" for one in STARTS]
+                  and len(told) <= 4, told)
+        shutil.rmtree(out)
+        shutil.rmtree(f"{out}.feed")
+        return steps[0]
+
+    def day(self, out: str) -> None:
+        """A channel that hears all from the beginning on, whatever was heard before."""
+        channel = Told(self, self.listed("one", "two", "one"), out, spool=f"{out}.feed",
+                       command="told")
+        channel.hearing.known = None
+        channel.hearing.by_page.clear()
+        channel.hearing.turn_to([channel.words.page])
+        lines = Lines()
+        for name, begin in STARTS.items():
+            channel.give(lines.sent(texts_of(name.partition("~")[0]), begin, 20))
+        channel.results.judge_due()
+        channel.results.publish()
+
+    def results(self, out: str) -> dict[str, bytes]:
+        """The results that are there."""
+        names = os.listdir(out) if os.path.isdir(out) else []
+        return {name: self.read(os.path.join(out, name)) for name in sorted(names)
+                if name.endswith(".json") and name != "channel.json"}

@@ -17,7 +17,7 @@ from subtitles.common.times import CLOCK, TICKS
 from .listings import BEGIN, LAST, SECOND, Judging, Lines, Pages, Programmes, Told, texts_of
 from .results import FAULT, result
 from .test_channel_heard import OTHER
-from .test_channel_tables import FIRST, programme
+from .channels import FIRST, make_subtitles
 
 
 class Steps(Programmes):
@@ -46,8 +46,8 @@ class Steps(Programmes):
                     (words.here is None) == (out is None) == (words.json is not None), words)
                 self.must("said", channel.said == [f"one  accepted 5 frames; {FITTED_SHORT}"],
                           channel.said)
-                self.must("over", channel.running is None and channel.results.verdicts == ["accepted"]
-                          and list(channel.results.rows) == ["one"] and
+                self.must("over", channel.running is None and
+                          channel.results.verdicts == ["accepted"] and list(channel.results.rows) == ["one"] and
                           os.path.exists(self.path("out/index.html")) == (out is not None))
                 self.must("waits since then", channel.queue.since == channel.queue.ended ==
                           TICKS * LAST, channel.queue.since)
@@ -84,8 +84,9 @@ class Steps(Programmes):
                   ["one", "two", "three", "four", "five"], channel.said)
         self.must("why", channel.said[1].endswith(
             "not judged: not seen: three, which is behind it in the list, is sent"), channel.said)
-        self.must("verdicts", channel.results.verdicts == ["accepted", "not judged", "accepted",
-                                                   "not judged", "accepted"], channel.results.verdicts)
+        verdicts = channel.results.verdicts
+        self.must("verdicts", verdicts == ["accepted", "not judged", "accepted", "not judged",
+                                           "accepted"], verdicts)
         # What is waited for at the same time is waited for anew, and its file may come meanwhile.
         for late in ("two", "three"):
             os.rename(self.files[late], self.path("away"))
@@ -220,7 +221,7 @@ class Steps(Programmes):
     def test_next_one_after_a_break_off(self) -> None:
         """It may begin before the planned end of the one that broke off."""
         texts = [f"long {number}" for number in range(12)]
-        path = programme(self, "long.stl", FIRST, texts)
+        path = make_subtitles(self, "long", FIRST, texts)
         channel, lines = Told(self, f"{path}\n" + self.listed("two")), Lines()
         channel.give([*lines.sent(texts, BEGIN)][:10])
         self.must("it is sent", channel.running is not None)
@@ -239,7 +240,7 @@ class Steps(Programmes):
 
     def test_at_midnight(self) -> None:
         """A first subtitle at 00:00:00:00 is one."""
-        path = programme(self, "midnight.stl", 0, texts_of("one"))
+        path = make_subtitles(self, "midnight", 0, texts_of("one"))
         self.must("first", Awaited(path, "english", 0, 10 ** 12).first == 0)
 
     def test_list_that_was_empty(self) -> None:

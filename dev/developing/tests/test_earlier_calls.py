@@ -27,7 +27,7 @@ from subtitles.results.objects import (
 from subtitles.results.schema import ASKED, FORMAT
 from .bench import Case, example_bytes
 from .parts import asked_for
-from .test_channel_tables import defaults
+from .channels import defaults
 from .results import FAULT, result
 from .test_many_pairs import row
 

@@ -20,7 +20,7 @@ from subtitles.results.objects import Row, row_of_object
 from .bench import Case
 from .parts import qc
 from .results import result
-from .test_channel_tables import defaults
+from .channels import defaults
 
 
 def row(name: str, verdict: str, line: str = "", hint: str = "", faults: int = 0) -> Row:

@@ -20,7 +20,7 @@ from subtitles.request.lines import request_of_line
 from subtitles.request.request import (
     ALONE, BATCH, CHANNEL, CHANNEL_LINE, COLLECT, LINE, MEASURE, MODES, Mode, PAIR, RECORDER, WATCH)
 from .bench import Case
-from .test_channel_tables import defaults
+from .channels import defaults
 
 CALLS: dict[Mode, list[str]] = {
     PAIR: ["a.stl", "a.ts"], ALONE: ["a.stl"], BATCH: ["--batch", "in"], WATCH: ["--watch", "in"],

@@ -33,7 +33,7 @@ options.OPTIONS = (*options.OPTIONS, options.Option(
 options.Request = dataclasses.make_dataclass("Request", [
     ("new_one", object, None), ("newer", bool, False)], bases=(options.Request,))
 from developing import pages
-from developing.tests.test_channel_tables import defaults
+from developing.tests.channels import defaults
 from developing.tests.parts import call_words
 from subtitles.cli.channel.schedule import Planned
 from subtitles.cli.main import parser_of

@@ -16,7 +16,7 @@ from subtitles.request.request import OPTIONS, Request
 from .bench import Case, example
 from .judged import judged
 from .parts import asked_for, call_words
-from .test_channel_tables import defaults
+from .channels import defaults
 
 STORY, RECORDING = example("story.stl"), example("recording.ts")
 MAY = ("--page, --every, --option, --complete, --no-complete, --pid, --allow-lost, --severity, "

@@ -14,7 +14,7 @@ from subtitles.judging.transmissions import subtitles_in
 from .bench import Case
 from .judged import Change, Judged, Sent, joined, judged, programme, sendings, shown_files
 from .parts import CLOSING, HEADER, row
-from .test_channel_tables import defaults
+from .channels import defaults
 
 MINUTE = 1500  # frames
 EARLIER, LATER = ("--to", "00:01:00:00"), ("--from", "00:01:00:00")

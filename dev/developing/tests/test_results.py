@@ -32,7 +32,7 @@ from .judged import judged
 from .listings import results_in
 from .parts import asked_for
 from .results import FAULT, result, schema as read_schema, second_reader, wrong_in
-from .test_channel_tables import defaults
+from .channels import defaults
 
 SEED, CHANGES = 20261128, 900
 RANDOM_CALLS = 5_000, 5_016  # numbers of calls that no table has

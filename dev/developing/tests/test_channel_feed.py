@@ -1,38 +1,22 @@
-"""What a channel is made of, in process: the changes of a page, the edges that are waited for."""
+"""The time of a channel's feed, and programmes that are waited for: by the changes of a page, or by
+their origin."""
 from __future__ import annotations
 
-import argparse
 from unittest import mock
 
-from developing.stl import boxed, gsi_block, subtitle_blocks
-from subtitles.cli.channel.feed import Awaited, BEFORE, Changes, NEAR, SECOND
-from subtitles.common.command_line import Stop, Words
-from subtitles.common.times import CLOCK, EARLY, TICKS
-from subtitles.request.lines import read_options
-from subtitles.request.request import add_options
+from developing.stl import gsi_block, subtitle_blocks
+from subtitles.cli.channel.feed import (
+    ANEW, BACK, BEFORE, NEAR, SECOND, Awaited, Changes, FeedClock, Timed)
+from subtitles.common.command_line import Stop
+from subtitles.common.times import CLOCK, EARLY, TICKS, ticks_between
 from .bench import Case
+from .channels import EACH, FIRST, SHOWN, make_subtitles
 
-FIRST = 1_000_000  # the frame of a programme's first subtitle
-LASTS, EACH = 50, 75  # frames of a subtitle, and from one to the next
 FOUR = ["Alpha", "Beta", "Gamma", "Delta"]
 AGES = 10 ** 15  # ticks
 
 
-def defaults(*words: str) -> argparse.Namespace:
-    """The options of a call that has these."""
-    parser = Words("")
-    add_options(parser)
-    return read_options(parser, words, {}, {})
-
-
-def programme(case: Case, name: str, first: int, texts: list[str]) -> str:
-    """A subtitle file with a subtitle for each text."""
-    blocks = [subtitle_blocks(number, first + EACH * number, first + EACH * number + LASTS, 20,
-                              2, boxed(text.encode())) for number, text in enumerate(texts)]
-    return case.write(name, gsi_block(b"One", len(texts), len(texts), first) + b"".join(blocks))
-
-
-class Tables(Case):
+class Changed(Case):
     """What a channel is made of."""
 
     def changes(self, texts: list[str], begin: int, late: int = 0) -> Changes:
@@ -40,13 +24,13 @@ class Tables(Case):
         found = Changes()
         for number, text in enumerate(texts):
             found.add(begin + TICKS * EACH * number + late, text.encode())
-            found.add(begin + TICKS * (EACH * number + LASTS) + late, b"")
+            found.add(begin + TICKS * (EACH * number + SHOWN) + late, b"")
         return found
 
     def begin(self, texts: list[str], changes: Changes, since: int = 0, until: int = AGES,
               within: int = 0) -> int | None:
         """When a programme of some texts has its first TCI, by changes, where that is known."""
-        stl = programme(self, "some.stl", FIRST, texts)
+        stl = make_subtitles(self, "some", FIRST, texts)
         found = Awaited(stl, "english", since, until, within).midnight(changes)
         return None if found is None else found + TICKS * FIRST
 
@@ -65,7 +49,7 @@ class Tables(Case):
         """Not before it waits, nor after; of another programme, or in another order, none; where
         each of those that are heard stands in the file before, the second ones."""
         begin = 100 * SECOND
-        last, fifth = begin + TICKS * (EACH * 3 + LASTS), begin + TICKS * 2 * EACH
+        last, fifth = begin + TICKS * (EACH * 3 + SHOWN), begin + TICKS * 2 * EACH
         for name, since, until, own, is_found in (
                 ("all", 0, last, FOUR, True), ("since then", begin, last, FOUR, True),
                 ("since the second", begin + 1, last, FOUR, True),
@@ -87,7 +71,7 @@ class Tables(Case):
     def test_waits_in_steps(self) -> None:
         """Looked at after each change, as a feed brings them, it is found as early."""
         texts = ["Alpha", "Beta", "Alpha", "Beta", "Gamma", "Beta"]
-        stl, begin = programme(self, "one.stl", FIRST, texts), 7 * SECOND
+        stl, begin = make_subtitles(self, "one", FIRST, texts), 7 * SECOND
         whole = self.changes(texts, begin)
         awaited, some, found = Awaited(stl, "english", 0, 3600 * SECOND), Changes(), list[int]()
         for number, (time, letters) in enumerate(zip(whole.times, whole.letters)):
@@ -166,3 +150,63 @@ class Tables(Case):
             changes.times[3] -= TICKS * within // 2
             found = self.begin(FOUR[:3], changes, within=within)
             self.must(f"within {within}, {late} late", (found is not None) == is_found, found)
+
+
+class FeedClocks(Case):
+    """The time of a feed."""
+
+    def test_time_of_a_feed(self) -> None:
+        """It goes on with PTS, also over their end, and stays where they go back a little."""
+        for shift in (0, CLOCK - 5 * TICKS):
+            clock, first = FeedClock(), 1000
+            for pts, now in ((0, 0), (10, 10), (4, 10), (7, 10), (12, 12), (12, 12),
+                             (12 - BACK, 12), (13, 13), (20 * TICKS, 20 * TICKS)):
+                clock.take((first + shift + pts) % CLOCK)
+                self.must(f"{shift}: {pts}", clock.now == now, clock.now)
+                self.must(f"{shift}: its PTS", clock.pts_at(0) == (first + shift) % CLOCK
+                          and clock.pts_at(now) == (first + shift + now) % CLOCK, clock)
+
+    def test_clock_of_an_encoder_that_begins_anew(self) -> None:
+        for jump in (-BACK - 1, ANEW + 1, CLOCK // 2 - 5):
+            clock = FeedClock()
+            for pts in (100, 200, 150):
+                clock.take(pts)
+            clock.take((150 + jump) % CLOCK)
+            self.must(f"{jump}", clock.now == 100 and clock.pts_at(100) == (150 + jump) % CLOCK
+                      and clock.behind == 0, clock.now)
+
+    def test_first_time_of_a_pts(self) -> None:
+        """From a time on, whatever that is and wherever PTS begin again."""
+        clock = FeedClock()
+        self.must("before any", clock.next_at(5, 0) is None)
+        for begin in (0, 77, CLOCK - 1000):
+            clock = FeedClock()
+            for ticks in range(0, 5000, 500):
+                clock.take((begin + ticks) % CLOCK)
+            for since in (0, 1, 4000, 4500, 9000):
+                for later in (0, 1, 3000, CLOCK - 1):
+                    pts = (begin + since + later) % CLOCK
+                    found = clock.next_at(pts, since)
+                    self.must(f"{begin} {since} {later}", found == since + later, found)
+
+    def test_programme_by_its_origin(self) -> None:
+        """It is there at its first TCI, unless its last TCO was over before; then a day of PTS
+        later."""
+        texts = ["Alpha", "Beta", "Gamma", "Delta"]
+        stl = make_subtitles(self, "one", FIRST, texts)
+        length = TICKS * (EACH * 3 + SHOWN)
+        for begin in (0, CLOCK - length // 2, CLOCK - 10 * SECOND):
+            origin = (begin + 60 * SECOND - TICKS * FIRST) % CLOCK  # TCI a minute after the start
+            for since, ticks, wanted in (
+                    (0, 60 * SECOND - 1, None), (0, 60 * SECOND, 60 * SECOND),
+                    (0, 61 * SECOND, 60 * SECOND), (60 * SECOND + length - 1, 99 * SECOND,
+                                                    60 * SECOND),
+                    (60 * SECOND + length, 99 * SECOND, None)):
+                clock = FeedClock()
+                for now in (*range(0, ticks, 9 * SECOND), ticks):
+                    clock.take((begin + now) % CLOCK)
+                found = Timed(stl, "english", origin, since).midnight(clock)
+                self.must(f"{begin} {since} {ticks}", found == (
+                    None if wanted is None else wanted - TICKS * FIRST), found)
+                if found is not None:
+                    self.must("its PTS", ticks_between(clock.pts_at(found), origin) == 0, found)
