@@ -73,11 +73,12 @@ class Late(Case):
 
     def test_table(self) -> None:
         """By the last samples how late PTS are, by the first ones how far they are ahead."""
-        for samples, late, ahead in (
-                ([], 0, 0), ([9], 0, 9), ([-9], 9, 0), ([-9, -30, 5, 7, 6], 30, 7),
-                ([-30, *[5] * MOST_LATE], 0, 5), ([*[5] * MOST_LATE, -30], 30, 5),
-                ([-30, *[5] * (MOST_LATE - 1)], 30, 5), ([*[5] * MOST_LATE, 7], 0, 5),
-                ([*[5] * (MOST_LATE - 1), 7], 0, 7)):
+        rows: list[tuple[list[int], int, int]] = [
+            ([], 0, 0), ([9], 0, 9), ([-9], 9, 0), ([-9, -30, 5, 7, 6], 30, 7),
+            ([-30, *[5] * MOST_LATE], 0, 5), ([*[5] * MOST_LATE, -30], 30, 5),
+            ([-30, *[5] * (MOST_LATE - 1)], 30, 5), ([*[5] * MOST_LATE, 7], 0, 5),
+            ([*[5] * (MOST_LATE - 1), 7], 0, 7)]
+        for samples, late, ahead in rows:
             packets = Packets(5, samples=[(at * SECOND, one) for at, one in enumerate(samples)])
             known = Survey()
             self.must(f"{samples}: no PCR", reach_of(known, packets) is None)
