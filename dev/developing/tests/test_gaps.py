@@ -85,5 +85,5 @@ class Late(Case):
             known.programmes = [ProgramMap(1, 0x200, {5: 6})]
             known.clocks[0x200] = 1000, 90_000
             self.must(f"{samples}", late_of(packets) == late)
-            self.must(f"{samples}: reach", reach_of(known, packets) == (1000 + ahead, 90_000 - late),
-                      reach_of(known, packets))
+            reach = 1000 + ahead, 90_000 - late
+            self.must(f"{samples}: reach", reach_of(known, packets) == reach)
