@@ -12,11 +12,11 @@ from subtitles.cli import single
 from subtitles.cli.channel.channel import Channel
 from subtitles.cli.channel.feed import Heard, Hearing
 from subtitles.cli.channel.recorder import Begin
-from subtitles.cli.channel.records import Read, Outcome
+from subtitles.cli.channel.records import Outcome, Read
 from subtitles.cli.channel.results import Judged, PASSING
 from subtitles.common.times import CLOCK, FRAMES_A_SECOND, TICKS
 from subtitles.formats.teletext import Page
-from subtitles.results.objects import found_at, left_by_call, put_object
+from subtitles.results.files import found_at, left_by_call, put_object
 from .bench import Case
 from .results import result
 from .test_channel_tables import EACH, FIRST, LASTS, defaults, programme

@@ -4,7 +4,7 @@ from __future__ import annotations
 import json
 
 from subtitles.cli.channel.channel import BEFORE_IT
-from subtitles.results.objects import found, unjudged
+from subtitles.results.files import found, unjudged
 from subtitles.results.schema import ASKED
 from .listings import BEGIN, SECOND, Judging, Lines, Programmes, Told, texts_of
 from .parts import asked_for

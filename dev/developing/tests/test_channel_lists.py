@@ -5,7 +5,7 @@ import os
 from unittest import mock
 
 from subtitles.cli.channel.schedule import MISSING, Planned, Programme, edits_of
-from subtitles.common.files import Line, lines_in
+from subtitles.request.lines import Line, lines_in
 from .bench import Case
 from .test_channel_tables import defaults
 

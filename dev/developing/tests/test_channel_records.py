@@ -14,11 +14,10 @@ from subtitles.cli.channel import results
 from subtitles.cli.channel.channel import BEFORE_IT
 from subtitles.cli.channel.records import Due, Read, Records
 from subtitles.cli.channel.results import Judged, PASSING, Tries
-from subtitles.cli.channel.spool import MARK, path_of
-from subtitles.common.files import Inputs
+from subtitles.cli.channel.spool import MARK, claim, path_of
 from subtitles.common.command_line import Stop
-from subtitles.cli.channel.spool import claim
-from subtitles.results.objects import found, unjudged
+from subtitles.common.files import Inputs
+from subtitles.results.files import found, unjudged
 from subtitles.results.schema import ASKED, FORMAT
 from .bench import Case, example
 from .channels import Running, family_of, until

@@ -12,18 +12,17 @@ from typing import Any, Iterator
 from unittest import mock
 
 from subtitles.cli import batch
-from subtitles.cli.batch import Item, Watch, refuse_folders
+from subtitles.cli.batch import Watch, refuse_folders
 from subtitles.cli.channel.listening import Stall
 from subtitles.cli.single import claimed
-from subtitles.common.command_line import Stop
+from subtitles.common.command_line import Lateness, Stop
 from subtitles.common.program import MadeWith, about_program
 from subtitles.request.commands import CommandWords
-from subtitles.request.request import Request
-from subtitles.request.lateness import Lateness
-from subtitles.request.profile import Profile
-from subtitles.results.objects import (
-    MOST_VALUES, Row, found, is_current, left_by_call, may_take, object_at,
-    objects_in, row_of_object, unjudged)
+from subtitles.request.lines import Item
+from subtitles.request.request import Profile, Request
+from subtitles.results.files import (
+    MOST_VALUES, Row, found, is_current, left_by_call, may_take, object_at, objects_in,
+    row_of_object, unjudged)
 from subtitles.results.schema import ASKED, FORMAT
 from .bench import Case, example, example_bytes
 from .parts import asked_for

@@ -10,23 +10,22 @@ import tempfile
 import time
 from typing import Any, Iterator
 
+from ...cli import collection, single
 from ...clock.start import FITTED_SHORT
-from ...common.command_line import (
-    Stop, Unanswered, counted, error_line, shown, tell)
+from ...common.command_line import Stop, Unanswered, counted, error_line, shown, tell
 from ...common.files import Inputs, temporary_folder
 from ...common.times import FRAMES_OF_A_DAY, TICKS, time_of
 from ...judging.status import NOT_JUDGED, of_all
 from ...request.commands import CommandWords, Progress
 from ...request.request import Request, Unclear
-from ...results.objects import ENDING, in_order, row_of_object, unjudged
-from .. import collection, single
+from ...results.files import ENDING, in_order, row_of_object, unjudged
+from ..channel import machine, results
 from ..single import locking, refuse_files_of_all
-from . import machine, results
 from .feed import Hearing, MINUTE, SECOND
 from .listening import Ending, Stall
 from .machine import Alarms, DISK, Feed, LOSS, Machine, RECORDER, SILENCE, lines_of
-from .records import Due, Outcome
 from .recorder import Begin, Recorded, Segments, say_dated
+from .records import Due, Outcome
 from .results import Judged, Results
 from .schedule import Arrival, ENDED, LOST, MARGIN, OnAir, Planned, Programme, Queue
 from .spool import ERROR, Exchange, RESTARTS, claim

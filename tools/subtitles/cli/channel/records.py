@@ -9,9 +9,9 @@ import shutil
 from typing import Any, Iterator, NamedTuple, Sequence
 
 from ...common.files import BEGIN
-from ...results.objects import ENDING, MOST_READ, Row, found_at, object_text, row_of_object
-from . import spool
-from .spool import RECORD, KeptRoom, WORK, are, is_number, numbers_in, opened, path_of, put_whole
+from ...results.files import ENDING, MOST_READ, Row, found_at, object_text, row_of_object
+from ..channel import spool
+from .spool import KeptRoom, RECORD, WORK, are, is_number, numbers_in, opened, path_of, put_whole
 
 # A record is a file that stays: its first line says what is known of the programme, and behind that
 # stands its JSON result, from which that in the folder of results is made. `told` is written in

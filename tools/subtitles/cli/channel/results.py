@@ -14,12 +14,12 @@ from typing import Any, Callable, NamedTuple, Sequence
 from ...common.command_line import Stop, counted, ended, error_line, tell
 from ...common.files import Inputs, NOTHING, result_file
 from ...judging.status import NOT_JUDGED
-from ...results.objects import (
+from ...results.files import (
     ENDING, Row, left_by_call, object_at, put_object, row_of_object, value_at)
 from ...results.schema import FORMAT, misfit
 from ..batch import Forked, ended_of, signals_held
 from ..single import refuse_file
-from .records import Read, Outcome, Records
+from .records import Outcome, Read, Records
 from .spool import Journal, OLD_FOLDER, are, opened, path_of
 
 # What came of a programme is judged by a process of its own, which makes one file of the segments.
