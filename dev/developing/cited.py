@@ -16,8 +16,8 @@ from .proved import parsed
 DOCUMENTS = {"docs/HEADLINE.md": "", "docs/ASSURANCE.md": "", "docs/CLAUSES.md": "",
              "docs/WRONG-PROGRAMS.md": "", "docs/DECISIONS.md": "", "docs/GLOSSARY.md": "",
              "docs/ARCHITECTURE.md": "|"}
-# A row of the table of what has to be read: what is read, how it is printed, and the counts.
-ROW = re.compile(r"^\| (.*) \| `tools/reading-list (\S+)` \| (\d+) \| (\d+) \| (\d+) \|$", re.M)
+# A row of the table of what has to be read: what is read, its name, and the counts.
+ROW = re.compile(r"^\| (.*) \| `(\S+)` \| (\d+) \| (\d+) \|$", re.M)
 # For these at most so many lines may have to be read, so that the law of a run can be.
 MOST_LINES = {"run_in_memory.headline": 450, "run_in_memory.acceptance": 800}
 # What README says of these: how many lines have to be read.
@@ -113,8 +113,7 @@ def rows_of_counts(top: str) -> Iterator[tuple[str, str]]:
         rows, library = list(ROW.finditer(file.read())), Library(top)
     for row in rows:
         found = counts(*library.reading(row[2]))
-        yield row[0], "| {} | `tools/reading-list {}` | {} | {} | {} |".format(
-            row[1], row[2], *found)
+        yield row[0], f"| {row[1]} | `{row[2]}` | {found[0]} | {found[1]} |"
 
 
 def counts_of_readme(top: str) -> Iterator[tuple[str, str]]:

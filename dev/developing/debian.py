@@ -7,10 +7,10 @@ import re
 import shutil
 import subprocess
 
-from subtitles.cli.installation import (
-    PAGES, copy, documents, files_below, install, link, sums_of, write)
 from subtitles.common.command_line import Stop
 from subtitles.common.files import naming
+from subtitles.common.program import (
+    PAGES, copy, documents, files_below, install, link, sums_of, write)
 
 NAME = "subttx"
 MACHINE = "amd64"

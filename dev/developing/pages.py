@@ -16,9 +16,8 @@ import sys
 import textwrap
 from typing import NamedTuple, Sequence
 
-from subtitles.cli.installation import COMPLETION, TOOLS
 from subtitles.common.command_line import INSTALLED, Stop
-from subtitles.common.program import TOP, read
+from subtitles.common.program import COMPLETION, TOOLS, TOP, read
 from subtitles.request import request
 from subtitles.results.schema import schema
 from .cited import rows_of_numbers

@@ -17,9 +17,8 @@ import os
 import subprocess
 from typing import NamedTuple
 
-from subtitles.cli.installation import copy, write
 from subtitles.common.command_line import Stop
-from subtitles.common.program import TOP, read
+from subtitles.common.program import TOP, copy, read, write
 
 OUT, DIST = os.path.join(TOP, "out"), os.path.join(TOP, "dist")
 NOTES = os.path.join(OUT, "lines")

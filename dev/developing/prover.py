@@ -12,9 +12,8 @@ import os
 import re
 import shutil
 
-from subtitles.cli.installation import write
 from subtitles.common.command_line import Stop
-from subtitles.common.program import read
+from subtitles.common.program import read, write
 from .crates import Lines, below
 from .proved import toolchain
 

@@ -23,7 +23,7 @@ from subtitles.judging.verdict import Verdict
 from subtitles.request.commands import CommandWords, Listener, Names
 from subtitles.request.lines import read_options
 from subtitles.request.request import request_of
-from subtitles.results.objects import found, object_of
+from subtitles.results.files import found, object_of
 from .bench import Case, packets
 from .scenario import send
 

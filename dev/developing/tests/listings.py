@@ -16,7 +16,7 @@ from subtitles.cli.channel.records import Due, Judged, Outcome, Read
 from subtitles.cli.channel.results import PASSING, Results
 from subtitles.common.times import CLOCK, TICKS
 from subtitles.formats.teletext import Page
-from subtitles.results.objects import found_at, left_by_call, put_object
+from subtitles.results.files import found_at, left_by_call, put_object
 from .bench import Case
 from .channels import EACH, FIRST, SECOND, SHOWN, defaults, make_subtitles
 from .results import result

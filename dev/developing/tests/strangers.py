@@ -23,7 +23,7 @@ from typing import NamedTuple
 from subtitles.cli.batch import Forked, ended_of
 from subtitles.cli.single import is_own
 from subtitles.common.program import TOP
-from subtitles.results.objects import object_at
+from subtitles.results.files import object_at
 from .bench import SECONDS
 from .parts import qc
 

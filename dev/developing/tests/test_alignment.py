@@ -1,12 +1,26 @@
-"""Pages that come again soon after they were erased: that is no change."""
+"""The edges of what is due; and pages that come again soon after they were erased: no change."""
 from __future__ import annotations
 
-from subtitles.clock.alignment import back_at
+from subtitles.clock.alignment import Shown, back_at, edges_of
 from subtitles.common.times import CLOCK, TICKS
 from subtitles.stream.survey import Change
 from .bench import Case
 
 TEXT, OTHER = ((20, b"text"),), ((20, b"other"),)
+
+
+class Edges(Case):
+    """Where another page is due than before."""
+
+    def test_table(self) -> None:
+        """Another look with the same letters is an edge, the same page once more is none."""
+        one = Shown(10, 20, (20, 2, b"one"), b"one")
+        for name, other, frames in (
+                ("a pause", one._replace(begin=25, end=30), [10, 20, 25, 30]),
+                ("the same once more", one._replace(begin=20, end=30), [10, 30]),
+                ("on another row", Shown(20, 30, (22, 2, b"one"), b"one"), [10, 20, 30]),
+                ("other letters", Shown(20, 30, (20, 2, b"two"), b"two"), [10, 20, 30])):
+            self.must(name, [edge.frame for edge in edges_of([one, other])] == frames)
 
 
 class Again(Case):

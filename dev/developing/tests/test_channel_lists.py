@@ -8,9 +8,9 @@ from unittest import mock
 
 from subtitles.cli.channel.channel import BEFORE_IT
 from subtitles.cli.channel.schedule import AT_ONCE, MISSING, Planned, Programme, edits_of
-from subtitles.common.files import Line, lines_in
+from subtitles.request.lines import Line, lines_in
 from subtitles.common.times import TICKS
-from subtitles.results.objects import found, unjudged
+from subtitles.results.files import found, unjudged
 from subtitles.results.schema import ASKED
 from .bench import Case
 from .channels import defaults

@@ -17,7 +17,7 @@ from subtitles.cli.channel.results import PASSING, called
 from subtitles.cli.channel.spool import Journal, claim, path_of
 from subtitles.common.files import Inputs
 from subtitles.common.times import CLOCK, TICKS
-from subtitles.results.objects import found, unjudged
+from subtitles.results.files import found, unjudged
 from subtitles.results.schema import ASKED, FORMAT
 from .bench import SECONDS
 from .channels import FIRST

@@ -10,7 +10,7 @@ from unittest import mock
 
 from subtitles.cli import collection
 from subtitles.common.command_line import Stop
-from subtitles.results.objects import unjudged
+from subtitles.results.files import unjudged
 from .bench import Case
 from .results import FAULT, result
 from .test_many_pairs import row

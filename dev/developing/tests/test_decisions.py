@@ -9,7 +9,7 @@ from dataclasses import replace
 
 from developing.pes import pes_packet
 from developing.stl import gsi_block, tti_block
-from subtitles.cli.batch import Sighting, Watch, of_folder
+from subtitles.cli.batch import Sighting, Watch
 from subtitles.clock.origin import Origin
 from subtitles.clock.start import Clock, Found, RECORDING, START
 from subtitles.common.command_line import Words
@@ -20,9 +20,9 @@ from subtitles.judging.part import parted, refuse_others
 from subtitles.judging.verdict import frames_until
 from subtitles.recording.recording import of_page
 from subtitles.request.commands import CommandWords
-from subtitles.request.lines import request_of_line
+from subtitles.request.lines import of_folder, request_of_line
 from subtitles.request.request import Unclear, add_options
-from subtitles.results.objects import hint_in
+from subtitles.results.files import hint_in
 from subtitles.results.schema import ASKED, total
 from subtitles.stream.receiver import BLANK_PAGE, FEW, Rows, Timeline
 from subtitles.stream.survey import Announced, Packets

@@ -11,8 +11,8 @@ from subtitles.clock.delays import (
     Drift, Early, FEW_TEXTS, RARE, UNSEEN_SHARE, drift_of, likeliest, settled, usual_delay)
 from subtitles.clock.origin import Origin
 from subtitles.clock.stretches import are_alike, is_again
+from subtitles.common.command_line import Lateness, late_word
 from subtitles.common.times import TICKS
-from subtitles.request.lateness import Lateness, late_word
 from .bench import Case, example
 from .judged import Judged, joined, judged, late, programme, sendings
 from .test_clocks import FIRST, evenly

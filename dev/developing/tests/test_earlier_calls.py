@@ -12,20 +12,19 @@ from typing import Any, Iterator
 from unittest import mock
 
 from subtitles.cli import batch
-from subtitles.cli.batch import Item, Watch, refuse_folders
+from subtitles.cli.batch import Watch, refuse_folders
 from subtitles.cli.channel.feed import Stall
 from subtitles.cli.single import claimed
-from subtitles.common.command_line import Stop
+from subtitles.common.command_line import Lateness, Stop
 from subtitles.common.program import MadeWith, about_program
 from subtitles.request.commands import CommandWords
-from subtitles.request.request import Request
-from subtitles.request.lateness import Lateness
-from subtitles.request.profile import Profile
-from subtitles.results.objects import (
-    MOST_VALUES, Row, found, is_current, left_by_call, may_take, object_at,
-    objects_in, row_of_object, unjudged)
+from subtitles.request.lines import Item
+from subtitles.request.request import Profile, Request
+from subtitles.results.files import (
+    MOST_VALUES, Row, found, is_current, left_by_call, may_take, object_at, objects_in,
+    row_of_object, unjudged)
 from subtitles.results.schema import ASKED, FORMAT
-from .bench import Case, example_bytes
+from .bench import Case, example, example_bytes
 from .parts import asked_for
 from .channels import defaults
 from .results import FAULT, result
@@ -70,6 +69,17 @@ class EarlierCalls(Case):
                                              "to_time", "layout", "is_open", "may_keep",
                                              "pace_word", "kept_stl", "language"},
                   names)  # those that are left out here: test_options
+
+    def test_of_one_pair(self) -> None:
+        """What it left of a pair is gone after one that does not judge."""
+        rows: list[tuple[tuple[str, ...], int, list[str]]] = [
+            ((), 1, ["story.html", "story.json", "story.txt"]),
+            (("--page", "150"), 2, ["story.html", "story.json"])]
+        for more, status, left in rows:
+            done = self.tool("qc", example("story.stl"), example("five-faults.pes"), "-o", "out",
+                             *more, "-p", self.bench.program)
+            self.must(f"{more}", (done.status, sorted(os.listdir(self.path("out")))) == (
+                status, left), sorted(os.listdir(self.path("out"))))
 
     def test_object_of_another_program(self) -> None:
         asked, known = self.known()

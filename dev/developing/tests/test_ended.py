@@ -296,7 +296,7 @@ class Mistakes(Story):
     def test_what_is_outside_of_the_steps(self) -> None:
         """An error before judging, while words are read, and while a file is made."""
         for place in ("cli.main.parser_of", "cli.single.request_of", "cli.single.CommandWords",
-                      "cli.single.found", "results.objects.listed", "results.objects.fitting",
+                      "cli.single.found", "results.files.listed", "results.files.fitting",
                       "cli.single.about_program"):
             with self.subTest(place):
                 self.failing(place, ValueError("odd"))

@@ -155,6 +155,13 @@ class Taken(Case):
                       and left == ([(row.left, row.more)] if row.left else [])
                       and closest.drawn == 100, (closest, choice))
 
+    def test_two_kinds(self) -> None:
+        """What would draw more of each, and of both."""
+        several = [COLOUR] * 5 + [SPACES] * 4 + plain(91)
+        choice = choices_of(sent_of(several), ENGLISH)[1]
+        left = [(one.text, one.more) for one in choice.left]
+        self.must("left", left == [("strip=03", 5), ("trim", 4), ("strip=03,trim", 9)], left)
+
     def test_columns(self) -> None:
         """Those on the right, two columns off."""
         for count, taken in ((1, ""), (9, ""), (10, "right=2")):

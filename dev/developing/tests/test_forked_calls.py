@@ -11,15 +11,16 @@ import time
 from typing import Any, Callable
 from unittest import mock
 
-from subtitles.cli.single import PairCall
 from subtitles.cli import batch
 from subtitles.cli.batch import (
-    Calls, Forked, Item, all_rows, ended_of, kept_rows, progress_line, signals_held)
+    Calls, Forked, all_rows, ended_of, kept_rows, progress_line, signals_held)
 from subtitles.cli.main import parser_of
+from subtitles.cli.single import PairCall
 from subtitles.common.program import about_program
 from subtitles.request.commands import CommandWords
+from subtitles.request.lines import Item
 from subtitles.request.request import Request, request_of
-from subtitles.results.objects import Row, found, object_at, unjudged
+from subtitles.results.files import Row, found, object_at, unjudged
 from subtitles.results.schema import ASKED
 from .bench import SECONDS, Case
 from .channels import until

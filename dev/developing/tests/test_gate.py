@@ -8,7 +8,7 @@ import shutil
 import subprocess
 
 from subtitles.common.program import TOP, read
-from subtitles.results.objects import object_at
+from subtitles.results.files import object_at
 from .bench import Case, Done, example_bytes, script, tool_path
 
 # `rt help` says what `rt ci` takes; `rt ci` notes the words that it got.

@@ -9,8 +9,7 @@ import subprocess
 import sys
 import tarfile
 
-from subtitles.cli.installation import PAGES, documents, without_dead_links
-from subtitles.common.program import TOP, chosen, read
+from subtitles.common.program import PAGES, TOP, chosen, documents, read, without_dead_links
 from ..compiled import plain_environment
 from ..proved import lacking, parsed
 from .bench import Case, Done, example

@@ -3,7 +3,7 @@ from __future__ import annotations
 
 from developing.pes import pes_packet
 from subtitles.cli.channel.schedule import OnAir, Programme
-from subtitles.common.files import Line
+from subtitles.request.lines import Line
 from subtitles.common.times import CLOCK, TICKS
 from subtitles.stream.survey import Survey
 from .bench import Case

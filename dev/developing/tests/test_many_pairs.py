@@ -13,10 +13,11 @@ from typing import Any
 from unittest import mock
 
 from subtitles.cli import batch
-from subtitles.cli.batch import Calls, Item, all_rows, at_line, kept_rows, no_file, pairs_at
+from subtitles.cli.batch import Calls, all_rows, kept_rows
 from subtitles.common import files
 from subtitles.common.command_line import Stop
-from subtitles.results.objects import Row, row_of_object
+from subtitles.request.lines import Item, at_line, no_file, pairs_at
+from subtitles.results.files import Row, row_of_object
 from .bench import Case
 from .parts import qc
 from .results import result

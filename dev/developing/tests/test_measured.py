@@ -3,11 +3,10 @@ from __future__ import annotations
 
 from developing.pes import data_field, pts_in, teletext_packets
 from developing.stl import gsi_block, subtitle_blocks
-from subtitles.cli.measure import measure
 from subtitles.cli.main import parser_of
+from subtitles.cli.measure import measure
 from subtitles.common.times import TICKS, time_of
-from subtitles.request.lines import read_options, setting_in
-from subtitles.request.profile import profile_at
+from subtitles.request.lines import profile_at, read_options
 from subtitles.stream.layout import never_words
 from .bench import Case, packets
 from .judged import Sent, joined, judged
@@ -43,7 +42,7 @@ class Measured(Case):
         """What is printed of a call, which a profile may have."""
         done = self.tool("qc", "--measure", *words)
         self.must(f"{words}", done.status == 0 and not done.told, done)
-        profile_at(self.write("profile", done.out), setting_in)
+        profile_at(self.write("profile", done.out))
         return done.out.decode().splitlines()
 
     def proposed(self, *words: str) -> list[str]:

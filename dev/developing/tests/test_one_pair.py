@@ -20,7 +20,7 @@ from subtitles.recording.recording import Notice
 from subtitles.report import page as report_page
 from subtitles.request.commands import CommandWords, Names
 from subtitles.request.request import Request
-from subtitles.results.objects import Row, found
+from subtitles.results.files import Row, found
 from subtitles.stream.gaps import Place
 from .bench import Case, example
 from .judged import Heard

@@ -22,10 +22,10 @@ from subtitles.clock.start import GIVEN
 from subtitles.common.command_line import shown
 from subtitles.common.files import SummedFile
 from subtitles.judging.verdict import Gap
-from subtitles.results.objects import Row, modified, unjudged
+from subtitles.results.files import (
+    Row, TestCase, cell_words, junit_file as junit_of, modified, part_columns, said,
+    table_lines as csv_of, unjudged)
 from subtitles.results.schema import ASKED, GAP, JUDGED_PART, PartOf
-from subtitles.results.tables import (
-    TestCase, cell_words, junit_file as junit_of, part_columns, said, table_lines as csv_of)
 from subtitles.stream.gaps import Place
 from .bench import Case
 from .parts import asked_for, part_with

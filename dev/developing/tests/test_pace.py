@@ -47,6 +47,11 @@ def without_frames(count: int) -> list[int]:
     return [at // 2 for at in range(800) if not 200 <= at // 2 < 200 + count]
 
 
+def silent_twice(steps: int) -> list[int]:
+    """Frames in a row but for two silences, between which so many PES packets come."""
+    return holed(range(800 + steps), (299, 100), (399 + steps, 100))
+
+
 def repeated(steps: Sequence[int], times: int) -> list[int]:
     """Frames that are so far apart, over and over."""
     found = [0]
@@ -76,6 +81,7 @@ TABLE = [
     Row("rows of three", [range(50 * at, 50 * at + 3) for at in range(99)], TOO_FEW),
     Row("few, up to the bound", [range(0, 990, 10)], TOO_FEW, every=30),
     Row("few, over the bound", [range(0, 990, 10)], BY_EVERY, every=29),
+    Row("few, one far", [[0, 1, 2, 3, 999]], TOO_FEW),
     Row("three", [[0, 300, 600]], TOO_FEW), Row("four", [[0, 100, 200, 300]], BY_EVERY),
     # Whatever its TS packets are: two PES packets at least are lost.
     *(regular(f"{each} TS packets", FOUR, each=each) for each in range(1, 10)),
@@ -127,6 +133,8 @@ TABLE = [
     *(regular(f"no pause to {end}", holed(LONG, (999, 100)), pauses=[(999, end)])
       for end in (1094, 1106)),
     regular("a pause that began later", holed(LONG, (999, 100)), pauses=[(1000, 1100)]),
+    Row("a pause in the second row", [range(500), holed(LONG, (999, 100))], PAUSED,
+        pauses=[(999, 1100)]),
     Row("behind the last", [holed(LONG, (999, 100))], PAUSED, pauses=[(0, 500), (999, None)]),
     regular("before its end", holed(LONG, (999, 100)), pauses=[(0, 500), (1000, None)]),
     Row("before the first", [holed(LONG, (999, 100))], PAUSED, pauses=[(None, 1095), (1500, 1600)]),
@@ -139,6 +147,9 @@ TABLE = [
                                             for one in range(3))]], PAUSED),
     Row("two, sixteen steps between", [holed(LONG, (999, 100), (1115, 100))], PAUSED),
     regular("two, seventeen steps between", holed(LONG, (999, 100), (1116, 100))),
+    *(Row(f"two, {steps - less} steps of {each} TS packets between", [silent_twice(steps - less)],
+          PAUSED if less else REGULAR, None if less else 2, each)
+      for each, steps in enumerate((17, 9, 6, 5, 4, 3, 3, 3, 3), 1) for less in (0, 1)),
     # Most of them.
     regular("in one pause of two that are as long", holed(LONG, (999, 100)),
             pauses=[(999, 1100), (2999, 3100)]),

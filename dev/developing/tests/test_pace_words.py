@@ -3,12 +3,12 @@ from __future__ import annotations
 
 import argparse
 
-from subtitles.cli.batch import pairs_at
 from subtitles.cli.main import parser_of
 from subtitles.common.command_line import Stop
 from subtitles.common.program import MadeWith
+from subtitles.request.lines import pairs_at
 from subtitles.request.request import request_of
-from subtitles.results.objects import found, is_current
+from subtitles.results.files import found, is_current
 from subtitles.results.schema import ASKED
 from .bench import Case
 from .parts import asked_for, call_words

@@ -100,6 +100,9 @@ class Parts(Case):
                     for one in found.result["subtitles"]]
             self.must(f"{shifts}: each", each == [(1 + (at > 8) + (at > 16) * (count > 2), at, 0)
                                                   for at in range(1, 25)])
+            of_all = self.judge(shifts, {}, *words, "--pes", f"0-{len(self.sent) - 1}")
+            self.must(f"{shifts}: all PES packets", of_all.parts(
+                "part", "from", "to", "origin", "pes", "verdict") == members, of_all.said)
 
     def test_refused(self) -> None:
         """The first, the second and the last part, by the file's numbers; nothing is advised."""

@@ -55,6 +55,7 @@ class Departures(unittest.TestCase):
             (distances(FEW), [], []), ([], [], []),
             ([], distances(FEW, 4, TICKS), [Departure(TICKS, None, True)]),
             (distances(50, jitter=8), distances(50, 4, TICKS), [Departure(TICKS, None)]),
+            (distances(50), distances(50, 4, TICKS, jitter=8), [Departure(TICKS, None)]),
             (distances(50, jitter=1), distances(50, 4, TICKS, jitter=1),
              [Departure(TICKS, 2 * TICKS)]),
             (distances(50), distances(50, 4, TICKS, pid=7), []),

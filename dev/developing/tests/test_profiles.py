@@ -5,13 +5,10 @@ import argparse
 import hashlib
 import os
 
-from subtitles.cli.batch import pairs_at
 from subtitles.cli.channel.schedule import Planned
-from subtitles.common.command_line import Stop
+from subtitles.common.command_line import Lateness, Stop, late_text, late_word
 from subtitles.request.commands import profile_line
-from subtitles.request.lateness import Lateness, late_text, late_word
-from subtitles.request.lines import request_of_line, setting_in
-from subtitles.request.profile import profile_at
+from subtitles.request.lines import pairs_at, profile_at, request_of_line
 from subtitles.request.request import OPTIONS, Request
 from .bench import Case, example
 from .judged import judged
@@ -41,7 +38,7 @@ class Files(Case):
             ("--within 2\n--late 0:31,2:69/0:1", {
                 "within": 2, "late": Lateness({0: 31, 2: 69}, {0: 1})})]
         for text, wanted in rows:
-            profile = profile_at(self.write("house", text.encode()), setting_in)
+            profile = profile_at(self.write("house", text.encode()))
             found = {field: setting.value for field, setting in profile.settings.items()}
             self.must(text, found == wanted, found)
             self.must(f"{text}: sum", (profile.name, profile.sha256) == (
@@ -68,7 +65,7 @@ class Files(Case):
                  "0:31,1:40,2:29/0:100, begins before the slash and ends behind it")):
             path = self.write("house", text.encode())
             with self.assertRaises(Stop) as refused:
-                profile_at(path, setting_in)
+                profile_at(path)
             self.must(text, str(refused.exception) == f"{path}, line {number}: {said}",
                       refused.exception)
 

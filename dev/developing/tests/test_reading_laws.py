@@ -8,11 +8,11 @@ import unittest
 from typing import Sequence
 
 from subtitles.clock.alignment import AGAIN, Edge, Shown, bases_of, edges_of
-from subtitles.clock.stretches import by_breaks, find_row, parts_of, runs_of
 from subtitles.clock.origin import (
     Origin, Sought, packets_of as packets_of_run, take_one, take_parts)
+from subtitles.clock.stretches import by_breaks, find_row, parts_of, runs_of
+from subtitles.common.command_line import Lateness
 from subtitles.common.times import CLOCK, FRAMES_A_SECOND, FRAMES_OF_A_DAY, TICKS, frame_in
-from subtitles.request.lateness import Lateness
 from subtitles.stream.ranges import cut_of
 from subtitles.stream.survey import Change, Packets, Run
 

@@ -9,10 +9,12 @@ from typing import Any, NamedTuple, Sequence
 from developing.stl import gsi_block, tti_block
 from subtitles.common.markup import Markup
 from subtitles.formats.stl import Subtitle, SubtitleFile
-from subtitles.report import refused
 from subtitles.report.faults import Entry
 from subtitles.report.pictures import (
     DIFFERENT, Figures, NOTHING, NOT_KNOWN, NOT_READ, SAME, marks_words)
+from subtitles.report.report import (
+    Blocks, byte_table, line_table, marked_text, marked_times, printed, readable, refused_blocks,
+    two_times)
 from subtitles.report.strip import Looked, Strip, looked_at, runs_of
 from subtitles.stream.receiver import BLANK_PAGE, Rows, State, TUNED
 from .bench import Case
@@ -204,17 +206,17 @@ class Looks(unittest.TestCase):
             self.assertEqual(marks_words(header, (bytes([cell]) * 40,) * 24), words)
 
 
-class Blocks(Case):
+class BlocksOfFile(Case):
     """A subtitle file that is refused: its subtitles, block by block."""
 
-    def blocks(self, *told: str) -> refused.Blocks:
+    def blocks(self, *told: str) -> Blocks:
         """A comment, three subtitles, of which the second has two blocks and user data between."""
         user = tti_block(9, 0, 0, 20, 2, b"user", 0xFE)
         made = [tti_block(0, 0, 0, 20, 2, b"note", comment=1), tti_block(1, 25, 50, 20, 2, b"one"),
                 tti_block(7, 75, 99, 18, 2, b"tw\x8ao ", 0), user,
                 tti_block(7, 75, 99, 18, 2, b"more\x07"), tti_block(3, 60, 70, 20, 2, b"three")]
         path = self.write("one.stl", gsi_block(b"", len(made), 3) + b"".join(made))
-        return refused.Blocks(SubtitleFile(path), (fault_of(line) for line in told))
+        return Blocks(SubtitleFile(path), (fault_of(line) for line in told))
 
     def test_of_blocks(self) -> None:
         """The subtitle of each block, its text with that of those behind, and the one before."""
@@ -235,7 +237,7 @@ class Blocks(Case):
     def test_fields(self) -> None:
         """The field that a fault is about, as it stands in the file; of no other fault one."""
         path = self.write("two.stl", gsi_block(b"", 1, 1) + bytes(range(16)) + b"\x8f" * 112)
-        made = refused.Blocks(SubtitleFile(path), ())
+        made = Blocks(SubtitleFile(path), ())
         fields = {11: "DFC STL25.01", 12: "DFC STL25.01", 13: "DSC 1", 14: "CCT 00", 15: "EBN 03",
                   16: "CS 04", 17: "CF 0F", 18: "JC 0E", 19: "VP 0D", 22: "SGN and SN 000102"}
         for number in range(10, 60):
@@ -248,7 +250,7 @@ class Blocks(Case):
     def test_marks(self) -> None:
         """The byte or the line that a fault names, in a text and in tables."""
         def marked(*lines: str) -> str:
-            return in_page(refused.marked_text(b"a b\x8ac", [fault_of(line) for line in lines]))
+            return in_page(marked_text(b"a b\x8ac", [fault_of(line) for line in lines]))
 
         for lines, words in (
                 ((), "a b<br/>c"), (("refused 50 X block 2 at 0",), "<mark>a</mark> b<br/>c"),
@@ -258,13 +260,13 @@ class Blocks(Case):
                  "<mark>a <mark>b</mark></mark><br/>c"), (("refused 21 X block 2",), "a b<br/>c")):
             self.must(f"{lines}", marked(*lines) == f'<span class="text">{words}</span>',
                       marked(*lines))
-        table = in_page(refused.byte_table(bytes(range(0x41, 0x53)), 17))
+        table = in_page(byte_table(bytes(range(0x41, 0x53)), 17))
         self.must("bytes", table.count("<tr>") == 2 and table.count(' class="named"') == 1 and
                   '<td class="named">52<br/>R</td>' in table and '"row">16<' in table, table)
-        lined = in_page(refused.line_table(b"ab\x8a\x8ac", 18, 1))
+        lined = in_page(line_table(b"ab\x8a\x8ac", 18, 1))
         self.must("lines", '<tr class="named"><th scope="row">line 1</th><td>row 19</td><td>0 bytes'
                   "</td><td>empty</td>" in lined and "<td>1 byte</td>" in lined, lined)
-        letters = [in_page(refused.readable(byte)) for byte in (0x20, 0x41, 0x7E, 0x7F, 0x1F)]
+        letters = [in_page(readable(byte)) for byte in (0x20, 0x41, 0x7E, 0x7F, 0x1F)]
         self.must("letters", letters == ["\u2423", "A", "~", "<i>7F</i>", "<i>1F</i>"])
 
     def test_times(self) -> None:
@@ -277,14 +279,14 @@ class Blocks(Case):
                 ("refused 56 X block 6", (f"<mark>{begin}</mark>", end)),
                 ("refused 57 X block 6", (f"<mark>{begin}</mark>", end)),
                 ("refused 20 X block 6", (begin, end)), ("refused 50 X block 6", (begin, end))):
-            self.must(line, (*map(in_page, refused.marked_times(one, [fault_of(line)])),) == wanted)
+            self.must(line, (*map(in_page, marked_times(one, [fault_of(line)])),) == wanted)
         wrong = one._replace(begin="99:00:00:00")
-        told = [*map(in_page, refused.marked_times(wrong, [fault_of("refused 20 X block 6")]))]
+        told = [*map(in_page, marked_times(wrong, [fault_of("refused 20 X block 6")]))]
         self.must("no time", told == ["<mark>99:00:00:00</mark>", end])
         first, last = "00:00:03:00", "00:00:03:24"
         for line, words in (("refused 56 X block 6", f"<mark>{first}</mark></td><td>{last}"),
                             ("refused 57 X block 6", f"{first}</td><td><mark>{last}")):
-            table = in_page(refused.two_times(made, one, fault_of(line)))
+            table = in_page(two_times(made, one, fault_of(line)))
             own = f"<mark>{begin}</mark></td><td>{end}"
             self.must(line, words in table and own in table, table)
 
@@ -299,14 +301,14 @@ class Blocks(Case):
                                         counts={50: 1, 51: 1, 56: 1 + more, 78: 9})
             report: Any = SimpleNamespace(faults=told, is_beside=False, part=SimpleNamespace(
                 answer=SimpleNamespace(last_told=last)))
-            said = in_page(refused.refused_blocks(report, self.blocks()))
+            said = in_page(refused_blocks(report, self.blocks()))
             self.must(words, words in said and said.count("<li") == 2 and
                       ("<b>1 more fault</b>" in said) == ("left out here" in said) == bool(more),
                       said)
             self.must("after", "after 00:00:03:00 to 00:00:03:24, SN 7" in said and
                       said.count(" after 00") == 1, said)
             report.is_beside = True
-            beside = in_page(refused.refused_blocks(report, self.blocks()))
+            beside = in_page(refused_blocks(report, self.blocks()))
             self.must("beside", ("No PES file is read" in said, "No PES file is read" in beside) ==
                       (True, False), beside)
 
@@ -317,9 +319,9 @@ class Blocks(Case):
             report: Any = SimpleNamespace(
                 part=part_with(1, 2, 0), asked=SimpleNamespace(is_open=False),
                 program=SimpleNamespace(show=lambda path, lines=lines: lines))
-            said = in_page(refused.printed(report))
+            said = in_page(printed(report))
             words = f"Lines 201 to {200 + left}, {left} of them" if left else ""
             self.must(f"{count}", words in said and ("left out" in said) == (left > 0) and
                       said.count("line ") == count - left, said[-200:])
         report.asked.is_open = True
-        self.must("of open subtitles, which it shows not", in_page(refused.printed(report)) == "")
+        self.must("of open subtitles, which it shows not", in_page(printed(report)) == "")

@@ -15,15 +15,16 @@ from typing import Any, Iterator, Sequence
 from unittest import mock
 
 from subtitles.cli import collection
-from subtitles.cli.batch import Calls, Item, Watch, kept_rows
+from subtitles.cli.batch import Calls, Watch, kept_rows
 from subtitles.common.command_line import Stop
 from subtitles.common.files import Inputs
 from subtitles.common.program import MadeWith, TOP, read
 from subtitles.common.shapes import Integer, Listed
 from subtitles.formats.listing import SILENT, UNDECIDED
 from subtitles.request.commands import CommandWords
-from subtitles.results import objects
-from subtitles.results.objects import object_at, object_of, unjudged
+from subtitles.request.lines import Item
+from subtitles.results import files
+from subtitles.results.files import object_at, object_of, unjudged
 from subtitles.results.schema import FAULT as ROWS_OF_FAULT, FORMAT, LISTS, VERDICT, misfit, schema
 from .. import DEV
 from ..pages import SCHEMA, laid_out
@@ -125,14 +126,14 @@ class Written(Case):
                 known = self.judge()
             self.must(f"{most}", known["faults"] == whole["faults"][:most] and
                       known["left_out"] == {**whole["left_out"], "faults": 4 - most}, known)
-        with mock.patch.object(objects, "MOST_BYTES", 0):
+        with mock.patch.object(files, "MOST_BYTES", 0):
             known = self.judge()
         counts = {one.name: len(whole[one.name]) for one in LISTS}
         self.must("none", known["left_out"] == counts and known["fault_count"] == 4, known)
         size = sum(len(json.dumps(one, ensure_ascii=False)) for name in counts
                    for one in whole[name])
         for room, left in ((size, 0), (size - 1, 1)):
-            with mock.patch.object(objects, "MOST_BYTES", room):
+            with mock.patch.object(files, "MOST_BYTES", room):
                 self.must(f"{room}", self.judge()["left_out"]["subtitles"] == left)
 
     def test_longest(self) -> None:
@@ -246,7 +247,7 @@ class ReadBack(Case):
         self.all_read()
         size = os.path.getsize(self.path("out/whole.json"))
         for most, is_read in ((size, True), (size - 1, False)):
-            with mock.patch.object(objects, "MOST_READ", most):
+            with mock.patch.object(files, "MOST_READ", most):
                 found = object_at(self.path("out/whole.json"))
             self.must(f"{most}", found is not None and (found["verdict"] == "accepted") == is_read,
                       found)
@@ -259,4 +260,4 @@ class ReadBack(Case):
         self.must("it fits", misfit(known) is None and known["format"] == FORMAT)
         self.must("all lists", {one.name for one in VERDICT.members
                                 if isinstance(one.shape, Listed)} == {one.name for one in LISTS})
-        self.must("room", objects.MOST_READ == 2 * objects.MOST_BYTES)
+        self.must("room", files.MOST_READ == 2 * files.MOST_BYTES)

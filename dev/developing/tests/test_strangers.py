@@ -16,7 +16,7 @@ from xml.etree import ElementTree as tree
 from developing.looks import browser
 from subtitles.cli.collection import index_page
 from subtitles.common.markup import POLICY
-from subtitles.results.objects import Row
+from subtitles.results.files import Row
 from .. import DEV
 from .bench import Case, example, example_bytes, tool_path
 

@@ -175,6 +175,8 @@ class Times(unittest.TestCase):
             ("with the first header", "100 he, 200 he", whole, (0, 1), True, False, 2),
             ("behind rows", "100 -, 101 -, 120 he, 200 he", whole, (2, 3), True, False, 4),
             ("nowhere: no header", "100 -, 200 -", whole, None, False, False, 2),
+            ("with wrong PTS, each alone", "100 he, 300 he, 150 -, 300 he, 200 heb", whole, (0, 4),
+             True, False, 5),
             ("nowhere: before and behind it", "99 he, 201 he, 202 he", whole, None, False, False,
              3),
             ("with the last blank one", "75 heb, 80 heb, 100 he, 200 heb", every, (1, 3), True,

@@ -19,10 +19,11 @@ from unittest import mock
 from subtitles.common import command_line
 from subtitles.common.command_line import Stop
 from subtitles.common.files import (
-    Input, Inputs, MOST_BYTES, MOST_OF_LINE, bounded_bytes, first_bytes, is_replaced, lines_in,
-    list_at, naming, plain_name, result_file, split, temporary_folder, whole_file)
+    Input, Inputs, MOST_BYTES, bounded_bytes, first_bytes, is_replaced, naming, plain_name,
+    result_file, temporary_folder, whole_file)
 from subtitles.common.markup import joined, markup
 from subtitles.formats import listing
+from subtitles.request.lines import MOST_OF_LINE, lines_in, list_at, split
 from .bench import Case
 from .test_hints import TOOLS, modules
 from .test_tables_of_files import refused

@@ -13,7 +13,7 @@ from subtitles.clock.alignment import back_at
 from subtitles.clock.start import Clock, Found, GIVEN
 from subtitles.common.times import CLOCK, NO_FRAME, Span, TICKS
 from subtitles.judging.losses import places_on
-from subtitles.report import refused
+from subtitles.report.report import readable
 from subtitles.stream.gaps import Place
 from subtitles.stream.receiver import Timeline, pauses_in, timeline_near
 from subtitles.stream.survey import Change
@@ -153,7 +153,7 @@ class Values(Case):
         """No byte of a text is markup in the page that shows it."""
         for byte, wanted in ((ord("<"), "&lt;"), (ord("&"), "&amp;"), (ord(">"), "&gt;"),
                              (ord("A"), "A"), (0x0B, "<i>0B</i>")):
-            self.must(f"{byte:02X}", in_page(refused.readable(byte)) == wanted)
+            self.must(f"{byte:02X}", in_page(readable(byte)) == wanted)
 
 
 class Channels(Case):

@@ -7,7 +7,8 @@ from types import SimpleNamespace
 from typing import Any
 
 from subtitles.clock.delays import Early
-from subtitles.clock.origin import break_lines, frames_words, part_lines, shift_lines
+from subtitles.clock.origin import (
+    Origin, Sought, break_lines, frames_words, part_lines, shift_lines, take_parts)
 from subtitles.clock.stretches import Stretch
 from subtitles.common.times import CLOCK, TICKS
 
@@ -86,6 +87,20 @@ class Words(unittest.TestCase):
                 "none", line]))
         for part, count, lines in rows:
             self.assertEqual(list(part_lines(part, count)), lines)
+
+    def test_early_parts(self) -> None:
+        """An origin that is given is that of the first part: where many cues of another one come
+        early nothing is clear."""
+        many, few = Early(9, 20, 1), Early(1, 30, 1)
+        for early, origin, status in (((None, None), None, 0), ((many, None), None, 1),
+                                      ((many, None), 9, 0), ((None, many), None, 1),
+                                      ((None, many), 9, 1), ((many, few), 9, 0)):
+            parts = [self.part(20, 20, 20, early=one) for one in early]
+            for one in parts:
+                one.begin, one.end, one.base, one.over, one.origin = 0, 50, 0, [], 9
+            found = Origin()
+            take_parts(found, Sought("a", "b", origin=origin, breaks=1), [parts[0].sent], parts)
+            self.assertEqual((found.status, len(found.parts)), (status, 2 - 2 * status), early)
 
     def test_frames(self) -> None:
         for ticks, words in ((TICKS, "1 frame late"), (-2 * TICKS, "2 frames early"),

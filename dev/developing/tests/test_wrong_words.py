@@ -7,7 +7,7 @@ import os
 import xml.etree.ElementTree as tree
 
 from subtitles.common.program import TOP
-from subtitles.results.tables import FORMULA
+from subtitles.results.files import FORMULA
 from .bench import Case, example, tool_path
 
 STL, PES = example("hello.stl"), example("hello.pes")

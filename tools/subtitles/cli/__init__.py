@@ -5,6 +5,5 @@ collection     one table, one page, and the files for machines, of many results
 main           the words of the command line, and which option goes with what
 measure        a profile of recordings that are right: --measure
 batch          many pairs: of a folder, a list, or a folder that is watched
-installation   what is installed under a folder: the program, its man page and the tools beside it
 channel        the programmes of a channel: a recorder and a judge
 """

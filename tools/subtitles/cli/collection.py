@@ -13,8 +13,8 @@ from ..common.files import Inputs, NOTHING, OWN_OUTPUT, refuse_name, result_file
 from ..common.markup import BREAK, HEAD, Markup, joined, markup
 from ..judging.status import ACCEPTED, NOT_JUDGED, of_all
 from ..request.commands import index_in
-from ..results import tables
-from ..results.objects import ENDING, Row, object_at, objects_in, row_of_object, unjudged
+from ..results.files import (
+    ENDING, Row, TestCase, junit_file, object_at, objects_in, row_of_object, table_lines, unjudged)
 from ..results.schema import FORMAT
 from .single import now, refuse_files_of_all
 
@@ -236,7 +236,7 @@ def known_at(place: Place) -> dict[str, Any]:
 
 def csv_lines(places: Sequence[Place]) -> Iterator[bytes]:
     """The lines of all pairs under one head."""
-    yield from tables.table_lines(map(all_told, places))
+    yield from table_lines(map(all_told, places))
 
 
 def all_told(place: Place) -> dict[str, Any]:
@@ -250,6 +250,6 @@ def all_told(place: Place) -> dict[str, Any]:
 
 def testcases(rows: Sequence[Row], date: str) -> Iterator[bytes]:
     """A testcase for each pair."""
-    yield tables.junit_file([
-        tables.TestCase(row.title, row.verdict, row.status, row.line, row.lines, row.seconds,
+    yield junit_file([
+        TestCase(row.title, row.verdict, row.status, row.line, row.lines, row.seconds,
                         row.counts) for row in rows], date)

@@ -7,14 +7,14 @@ import os
 import sys
 from typing import Any, Callable, Sequence
 
+from ..cli import single
 from ..common.command_line import Stop, Words, error_line
 from ..common.files import IsInput, plain_name, whole_file
 from ..request.lines import goes_with, read_options
 from ..request.request import (
     ALONE, BATCH, CHANNEL, COLLECT, MEASURE, Mode, OPTIONS, Option, PAIR, RECORDER, WATCH,
     add_options)
-from ..results import objects, tables
-from . import single
+from ..results import files
 
 
 # What tools/qc is called for, the options of the call itself, and which options go with which.
@@ -152,32 +152,32 @@ def main(text: str, called: str, line: list[str]) -> int:
 
 def leave(name: str, paths: dict[str, str | None], reason: str) -> None:
     """Writes the files that are asked for, each with one entry that is not judged."""
-    known = objects.unjudged(name, reason)
+    known = files.unjudged(name, reason)
     for option, path in paths.items():
         with contextlib.suppress(Stop, OSError):
-            if path is not None and objects.may_take(path, BEGINS[option]):
+            if path is not None and files.may_take(path, BEGINS[option]):
                 WRITERS[option](path, known)
 
 
 def write_table(path: str, known: dict[str, Any]) -> None:
     """The CSV file of a pair by its object."""
     with whole_file(path) as file:
-        for piece in tables.table_lines([known]):
+        for piece in files.table_lines([known]):
             file.write(piece)
 
 
 def write_testcase(path: str, known: dict[str, Any]) -> None:
     """The file for a CI of a pair that is not judged."""
-    case = tables.TestCase(known["name"], known["verdict"], known["status"], known["reason"], [],
+    case = files.TestCase(known["name"], known["verdict"], known["status"], known["reason"], [],
                            0.0)
     with whole_file(path) as file:
-        file.write(tables.junit_file([case], single.now()))
+        file.write(files.junit_file([case], single.now()))
 
 
 def write_object(path: str, known: dict[str, Any]) -> None:
     """The object of a pair."""
     with whole_file(path) as file:
-        file.write(objects.object_text(known))
+        file.write(files.object_text(known))
 
 
 WRITERS = {"--json": write_object, "--csv": write_table, "--junit": write_testcase}

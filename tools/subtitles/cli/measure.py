@@ -18,8 +18,7 @@ from ..judging.measurement import (
     Delays, Finding, Repeats, Sending, delays_of, every_of, keeping_of, late_found, layout_found,
     option_of, pace_found, repeats_in, sendings_of)
 from ..judging.pair import Pair
-from ..judging.part import (
-    Part, PartFrames, PartPace, PartRange, answered_part, nothing_due)
+from ..judging.part import Part, PartFrames, PartPace, PartRange, answered_part, nothing_due
 from ..judging.status import Severity
 from ..judging.transmissions import control_words, keeps
 from ..judging.verdict import Verdict

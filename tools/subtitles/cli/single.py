@@ -12,8 +12,7 @@ import stat
 import time
 from typing import Callable, Iterator, NamedTuple
 
-from ..common.command_line import (
-    Stop, Unanswered, counted, error_line, escaped, silence, tell)
+from ..common.command_line import Stop, Unanswered, counted, error_line, escaped, silence, tell
 from ..common.files import (
     Inputs, OWN_OUTPUT, first_bytes, is_replaced, kind_of, naming, refuse_name, result_file,
     temporary_folder, whole_file)
@@ -29,8 +28,8 @@ from ..request.commands import (
     CommandWords, LOCK, Listener, Names, Progress, Speech, files_in, index_in, lock_of, pair_name,
     profile_line)
 from ..request.request import Request, Unclear, Unsaid, keep_stl, request_of
-from ..results import objects, tables
-from ..results.objects import found, object_text, unjudged
+from ..results import files as results
+from ..results.files import found, object_text, unjudged
 from ..stream.gaps import first_lines
 
 
@@ -428,7 +427,7 @@ class Files:
             return iter([report_page(verdict, self.typed).page()])
 
         def members() -> Iterator[bytes]:
-            return map(as_bytes, objects.object_of(verdict, program))
+            return map(as_bytes, results.object_of(verdict, program))
 
         wanted += [Output(names.report, page, True)] if names.out else []
         wanted += [Output(call.json, members, is_object=True)] if call.json else []
@@ -447,10 +446,10 @@ class Files:
     def testcase(self) -> Iterator[bytes]:
         """The file for a CI."""
         verdict = self.verdict
-        case = tables.TestCase(pair_title(verdict.asked), verdict.word, verdict.status,
+        case = results.TestCase(pair_title(verdict.asked), verdict.word, verdict.status,
                                verdict.lead or verdict.why_not or "", self.lines(), verdict.seconds,
                                verdict.counts.words() if verdict.counts else "")
-        yield tables.junit_file([case], verdict.date)
+        yield results.junit_file([case], verdict.date)
 
     def lines(self) -> list[str]:
         """The first lines of the lists of all parts."""
@@ -460,8 +459,8 @@ class Files:
 
     def table_lines(self) -> Iterator[bytes]:
         """The lines of the CSV file: the names of the columns, the pair, its faults."""
-        return map(str.encode, tables.column_lines(itertools.chain(
-            [tables.pair_columns(self.verdict)], (tables.fault_columns(self.verdict, fault)
+        return map(str.encode, results.column_lines(itertools.chain(
+            [results.pair_columns(self.verdict)], (results.fault_columns(self.verdict, fault)
                                                   for fault in faults_of(self.verdict)))))
 
     @staticmethod

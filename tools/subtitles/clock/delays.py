@@ -6,7 +6,7 @@ import math
 import statistics
 from typing import Iterable, Mapping, NamedTuple, Sequence
 
-from ..request.lateness import Lateness
+from ..common.command_line import Lateness
 from .alignment import Agreed, Base, Edge, Fit
 
 # Within N frames the clock of the earliest cue would take early subtitles for the others' delay,

@@ -4,19 +4,17 @@ from __future__ import annotations
 import dataclasses
 from typing import Collection, Iterator, NamedTuple, Sequence
 
-from ..common.command_line import Stop, counted, range_words
+from ..common.command_line import Lateness, Stop, counted, range_words
 from ..common.times import (
     ALL_DAY, Between, FRAMES_A_SECOND, FRAMES_OF_A_DAY, TICKS, frame_in, pts_of, ticks_between,
     ticks_within, time_of, wrapped)
 from ..formats.stl import letters_on_page, readable, stl_bytes, subtitle_times
 from ..formats.teletext import Page, page_name
-from ..request.lateness import Lateness
 from ..stream.receiver import subcode_words, turns_of
 from ..stream.survey import Packets, Range, STRAY
 from .alignment import Base, Fit, MOST_APART, MOST_BASES, Shown, bases_of
 from .delays import Drift, Early, drift_of
-from .stretches import (
-    Airing, FittedPart, IN_A_ROW, Stretch, by_breaks, find_row, parts_of, runs_of)
+from .stretches import Airing, FittedPart, IN_A_ROW, Stretch, by_breaks, find_row, parts_of, runs_of
 
 
 NEAR = 10 * FRAMES_A_SECOND  # to the origin 0

@@ -9,9 +9,9 @@ import itertools
 import operator
 from typing import NamedTuple, Sequence
 
+from ..common.command_line import Lateness
 from ..common.times import FRAMES_A_SECOND, FRAMES_OF_A_DAY
-from ..request.lateness import Lateness
-from .alignment import TRIED, VOTES, Base, Edge, Fit, Shown, edges_of
+from .alignment import Base, Edge, Fit, Shown, TRIED, VOTES, edges_of
 from .delays import Early, settled
 
 IN_A_ROW = 5  # edges that have to agree with an origin of their own

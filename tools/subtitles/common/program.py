@@ -1,13 +1,19 @@
-"""The built program: where it is, and what PROVED says of it."""
+"""The built program: where it is, what PROVED says of it, and what is installed with it."""
 from __future__ import annotations
 
+import compileall
 import functools
+import glob
+import hashlib
 import os
+import py_compile
 import re
+import shutil
 import subprocess
+import sys
 from typing import NamedTuple
 
-from .command_line import Stop, version
+from .command_line import INSTALLED, Stop, version
 from .files import file_of, naming
 
 
@@ -109,3 +115,195 @@ def proved_line(program: str, sha256: str) -> str | None:
         if f"program {sha256}" in lines and found:
             return found[0][1]
     return None
+
+
+# What is installed under a folder: the program, its man page and the tools beside it.
+
+TOOLS = ["qc", "ts2pes"]
+PAGES = ["subttx.1", "subttx-qc.1"]
+READ = ["README.md", os.path.join("docs", "MANUAL.md"),
+        os.path.join("docs", "verdict.schema.json"), "VERSION"]
+COMPLETION = os.path.join("tools", "completion.bash")
+HOME = os.path.join("lib", "subttx")
+MAN = os.path.join("share", "man", "man1")
+COMPLETIONS = os.path.join("share", "bash-completion", "completions")
+FOLDERS = "FOLDERS"  # in HOME: the folders that were made for it, and that others may use too
+LINK = re.compile(r"!?\[([^\]]*)\]\(([^)\s#]+)[^)\s]*\)")
+
+
+def copy(source: str, target: str, mode: int = 0o644) -> None:
+    """Copies a file under another name first, so that a program that runs can be replaced."""
+    os.makedirs(os.path.dirname(target), exist_ok=True)
+    shutil.copyfile(source, target + ".new")
+    os.chmod(target + ".new", mode)
+    os.replace(target + ".new", target)
+
+
+def write(path: str, text: str) -> None:
+    """Writes a text in the same way."""
+    os.makedirs(os.path.dirname(path), exist_ok=True)
+    with open(path + ".new", "w", encoding="utf-8") as file:
+        file.write(text)
+    os.replace(path + ".new", path)
+
+
+def link(words: str, name: str) -> None:
+    """A link that says the words."""
+    os.makedirs(os.path.dirname(name), exist_ok=True)
+    if os.path.lexists(name):
+        os.remove(name)
+    os.symlink(words, name)
+
+
+def copy_tools(prefix: str) -> None:
+    """The tools, what they share and what they read, as they stand in the repository."""
+    home = os.path.join(prefix, HOME)
+    shutil.rmtree(os.path.join(home, "tools"), ignore_errors=True)
+    for name in TOOLS:
+        copy(os.path.join(TOP, "tools", name), os.path.join(home, "tools", name), 0o755)
+        link(os.path.join("..", "lib", "subttx", "tools", name),
+             os.path.join(prefix, "bin", INSTALLED + name))
+    shutil.copytree(os.path.join(TOP, "tools", "subtitles"),
+                    os.path.join(home, "tools", "subtitles"),
+                    ignore=shutil.ignore_patterns("__pycache__"))
+    copy_documents(home)
+    link(os.path.join("..", "..", "bin", "subttx"), os.path.join(home, "subttx"))
+
+
+def compile_tools(prefix: str) -> None:
+    """Compiles what the tools share, so that no call does so again. Nobody looks at the times of
+    these files, since what stands under PREFIX may be moved, copied and restored."""
+    sys.pycache_prefix = None  # beside the tools, wherever those of this call are
+    compileall.compile_dir(os.path.join(prefix, HOME, "tools", "subtitles"), quiet=1,
+                           invalidation_mode=py_compile.PycInvalidationMode.UNCHECKED_HASH)
+
+
+def documents() -> list[str]:
+    """README, the manual, and what these link, one from another, by their names from the top; but
+    not what says of which sources another program is."""
+    found = list(READ)
+    for name in found:
+        text = (read(os.path.join(TOP, name)) or "") if name.endswith(".md") else ""
+        for _, target in LINK.findall(text):
+            path = os.path.normpath(os.path.join(os.path.dirname(name), target))
+            is_one = os.path.isfile(os.path.join(TOP, path)) and path.split(os.sep)[0] != "dist"
+            found += [path] if is_one and path not in found else []
+    return found
+
+
+def copy_documents(home: str) -> None:
+    """The documents and the examples; a link to what is not installed is its words."""
+    for folder in ("docs", "examples"):
+        shutil.rmtree(os.path.join(home, folder), ignore_errors=True)
+    shutil.copytree(os.path.join(TOP, "examples"), os.path.join(home, "examples"))
+    names = documents()
+    for name in names:
+        path = os.path.join(TOP, name)
+        copy(path, os.path.join(home, name), 0o755 if os.access(path, os.X_OK) else 0o644)
+    for name in names:
+        if name.endswith(".md"):
+            path = os.path.join(home, name)
+            write(path, without_dead_links(read(path) or "", os.path.dirname(path)))
+
+
+def without_dead_links(text: str, folder: str) -> str:
+    """A document of a folder in which a link to a file that is not there is its words alone."""
+    def kept(found: re.Match[str]) -> str:
+        is_there = ":" in found[2] or os.path.exists(os.path.join(folder, found[2]))
+        return found[0] if is_there else found[1]
+
+    return LINK.sub(kept, text)
+
+
+def copy_completion(prefix: str) -> None:
+    """Completion for the program and for each tool."""
+    folder = os.path.join(prefix, COMPLETIONS)
+    copy(os.path.join(TOP, COMPLETION), os.path.join(folder, "subttx"))
+    for name in TOOLS:
+        link("subttx", os.path.join(folder, INSTALLED + name))
+
+
+def install(program: str, prefix: str) -> list[str]:
+    """Puts all there is under a folder; answers the files that a user calls or reads."""
+    copy(program, os.path.join(prefix, "bin", "subttx"), 0o755)
+    pages = [os.path.join(prefix, MAN, page) for page in PAGES]
+    for page in pages:
+        copy(os.path.join(TOP, "docs", os.path.basename(page)), page)
+    copy_tools(prefix)
+    copy_completion(prefix)
+    names = ["subttx", *(INSTALLED + name for name in TOOLS)]
+    return [os.path.join(prefix, "bin", name) for name in names] + pages
+
+
+def shared_folders(prefix: str) -> list[str]:
+    """The folders in which others may have files too, the innermost ones first."""
+    names = ["bin", MAN, COMPLETIONS, "lib"]
+    found: list[str] = []
+    for name in names:
+        while name:
+            found.append(name)
+            name = os.path.dirname(name)
+    return [os.path.join(prefix, name) for name in sorted({*found, ""}, key=len, reverse=True)]
+
+
+def install_and_note(program: str, prefix: str) -> list[str]:
+    """The same, compiled, and what `remove` has to know: which folders were not there before."""
+    made = [os.path.relpath(path, prefix) for path in shared_folders(prefix)
+            if not os.path.isdir(path)]
+    paths = install(program, prefix)
+    compile_tools(prefix)
+    note = os.path.join(prefix, HOME, FOLDERS)
+    known = (read(note) or "").splitlines()
+    write(note, "".join(f"{name}\n" for name in dict.fromkeys([*known, *made])))
+    return paths
+
+
+def remove(prefix: str) -> list[str]:
+    """Takes away what was put under a folder, and the folders that were made for it, as far as
+    nobody else has a file there; answers what was taken away."""
+    home = os.path.join(prefix, HOME)
+    if not os.path.isfile(os.path.join(home, "tools", "qc")):
+        raise Stop(f"{prefix} has no subttx: there is no {os.path.join(home, 'tools', 'qc')}")
+    if os.path.islink(home):
+        raise Stop(f"{home} is a link, which was not made by an installation: take away what it "
+                   "leads to, then the link")
+    made = {os.path.normpath(os.path.join(prefix, name))
+            for name in (read(os.path.join(home, FOLDERS)) or "").splitlines()}
+    paths = [os.path.join(prefix, "bin", "subttx"), *links_into(prefix),
+             *(os.path.join(prefix, MAN, page) for page in PAGES),
+             os.path.join(prefix, COMPLETIONS, "subttx")]
+    removed = [path for path in paths if os.path.lexists(path)]
+    for path in removed:
+        os.remove(path)
+    shutil.rmtree(home)
+    for path in shared_folders(prefix):
+        if os.path.normpath(path) in made and os.path.isdir(path) and not os.listdir(path):
+            os.rmdir(path)
+    return [*removed, home]
+
+
+def files_below(folder: str) -> list[str]:
+    """The files of a folder, links left out, by their names from there."""
+    found = []
+    for place, _, names in os.walk(folder):
+        paths = [os.path.join(place, name) for name in names]
+        found += [os.path.relpath(path, folder) for path in paths if not os.path.islink(path)]
+    return sorted(found)
+
+
+def sums_of(folder: str, kind: str) -> str:
+    """A line for each file of a folder: its sum, as md5 or sha256, and its name."""
+    lines = []
+    for name in files_below(folder):
+        with open(os.path.join(folder, name), "rb") as file:
+            lines.append(f"{hashlib.new(kind, file.read()).hexdigest()}  {name}\n")
+    return "".join(lines)
+
+
+def links_into(prefix: str) -> list[str]:
+    """The tools, and the completion of each, of this version or of another."""
+    starts = {"bin": os.path.join("..", HOME, "tools", ""), COMPLETIONS: "subttx"}
+    return [path for folder, start in starts.items()
+            for path in sorted(glob.glob(os.path.join(glob.escape(prefix), folder,
+                                                      INSTALLED + "*")))
+            if os.path.islink(path) and os.readlink(path).startswith(start)]

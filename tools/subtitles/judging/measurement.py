@@ -5,13 +5,12 @@ import collections
 import re
 from typing import Callable, Iterable, Iterator, NamedTuple, Sequence
 
-from ..common.command_line import MOST_WITHIN, counted, quoted
+from ..common.command_line import Lateness, MOST_WITHIN, counted, late_text, quoted
 from ..common.times import FRAMES_OF_A_DAY, NO_FRAME, frames_at, time_of
 from ..formats.layout import (
     Refused, SPACE, drawn, layout_text, letters_of_text, letters_on, page_rows)
 from ..formats.stl import Subtitle
 from ..formats.teletext import NationalOption
-from ..request.lateness import Lateness, late_text
 from ..stream.gaps import Pace, edges_of, longest_gap, repeat_distance
 from ..stream.layout import (
     Choice, FEWEST, Left, Sent, TENTHS, cells_text, choices_of, counts_words, draws, never_words,

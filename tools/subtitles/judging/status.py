@@ -4,8 +4,8 @@ from __future__ import annotations
 from typing import Collection, Iterable, NamedTuple, Sequence
 
 from ..common.command_line import Stop
-from ..common.files import list_at
 from ..formats.listing import ENDS_READING, FAULT_NAMES, LOST_PACKETS, SILENT
+from ..request.lines import list_at
 
 
 # Which faults count for the exit status.

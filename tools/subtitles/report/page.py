@@ -19,8 +19,8 @@ from ..judging.verdict import Verdict, spread_of
 from ..request.commands import CommandWords
 from ..request.request import Request
 from .faults import heads, meaning_of_verdict, numbers_table, table_row
-from .refused import Blocks, block_place, printed, refused_blocks
-from .report import Looks, Report, Scope, Subject, names_block
+from .report import (
+    Blocks, Looks, Report, Scope, Subject, block_place, names_block, printed, refused_blocks)
 from .transmission import Program, Seen, place_of_pts
 
 

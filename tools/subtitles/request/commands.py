@@ -14,8 +14,7 @@ from typing import Callable, TextIO
 from ..common.command_line import HIDDEN, INSTALLED, Stop, quoted, shown, silence, tell
 from ..common.files import is_utf_8
 from ..common.program import TOP, behind_script
-from .profile import Profile
-from .request import OPTIONS, Request, Selection, option_words
+from .request import OPTIONS, Profile, Request, Selection, option_words
 
 
 # Commands as they would be typed: the tools and the program by the names that the caller uses.

@@ -6,11 +6,12 @@ import contextlib
 import dataclasses
 import os
 import stat
-from typing import Any, Callable, Iterable, NamedTuple, Sequence
+from typing import Any, Callable, Iterable, Mapping, NamedTuple, Sequence
 
 from ..common.command_line import (
-    MOST_EVERY, MOST_WITHIN, Stop, breaks_word, every_word, origin_word, pace_word,
-    page_word, pid_word, range_word, shown, start_word, time_word, within_word)
+    Lateness, MOST_EVERY, MOST_WITHIN, Stop, breaks_word, every_word, late_text, late_word,
+    origin_word, pace_word, page_word, pid_word, range_word, shown, start_word, time_word,
+    within_word)
 from ..common.files import first_bytes, plain_name
 from ..common.shapes import (
     COUNT, Flag, Integer, Listed, Maybe, Member, OneOf, PID, PTS, Record, SUM, Shape, TIME, Text)
@@ -18,8 +19,6 @@ from ..common.times import Between, FRAMES_OF_A_DAY, frame_of, time_of
 from ..formats.layout import fault_in
 from ..formats.stl import stl_bytes
 from ..formats.teletext import WORDS, named_by, page_name
-from .lateness import Lateness, late_text, late_word
-from .profile import Profile
 
 
 # The table of the options of a pair: a row for each.
@@ -287,6 +286,30 @@ def words_of_pages(asked: Any) -> list[str]:
 def members() -> list[Member]:
     """Their members of a JSON result."""
     return [member for one in OPTIONS if (member := one.member)]
+
+
+# A profile: the file in which a house says once how it sends.
+
+
+class Setting(NamedTuple):
+    """What a line of a profile says: the option, the field of a request that has it, its value."""
+
+    name: str
+    field: str
+    value: Any
+
+
+class Profile(NamedTuple):
+    """A profile that was read: its name as it was typed, its SHA-256, its lines by their fields."""
+
+    name: str
+    sha256: str
+    settings: Mapping[str, Setting]
+
+    def value(self, field: str, default: Any) -> Any:
+        """What it says of a field; else what holds without it."""
+        setting = self.settings.get(field)
+        return setting.value if setting else default
 
 
 # What is asked of a pair: the words of the command line as values.

@@ -19,7 +19,7 @@ from ...common.times import FRAMES_OF_A_DAY, TICKS, time_of
 from ...judging.status import of_all
 from ...request.commands import CommandWords, Progress
 from ...request.request import Unclear
-from ...results.objects import unjudged
+from ...results.files import unjudged
 from .. import single
 from ..single import locking, now, refuse_files_of_all
 from . import machine, records

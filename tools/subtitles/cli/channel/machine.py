@@ -15,7 +15,7 @@ from ...common.command_line import Stop, counted, error_line
 from ...common.files import Inputs, first_bytes, kind_of, result_file
 from ...judging.status import ACCEPTED, WAIVED
 from ...request.commands import CHANNEL
-from ...results.objects import Row
+from ...results.files import Row
 from ..single import now
 
 # The file is written whole each time: where something has changed once a second, else each ten.

@@ -10,7 +10,7 @@ from typing import Any, Iterator, NamedTuple, Sequence
 
 from ...common.files import BEGIN
 from ...judging.status import NOT_JUDGED
-from ...results.objects import ENDING, MOST_READ, Row, found_at, object_text, row_of_object
+from ...results.files import ENDING, MOST_READ, Row, found_at, object_text, row_of_object
 from . import spool
 from .spool import RECORD, KeptRoom, WORK, are, is_number, numbers_in, opened, path_of, put_whole
 

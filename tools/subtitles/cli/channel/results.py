@@ -17,7 +17,7 @@ from ...common.command_line import Stop, counted, ended, error_line, tell
 from ...common.files import Inputs, NOTHING, result_file
 from ...judging.status import NOT_JUDGED
 from ...request.request import Request
-from ...results.objects import (
+from ...results.files import (
     ENDING, Row, in_order, left_by_call, object_at, put_object, row_of_object, rows_in, unjudged,
     value_at)
 from ...results.schema import FORMAT, misfit

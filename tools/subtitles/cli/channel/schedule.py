@@ -9,17 +9,15 @@ import time
 from typing import Any, Callable, NamedTuple, Sequence, Union
 
 from ...common.command_line import Stop, Words, error_line
-from ...common.files import Line, folder_of, lines_in, list_at
 from ...common.times import FRAMES_OF_A_DAY, TICKS, frame_in, time_of
 from ...request.commands import NamesOfList
-from ...request.lines import read_options, refuse_settings
-from ...request.request import (
-    CHANNEL_LINE, Request, add_options, pair_options, request_of)
-from ...results.objects import found_at
+from ...request.lines import (
+    Line, folder_of, lines_in, list_at, no_file, read_options, refuse_settings)
+from ...request.request import CHANNEL_LINE, Request, add_options, pair_options, request_of
+from ...results.files import found_at
 from ...stream.gaps import late_of
 from ...stream.ranges import cut_of
 from ...stream.survey import Packets, Survey
-from ..batch import no_file
 from ..main import refuse_options
 from .feed import Awaited, MINUTE, Timed
 from .hearing import Heard, Hearing
