@@ -80,7 +80,8 @@ class Again(Programmes):
         again = Told(self, self.listed("one", "two", "three"), out, spool=spool)
         again.results.judge_due()
         self.must("one", self.names() == ["one"] and
-                  again.results.verdicts == ["accepted", "accepted"] and Judging.made[0].words.origin is not None, again.said)
+                  again.results.verdicts == ["accepted", "accepted"] and
+                  Judging.made[0].words.origin is not None, again.said)
         self.must("its time", again.queue.ended == 60 * SECOND + TICKS_OF_ALL, again.queue.ended)
 
     def test_at_the_end(self) -> None:

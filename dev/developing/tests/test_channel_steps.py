@@ -47,7 +47,8 @@ class Steps(Programmes):
                 self.must("said", channel.said == [f"one  accepted 5 frames; {FITTED_SHORT}"],
                           channel.said)
                 self.must("over", channel.running is None and
-                          channel.results.verdicts == ["accepted"] and list(channel.results.rows) == ["one"] and
+                          channel.results.verdicts == ["accepted"] and
+                          list(channel.results.rows) == ["one"] and
                           os.path.exists(self.path("out/index.html")) == (out is not None))
                 self.must("waits since then", channel.queue.since == channel.queue.ended ==
                           TICKS * LAST, channel.queue.since)

@@ -1,5 +1,5 @@
-"""The time of a feed, the programmes that are waited for by it or by the changes of a page, and what
-a feed lacks."""
+"""The time of a feed, what it lacks, and programmes that are waited for: by the changes of a page,
+or by the time."""
 from __future__ import annotations
 
 import bisect

@@ -1,5 +1,4 @@
-"""What is heard of a feed: its pages and their PIDs, its silence, and calls of `survey` that hear it.
-"""
+"""What is heard of a feed: its pages, their PIDs, and the calls of `survey` that hear them."""
 from __future__ import annotations
 
 import array

@@ -262,7 +262,8 @@ class Recorder:
         size, and its bytes before that."""
         *own, number, place, sum_before = self.state.several(FILE, 5)
         end = place + size_in(self.folder, number)
-        where = "is another file than before, or was written anew: it is recorded from its beginning"
+        where = "is another file than before, or was written anew: it is recorded from its " \
+            "beginning"
         if self.own == tuple(own) and number >= self.number - 2 and end <= size and \
                 sum_before == self.sum_at(place) and self.is_written(number, end - place, end):
             self.number, self.place, where = number, place, f"goes on at byte {end}"
