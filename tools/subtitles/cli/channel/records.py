@@ -124,7 +124,8 @@ def record_of(number: int, head: bytes) -> Outcome:
     known = json.loads(head)
     if not isinstance(known, dict) or known.get("format") != FORMAT:
         raise ValueError
-    record = Outcome(number, *(known[name] for name in MEMBERS), is_told=bool(known["told"]))
+    record = Outcome(number, *(known[name] for name in MEMBERS))
+    record.is_told = bool(known["told"])
     is_right = is_name(record.name) and are((record.out, record.stl), str, str) and \
         all(map(is_number, (record.over, record.since, record.size))) and \
         (record.due is None) != (record.row is None) and \
