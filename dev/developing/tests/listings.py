@@ -110,7 +110,7 @@ class Told(Channel):
         self.said: list[str] = []
         self.back = back
         super().__init__(words, "tools/qc", spool or tempfile.mkdtemp(dir=case.folder))
-        self.results.judged = self.judge_beside  # type: ignore[method-assign]
+        self.results.judged = self.judge_beside  # type: ignore[assignment]
         self.go_on()
         self.hearing.turn_to([self.words.page])
 

@@ -17,7 +17,8 @@ from subtitles.request.request import Unclear
 from subtitles.stream.ranges import way_of
 from subtitles.stream.survey import Announced, ProgramMap, Run
 from .bench import Case
-from .listings import SECOND, Lines
+from .channels import SECOND
+from .listings import Lines
 from .parts import CLOSING, HEADER, PAGE, row
 
 PID, OTHER, PCR = 0x101, 0x102, 0x200

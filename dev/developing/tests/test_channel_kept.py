@@ -17,7 +17,7 @@ from subtitles.cli.channel.spool import (
 from subtitles.common.command_line import Stop
 from subtitles.common.files import Input
 from .bench import Case
-from .listings import SECOND
+from .channels import SECOND
 from .parts import CLOSING, HEADER
 
 PES = [pes_packet(SECOND * at, [HEADER, CLOSING]) for at in range(9)] + [MARK]

@@ -13,8 +13,8 @@ from subtitles.common.times import TICKS
 from subtitles.results.files import found, unjudged
 from subtitles.results.schema import ASKED
 from .bench import Case
-from .channels import defaults
-from .listings import BEGIN, LAST, SECOND, Judging, Lines, Programmes, Told, files_of, texts_of
+from .channels import SECOND, defaults
+from .listings import BEGIN, LAST, Judging, Lines, Programmes, Told, files_of, texts_of
 from .parts import asked_for
 from .results import result
 

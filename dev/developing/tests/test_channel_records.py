@@ -20,8 +20,8 @@ from subtitles.common.times import CLOCK, TICKS
 from subtitles.results.files import found, unjudged
 from subtitles.results.schema import ASKED, FORMAT
 from .bench import SECONDS
-from .channels import FIRST
-from .listings import BEGIN, LAST, SECOND, Judging, Lines, Programmes, Told, results_in, texts_of
+from .channels import FIRST, SECOND
+from .listings import BEGIN, LAST, Judging, Lines, Programmes, Told, results_in, texts_of
 from .parts import asked_for
 from .results import result
 
@@ -112,11 +112,15 @@ class Again(Programmes):
             os.kill(os.getpid(), signal.SIGKILL)
             return 0
 
+        def slow() -> int:
+            time.sleep(SECONDS)
+            return 0
+
         for does, wanted in ((lambda: 0, 0), (lambda: 7, 7), (killed, -signal.SIGKILL)):
             status, _ = called(does, SECONDS)
             self.must(f"{wanted}", status == wanted, status)
         with self.assertRaises(TimeoutError):
-            called(lambda: time.sleep(SECONDS) or 0, 0.01)
+            called(slow, 0.01)
 
     def test_segments_that_go(self) -> None:
         """Then it is not judged, for the reason for which it was not; until then they stay."""

@@ -14,10 +14,10 @@ from subtitles.cli.channel.spool import ERROR
 from subtitles.cli.channel.schedule import AT_ONCE, LATER
 from subtitles.clock.start import FITTED_SHORT
 from subtitles.common.times import CLOCK, TICKS
-from .listings import BEGIN, LAST, SECOND, Judging, Lines, Pages, Programmes, Told, texts_of
+from .listings import BEGIN, LAST, Judging, Lines, Pages, Programmes, Told, texts_of
 from .results import FAULT, result
 from .test_channel_heard import OTHER
-from .channels import FIRST, make_subtitles
+from .channels import FIRST, SECOND, make_subtitles
 
 
 class Steps(Programmes):

@@ -15,8 +15,8 @@ from subtitles.cli.channel.schedule import LOST
 from subtitles.cli.channel.spool import path_of
 from subtitles.common.command_line import Stop
 from .bench import SECONDS, Case, example
-from .channels import Running, until
-from .listings import BEGIN, SECOND, Judging, Lines, Programmes, Told, texts_of
+from .channels import SECOND, Running, until
+from .listings import BEGIN, Judging, Lines, Programmes, Told, texts_of
 from .results import result
 
 

@@ -232,7 +232,7 @@ class Channel:
         """Judges what has come, and begins what can be begun."""
         self.look()
         while not self.running or self.running.has_come(
-                self.hearing.of(self.running.asked), self.now, is_still):
+                self.hearing.by_page[self.running.asked.page], self.now, is_still):
             if self.running:
                 self.judge(self.running)
             if not self.begin_next():
@@ -285,7 +285,7 @@ class Channel:
                           self.queue.since)
         programme = self.queue.leave()
         assert programme.asked and programme.awaited
-        origin = self.hearing.of(programme.asked).clock.pts_at(midnight)
+        origin = self.hearing.by_page[programme.asked.page].clock.pts_at(midnight)
         self.running = OnAir(
             programme, dataclasses.replace(programme.asked, origin=origin, pid=None), midnight,
             programme.awaited.first, programme.awaited.last)
@@ -300,7 +300,8 @@ class Channel:
 
     def judge(self, running: OnAir, why: str = ENDED) -> None:
         """Judges a programme by what came of it; one that did not come whole is not judged."""
-        programme, asked, heard = running.programme, running.asked, self.hearing.of(running.asked)
+        programme, asked = running.programme, running.asked
+        heard = self.hearing.by_page[asked.page]
         parts = self.segments.between(running.begin - TICKS * (asked.every + AROUND),
                                       running.since, running.until)
         missing = running.missing(heard.start, self.now, why)
@@ -365,17 +366,15 @@ class Channel:
             self.headers, self.header = headers, segments.read_date() or time.time()
         is_silent = self.stall.is_told or any(page.silence.still for page in heard)
         self.take_alarms(is_silent)
-        came, waiting = segments.came(), [programme.name for programme in queue.waiting]
+        about, waiting = segments.about(), [programme.name for programme in queue.waiting]
         with contextlib.suppress(OSError):
             self.free_bytes = shutil.disk_usage(self.folder).free
-        count, size = segments.size()
         self.machine.tell(
             {"sent": self.running and self.running.programme.name, "waiting": waiting,
              "lines": self.lines()._asdict(), "alarms": [*self.alarms.on],
              "recorder": segments.is_recorded(), "last_verdict": self.results.last},
-            {"came": came, "header": self.header,
-             "silent_since": (self.header or came) if is_silent else None,
-             "behind_seconds": segments.behind(), "segments": count, "bytes": size,
+            {**about, "header": self.header,
+             "silent_since": (self.header or about["came"]) if is_silent else None,
              "free_bytes": self.free_bytes,
              "waiting_seconds": max(self.now - queue.since, 0) // SECOND if waiting else 0},
             self.results.inputs)

@@ -14,7 +14,6 @@ from ...common.command_line import Stop, pid_name
 from ...common.times import ticks_between
 from ...formats.teletext import Page, page_name
 from ...recording.recording import refuse_stream
-from ...request.request import Request
 from ...stream import ranges
 from ...stream.gaps import Place, hole_of, why_refused
 from ...stream.ranges import MOST_OVERLAP
@@ -42,16 +41,16 @@ class Heard(Survey):
     """A page of a feed: what is sent of it, and the time. `clock` is that of its PES packets, and
     `packets` are those of the PID that carries it now; `changes` are those of its text, also as
     they are within some frames. `said` are lines for a person; `anew` is why nothing of what came
-    before tells what comes. `reference` is a clock that is known at the same time; a `clock` is one
-    that goes on; `likely` is the PID that carried the page when it was heard before."""
+    before tells what comes. `reference` is a clock that is known at the same time; `likely` is the PID
+    that carried the page when it was heard before."""
 
     def __init__(self, page: Page, pid: int | None, reference: FeedClock | None = None,
-                 clock: FeedClock | None = None, likely: int | None = None) -> None:
+                 likely: int | None = None) -> None:
         super().__init__()
         self.page, self.asked_pid, self.reference = page, pid, reference
         self.pid: int | None = None
         self.likely = likely
-        self.clock = clock or FeedClock()
+        self.clock = FeedClock()
         self.first: tuple[int, int] | None = None  # PTS, with its time
         self.ahead: int | None = None  # the first ticks by which PTS are ahead of the PCR
         self.changes = {is_within: Changes() for is_within in (False, True)}
@@ -138,7 +137,9 @@ class Heard(Survey):
     def go_on(self, run: Run) -> None:
         """Goes on with PES packets of the page's PID."""
         for pts in clock_times(run):
-            self.begin_clock(pts)
+            known = self.reference  # by which the first PTS has its time
+            if self.clock.pts is None and known and known.pts is not None:
+                self.clock.now = max(known.now + ticks_between(known.pts_at(known.now), pts), 0)
             before, back = self.clock.pts, MOST_OVERLAP if self.moved else BACK
             late = self.clock.take(pts, back)
             self.first = self.first or (pts, self.clock.now)
@@ -150,12 +151,6 @@ class Heard(Survey):
             for pts in (run.pts, run.last):
                 self.silence.hear(self.pid or PES, pts)
             self.losses.hear(run.pts)
-
-    def begin_clock(self, pts: int) -> None:
-        """The first PTS is that of time 0, or the one that it is by a clock that is known."""
-        known = self.reference
-        if self.clock.pts is None and known and known.pts is not None:
-            self.clock.now = max(known.now + ticks_between(known.pts_at(known.now), pts), 0)
 
     @property
     def start(self) -> int:
@@ -338,14 +333,6 @@ class Listening:
         while not self.lines.has_ended:
             yield from self.told(1)
 
-    def refuse(self) -> None:
-        """`Stop` where the feed has ended since it could not be read on."""
-        packets = self.heard.packets
-        self.heard.refuse(self.process.wait())
-        why = packets.damage or (why_refused(packets) if packets.refusal else None)
-        if why:
-            raise Stop(why)
-
     def close(self) -> None:
         """Ends it."""
         self.process.kill()
@@ -364,10 +351,6 @@ class Hearing:
         self.program, self.pid, self.known, self.before = program, pid, known, before
         self.by_page: dict[Page, Heard] = {}
         self.calls: list[Listening] = []
-
-    def of(self, asked: Request) -> Heard:
-        """What is heard of the page of a programme."""
-        return self.by_page[asked.page]
 
     def begin(self, is_first: bool = False) -> Begin | None:
         """What is told so far, as the begin of a segment; of the first one its own. `None` where
@@ -389,26 +372,22 @@ class Hearing:
         """Hears these pages, too."""
         for page in pages:
             if page not in self.by_page:
-                known = next(iter(self.by_page.values()), None)
-                self.hear(Heard(page, self.pid, known.clock, likely=self.likely(page))
-                          if known else self.first(page))
+                known = next((heard.clock for heard in self.by_page.values()), None)
+                self.hear(self.heard(page, known))
                 for data in self.before():
                     collections.deque(self.calls[-1].hand(data), 0)
                 self.by_page[page].said.clear()  # nobody is told of it
 
-    def first(self, page: Page) -> Heard:
-        """The page that is heard first, at the time that is known."""
-        clock, known = FeedClock(), self.known
-        if known:
-            clock.now, clock.pts = known.time, known.pts
-        heard = Heard(page, self.pid, clock=clock, likely=self.likely(page))
-        if known and known.is_exact and known.pts is not None:
-            heard.first = known.pts, known.time
+    def heard(self, page: Page, reference: FeedClock | None = None) -> Heard:
+        """A page that is heard from now on: the first one at the time that is known, each other one
+        by the clock of that."""
+        known = self.known
+        heard = Heard(page, self.pid, reference, known.pids.get(page_name(*page)) if known else None)
+        if known and not reference:
+            heard.clock.now, heard.clock.pts = known.time, known.pts
+            if known.is_exact and known.pts is not None:
+                heard.first = known.pts, known.time
         return heard
-
-    def likely(self, page: Page) -> int | None:
-        """The PID that carried a page when it was heard before."""
-        return self.known.pids.get(page_name(*page)) if self.known else None
 
     def hear(self, heard: Heard) -> None:
         """Begins to hear a page."""
@@ -432,7 +411,7 @@ class Hearing:
         self.close()
         self.calls.clear()
         for page, before in [*self.by_page.items()]:
-            heard = self.first(page)
+            heard = self.heard(page)
             heard.kept_since = before.kept_since
             heard.said += before.said
             self.hear(heard)
@@ -466,8 +445,12 @@ class Hearing:
         where the program that hears it has."""
         for call in self.calls:
             call.heard.refuse(call.process.wait())
-        refuse_stream(self.calls[0].heard, name)
-        self.calls[0].refuse()
+        heard = self.calls[0].heard
+        refuse_stream(heard, name)
+        packets = heard.packets
+        why = packets.damage or (why_refused(packets) if packets.refusal else None)
+        if why:
+            raise Stop(why)
 
     def close(self) -> None:
         """Ends all calls."""

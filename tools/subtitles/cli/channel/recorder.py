@@ -184,24 +184,19 @@ class Segments:
 
     # ---- what a machine asks
 
-    def size(self) -> tuple[int, int]:
-        """How many segments there are, and their bytes."""
-        numbers = numbers_in(self.folder)
-        return len(numbers), sum(size_in(self.folder, one) for one in numbers)
-
-    def came(self) -> float | None:
-        """When the last byte came."""
+    def about(self) -> dict[str, Any]:
+        """When the last byte came, by how many seconds what is read came before that, and what is
+        kept."""
+        numbers, came = numbers_in(self.folder), None
         with contextlib.suppress(OSError, IndexError):
-            return os.stat(path_of(self.folder, numbers_in(self.folder)[-1])).st_mtime
-        return None
+            came = os.stat(path_of(self.folder, numbers[-1])).st_mtime
+        behind = max(round(came - (self.read_date() or came)), 0) if came else 0
+        return {"came": came, "behind_seconds": behind, "segments": len(numbers),
+                "bytes": sum(size_in(self.folder, number) for number in numbers)}
 
     def read_date(self) -> float | None:
         """When that came which is read now."""
         return os.fstat(self.file.fileno()).st_mtime if self.file else None
-
-    def behind(self) -> int:
-        """By how many seconds what is read came before the last byte."""
-        return max(round((self.came() or 0) - (self.read_date() or self.came() or 0)), 0)
 
     def is_recorded(self) -> bool:
         """Whether somebody records now."""

@@ -66,7 +66,7 @@ class Programme:
         """The time of its midnight, once it is there."""
         if self.asked is None or self.awaited is None:
             return None
-        heard = hearing.of(self.asked)
+        heard = hearing.by_page[self.asked.page]
         if isinstance(self.awaited, Timed):
             return self.awaited.midnight(heard.clock)
         return self.awaited.midnight(heard.changes[self.asked.within > 0])
