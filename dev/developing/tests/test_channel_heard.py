@@ -13,8 +13,9 @@ from subtitles.cli.channel.feed import ANEW, BACK, GAP, Heard, Hearing, MINUTE, 
 from subtitles.common.command_line import Stop
 from subtitles.common.times import CLOCK, TICKS
 from subtitles.request.request import Unclear
+from subtitles.stream.packets import Run
 from subtitles.stream.ranges import way_of
-from subtitles.stream.survey import Announced, ProgramMap, Run
+from subtitles.stream.survey import Announced, ProgramMap
 from .bench import Case
 from .listings import SECOND, Lines
 from .parts import CLOSING, HEADER, PAGE, row

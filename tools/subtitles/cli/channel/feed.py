@@ -16,8 +16,9 @@ from ...recording.recording import refuse_stream
 from ...request.request import Request
 from ...stream import ranges
 from ...stream.gaps import Place, hole_of, overlap, what_of
+from ...stream.packets import HEADER, PES, Packets, Run
 from ...stream.ranges import MOST_OVERLAP
-from ...stream.survey import HEADER, PES, Packets, Run, Survey
+from ...stream.survey import Survey
 from .listening import Listening, SOON
 from .recorder import Begin
 

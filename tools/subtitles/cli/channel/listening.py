@@ -15,8 +15,9 @@ from ...common.times import FRAMES_OF_A_DAY, frame_in
 from ...formats.teletext import Page
 from ...request.request import Request
 from ...stream.gaps import late_of, why_refused
+from ...stream.packets import Packets
 from ...stream.ranges import cut_of
-from ...stream.survey import Lines, Packets, Survey, survey_call
+from ...stream.survey import Lines, Survey, survey_call
 
 
 # The bytes of a feed, handed on at the pace of those that hear them.
