@@ -4,8 +4,9 @@ wrong page was sent where some TS or PES packets are lost.
 
 None is accepted of which a wrong cell was sent, a row is missing, or a row came early, but by what
 the profile says in words, or with a note that says what is not checked. Each of which all is right
-and nothing is lost is accepted. The gate judges those of twenty seeds; from dev/, `python3 -m developing.tests.test_chosen_at_random PROGRAM 0 300` judges as
-many and prints each seed with what was said of it.
+and nothing is lost is accepted. The gate judges those of twenty seeds; from dev/,
+`python3 -m developing.tests.test_chosen_at_random PROGRAM 0 300` judges as many and prints each
+seed with what was said of it.
 """
 from __future__ import annotations
 
