@@ -20,8 +20,9 @@ from subtitles.request.commands import Names
 from subtitles.request.lines import read_options
 from subtitles.request.request import Request, add_options, option_words, request_with
 from subtitles.stream.gaps import Place
+from subtitles.stream.packets import Packets
 from subtitles.stream.receiver import Timeline
-from subtitles.stream.survey import Packets, survey
+from subtitles.stream.survey import survey
 from .bench import Case
 
 PAGE = (0, 0x88)

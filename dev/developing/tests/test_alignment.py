@@ -3,7 +3,7 @@ from __future__ import annotations
 
 from subtitles.clock.alignment import Shown, back_at, edges_of
 from subtitles.common.times import CLOCK, TICKS
-from subtitles.stream.survey import Change
+from subtitles.stream.packets import Change
 from .bench import Case
 
 TEXT, OTHER = ((20, b"text"),), ((20, b"other"),)

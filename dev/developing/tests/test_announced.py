@@ -8,8 +8,8 @@ from typing import Optional
 from developing.multiplex import ADAPTATION_ALONE, BEGINS, PACKET, PAYLOAD, head
 from developing.pes import pes_packet
 from subtitles.common.times import CLOCK, TICKS
-from subtitles.stream.survey import (
-    Packets, Run, Survey, announced_in, jumps_at, jumps_told, packets_in)
+from subtitles.stream.packets import Packets, Run, announced_in, jumps_at, jumps_told, packets_in
+from subtitles.stream.survey import Survey
 from .bench import Case
 
 PID = 0x101

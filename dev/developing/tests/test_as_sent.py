@@ -11,7 +11,7 @@ from subtitles.formats.layout import (
     PLAIN, Refused, drawn, fault_in, layout_of, page_rows)
 from subtitles.formats.stl import Subtitle
 from subtitles.formats.teletext import ENGLISH
-from subtitles.judging.drawing import cells_words
+from subtitles.judging.pages import cells_words
 from subtitles.stream.layout import sent_in
 from .bench import Case
 from .judged import Judged, judged

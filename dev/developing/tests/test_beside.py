@@ -20,7 +20,7 @@ from subtitles.formats.listing import fault_of_line
 from subtitles.formats.stl import SubtitleFile
 from subtitles.judging.subtitles import Counts, beside_of, due_beside, is_judged_beside
 from subtitles.results.files import row_of_object
-from subtitles.stream.survey import Packets, Run
+from subtitles.stream.packets import Packets, Run
 from .bench import Case, packets
 from .judged import Judged, joined, judged, late, sendings
 from .parts import answer, part_with

@@ -17,8 +17,8 @@ from subtitles.formats.stl import Subtitle
 from subtitles.judging.causes import Causes
 from subtitles.judging.transmissions import DuePages
 from subtitles.judging.verdict import frames_of
+from subtitles.stream.packets import Packets
 from subtitles.stream.receiver import BLANK_PAGE, Rows, Timeline
-from subtitles.stream.survey import Packets
 from .. import DEV
 from .parts import PAGE
 

@@ -14,8 +14,9 @@ from subtitles.cli.channel.hearing import Heard, Hearing
 from subtitles.common.command_line import Stop
 from subtitles.common.times import CLOCK, TICKS
 from subtitles.request.request import Unclear
+from subtitles.stream.packets import Run
 from subtitles.stream.ranges import way_of
-from subtitles.stream.survey import Announced, ProgramMap, Run
+from subtitles.stream.survey import Announced, ProgramMap
 from .bench import Case
 from .channels import SECOND
 from .listings import Lines

@@ -10,7 +10,7 @@ import unittest
 from developing.pes import data_field, packet, pes_packet, pts_in, teletext_packets
 from subtitles.common.program import TOP
 from subtitles.formats.teletext import CODE_WORDS, FRENCH, OPTIONS
-from subtitles.recording.recording import of_character_sets, of_option
+from subtitles.recording.notices import of_character_sets, of_option
 from subtitles.request.request import Request
 from .bench import Case, example_bytes, packets
 from .parts import packets_told

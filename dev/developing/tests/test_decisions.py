@@ -15,17 +15,18 @@ from subtitles.clock.start import Clock, Found, RECORDING, START
 from subtitles.common.command_line import Words
 from subtitles.common.times import Between, Span, TICKS
 from subtitles.formats.stl import NamedSubtitle, Subtitle, SubtitleFile
-from subtitles.judging.clocks import unclear_origin, with_delay
 from subtitles.judging.part import parted, refuse_others
+from subtitles.judging.timing import unclear_origin, with_delay
 from subtitles.judging.verdict import frames_until
-from subtitles.recording.recording import of_page
+from subtitles.recording.notices import of_page
 from subtitles.request.commands import CommandWords
 from subtitles.request.lines import of_folder, request_of_line
 from subtitles.request.request import Unclear, add_options
 from subtitles.results.files import hint_in
 from subtitles.results.schema import ASKED, total
+from subtitles.stream.packets import Packets
 from subtitles.stream.receiver import BLANK_PAGE, FEW, Rows, Timeline
-from subtitles.stream.survey import Announced, Packets
+from subtitles.stream.survey import Announced
 from .bench import Case
 from .parts import CLOSING, HEADER, PAGE, asked_for, call_words, packets_told, row, timeline_of
 

@@ -6,9 +6,9 @@ import random
 import unittest
 from typing import Callable, Sequence
 
-from subtitles.clock.alignment import Agreed, Edge, bases_of, edges_of
-from subtitles.clock.delays import (
-    Drift, Early, FEW_TEXTS, RARE, UNSEEN_SHARE, drift_of, likeliest, settled, usual_delay)
+from subtitles.clock.alignment import (
+    Agreed, Drift, Early, Edge, FEW_TEXTS, RARE, UNSEEN_SHARE, bases_of, drift_of, edges_of,
+    likeliest, settled, usual_delay)
 from subtitles.clock.origin import Origin
 from subtitles.clock.stretches import are_alike, is_again
 from subtitles.common.command_line import Lateness, late_word

@@ -287,8 +287,8 @@ class Mistakes(Story):
                       AssertionError("never"), IndexError("far"), OSError("read"), Stop("stopped")):
             with self.subTest(error=error):
                 self.failing("judging.pair.Pair.judge", error)
-        for place in ("judging.pair.check_alone", "judging.clocks.find",
-                      "judging.explanation.Explainer.explained", "judging.part.Part.is_read",
+        for place in ("judging.pair.check_alone", "judging.timing.find",
+                      "judging.pair.Explainer.explained", "judging.part.Part.is_read",
                       "judging.check.Answer.take"):
             with self.subTest(place):
                 self.failing(place, ValueError("odd"))

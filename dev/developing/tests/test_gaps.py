@@ -7,7 +7,8 @@ from typing import Tuple
 from subtitles.common.times import TICKS
 from subtitles.stream.gaps import (
     MOST_LATE, Place, SECOND, late_of, places_of, reach_of, what_of, why_refused)
-from subtitles.stream.survey import Clocked, Mark, Packets, ProgramMap, Run, Survey
+from subtitles.stream.packets import Clocked, Mark, Packets, Run
+from subtitles.stream.survey import ProgramMap, Survey
 from .bench import Case
 
 Jump = Tuple[int, int]  # the PTS around one

@@ -211,6 +211,16 @@ class GraphTest(unittest.TestCase):
         self.assertEqual(graph.by_promise(self.graph, "app").split("\n")[0].split(),
                          ["promise", "alone", "shared"])
 
+    def test_what_is_promised(self) -> None:
+        """Each function with clauses, by crate: a clause without a name has none."""
+        for crate, wanted in (("app", ["app/law_of_words  crates/app/src/main.rt:6", "1 functions"]),
+                              ("low", ["low/Reader::read  crates/low/src/reading.rt:11  one  kept",
+                                       "low/helper  crates/low/src/reading.rt:22",
+                                       "low/Other::declared  crates/low/src/reading.rt:29",
+                                       "3 functions"])):
+            self.assertEqual(graph.promised(self.graph, crate).split("\n"), wanted)
+        self.assertTrue(graph.promised(self.graph, "").endswith("\n4 functions"))
+
     def test_about_a_name(self) -> None:
         text = graph.about(self.graph, self.one("outer"))
         self.assertIn("serves:\n    low/Reader::read  crates/low/src/reading.rt:11  one", text)

@@ -12,8 +12,8 @@ from subtitles.judging.check import Answer
 from subtitles.judging.transmissions import (
     DuePages, Headed, Kept, REPEATS, control_words, headed, kept_in, left_at, left_rows_words,
     unerased_words)
+from subtitles.stream.packets import Run
 from subtitles.stream.receiver import BLANK_PAGE, Rows, TUNED, Timeline
-from subtitles.stream.survey import Run
 from .bench import Case
 from .judged import Judged, Sent, joined, judged, programme, sendings
 from .parts import CLOSING, HEADER, answer, asked_for, row, timeline_of

@@ -8,9 +8,9 @@ import random
 from developing.pes import address_of
 from developing.stl import gsi_block, subtitle_blocks
 from subtitles.formats.layout import (
-    Layout, PLAIN, Refused, drawn, layout_of, layout_text, page_rows)
+    Layout, PLAIN, Refused, drawn, layout_of, layout_text, page_rows, simplicity)
 from subtitles.formats.teletext import BY_WORD, Page
-from subtitles.stream.layout import Choice, Sent, choices_of, is_found, missed, simplicity
+from subtitles.stream.layout import Choice, Sent, choices_of, is_found, missed
 from .. import DEV
 from ..every_place.on_air import Packet, rows_in, span_of
 from ..every_place.reading import header_of, pieces_of, sending_in

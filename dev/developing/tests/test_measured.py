@@ -6,8 +6,8 @@ from developing.stl import gsi_block, subtitle_blocks
 from subtitles.cli.main import parser_of
 from subtitles.cli.measure import measure
 from subtitles.common.times import TICKS, time_of
+from subtitles.judging.measurement import never_words
 from subtitles.request.lines import profile_at, read_options
-from subtitles.stream.layout import never_words
 from .bench import Case, packets
 from .judged import Sent, joined, judged
 from .test_keeping import KEEPING_HEADER

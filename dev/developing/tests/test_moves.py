@@ -8,8 +8,9 @@ from subtitles.clock.start import Clock, Found, RECORDING
 from subtitles.common.times import Between, TICKS
 from subtitles.formats.stl import Subtitle
 from subtitles.judging.part import found_on, moves_told
+from subtitles.stream.packets import Change, Mark, Packets, Run
 from subtitles.stream.ranges import Stage, joined_stages, part_inside, stages_of, up_to
-from subtitles.stream.survey import Change, Mark, Packets, Run, survey
+from subtitles.stream.survey import survey
 from .bench import Case, moved, packets
 from .judged import in_pipe, judged, programme
 from .muxed import MPEG_2, PRIVATE, TELETEXT_PID, VIDEO_PID, Maker, teletext_descriptor

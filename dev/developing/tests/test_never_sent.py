@@ -7,7 +7,7 @@ from typing import Sequence
 
 from developing.pes import pes_packet, pts_in
 from subtitles.common.times import CLOCK, TICKS
-from subtitles.recording.announced import (
+from subtitles.recording.notices import (
     Announcement, announcements_of, is_due_in, silent_beside, unsent_by)
 from subtitles.stream.gaps import SECOND
 from subtitles.stream.survey import Survey

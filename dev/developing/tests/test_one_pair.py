@@ -16,7 +16,7 @@ from subtitles.judging.check import Answer
 from subtitles.judging.part import Explanation, Part
 from subtitles.judging.status import Severity
 from subtitles.judging.verdict import Gap, Verdict
-from subtitles.recording.recording import Notice
+from subtitles.recording.notices import Notice
 from subtitles.report import page as report_page
 from subtitles.request.commands import CommandWords, Names
 from subtitles.request.request import Request

@@ -10,7 +10,7 @@ from subtitles.common.times import CLOCK, TICKS
 from subtitles.stream.gaps import (
     BY_EVERY, FEW, IRREGULAR, LEAST, PAUSED, Pauses, REGULAR, TOO_FEW, each_of, frame_rows, pace_of,
     pauses_of, unseen_from, usual_in)
-from subtitles.stream.survey import Packets, Run
+from subtitles.stream.packets import Packets, Run
 from .bench import Case
 from .judged import Judged, Sent, in_pipe, joined, judged, programme, sendings
 from .muxed import TELETEXT_PID

@@ -9,7 +9,7 @@ from subtitles.clock.origin import Sought
 from subtitles.clock.start import FITTED, FITTED_LATER, GIVEN, RECORDING
 from subtitles.common.command_line import counted
 from subtitles.common.times import CLOCK, EARLY, TICKS, time_of
-from subtitles.judging.clocks import origin_in
+from subtitles.judging.timing import origin_in
 from .bench import Case, example
 from .parts import packets_told
 from .judged import FEW, Change, Judged, Sent, joined, judged, late, programme, sendings

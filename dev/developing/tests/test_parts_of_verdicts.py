@@ -10,10 +10,9 @@ from subtitles.clock.start import FITTED, FITTED_LATER, GIVEN, RECORDING
 from subtitles.common.times import CLOCK, TICKS
 from subtitles.formats.listing import ENDS_READING
 from subtitles.judging.check import Answer, NO_END
-from subtitles.judging.losses import gap_of, gaps_of, lacks
 from subtitles.judging.part import Explanation, Part
 from subtitles.judging.status import ERROR, OTHERS, REFUSALS, Severity, WARNING
-from subtitles.judging.verdict import Gap, MOVED, Spread, Verdict, spread_of
+from subtitles.judging.verdict import Gap, MOVED, Spread, Verdict, gap_of, gaps_of, lacks, spread_of
 from subtitles.stream.gaps import Place
 from .bench import Case
 from .parts import CLOSING, HEADER, answer, asked_for, packets_told, part_with

@@ -6,8 +6,7 @@ import unittest
 from typing import Callable, Sequence
 
 from subtitles.common.times import CLOCK, TICKS
-from subtitles.stream.pictures import Departure, Distance, FEW, Line, Step, departures_of
-from subtitles.stream.survey import Survey
+from subtitles.stream.survey import Departure, Distance, FEW, Line, Step, Survey, departures_of
 
 PID, VIDEO = 0x101, 0x200
 

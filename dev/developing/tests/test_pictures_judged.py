@@ -9,9 +9,8 @@ from unittest import mock
 from subtitles.clock.start import Clock, Found, GIVEN, RECORDING, START
 from subtitles.common.times import CLOCK, TICKS
 from subtitles.formats.listing import PICTURES_LEFT
-from subtitles.judging.pictures import NOT_CHECKED, departures_in, left_by_pictures
-from subtitles.stream.pictures import Departure
-from subtitles.stream.survey import Survey
+from subtitles.judging.timing import NOT_CHECKED, departures_in, left_by_pictures
+from subtitles.stream.survey import Departure, Survey
 from .bench import Case, example_bytes
 from .judged import judged
 from .muxed import programme as stream_with

@@ -8,7 +8,7 @@ import subprocess
 from unittest import mock
 
 from subtitles.common.command_line import counted
-from subtitles.recording import piped
+from subtitles.recording import recording
 from .bench import SECONDS, Case, example, example_bytes, tool_path
 from .channels import until
 from .judged import in_pipe, judged
@@ -42,12 +42,12 @@ class Piped(Case):
                   "qc: /dev/zero is a device: give a file or a pipe", done)
         pes = example_bytes("story.pes")
         for most, word in ((len(pes), "accepted"), (len(pes) - 1, "not judged")):
-            with mock.patch.object(piped, "MOST_PIPED", most):
+            with mock.patch.object(recording, "MOST_PIPED", most):
                 found = judged(self, STORY, in_pipe(self, pes), "--origin", "0")
             self.must(f"{most}", found.word == word, found.said)
         self.must("what to type", found.told[-1].endswith(
             f" has not ended after {most:,} bytes: what does not end is judged with --channel LIST")
-            and piped.MOST_PIPED == 32_000_000_000, found.told)
+            and recording.MOST_PIPED == 32_000_000_000, found.told)
 
     def test_no_room(self) -> None:
         """Where what comes can't be kept that is said, and nothing waits."""

@@ -13,8 +13,8 @@ from subtitles.clock.origin import (
 from subtitles.clock.stretches import by_breaks, find_row, parts_of, runs_of
 from subtitles.common.command_line import Lateness
 from subtitles.common.times import CLOCK, FRAMES_A_SECOND, FRAMES_OF_A_DAY, TICKS, frame_in
+from subtitles.stream.packets import Change, Packets, Run
 from subtitles.stream.ranges import cut_of
-from subtitles.stream.survey import Change, Packets, Run
 
 SEEDS = range(20)
 Sending = tuple[int, bytes]  # a PTS that does not wrap, and the letters of the page then

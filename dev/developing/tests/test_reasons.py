@@ -9,8 +9,8 @@ from subtitles.judging.causes import EVEN, IN_PARTS, Namer, UNSEEN
 from subtitles.judging.transmissions import DuePages
 from subtitles.recording.recording import header_bytes, pes_header_words
 from subtitles.stream.gaps import Place, places_of, what_of
+from subtitles.stream.packets import Clocked, Mark, Packets, Run
 from subtitles.stream.receiver import subcode_of, turns_of
-from subtitles.stream.survey import Clocked, Mark, Packets, Run
 from .bench import Case, packets
 from .judged import Sent, in_pipe, joined, judged, programme, sendings
 from .muxed import AHEAD, TELETEXT_PID, Maker, components, put_teletext

@@ -12,7 +12,8 @@ from developing.pes import pes_packet
 from subtitles.common.times import CLOCK, TICKS
 from subtitles.recording.recording import silent_in
 from subtitles.stream.gaps import SECOND, marks_told, why_refused
-from subtitles.stream.survey import Mark, Packets, Run, Survey, names_of, survey
+from subtitles.stream.packets import Mark, Packets, Run
+from subtitles.stream.survey import Survey, names_of, survey
 from developing.multiplex import Multiplex
 from .bench import SECONDS, Case, packets
 from .parts import HEADER, row

@@ -28,8 +28,8 @@ class Found(Case):
             if not module.endswith("__init__"):
                 self.must(module, runner.of_module(module, everything))
         self.must("no module", not runner.of_module("subtitles.none", everything))
-        for module, test, most in (("judging.losses", "test_parts_of_verdicts", 3),
-                                   ("judging.clocks", "test_decisions", 5),
+        for module, test, most in (("judging.verdict", "test_parts_of_verdicts", 30),
+                                   ("judging.timing", "test_decisions", 9),
                                    ("cli.channel.schedule", "test_listening", 12),
                                    ("judging.transmissions", "test_reasons", 30)):
             kinds = {type(one).__module__.rpartition(".")[2] for one in

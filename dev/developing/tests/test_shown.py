@@ -4,7 +4,7 @@ from __future__ import annotations
 import ctypes
 
 from developing.pes import packet
-from subtitles.judging.shown import Sight, hidden_words, letters_in, sight_of
+from subtitles.judging.pages import Sight, hidden_words, letters_in, sight_of
 from .bench import Case
 from .judged import joined, judged, programme, sendings
 from .parts import CLOSING, HEADER

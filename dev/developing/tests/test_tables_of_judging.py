@@ -15,13 +15,14 @@ from subtitles.clock.origin import OfPart, Origin
 from subtitles.clock.start import Clock, Found, GIVEN, RECORDING, most_off, off_words, start_frame
 from subtitles.common.times import CLOCK, TICKS
 from subtitles.formats.stl import SubtitleFile
-from subtitles.judging.clocks import found_in
-from subtitles.recording.recording import (
+from subtitles.judging.timing import found_in
+from subtitles.recording.notices import (
     Notice, count_notices, length_words, of_character_sets, of_jumps, of_pauses, of_repeat,
     of_tables, there_are)
 from subtitles.request.request import Selection, Unclear
 from subtitles.stream.gaps import ClockJump
-from subtitles.stream.survey import Announced, Packets
+from subtitles.stream.packets import Packets
+from subtitles.stream.survey import Announced
 from .bench import Case
 from .parts import CLOSING, HEADER, PAGE, asked_for, packets_told
 from .test_character_sets import naming
@@ -52,7 +53,7 @@ class Warnings(Case):
             jumps = [ClockJump(None, 90_000), *(ClockJump((origin + TICKS * frame) % CLOCK, ticks)
                                            for frame, ticks in (
                 (9, 1), (10, 90_000), (15, -90_000), (20, 8_640_000), (21, 5)))]
-            with mock.patch("subtitles.recording.recording.jumps_of", lambda packets: jumps):
+            with mock.patch("subtitles.recording.notices.jumps_of", lambda packets: jumps):
                 found = [(one.kind, one.time, one.line.partition(" at ")[0])
                          for one in of_jumps(Packets(1), origin, 10, 20)]
             self.assertEqual(found, [

@@ -11,10 +11,10 @@ from developing.pes import pes_packet
 from developing.stl import gsi_block, tti_block
 from subtitles.common.command_line import HIDDEN
 from subtitles.formats.stl import SubtitleFile
+from subtitles.judging.pages import (
+    ATTRIBUTES, attribute_words, code_words, is_moved, is_part, moved_words, page_text, words_on)
 from subtitles.judging.subtitles import OptionAdvice
-from subtitles.judging.transmissions import (
-    ATTRIBUTES, attribute_words, code_words, control_words, is_moved, is_part, moved_words,
-    page_text, words_on)
+from subtitles.judging.transmissions import control_words
 from subtitles.recording.recording import is_recording
 from subtitles.request.commands import (
     CommandWords, Names, NamesOfList, again, files_in, pair_name, part_name, shell_line)

@@ -13,11 +13,12 @@ from subtitles.clock.alignment import MOST_BASES, Shown, bases_of
 from subtitles.clock.start import Clock, Found, RECORDING
 from subtitles.clock.stretches import LACKED, LEAST_BREAK, Stretch, by_breaks, find_row
 from subtitles.common.times import CLOCK, Spans, TICKS, joined_spans
-from subtitles.judging.clocks import last_time
+from subtitles.judging.timing import last_time
 from subtitles.stream.gaps import (
     ClockJump, Place, SECOND, jumps_of, place_line, places_of, strange_of, what_of)
+from subtitles.stream.packets import Change, Clocked, Mark, Packets, Run
 from subtitles.stream.ranges import cut_of
-from subtitles.stream.survey import Change, Clocked, Mark, Packets, Run, Survey
+from subtitles.stream.survey import Survey
 from .parts import asked_for
 
 

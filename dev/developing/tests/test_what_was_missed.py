@@ -12,11 +12,11 @@ from subtitles.cli.channel.schedule import Planned, Queue
 from subtitles.clock.alignment import back_at
 from subtitles.clock.start import Clock, Found, GIVEN
 from subtitles.common.times import CLOCK, NO_FRAME, Span, TICKS
-from subtitles.judging.losses import places_on
+from subtitles.judging.verdict import places_on
 from subtitles.report.report import readable
 from subtitles.stream.gaps import Place
+from subtitles.stream.packets import Change
 from subtitles.stream.receiver import Timeline, pauses_in, timeline_near
-from subtitles.stream.survey import Change
 from .bench import Case, example, example_bytes
 from .judged import in_pipe, judged, programme
 from .muxed import TELETEXT_PID

@@ -6,7 +6,7 @@ import unittest
 from types import SimpleNamespace
 from typing import Any
 
-from subtitles.clock.delays import Early
+from subtitles.clock.alignment import Early
 from subtitles.clock.origin import (
     Origin, Sought, break_lines, frames_words, part_lines, shift_lines, take_parts)
 from subtitles.clock.stretches import Stretch

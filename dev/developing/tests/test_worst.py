@@ -7,9 +7,9 @@ from types import SimpleNamespace
 from subtitles.formats.listing import FAULT_NAMES, NamedFault, STL_FAULTS, meanings
 from subtitles.judging.causes import Cause, NAMES
 from subtitles.judging.check import Answer
-from subtitles.judging.status import REFUSALS
-from subtitles.judging.worst import (
+from subtitles.judging.sentence import (
     OF_CAUSE, OF_NAME, OF_NUMBER, Rank, lead_of, rank_of, worst_cause, worst_name)
+from subtitles.judging.status import REFUSALS
 from .bench import Case
 from .parts import answer, part_with
 

@@ -11,8 +11,8 @@ import unittest
 from subtitles.cli.channel.feed import FeedClock
 from subtitles.clock.start import Clock, Found, RECORDING
 from subtitles.common.times import CLOCK, FRAMES_OF_A_DAY, Span, TICKS
-from subtitles.judging.losses import place_time
 from subtitles.judging.part import is_in, reach, unseen
+from subtitles.judging.verdict import place_time
 from subtitles.report.transmission import place_of_pts
 from subtitles.stream.gaps import Place, SECOND
 from developing.multiplex import TENTH, Multiplex

@@ -12,22 +12,21 @@ from ..common.times import Span
 from ..formats.stl import Subtitle
 from ..formats.teletext import BY_WORD, page_name
 from ..judging.check import Answer
-from ..judging.clocks import PartSearch, cut_within
-from ..judging.losses import measured_pace
 from ..judging.measurement import (
     Delays, Finding, Repeats, Sending, delays_of, every_of, keeping_of, late_found, layout_found,
     option_of, pace_found, repeats_in, sendings_of)
 from ..judging.pair import Pair
 from ..judging.part import Part, PartFrames, PartPace, PartRange, answered_part, nothing_due
 from ..judging.status import Severity
+from ..judging.timing import PartSearch, cut_within, measured_pace
 from ..judging.transmissions import control_words, keeps
 from ..judging.verdict import Verdict
 from ..recording.recording import refuse_files
 from ..request.commands import CommandWords, Listener, Names, Progress, Speech
 from ..request.request import PID_CHOICE, Request, Unclear, request_with
 from ..stream.gaps import Pace
+from ..stream.packets import HEADER
 from ..stream.receiver import Timeline, timeline_near
-from ..stream.survey import HEADER
 from .single import now
 
 

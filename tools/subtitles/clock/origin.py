@@ -10,10 +10,9 @@ from ..common.times import (
     ticks_within, time_of, wrapped)
 from ..formats.stl import letters_on_page, readable, stl_bytes, subtitle_times
 from ..formats.teletext import Page, page_name
+from ..stream.packets import Packets, Range, STRAY
 from ..stream.receiver import subcode_words, turns_of
-from ..stream.survey import Packets, Range, STRAY
-from .alignment import Base, Fit, MOST_APART, MOST_BASES, Shown, bases_of
-from .delays import Drift, Early, drift_of
+from .alignment import Base, Drift, Early, Fit, MOST_APART, MOST_BASES, Shown, bases_of, drift_of
 from .stretches import Airing, FittedPart, IN_A_ROW, Stretch, by_breaks, find_row, parts_of, runs_of
 
 

@@ -11,8 +11,9 @@ from ..common.times import (
     wrapped)
 from ..formats.stl import GSI
 from ..request.request import ORIGIN_CHOICE, Request, Selection, Unclear
+from ..stream.packets import Packets, Range
 from ..stream.ranges import Stage
-from ..stream.survey import Packets, Range, Survey
+from ..stream.survey import Survey
 
 
 # The clock of a part: its origin, where that is from, and the delay measured against it.

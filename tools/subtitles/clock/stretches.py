@@ -11,8 +11,7 @@ from typing import NamedTuple, Sequence
 
 from ..common.command_line import Lateness
 from ..common.times import FRAMES_A_SECOND, FRAMES_OF_A_DAY
-from .alignment import Base, Edge, Fit, Shown, TRIED, VOTES, edges_of
-from .delays import Early, settled
+from .alignment import Base, Early, Edge, Fit, Shown, TRIED, VOTES, edges_of, settled
 
 IN_A_ROW = 5  # edges that have to agree with an origin of their own
 NEW_TRACK = IN_A_ROW - 1  # points that another origin costs

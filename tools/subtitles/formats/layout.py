@@ -7,7 +7,7 @@ from __future__ import annotations
 
 import functools
 import re
-from typing import NamedTuple, Sequence
+from typing import Iterable, NamedTuple, Sequence
 
 from .teletext import NationalOption, cells_in
 
@@ -157,6 +157,12 @@ def layout_text(layout: Layout) -> str:
     return ",".join(items_of(layout))
 
 
+def simplicity(layout: Layout) -> tuple[int, int, str]:
+    """By this the simplest layout comes first."""
+    text = layout_text(layout)
+    return text.count(",") + bool(text), len(text), text
+
+
 @functools.lru_cache(maxsize=KEPT)
 def cell_lines(text: bytes, option: NationalOption, strip: bytes = b"") \
         -> tuple[bytes, ...] | Refused:
@@ -270,3 +276,38 @@ def letters_of_text(text: bytes, option: NationalOption) -> bytes | None:
 def letters_on(rows: Sequence[bytes]) -> bytes:
     """The cells over 20 of a page, rows rising and in each row columns rising."""
     return bytes(cell for row in rows for cell in row if cell > SPACE)
+
+
+# Lines as cells, with all codes of a text.
+
+
+def raw_lines(text: bytes, option: NationalOption) -> list[bytes]:
+    """The lines of a text as cells, with all codes that stand there."""
+    lines = [bytearray()]
+    for _, byte, cell in cells_in(text, option):
+        if byte == NEW_LINE:
+            lines.append(bytearray())
+        elif cell is not None or byte in CODES:
+            lines[-1].append(byte if cell is None else cell)
+    return [bytes(line) for line in lines]
+
+
+def letter_cells(cells: bytes) -> bytes:
+    """The cells of a line over 20."""
+    return bytes(cell for cell in cells if cell > SPACE)
+
+
+def inner(cells: bytes) -> bytes:
+    """What stands from the first letter to the last one."""
+    at = [place for place, cell in enumerate(cells) if cell > SPACE]
+    return cells[at[0]:at[-1] + 1]
+
+
+def stripped(cells: bytes, strip: Iterable[int]) -> bytes:
+    """A line without some codes."""
+    return cells.translate(None, bytes(strip))
+
+
+def spaces_before(cells: bytes) -> int:
+    """How many spaces stand at the beginning."""
+    return len(cells) - len(cells.lstrip(b" "))

@@ -11,12 +11,11 @@ from ..common.times import Span, time_of
 from ..formats.listing import BEGIN, CONTENT, END
 from ..formats.stl import Subtitle
 from ..formats.teletext import BY_WORD, page_name
+from ..stream.packets import HEADER
 from ..stream.receiver import BLANK_PAGE, HIT, LEAST, Rows, Timeline, subcode_words, turns_of
-from ..stream.survey import HEADER
 from .check import Answer
-from .transmissions import (
-    DuePages, Sendings, attribute_words, is_moved, is_part, left_at, moved_words, page_text,
-    words_on)
+from .pages import attribute_words, is_moved, is_part, moved_words, page_text, words_on
+from .transmissions import DuePages, Sendings, left_at
 
 
 # Why a page is held otherwise than it is due: of each subtitle with such frames one cause.

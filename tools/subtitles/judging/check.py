@@ -4,6 +4,7 @@ from __future__ import annotations
 import bisect
 import collections
 import functools
+import os
 import re
 import shutil
 import subprocess
@@ -14,7 +15,8 @@ from ..common.times import FRAMES_OF_A_DAY, Spans
 from ..formats.listing import (
     ENDED, FaultLine, PASSED_OVER, REFUSED, STL_FAULTS, UNDECIDED, accepted_of, count_of,
     fault_of_line, frame_of_place, is_line, line_words, number_of, trusted_of)
-from ..request.request import Unsaid
+from ..request.commands import CommandWords, Listener, Names
+from ..request.request import Request, Unsaid
 from .status import NOT_JUDGED, Said, UNSAID, word_of
 
 
@@ -248,3 +250,20 @@ def check(command: list[str], answer: Answer, hear: Callable[[str], None]) -> An
     if answer.frames is not None:
         hear(answer.last)
     return answer
+
+
+# Its call for a subtitle file alone: there is no PES packet.
+
+NO_PES = os.devnull
+
+
+def check_alone(asked: Request, program: str, names: Names) -> Answer:
+    """What is wrong with the subtitle file; nothing is said of it yet."""
+    return check([program, "check", *asked.check_words(True), "--all", "--", names.given, NO_PES],
+                 Answer(names.temporary("alone.txt")), lambda line: None)
+
+
+def say_alone(asked: Request, typed: CommandWords, listener: Listener) -> None:
+    """Says the command for that."""
+    listener.written(typed.program_word, "check", asked.stl, NO_PES, *asked.check_words(True),
+                     "--all")

@@ -16,14 +16,14 @@ from ..formats.stl import NamedSubtitle, SubtitleFile
 from ..formats.teletext import BY_WORD, letters
 from ..request.request import Request
 from ..stream.gaps import edges_of, frame_rows, longest_gap, repeat_distance, why_refused
+from ..stream.packets import HEADER, Packets, Run
 from ..stream.receiver import HIT, OLD, Rows, Timeline
-from ..stream.survey import HEADER, Packets, Run
 from .causes import Wording
 from .check import End
+from .pages import SPACE, code_words, page_text
 from .part import Part
 from .subtitles import OptionAdvice, midnight_words
-from .transmissions import (
-    Headed, SPACE, code_words, effect_of, headed, header_words, page_text)
+from .transmissions import Headed, effect_of, headed, header_words
 from .verdict import Verdict
 
 

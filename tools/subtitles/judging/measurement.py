@@ -8,14 +8,14 @@ from typing import Callable, Iterable, Iterator, NamedTuple, Sequence
 from ..common.command_line import Lateness, MOST_WITHIN, counted, late_text, quoted
 from ..common.times import FRAMES_OF_A_DAY, NO_FRAME, frames_at, time_of
 from ..formats.layout import (
-    Refused, SPACE, drawn, layout_text, letters_of_text, letters_on, page_rows)
+    PLAIN, Refused, SPACE, drawn, layout_of, layout_text, letters_of_text, letters_on, page_rows)
 from ..formats.stl import Subtitle
 from ..formats.teletext import NationalOption
 from ..stream.gaps import Pace, edges_of, longest_gap, repeat_distance
 from ..stream.layout import (
-    Choice, FEWEST, Left, Sent, TENTHS, cells_text, choices_of, counts_words, draws, never_words,
-    sent_in)
+    Choice, FEWEST, FLASH, Left, MOST_MOVED, Sent, TENTHS, choices_of, draws, sent_in, taken_from)
 from ..stream.receiver import Rows, Timeline
+
 
 NAMED = 5  # subtitles that speak against something
 APART = 25  # frames before a TCI within which its page may come too early
@@ -319,3 +319,35 @@ def sendings_of(stl: str, subtitles: Iterable[Subtitle], held: Timeline, option:
     """The subtitles of a file at whose frames a page with their letters was held."""
     return [Sending(stl, one, sent) for one in subtitles
             for sent in sent_in([one], held, option)]
+
+
+def never_words(text: str) -> str:
+    """Why a layout that draws more is not proposed."""
+    layout = layout_of(text) or PLAIN
+    brought, taken = layout.before + layout.behind, taken_from(layout)
+    if FLASH in brought:
+        return "all would flash"
+    if ("before", 0) in taken:
+        return "receivers show a line behind two start boxes"
+    if ("row", 0) in taken:
+        return f"no house moves all by more than {MOST_MOVED} rows"
+    return "it takes from a page what a viewer sees" if taken else \
+        f"{FEWEST} subtitles have to show it, and {TENTHS} in 10 of these as they were sent"
+
+
+def counts_words(choice: Choice) -> str:
+    """How many subtitles are drawn as they were sent."""
+    return f"{choice.drawn} of {counted(choice.found, 'subtitle')} as they were sent"
+
+
+def cells_text(rows: Rows) -> str:
+    """The rows of a page that have cells: codes in hexadecimal, letters as they are."""
+    found = []
+    for number, row in enumerate(rows, 1):
+        cells = row.strip(b" ")
+        if cells:
+            words = "".join(chr(cell) if SPACE <= cell < 0x7F else f"<{cell:02X}>"
+                            for cell in cells)
+            column = len(row) - len(row.lstrip(b" "))
+            found.append(f"row {number} column {column}: {words}")
+    return ", ".join(found)

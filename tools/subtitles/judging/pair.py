@@ -2,6 +2,7 @@
 from __future__ import annotations
 
 import contextlib
+import dataclasses
 import functools
 from typing import Iterator, NamedTuple, Sequence
 
@@ -10,30 +11,108 @@ from ..common.command_line import Stop, counted
 from ..common.files import file_of
 from ..common.times import ALL_DAY, Between, FRAMES_OF_A_DAY, pts_of, time_of
 from ..formats.layout import PLAIN, layout_of
-from ..formats.listing import CONTENT, EMPTY
+from ..formats.listing import CONTENT, CONTROL, EMPTY, WITH_CAUSE
 from ..formats.stl import Subtitle, SubtitleFile, subtitles_read
-from ..recording import recording as recording_recording
-from ..recording.announced import NeverSent, refuse_elsewhere
-from ..recording.recording import Notice, Recording, refuse_files
+from ..formats.teletext import BY_WORD
+from ..recording import notices
+from ..recording.notices import NeverSent, Notice, refuse_elsewhere
+from ..recording.recording import Recording, refuse_files
 from ..request import commands, request
 from ..request.commands import CommandWords, Listener, Names
 from ..request.request import Request, Selection, Unclear, Unsaid, option_line
-from ..stream.survey import HEADER
-from .calls import check_alone, check_part, say_alone
-from .check import Answer
-from .clocks import NO_CLOCK, PartClocks, PartSearch, cut_part, given_clock, parts_of
-from .explanation import Explainer, with_more
-from .faults import hint_words
-from .losses import gaps_in, paced_part, unsent_in
+from ..stream.packets import HEADER
+from .causes import Causes
+from .check import Answer, check, check_alone, say_alone
+from .faults import OF_HEADERS, hint_words, lead_words
+from .pages import hidden_rows, may_hide, otherwise
 from .part import (
-    Explanation, Part, PartFrames, PartPace, PartRange, answered_part, moves_told, parted,
-    refuse_others)
-from .pictures import left_by_pictures
-from .shown import hidden_rows, may_hide
+    Explanation, Part, PartFrames, PartPace, PartRange, answered_part, moves_told, part_causes,
+    parted, refuse_others, tell_causes)
+from .sentence import Lead
 from .status import REFUSED, UNSAID
 from .subtitles import beside_of, due_beside, is_judged_beside, title_words
-from .transmissions import DuePages, due_pages_of, subtitles_in
-from .verdict import Verdict
+from .timing import (
+    NO_CLOCK, PartClocks, PartSearch, cut_part, given_clock, left_by_pictures, paced_part, parts_of)
+from .transmissions import DuePages, due_pages_of, kept_in, subtitles_in
+from .verdict import MOVED, Verdict, frames_in, gaps_in, lacks, unsent_in
+
+
+# Why `check` refuses a part, and what else follows of its answer.
+
+
+class Explainer(NamedTuple):
+    """What explains the parts of a pair: what is looked for in the recording, who hears what is
+    said, and the verdict. `is_summed`: results are written."""
+
+    programme: PartSearch
+    listener: Listener
+    verdict: Verdict
+    is_summed: bool
+
+    def explained(self, part: Part) -> Part:
+        """A part with what explains the answer that `check` gave."""
+        causes = part_causes(part) if part.answer.numbers & WITH_CAUSE else None
+        if causes:
+            tell_causes(self.listener, causes, self.programme.asked.option)
+        part = dataclasses.replace(part, explanation=Explanation(
+            causes, otherwise=self.otherwise(part, causes) if causes else ""))
+        part = with_more(part, delays=self.delays(part), is_lost=lacks(part, part.places()),
+                         was_read=part.is_read())
+        if CONTROL in part.answer.numbers and not part.asked.may_keep:
+            part = with_more(part, kept=kept_in(part.headers_sent(), part.asked.option))
+        if OF_HEADERS & part.answer.numbers:
+            part = with_more(part, of_header=part.recorded[0].header_words(part.packets))
+        return with_more(part, hint=self.hint(part.worst, part),
+                         sent_hint=self.hint(part.worst_sent, part))
+
+    def otherwise(self, part: Part, causes: Causes) -> str:
+        """What is drawn otherwise, where letters are right and the content is refused."""
+        if CONTENT not in part.answer.numbers:
+            return ""
+        due, option = part.due(), BY_WORD[self.programme.asked.option]
+        return otherwise(due.subtitles, due.pages, causes.held, option)
+
+    def delays(self, part: Part) -> Sequence[int | None]:
+        """After how many frames the subtitles of a part were whole; nothing where nobody asks."""
+        asked = self.programme.asked
+        held = part.causes.held if part.causes else part.held
+        if not (self.is_summed or asked.within) or not held:
+            return ()
+        is_known = not asked.within and not part.answer.numbers & MOVED
+        return frames_in(is_known, len(part.subtitle_file().begins), held, part.due,
+                         asked.is_complete)
+
+    def hint(self, lead: Lead | None, part: Part) -> str:
+        """What to know of the fault that is said first."""
+        return lead_words(lead.told, part, self.verdict) if lead else ""
+
+
+def with_more(part: Part, **more: object) -> Part:
+    """A part of which more is known."""
+    return dataclasses.replace(part, explanation=dataclasses.replace(part.explanation, **more))
+
+
+# The call of `check` for a part.
+
+
+def part_options(part: Part) -> list[str]:
+    """The options by which the program judges a part."""
+    recording, found = part.recorded
+    first, last = part.pes or (0, 0)
+    return [*recording.words(), "--pes", f"{first}-{last}", *part.asked.check_words(),
+            *(["--origin", str(found.origin)] if found.origin else [])]
+
+
+def check_part(part: Part, typed: CommandWords, listener: Listener) -> None:
+    """Tells all that is broken in the PES packets of a part."""
+    recording, words = part.recorded[0], [*part_options(part), "--all"]
+    listener.written(typed.program_word, "check", part.asked.stl, recording.shown, *words)
+    check([typed.program_path, "check", *words, "--", part.names.given, recording.path],
+          part.answer, listener.speech.of_list)
+    listener.speech.end_list(part.answer.last)
+
+
+# A pair, step by step.
 
 
 class Located(NamedTuple):
@@ -131,7 +210,7 @@ class Pair:
         if is_judged_beside(answer.numbers):
             answer = self.take_beside(answer)
         file = SubtitleFile(self.names.given)
-        verdict.warnings += recording_recording.count_notices(file)
+        verdict.warnings += notices.count_notices(file)
         if asked.from_time is None and (title := title_words(file)):
             self.listener.noted(title)
         return answer
@@ -141,7 +220,8 @@ class Pair:
         asked, file = self.asked, SubtitleFile(self.names.given)
         if not may_hide(subtitles_read(file.data), bool(asked.layout)):
             return
-        found = hidden_rows(self.due_of(asked, []), file, asked.option)
+        due = self.due_of(asked, [])
+        found = hidden_rows(due.subtitles, due.pages, file, asked.option)
         self.verdict.named += found.faults
         self.verdict.warn(found.warnings)
 
@@ -360,15 +440,15 @@ class Pair:
         found, packets, survey = list[Notice](), recording.packets, recording.survey
         found += recording.strange()
         if recording.is_stream:
-            found += [*recording_recording.of_timing(packets, origin),
-                      *recording_recording.of_jumps(packets, origin, part.begin, part.end),
-                      *recording_recording.of_tables(survey, packets.pid, self.asked)]
-        self.verdict.warn([*found, *recording_recording.of_character_sets(packets, self.asked)])
+            found += [*notices.of_timing(packets, origin),
+                      *notices.of_jumps(packets, origin, part.begin, part.end),
+                      *notices.of_tables(survey, packets.pid, self.asked)]
+        self.verdict.warn([*found, *notices.of_character_sets(packets, self.asked)])
 
     def warn_of(self, part: Part, subtitles: list[Subtitle]) -> None:
         """Takes where a part has pauses, and how often its page is repeated."""
         origin = part.recorded[1].origin
         times = [(subtitle.begin, subtitle.end) for subtitle in subtitles]
         self.verdict.warn([
-            *recording_recording.of_pauses(part.pts(), self.asked, origin),
-            *recording_recording.of_repeat(part.pts(HEADER), self.asked, origin, times)])
+            *notices.of_pauses(part.pts(), self.asked, origin),
+            *notices.of_repeat(part.pts(HEADER), self.asked, origin, times)])

@@ -14,18 +14,19 @@ from ..common.times import (
 from ..formats.listing import EMPTY, FaultLine, PASSED_OVER, STL_FAULTS, UNDECIDED
 from ..formats.stl import Subtitle, SubtitleFile
 from ..formats.teletext import BY_BITS, RESERVED
-from ..recording.recording import Notice, Recording
+from ..recording.notices import Notice
+from ..recording.recording import Recording
 from ..request.commands import Listener, MOST_LINES, Names
 from ..request.request import Request, Unclear
 from ..stream.gaps import Place
+from ..stream.packets import PES, PTSPair, Packets, Range
 from ..stream.ranges import Stage, move_words, part_inside, up_to
 from ..stream.receiver import Timeline, national_option, timeline_near
-from ..stream.survey import PES, PTSPair, Packets, Range
 from .causes import Causes, Wording
 from .check import Answer
+from .sentence import Lead, lead_of
 from .status import REFUSED, Said
 from .transmissions import DuePages, Kept, headers_of
-from .worst import Lead, lead_of
 
 
 # A part of a pair, made in steps, each a value that the next one takes: its frames with their

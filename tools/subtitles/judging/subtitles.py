@@ -14,8 +14,8 @@ from ..formats.stl import NamedSubtitle, Subtitle, SubtitleFile, subtitle_name, 
 from ..formats.teletext import (
     BY_WORD, NationalOption, OPTIONS, Page, character_of, has_characters, letter_at, options_with)
 from ..request.commands import MOST_LINES
+from ..stream.packets import PES, Packets, Run
 from ..stream.receiver import BLANK_PAGE, Rows, Timeline
-from ..stream.survey import PES, Packets, Run
 from .sentence import WORDS
 from .transmissions import DuePages
 

@@ -1,25 +1,26 @@
-"""The verdict on a pair: all that is written of it, and after how many frames pages were whole."""
+"""The verdict on a pair: all that is written of it, what is lost, when pages were whole."""
 from __future__ import annotations
 
 import collections
 import dataclasses
-from typing import Callable, Collection, Iterable, NamedTuple, Sequence
+from typing import Callable, Collection, Iterable, Iterator, NamedTuple, Sequence
 
 from ..clock.start import FITTED, FITTED_LATER
 from ..common.command_line import range_words
 from ..common.files import SummedFile
-from ..formats.listing import NamedFault, STL_FAULTS, UNDECIDED
+from ..common.times import FRAMES_OF_A_DAY, frame_in, pts_of, time_of
+from ..formats.listing import LOSSES, NamedFault, STL_FAULTS, UNDECIDED
 from ..formats.stl import Subtitle
-from ..recording.recording import Notice
+from ..recording.notices import Notice
+from ..recording.recording import Recording
 from ..request.request import Request, Selection
-from ..stream.gaps import Place
+from ..stream.gaps import Place, what_of
 from ..stream.receiver import Rows, Timeline
-from .part import Part
-from .sentence import Count, Facts, sentence_of
+from .part import Part, is_in
+from .sentence import Count, Facts, Lead, Rank, sentence_of, worst_name
 from .status import Decision, Grounds, LOST, NOT_JUDGED, REFUSED, Severity, WAIVED, WARNED, decide
 from .subtitles import Counts, JudgedBeside
 from .transmissions import DuePages
-from .worst import Lead, Rank, worst_name
 
 
 # After how many frames each subtitle was whole: what a house needs to choose --within N.
@@ -328,3 +329,71 @@ class Verdict:
         """A line for each of several parts: from when to when it is, and what is said of it."""
         return [f"part {part.number}, from {' to '.join(map(str, part.times()))}: "
                 f"{part.answer.line}" for part in self.parts] if len(self.parts) > 1 else []
+
+
+# Places at which something of a recording is missing, and of which parts that is.
+
+
+def gap_of(place: Place, origin: int, is_judged: bool) -> Gap:
+    """A place at which TS packets are missing, with its times."""
+    times = place_time(place.before, origin), place_time(place.after, origin)
+    return Gap(*times, what_of(place), place, is_judged)
+
+
+def gaps_in(recording: Recording, parts: Sequence[Part]) -> list[Gap]:
+    """Where something is missing; on a PID to which the page moved, or from which, what is of none
+    of its parts is left out."""
+    if not recording.stages:
+        jumps = [jump for part in parts for jump in part.jumps]
+        return gaps_of(recording.places(jumps), parts)
+    return [gap_of(place, one.origin or 0, True) for one, other in zip(parts, [*parts[1:], None])
+            for place in places_on(one, other) if is_in(place, one) or is_in_move(place, one)]
+
+
+def places_on(one: Part, other: Part | None) -> Iterator[Place]:
+    """Where something is missing on a PID; what is where the page goes to the one of another part
+    is told here, and not there."""
+    for place in one.places():
+        if other and is_in_move(place, one):
+            _, found = other.recorded
+            yield dataclasses.replace(place, after=pts_of(found.begin, found.origin))
+        elif place.mark is not None or place.before is not None or one.recorded[1].came is None:
+            yield place
+
+
+def gaps_of(places: Sequence[Place], parts: Sequence[Part]) -> list[Gap]:
+    """Places with the times of the first of these parts of which they are, else of the first."""
+    found = []
+    for place in places:
+        own = [part for part in parts if is_in(place, part)]
+        found.append(gap_of(place, (own or parts)[0].origin or 0, bool(own)))
+    return found
+
+
+def is_in_move(place: Place, one: Part) -> bool:
+    """Whether something is missing where the page goes to another PID."""
+    found = one.found
+    return bool(found and found.stage and found.goes is not None and place.mark is None
+                and place.before == found.stage.last())
+
+
+def lacks(part: Part, places: Sequence[Place]) -> bool:
+    """Whether something of a part is lost, by what `check` told or by what is missing there."""
+    return bool(LOSSES & part.answer.numbers) or any(is_in(place, part) for place in places)
+
+
+def place_time(pts: int | None, origin: int) -> str | None:
+    """The time of a PTS, to the frame before it."""
+    if pts is None:
+        return None
+    frame = frame_in(pts, origin)
+    return time_of(frame) if frame < FRAMES_OF_A_DAY else None
+
+
+def unsent_in(part: Part) -> list[str]:
+    """That the last subtitles of a feed did not come: it is not read long enough to tell a break.
+    """
+    frame = part.causes.unsent_from() if part.causes else None
+    return [] if frame is None else [
+        f"from {time_of(frame)} on no subtitle was sent while the feed was read; if the programme "
+        "has a break there, say --breaks 1"]

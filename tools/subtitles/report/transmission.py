@@ -15,8 +15,8 @@ from ..common.times import (
     wrapped)
 from ..formats.listing import FaultLine
 from ..formats.teletext import CODE_WORDS, NUMBER, is_odd, page_name
+from ..stream.packets import HEADER
 from ..stream.receiver import HIT, PRINTED, STORED, State, Timeline, control_text, subcode_of
-from ..stream.survey import HEADER
 
 if TYPE_CHECKING:
     from .report import Report

@@ -1,7 +1,7 @@
 """What is sent, by what `subttx survey` tells. Nothing here judges.
 
-survey         what `subttx survey` tells of a recording: PES packets, maps, languages, jumps
-pictures       whether the pictures leave the Teletext, by the steps of their clock
+packets        PES packets of a PID with Teletext, and jumps that are announced of its counter
+survey         what `subttx survey` tells of a recording: maps, pictures, languages
 gaps           where something is missing, how late PTS are, how often a page comes
 ranges         which PES packets are of some frames, and of a page that moves to another PID
 receiver       what a receiver holds of a page at the end of each frame

@@ -11,7 +11,8 @@ from typing import Iterable, Iterator, NamedTuple, Optional, Sequence, Tuple
 
 from ..common.command_line import counted, pid_name
 from ..common.times import NO_FRAME, TICKS, frames_at, ticks_between, time_of, wrapped
-from .survey import Clocked, PTSPair, Packets, Range, Survey
+from .packets import Clocked, PTSPair, Packets, Range
+from .survey import Survey
 
 
 # Where something of a PID is missing, and where its clock jumps, in words.

@@ -7,11 +7,12 @@ from typing import Iterable, Iterator, NamedTuple, Sequence, TypeVar
 
 from ..common.command_line import counted
 from ..formats.layout import (
-    COLOURS, COLUMNS, DOUBLE, DRAWN_CODES, Layout, MOST_AFTER, MOST_BEFORE, MOST_SHIFT, NEW_LINE,
-    PLAIN, Refused, SPACE, START_BOX, WHITE, column_of, drawn, layout_of, layout_text,
-    leading, letters_of_text, letters_on, page_rows, placed_rows, prepared, start_of)
+    CODES, COLOURS, COLUMNS, DOUBLE, DRAWN_CODES, Layout, MOST_AFTER, MOST_BEFORE, MOST_SHIFT,
+    PLAIN, Refused, START_BOX, WHITE, column_of, drawn, inner, layout_text, leading, letter_cells,
+    letters_of_text, letters_on, page_rows, placed_rows, prepared, raw_lines, simplicity,
+    spaces_before, start_of, stripped)
 from ..formats.stl import Subtitle
-from ..formats.teletext import COMMON, NationalOption, cells_in
+from ..formats.teletext import COMMON, NationalOption
 from .receiver import Rows, Timeline
 
 
@@ -22,7 +23,6 @@ from .receiver import Rows, Timeline
 # things: the cells of a line, its row, its column. So each is looked for by itself among what was
 # sent, and what was found is drawn whole in the end.
 
-CODES = range(SPACE)
 REFUSED = {code for code in CODES if code not in COMMON}  # where they are not left out
 BOX_CODES, LINE_CODES = b"\x0a\x0b", b"\x0a\x0b\x0d"
 FEWEST, TENTHS = 10, 9  # subtitles that say something; of ten of them as many have to be drawn
@@ -58,22 +58,6 @@ def is_found(one: Sent, option: NationalOption) -> bool:
     return bool(letters) and letters_on(one.rows) == letters
 
 
-def raw_lines(text: bytes, option: NationalOption) -> list[bytes]:
-    """The lines of a text as cells, with all codes that stand there."""
-    lines = [bytearray()]
-    for _, byte, cell in cells_in(text, option):
-        if byte == NEW_LINE:
-            lines.append(bytearray())
-        elif cell is not None or byte in CODES:
-            lines[-1].append(byte if cell is None else cell)
-    return [bytes(line) for line in lines]
-
-
-def letter_cells(cells: bytes) -> bytes:
-    """The cells of a line over 20."""
-    return bytes(cell for cell in cells if cell > SPACE)
-
-
 def pairs_of(place: int, lines: Sequence[bytes], rows: Sequence[bytes]) -> list[SentLine]:
     """The lines with letters of a found subtitle; none where they are other lines on the page."""
     said = [(number, line) for number, line in enumerate(lines) if letter_cells(line)]
@@ -82,17 +66,6 @@ def pairs_of(place: int, lines: Sequence[bytes], rows: Sequence[bytes]) -> list[
         return []
     return [SentLine(place, number, line, row, sent)
             for (number, line), (row, sent) in zip(said, shown)]
-
-
-def inner(cells: bytes) -> bytes:
-    """What stands from the first letter to the last one."""
-    at = [place for place, cell in enumerate(cells) if cell > SPACE]
-    return cells[at[0]:at[-1] + 1]
-
-
-def stripped(cells: bytes, strip: Iterable[int]) -> bytes:
-    """A line without some codes."""
-    return cells.translate(None, bytes(strip))
 
 
 def strips(pairs: Sequence[SentLine]) -> Iterator[bytes]:
@@ -182,12 +155,6 @@ def ways_to_prepare(pairs: Sequence[SentLine]) -> list[Layout]:
     return sorted(near, key=lambda one: (-scores[one], simplicity(one)))[:4 * MOST_KEPT]
 
 
-def simplicity(layout: Layout) -> tuple[int, int, str]:
-    """By this the simplest layout comes first."""
-    text = layout_text(layout)
-    return text.count(",") + bool(text), len(text), text
-
-
 def as_bits(places: Iterable[int]) -> int:
     """A set of places as a number."""
     bits = 0
@@ -211,11 +178,6 @@ def placed(layout: Layout, pairs: Sequence[SentLine], all_lines: Sequence[Sequen
                 wrong = as_bits({pair.place for pair in pairs
                                  if rows[pair.place][pair.number] + shift != pair.row})
                 yield shape._replace(row=shift), wrong
-
-
-def spaces_before(cells: bytes) -> int:
-    """How many spaces stand at the beginning."""
-    return len(cells) - len(cells.lstrip(b" "))
 
 
 def justified(layout: Layout, pairs: Sequence[SentLine], found: Sequence[Sent]
@@ -415,20 +377,6 @@ def taken_from(layout: Layout) -> Group:
     return frozenset(taken)
 
 
-def never_words(text: str) -> str:
-    """Why a layout that draws more is not proposed."""
-    layout = layout_of(text) or PLAIN
-    brought, taken = layout.before + layout.behind, taken_from(layout)
-    if FLASH in brought:
-        return "all would flash"
-    if ("before", 0) in taken:
-        return "receivers show a line behind two start boxes"
-    if ("row", 0) in taken:
-        return f"no house moves all by more than {MOST_MOVED} rows"
-    return "it takes from a page what a viewer sees" if taken else \
-        f"{FEWEST} subtitles have to show it, and {TENTHS} in 10 of these as they were sent"
-
-
 # ---- evidence
 
 class Evidence:
@@ -548,21 +496,3 @@ def held_for(held: Timeline, number: int, one: Subtitle) -> int:
     """For how many frames of a subtitle a page is held."""
     span = held.stretch(number)
     return min(span.last + 1, one.end) - max(span.first, one.begin)
-
-
-def counts_words(choice: Choice) -> str:
-    """How many subtitles are drawn as they were sent."""
-    return f"{choice.drawn} of {counted(choice.found, 'subtitle')} as they were sent"
-
-
-def cells_text(rows: Rows) -> str:
-    """The rows of a page that have cells: codes in hexadecimal, letters as they are."""
-    found = []
-    for number, row in enumerate(rows, 1):
-        cells = row.strip(b" ")
-        if cells:
-            words = "".join(chr(cell) if SPACE <= cell < 0x7F else f"<{cell:02X}>"
-                            for cell in cells)
-            column = len(row) - len(row.lstrip(b" "))
-            found.append(f"row {number} column {column}: {words}")
-    return ", ".join(found)

@@ -9,7 +9,8 @@ from ..common.command_line import counted, pid_name
 from ..common.times import FRAMES_OF_A_DAY, TICKS, frame_in, pts_of, ticks_between, time_of, wrapped
 from ..formats.teletext import Page
 from .gaps import SECOND
-from .survey import BLANK, CLOSED, ERASE, HEADER, OPEN, Packets, ProgramMap, Range, Run, Survey
+from .packets import BLANK, CLOSED, ERASE, HEADER, OPEN, Packets, Range, Run
+from .survey import ProgramMap, Survey
 
 
 # Which PES packets of a recording are of some frames: the numbers of the first and the last.

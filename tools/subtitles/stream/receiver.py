@@ -8,8 +8,8 @@ from typing import Iterable, Iterator, NamedTuple, Sequence
 
 from ..common.times import FRAMES_OF_A_DAY, NO_FRAME, Span, frames_at, wrapped
 from ..formats.teletext import CONTROL_BITS, Page, has_bit, is_odd
+from .packets import CLOSED, ERASE, HEADER, OPEN, Packets, Range, Run, STRAY, Texts
 from .ranges import cut_of
-from .survey import CLOSED, ERASE, HEADER, OPEN, Packets, Range, Run, STRAY, Texts
 
 
 # What a model receiver holds, and marks in its cells.

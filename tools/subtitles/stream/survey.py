@@ -1,167 +1,109 @@
-"""What `subttx survey` tells of a recording: PES packets, maps, languages, jumps."""
+"""What `subttx survey` tells of a recording: maps, pictures, languages, packets of each PID."""
 from __future__ import annotations
 
-import bisect
 import dataclasses
 import os
+import statistics
 import subprocess
-from typing import BinaryIO, Callable, IO, Iterable, Iterator, NamedTuple
+from typing import Callable, IO, Iterable, Iterator, NamedTuple, Sequence, Union
 
 from ..common.command_line import Unanswered, page_in, pid_name, shown, stream_words
-from ..common.times import TICKS, ticks_between, wrapped
+from ..common.times import TICKS, ticks_between
 from ..formats.teletext import Page, page_name
-from .pictures import Distance, PictureClock, Step
+from .packets import Change, Clocked, Mark, PES, Packets, Run, Texts
 
 
-# PES packets of a PID with Teletext, as values: what each does with the page, and what is missing
-# among them.
+# Whether the pictures leave the Teletext: their clock steps, and that of the Teletext does not.
+#
+# What is sent with the pictures comes near them in the stream. Where their decoding times step, and
+# the distance from the last of these to the PTS of the Teletext changes by as much, the step is of
+# the pictures alone: a viewer sees what follows early or late. Where it stays, pictures were lost,
+# or both clocks were set anew. Where it changes without a step, that is how the multiplexer works.
 
-PES = 0  # stands for the PID of a file of PES packets
-HEADER, ERASE, CLOSED, OPEN, BLANK, STRAY = "h", "e", "c", "o", "b", "s"
-Range = tuple[int, int]  # the numbers of the first and the last PES packet
-PTSPair = tuple[int, int]  # of two PES packets, one after the other
-Texts = tuple[tuple[int, bytes], ...]  # some rows, each by its number
-
-
-class Run(NamedTuple):
-    """PES packets with numbers in a row whose PTS have one step, and which do the same: what is
-    heard in them, and how it is after each. `control` are the eight numbers of each header of the
-    page, in hexadecimal, `units` how many Teletext packets there are, and `fault` the number by
-    which `packets` refuses them."""
-
-    first: int
-    length: int
-    pts: int | None
-    step: int
-    does: str
-    control: str
-    units: int = 0
-    fault: int = 0
-
-    def pts_of(self, number: int) -> int | None:
-        return None if self.pts is None else wrapped(self.pts + self.step * (number - self.first))
-
-    @property
-    def end(self) -> int:
-        """The number of the one behind them."""
-        return self.first + self.length
-
-    @property
-    def last(self) -> int | None:
-        """The PTS of the last of them."""
-        return self.pts_of(self.end - 1)
+FEW = 5  # PES packets of Teletext, at least, on each side of a step
+LOOKED_AT = 50  # of them, at most
+JITTER = TICKS  # ticks between the quartiles of their distances, of which more tell nothing
 
 
-class Change(NamedTuple):
-    """A PES packet after which the page holds another text: its PTS, the letters, its number, and
-    the rows that are not blank."""
+class Distance(NamedTuple):
+    """A PES packet of Teletext: its PID, its PTS, and how many ticks that is ahead of the last
+    decoding time of the video before it."""
 
+    pid: int
     pts: int
-    letters: bytes
-    number: int
-    rows: Texts = ()
-
-
-class Mark(NamedTuple):
-    """A mark by its number, the PTS of the PES packet before it, and what the counters tell."""
-
-    number: int
-    before: int | None
-    lost: int
-    scrambled: int
-
-
-class Clocked(NamedTuple):
-    """A PCR that comes late or early: between which PTS of the PID, after how many ticks and TS
-    packets, how many are usual, and whether the counters of other PIDs are whole there."""
-
-    before: int | None
-    after: int | None
     ticks: int
-    packets: int
+
+
+class Step(NamedTuple):
+    """Where the decoding times of the video go from one to another, which is not the usual step."""
+
+    before: int
+    after: int
     usual: int
-    usual_packets: int
-    counters: str
+
+    @property
+    def ticks(self) -> int:
+        """By how much they go on more than usual; less than nothing where by less."""
+        return ticks_between(self.before, self.after) - self.usual
+
+
+Line = Union[Distance, Step]
 
 
 @dataclasses.dataclass
-class Packets:
-    """The PES packets of a PID with Teletext, marks among them, and what they send of the page:
-    `held` are its rows wherever a cell is another one, `strays` rows that came while it was not
-    open, each after the PES packet with a number; `changes` are where its text is another one."""
+class PictureClock:
+    """What is told of the decoding times of a PID of video: its steps, each with distances before
+    and behind it, in their order; how many have no line of their own, and whether there is a usual
+    step at all."""
 
-    pid: int
-    runs: list[Run] = dataclasses.field(default_factory=list)
-    held: list[tuple[int, Texts]] = dataclasses.field(default_factory=list)
-    strays: list[tuple[int, Texts]] = dataclasses.field(default_factory=list)
-    changes: list[Change] = dataclasses.field(default_factory=list)
-    marks: list[Mark] = dataclasses.field(default_factory=list)
-    clocked: list[Clocked] = dataclasses.field(default_factory=list)
-    samples: list[tuple[int, int]] = dataclasses.field(default_factory=list)  # PTS, ticks ahead
-    sets: list[tuple[int, int, int | None, int | None]] = dataclasses.field(default_factory=list)
-    sent: dict[str, int] = dataclasses.field(default_factory=dict)  # pages with the subtitle bit
-    seams: list[int] = dataclasses.field(default_factory=list)  # before which a jump is announced
-    damage: str | None = None  # why a file of PES packets can't be read on
-    refusal: int = 0  # 31 or 32 where what follows is no PES packet with Teletext
-    packets: int = 0  # TS packets of it
-    scrambled: int = 0  # of these
-    is_cut: bool = False
-    begun: int | None = None  # the last PTS, also of one that is cut off
-
-    @property
-    def count(self) -> int:
-        """How many there are."""
-        return self.runs[-1].end if self.runs else 0
-
-    @property
-    def has_page(self) -> bool:
-        return any(HEADER in run.does for run in self.runs)
-
-    def inside(self, first: int, last: int) -> Iterator[Run]:
-        """Those with some numbers."""
-        at = bisect.bisect_right(self.runs, first, key=lambda run: run.first) - 1
-        for run in self.runs[max(at, 0):]:
-            begin, end = max(run.first, first), min(run.end, last + 1)
-            if run.first > last:
-                return
-            if begin == run.first and end == run.end:  # as most are
-                yield run
-            elif begin < end:
-                yield run._replace(first=begin, length=end - begin, pts=run.pts_of(begin))
-
-    def pts_at(self, number: int) -> int | None:
-        """The PTS of one of them, where it has one."""
-        return next((run.pts for run in self.inside(number, number)), None)
-
-    def __iter__(self) -> Iterator[tuple[int, int | None, str]]:
-        """Each by its number, its PTS, and what it does."""
-        for run in self.runs:
-            for number in range(run.first, run.end):
-                yield number, run.pts_of(number), run.does
-
-    def pts(self, inside: Range | None = None, does: str = "") -> Iterator[int]:
-        """The PTS of some of them, of those that do something."""
-        for run in self.inside(*inside) if inside else self.runs:
-            if run.pts is not None and does in run.does:
-                yield from (wrapped(run.pts + run.step * at) for at in range(run.length))
-
-    def timed(self) -> Iterator[Run]:
-        return (run for run in self.runs if run.pts is not None)
-
-    def bases(self) -> list[range]:
-        """The numbers of each time base: two PTS in a row are before the two that came before."""
-        known = [(number, pts) for run in self.timed() for number in ends_of(run)
-                 if (pts := run.pts_of(number)) is not None]
-        begins = [0] + [known[at][0] for at in range(2, len(known) - 1) if all(
-            ticks_between(new, old) > 0 for _, old in known[at - 2:at]
-            for _, new in known[at:at + 2])]
-        return [range(*pair) for pair in zip(begins, [*begins[1:], self.count])]
+    lines: list[Line] = dataclasses.field(default_factory=list)
+    untold: int = 0
+    has_step: bool = True
 
 
-def ends_of(run: Run) -> Iterable[int]:
-    """The numbers of a run at its ends: between them PTS rise."""
-    numbers = range(run.first, run.end)
-    return numbers if run.length < 5 or run.step < 0 else [*numbers[:2], *numbers[-2:]]
+class Departure(NamedTuple):
+    """By how many ticks the pictures leave the Teletext, from the PES packet with a PTS on: what
+    follows is so early, or late where they are less than nothing. `None` where that is not clear;
+    `is_begin`: no PES packet came before."""
+
+    pts: int
+    ticks: int | None
+    is_begin: bool = False
+
+
+def departures_of(lines: Sequence[Line], pid: int) -> list[Departure]:
+    """Where the pictures leave the Teletext of a PID, and where that is not clear, by the steps of
+    the video and the distances around them, in their order."""
+    rows: list[list[Distance]] = [[]]
+    steps = []
+    for line in lines:
+        if isinstance(line, Step):
+            steps.append(line)
+            rows.append([])
+        elif line.pid == pid:
+            rows[-1].append(line)
+    found = []
+    for step, before, after in zip(steps, rows, rows[1:]):
+        before, after = before[-LOOKED_AT:], after[:LOOKED_AT]
+        if not after:
+            continue  # and nothing is early or late
+        pts = after[0].pts
+        if min(len(before), len(after)) < FEW or max(spread(before), spread(after)) > JITTER:
+            found.append(Departure(pts, None, not before))
+        elif abs(middle(after) - middle(before) + step.ticks) * 2 < TICKS:
+            found.append(Departure(pts, step.ticks))
+    return found
+
+
+def middle(several: Sequence[Distance]) -> float:
+    """The median of their distances."""
+    return statistics.median(one.ticks for one in several)
+
+
+def spread(several: Sequence[Distance]) -> float:
+    """From the lower quartile of their distances to the upper one."""
+    low, _, high = statistics.quantiles([one.ticks for one in several], n=4)
+    return high - low
 
 
 # What `subttx survey` tells of a recording, a line for each fact, as values.
@@ -489,101 +431,3 @@ def names_of(code: str) -> list[str]:
         return CODES.get(int(code, 16), "").split()
     except ValueError:
         return []
-
-
-# Jumps of a counter that a transport stream announces (ISO/IEC 13818-1, discontinuity_indicator).
-#
-# There the counter of a PID tells no loss. A later `survey` tells the PES packets behind each; of
-# an earlier one, where more time passes than usual from a PES packet to the next one, the packets
-# of the PID are looked at themselves.
-
-SYNC, ADAPTATION, ANNOUNCED, BEGINS = 0x47, 0x20, 0x80, 0x40
-PACKET, HEAD, IN_A_ROW = 188, 14, 5
-AT_A_TIME = 1 << 22
-IN_A_PIECE = 4096  # TS packets, at most, that are looked at at once
-PTS_AT = slice(9, 14)  # in a PES header
-
-
-def late_pairs(packets: Packets, inside: Range, usual: int) -> dict[int, int]:
-    """Of each PES packet that comes more frames after the one before than is usual the PTS, with
-    that of the one before."""
-    pts = [*packets.pts(inside)]
-    return {after: before for before, after in zip(pts, pts[1:])
-            if ticks_between(before, after) > usual * TICKS}
-
-
-def jumps_told(packets: Packets, inside: Range, usual: int) -> list[PTSPair]:
-    """Where a jump is announced of a PID, as it is told, and a PES packet comes more frames after
-    the one before than is usual: the PTS of both."""
-    late = late_pairs(packets, inside, usual)
-    found = (packets.pts_at(number) for number in packets.seams
-             if inside[0] <= number <= inside[1])
-    return [(late[one], one) for one in dict.fromkeys(found) if one in late]
-
-
-def jumps_at(packets: Packets, inside: Range, usual: int, path: str, size: int) \
-        -> list[PTSPair]:
-    """The same where none is told, by the TS packets; `size` is from one to the next."""
-    late = late_pairs(packets, inside, usual)
-    if not late:
-        return []
-    with open(path, "rb") as file:
-        found = [one for one in announced_in(packets_in(file, size, packets.pid)) if one in late]
-    return [(late[one], one) for one in dict.fromkeys(found)]
-
-
-def announced_in(several: Iterator[bytes]) -> Iterator[int]:
-    """Of the TS packets of a PID the PTS of each PES packet that begins where a jump is announced,
-    or next."""
-    has_jump = False
-    for packet in several:
-        has_field = bool(packet[3] & ADAPTATION)
-        has_jump = has_jump or has_field and packet[4] > 0 and bool(packet[5] & ANNOUNCED)
-        begin = 5 + packet[4] if has_field else 4
-        if has_jump and packet[1] & BEGINS and begin + HEAD <= PACKET:
-            has_jump = False
-            yield pts_of(packet[begin:begin + HEAD])
-
-
-def pts_of(header: bytes) -> int:
-    """The PTS in a PES header."""
-    one, two, three, four, five = header[PTS_AT]
-    return (one >> 1 & 7) << 30 | two << 22 | three >> 1 << 15 | four << 7 | five >> 1
-
-
-def packets_in(file: BinaryIO, size: int, pid: int) -> Iterator[bytes]:
-    """The TS packets of a PID."""
-    is_low = bytes(byte == pid & 0xFF for byte in range(256))
-    data, is_over = b"", False
-    while not is_over:
-        more = file.read(AT_A_TIME)
-        is_over, data, at = not more, data + more, 0
-        while True:  # one row of packets after another, between which something is damaged
-            at = begin_of(data, size, at)
-            left = (len(data) - at) // size - (0 if is_over else IN_A_ROW)
-            count = min(max(left, 0), IN_A_PIECE)
-            syncs = data[at:at + count * size:size]
-            good = len(syncs) - len(syncs.lstrip(bytes([SYNC])))
-            low = data[at + 2:at + good * size:size].translate(is_low)
-            place = low.find(1)
-            while place >= 0:
-                begin = at + place * size
-                if data[begin + 1] & 0x1F == pid >> 8:
-                    yield data[begin:begin + PACKET]
-                place = low.find(1, place + 1)
-            if not count:
-                break
-            at += good * size + (good < count)
-        data = data[at:]
-
-
-def begin_of(data: bytes, size: int, at: int) -> int:
-    """Where the first of some TS packets in a row begins, from a place on; the end where none does.
-    """
-    at = data.find(SYNC, at)
-    while at >= 0:
-        row = data[at:at + size * IN_A_ROW:size]
-        if row == bytes([SYNC]) * len(row):
-            return at
-        at = data.find(SYNC, at + 1)
-    return len(data)

@@ -12,7 +12,7 @@ from ...common.times import (
     ALL_DAY, Between, EARLY, FRAMES_A_SECOND, TICKS, pts_of, ticks_between, time_of, wrapped)
 from ...formats.stl import letters_on_page, readable, stl_bytes, subtitle_times
 from ...stream.gaps import Place, overlap, what_of
-from ...stream.survey import Run
+from ...stream.packets import Run
 
 
 # The time of a feed that goes on for days.

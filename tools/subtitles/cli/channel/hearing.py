@@ -16,8 +16,9 @@ from ...formats.teletext import Page, page_name
 from ...recording.recording import refuse_stream
 from ...stream import ranges
 from ...stream.gaps import Place, hole_of, why_refused
+from ...stream.packets import HEADER, PES, Packets, Run
 from ...stream.ranges import MOST_OVERLAP
-from ...stream.survey import HEADER, Lines, PES, Packets, Run, Survey, survey_call
+from ...stream.survey import Lines, Survey, survey_call
 from .feed import (
     ANEW_WORDS, BACK, Changes, FeedClock, Jump, KEPT, Losses, MINUTE, SECOND, Silence, clock_times,
     jump_of)

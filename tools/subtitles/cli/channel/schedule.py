@@ -16,8 +16,9 @@ from ...request.lines import (
 from ...request.request import CHANNEL_LINE, Request, add_options, pair_options, request_of
 from ...results.files import found_at
 from ...stream.gaps import late_of
+from ...stream.packets import Packets
 from ...stream.ranges import cut_of
-from ...stream.survey import Packets, Survey
+from ...stream.survey import Survey
 from ..main import refuse_options
 from .feed import Awaited, MINUTE, Timed
 from .hearing import Heard, Hearing

@@ -1,0 +1,301 @@
+"""Pages as a person reads them: their words, in which cells two differ, which rows no set shows."""
+from __future__ import annotations
+
+import enum
+import functools
+from typing import Iterator, NamedTuple, Sequence
+
+from ..common.command_line import counted
+from ..common.times import time_of
+from ..formats.listing import NOT_SHOWN, NamedFault
+from ..formats.stl import Subtitle, SubtitleFile
+from ..formats.teletext import BY_WORD, NationalOption, letters
+from ..recording.notices import Notice
+from ..stream.layout import sent_in
+from ..stream.receiver import Rows, Timeline
+
+
+# What a person reads on a page, and in which cells two pages with the same words differ.
+
+ATTRIBUTES = (
+    "alpha black", "alpha red", "alpha green", "alpha yellow", "alpha blue", "alpha magenta",
+    "alpha cyan", "alpha white", "flash", "steady", "end box", "start box", "normal height",
+    "double height", "double width", "double size", "mosaic black", "mosaic red", "mosaic green",
+    "mosaic yellow", "mosaic blue", "mosaic magenta", "mosaic cyan", "mosaic white", "conceal",
+    "contiguous mosaics", "separated mosaics", "escape", "black background", "new background",
+    "hold mosaics", "release mosaics")  # of the codes 00 to 1F
+SPACE = 0x20
+SPACES = bytes(max(code, SPACE) for code in range(256))  # spacing attributes are spaces
+
+
+class LetteredRow(NamedTuple):
+    """A row that has letters: its number, the column of the first, its words, its attributes."""
+
+    row: int
+    column: int
+    words: bytes
+    attributes: bytes
+
+
+@functools.lru_cache(maxsize=1 << 12)
+def lettered_rows(rows: Rows) -> tuple[LetteredRow, ...]:
+    """The rows of a page that have letters."""
+    found = []
+    for number, row in enumerate(rows, 1):
+        words = row.translate(SPACES)
+        if words.strip():
+            column = len(words) - len(words.lstrip())
+            attributes = bytes(code for code in row if code < SPACE)
+            found.append(LetteredRow(number, column, words.strip(), attributes))
+    return tuple(found)
+
+
+def words_on(rows: Rows) -> str:
+    """The words of a page, wherever they stand."""
+    return " ".join(b" ".join(line.words for line in lettered_rows(rows)).decode("latin-1").split())
+
+
+def page_text(rows: Rows, option: int) -> str:
+    """The words of a page as a person reads them, row after row."""
+    table = letters(option)
+    return " / ".join("".join(table[code & 0x7F] for code in line.words)
+                      for line in lettered_rows(rows))
+
+
+def code_words(code: int) -> str:
+    """A cell's code as a person reads it."""
+    if code == SPACE:
+        return "a space"
+    return ATTRIBUTES[code] if code < SPACE else f"{code:02X}"
+
+
+def moved_words(due: Rows, sent: Rows) -> str:
+    """In what place words are sent, beside the one where they are due: the first that differs."""
+    for one, other in zip(lettered_rows(due), lettered_rows(sent)):
+        if one.row != other.row:
+            return f"row {other.row} instead of {one.row}"
+        if one.column != other.column:
+            return f"row {one.row} from column {other.column} instead of {one.column}"
+    return f"{len(lettered_rows(sent))} rows instead of {len(lettered_rows(due))}"
+
+
+def attribute_words(due: Rows, sent: Rows) -> str:
+    """The first cell that differs, and by how far its row begins or ends elsewhere."""
+    for number, (row, other) in enumerate(zip(due, sent), 1):
+        for column, (code, held) in enumerate(zip(row, other)):
+            if code != held:
+                return (f"row {number} column {column}: {code_words(held)} instead of "
+                        f"{code_words(code)}{ends_words(row, other)}")
+    return ""
+
+
+def ends_words(due: bytes, sent: bytes) -> str:
+    """How many columns a row begins or ends early or late, with its attributes."""
+    (first, end), (begins, ends) = extent(due), extent(sent)
+    words = [] if begins == first else [columns_words("begins", begins - first)]
+    words += [] if ends == end else [columns_words("ends", ends - end)]
+    return "".join(f", {one}" for one in words)
+
+
+def extent(row: bytes) -> tuple[int, int]:
+    """The columns of the first cell of a row that is no space, and of the one after the last."""
+    return len(row) - len(row.lstrip(b" ")), len(row.rstrip(b" "))
+
+
+def columns_words(what: str, columns: int) -> str:
+    """`begins a column early`, of columns to the right."""
+    count = "a column" if abs(columns) == 1 else counted(abs(columns), "column")
+    return f"{what} {count} {'late' if columns > 0 else 'early'}"
+
+
+def is_moved(due: Rows, sent: Rows) -> bool:
+    """Whether pages with the same words have these in other places, and not since one has another
+    attribute: that takes a cell too."""
+    one, other = lettered_rows(due), lettered_rows(sent)
+    if [line.row for line in one] != [line.row for line in other]:
+        return True
+    same = [line.attributes for line in one] == [line.attributes for line in other]
+    return same and [line.column for line in one] != [line.column for line in other]
+
+
+def is_part(sent: Rows, due: Rows) -> bool:
+    """Whether a page has some rows of another one, and nothing else."""
+    return all(row == wanted or not row.strip() for row, wanted in zip(sent, due))
+
+
+# Subtitles whose letters are right, and that are drawn otherwise than is due: in which cells.
+
+
+class LetterRow(NamedTuple):
+    """A row with letters: its number, the column of its first cell, the codes before its letters,
+    what stands from the first letter to the last one, the codes behind."""
+
+    row: int
+    column: int
+    before: bytes
+    letters: bytes
+    behind: bytes
+
+
+def lines_of(rows: Rows) -> Iterator[LetterRow]:
+    """The rows of a page that have letters."""
+    for number, row in enumerate(rows, 1):
+        cells = row.strip(b" ")
+        at = [place for place, cell in enumerate(cells) if cell > SPACE]
+        if at:
+            yield LetterRow(number, len(row) - len(row.lstrip(b" ")), cells[:at[0]],
+                       cells[at[0]:at[-1] + 1], cells[at[-1] + 1:])
+
+
+def otherwise(subtitles: Sequence[Subtitle], pages: Sequence[Rows], held: Timeline,
+              option: NationalOption) -> str:
+    """How many subtitles were sent with their letters and drawn otherwise, and in which cells the
+    first one; nothing where none was."""
+    found = [(subtitle, page, sent.rows) for subtitle, page in zip(subtitles, pages)
+             for sent in sent_in([subtitle], held, option) if sent.rows != page]
+    if not found:
+        return ""
+    subtitle, page, rows = found[0]
+    others = f", and so are those of {counted(len(found) - 1, 'more subtitle')}" \
+        if len(found) > 1 else ""
+    return f"the letters of {subtitle.name} are right and drawn otherwise: " \
+        f"{cells_words(page, rows)}{others}"
+
+
+def cells_words(due: Rows, sent: Rows) -> str:
+    """In which cells a page with the same letters differs from the one that is due: of the first
+    line that does its row, its column, and what stands before and behind its letters."""
+    lines, others = [*lines_of(due)], [*lines_of(sent)]
+    if len(lines) != len(others):
+        return f"in {counted(len(others), 'row')}, where {len(lines)} are due"
+    one, other = next((pair for pair in zip(lines, others) if pair[0] != pair[1]),
+                      (lines[0], others[0]))
+    words = [
+        f"row {other.row} where {one.row} is due" if other.row != one.row else f"row {one.row}",
+        *([f"column {other.column} where {one.column} is due"] * (other.column != one.column)),
+        *(f"{codes_words(its)} {where} its letters where {codes_words(own)} is due"
+          for where, own, its in (("before", one.before, other.before),
+                                  ("behind", one.behind, other.behind)) if own != its),
+        *(["other codes between its letters"] * (other.letters != one.letters))]
+    return ", ".join(words)
+
+
+def codes_words(codes: bytes) -> str:
+    """Codes in hexadecimal; spaces too, by their code."""
+    return " ".join(f"{code:02X}" for code in codes) or "nothing"
+
+
+# Rows of a subtitle file that no set shows, or of which some sets show nothing.
+#
+# Receivers show of a subtitle page what stands in a box. libzvbi opens a box at two start boxes in
+# a row (0B 0B), ffmpeg shows what stands behind one too; two end boxes (0A 0A) close it. Nobody
+# sees letters in the colour of their background. docs/FIELD.md has a table of both.
+
+START_BOX, END_BOX, BLACK_BACKGROUND, NEW_BACKGROUND = 0x0B, 0x0A, 0x1C, 0x1D
+WHITE, BLACK = 7, 0
+HIDING = bytes((START_BOX, END_BOX, NEW_BACKGROUND))  # codes of a text that may hide letters
+HIDDEN = "hidden"  # the kind of the warning
+
+
+class Cell(NamedTuple):
+    """A letter of a row: where it is, its code, whether its box is opened by two start boxes, or by
+    one at least, and whether it has the colour of its background."""
+
+    column: int
+    code: int
+    is_boxed: bool
+    is_begun: bool
+    is_alike: bool
+
+    @property
+    def is_seen(self) -> bool:
+        """Whether libzvbi shows it."""
+        return self.is_boxed and not self.is_alike
+
+    @property
+    def is_seen_somewhere(self) -> bool:
+        """Whether a decoder that was tried shows it."""
+        return self.is_begun and not self.is_alike
+
+
+class Sight(enum.Enum):
+    """What is seen of a row."""
+
+    ALL = "all of it, or it has no letters"
+    SOME = "some letters, or all by some receivers"
+    NONE = "none of its letters"
+
+
+def letters_in(cells: bytes) -> Iterator[Cell]:
+    """The letters of a row."""
+    ink, paper, is_boxed, is_begun, last = WHITE, BLACK, False, False, SPACE
+    for column, byte in enumerate(cells):
+        code = byte & 0x7F
+        if code == START_BOX:
+            is_boxed, is_begun = is_boxed or last == START_BOX, True
+        elif code == END_BOX and last == END_BOX:
+            is_boxed = is_begun = False
+        elif code == BLACK_BACKGROUND:
+            paper = BLACK
+        elif code == NEW_BACKGROUND:
+            paper = ink
+        if code > SPACE:
+            yield Cell(column, code, is_boxed, is_begun, ink == paper)
+        elif code < 8 or 0x10 <= code < 0x18:  # of the cells behind it
+            ink = code & 7
+        last = code
+
+
+def sight_of(cells: bytes) -> Sight:
+    """What is seen of a row."""
+    found = [*letters_in(cells)]
+    if all(one.is_seen for one in found):
+        return Sight.ALL
+    return Sight.SOME if any(one.is_seen_somewhere for one in found) else Sight.NONE
+
+
+def hidden_words(cells: bytes, option: str) -> str:
+    """Which letters of a row are not shown, by whom, and why."""
+    table = letters(BY_WORD[option].bits)
+
+    def text(several: Sequence[Cell]) -> str:
+        return '"' + "".join(table[one.code] for one in several) + '"'
+
+    found = [one for one in letters_in(cells) if not one.is_seen]
+    alike = [one for one in found if one.is_alike]
+    outside = [one for one in found if not one.is_alike and not one.is_begun]
+    behind = [one for one in found if one.is_seen_somewhere]
+    words = [f"no set shows {text(alike)}, in the colour of its background"] if alike else []
+    words += [f"no set shows {text(outside)}, outside of a box"] if outside else []
+    words += [f"libzvbi does not show {text(behind)}, behind one start box (0B), and ffmpeg does"] \
+        if behind else []
+    return "; ".join(words)
+
+
+class HiddenRows(NamedTuple):
+    """What is wrong with the rows of a file: those that no set shows, and warnings of others."""
+
+    faults: list[NamedFault]
+    warnings: list[Notice]
+
+
+def may_hide(subtitles: Sequence[Subtitle], has_layout: bool) -> bool:
+    """Whether a row of a file may be hidden: only codes of a text, or of a layout, do that."""
+    return has_layout or any(bytes([code]) in one.text for one in subtitles for code in HIDING)
+
+
+def hidden_rows(subtitles: Sequence[Subtitle], pages: Sequence[Rows], file: SubtitleFile,
+                option: str) -> HiddenRows:
+    """What is wrong with the rows of a programme."""
+    found = HiddenRows([], [])
+    for one, page in zip(subtitles, pages):
+        for row, cells in enumerate(page, 1):
+            sight = sight_of(cells)
+            if sight == Sight.ALL:
+                continue
+            words = f"{one.name} at {time_of(one.begin)}, row {row}: {hidden_words(cells, option)}"
+            if sight == Sight.NONE:
+                found.faults.append(NamedFault(NOT_SHOWN, words, block=file.starts[one.index - 1]))
+            else:
+                found.warnings.append(Notice(HIDDEN, words, time_of(one.begin)))
+    return found

@@ -1,0 +1,427 @@
+"""The parts of a recording in time: their clocks, their PES packets, the pace of these, and whether
+the pictures go with them."""
+from __future__ import annotations
+
+import dataclasses
+import os
+from typing import Iterable, Iterator, NamedTuple, Sequence
+
+from ..clock.origin import OfPart, Origin, Sought, find, runs_line
+from ..clock.start import Clock, Found, GIVEN, NoFirst, RECORDING, START, TCP, began, refuse_outside
+from ..common.command_line import Stop, counted, error_line, pid_name
+from ..common.times import (
+    FRAMES_A_SECOND, FRAMES_OF_A_DAY, TICKS, pts_of, ticks_between, ticks_within, time_of)
+from ..formats.listing import NamedFault, PICTURES_LEFT
+from ..recording.recording import Recording
+from ..request.commands import Listener
+from ..request.request import (
+    NONE, ORIGIN_CHOICE, PACE_CHOICE, PES_CHOICE, Request, Selection, Unclear)
+from ..stream.gaps import (
+    BY_EVERY, IRREGULAR, PAUSED, Pace, REGULAR, TOO_FEW, each_of, frame_rows, pace_of, pauses_of,
+    unseen_from)
+from ..stream.packets import PACKET, PTSPair, Packets, Range, jumps_at, jumps_told
+from ..stream.ranges import Cut, cut_of
+from ..stream.receiver import LEAST
+from ..stream.survey import Departure, PictureClock, Survey, departures_of
+from .part import PartFrames, PartPace, PartRange
+
+
+NO_CLOCK = Clock(0, RECORDING)  # stands for one that is not found yet
+SAID = "origin: "  # before what is said of it
+
+
+class PartSearch(NamedTuple):
+    """What is looked for in a recording: the first and the last frame of its subtitles, with the
+    clock where one was given, and which of the file are left out, by their places; `inside` are the
+    PES packets that may be judged. `was_fitted`: the origin that is given was found in the
+    recording by who calls this tool; `is_cut`: all that is read is of about its time.
+    """
+
+    asked: Request
+    whole: Found
+    inside: Range | None
+    left_out: frozenset[int] = frozenset()
+    was_fitted: bool = False
+    is_cut: bool = False
+
+
+class PartClocks(NamedTuple):
+    """The parts that were found, each with its clock, and the programme with the PES packets that
+    may be judged then; by how much the first part is late, in words; whether subtitles are from
+    some time on."""
+
+    programme: PartSearch
+    found: list[Found]
+    delay: list[str]
+    is_shifted: bool
+
+
+def parts_of(programme: PartSearch, recording: Recording, listener: Listener) -> PartClocks:
+    """The parts with their clocks; the first one has the one that was given, or that the first
+    picture tells."""
+    asked, whole = programme.asked, programme.whole
+    given = given_clock(asked, programme.was_fitted) or by_start(programme, recording, listener)
+    if programme.is_cut and given and not recording.stages:
+        programme = programme._replace(
+            inside=last_time(recording.packets, whole._replace(clock=given), asked))
+    origin = fitted_origin(programme, recording, given, listener)
+    if origin.runs and recording.is_cut:
+        run = run_of(programme, recording, given, origin.runs)
+        which = "first run" if run == origin.runs[0] else "run at the origin that was given"
+        listener.noted(f"{runs_line(len(origin.runs))}: of a feed the {which} is judged")
+        programme = programme._replace(inside=run)
+        origin = fitted_origin(programme, recording, given, listener)
+    listener.noted(*origin.shifts)
+    found = found_in(origin, whole)
+    if not found and (given is None or asked.breaks or origin.runs):
+        raise unclear_origin(origin, clock_options(recording, origin))
+    found, delay = found or [whole], list[str]()
+    if given:
+        clock, delay = with_delay(given, origin)
+        found[0] = found[0]._replace(clock=clock)
+    return PartClocks(programme, found, delay, bool(origin.shifts))
+
+
+# What is known before.
+
+def given_clock(asked: Request, was_fitted: bool = False) -> Clock | None:
+    """The clock that was given, `None` where it is to be found."""
+    source = RECORDING if was_fitted else GIVEN
+    return None if asked.origin is None else Clock(asked.origin, source)
+
+
+def by_start(programme: PartSearch, recording: Recording, listener: Listener) -> Clock | None:
+    """The clock that the first picture tells, where it is asked."""
+    asked, whole = programme.asked, programme.whole
+    if asked.start is None:
+        return None
+    try:
+        if not recording.is_stream:
+            raise NoFirst("PES packets of Teletext have no pictures")
+        begin = began(asked, recording.survey, recording.packets)
+    except NoFirst as reason:
+        raise recording.without_first(reason) from None
+    for line in begin.lines:
+        listener.said(line)
+    if begin.clock.source == TCP:
+        refuse_outside(asked, begin, whole.begin, whole.end, recording.last())
+    return begin.clock
+
+
+# What is found.
+
+def search_in(programme: PartSearch, name: str, clock: Clock | None = None) -> Sought:
+    """What is looked for in a recording by its name."""
+    asked = programme.asked
+    return Sought(asked.stl_path, name, asked.page, asked.option, clock and clock.origin,
+                  asked.within, asked.breaks, programme.inside, asked.between, programme.left_out,
+                  asked.late)
+
+
+def origin_in(packets: Packets, asked: Sought) -> Origin:
+    """What is found of the origin of a recording."""
+    try:
+        return find(asked, packets)
+    except (Stop, OSError) as reason:
+        return Origin(2, told=[error_line(reason)])
+
+
+def fitted_origin(programme: PartSearch, recording: Recording, clock: Clock | None,
+                  listener: Listener) -> Origin:
+    """What is found of the clock, also compared with one that is known, which is said."""
+    origin = origin_in(recording.packets, search_in(programme, recording.shown, clock))
+    for line in [*origin.printed, *(SAID + line for line in origin.told)]:
+        listener.said(line)
+    return origin
+
+
+def found_in(origin: Origin, whole: Found) -> list[Found]:
+    """The parts that are clear, as they were found; none where that is not clear."""
+    if origin.status:
+        return []
+    return [Found(*(part.frames or (whole.begin, whole.end)), fitted_clock(part), part.packets)
+            for part in origin.parts]
+
+
+def fitted_clock(part: OfPart) -> Clock:
+    """The clock that was found for a part."""
+    return Clock(part.origin, RECORDING, evidence=Selection(
+        ORIGIN_CHOICE, str(part.origin), f"{SAID}{part.line}", part.agree, part.among))
+
+
+def with_delay(clock: Clock, origin: Origin) -> tuple[Clock, list[str]]:
+    """A clock that was given, with the delay that the edges of the first part measure, and what is
+    said of that."""
+    if origin.away is None or origin.status:
+        return clock, []
+    frames, ticks = divmod(abs(origin.away), TICKS)
+    sign = -1 if origin.away < 0 else 1
+    clock = clock._replace(delay_frames=sign * round(frames + ticks / TICKS))
+    if not origin.away:
+        return clock, []
+    words = " and ".join([counted(frames, "frame")] * (frames > 0)
+                         + [counted(ticks, "tick")] * (ticks > 0))
+    which = "all" if origin.are_all else "most"
+    where = f"up to {time_of(origin.shifted_from)}" if origin.shifted_from is not None else \
+        which if len(origin.printed) == 1 else f"up to the first break {which}"
+    line = f"{where} subtitles are {words} {'early' if sign < 0 else 'late'}"
+    question = clock.question() if which == "all" and not ticks else ""
+    return clock, [line, *filter(None, [question])]
+
+
+def unclear_origin(origin: Origin, again: Iterable[str]) -> Unclear:
+    """Why the origin is not clear, with what there is; `again` is what to type then."""
+    is_said = origin.runs or origin.breaks is not None
+    told = "\n".join(origin.told) if is_said else \
+        f"the origin is not clear: {'; '.join(origin.told)}"
+    return Unclear(told, *again)
+
+
+def clock_options(recording: Recording, origin: Origin) -> Iterator[str]:
+    """What a person may type where the origin is not clear."""
+    again = recording.again
+    if origin.runs and recording.stages:  # they are numbered on no PID
+        yield from (again("--pid", f"0x{stage.pid:X}") for stage in recording.stages)
+    elif origin.runs:
+        yield from (again("--pes", f"{first}-{last}") for first, last in origin.runs)
+    elif origin.breaks is None:
+        yield from () if origin.breaks is not None else (
+            again("--origin", "T"), again("--page", "P"))
+
+
+# What is taken of the recording.
+
+def cut_within(programme: PartSearch, recording: Recording, found: Found, within: int) -> Cut:
+    """The PES packets of the time of the subtitles, within so many frames."""
+    return cut_of(recording.packets, found.begin, found.end, found.origin, programme.asked.every,
+                  within, found.packets or programme.inside)
+
+
+def cut_part(programme: PartSearch, part: PartFrames, listener: Listener) -> Range:
+    """The same of a part by their numbers, which is said."""
+    recording, asked = part.recording, programme.asked
+    cut = cut_within(programme, recording, part.found, asked.within)
+    damage, line = recording.packets.damage, f"cut: {cut.told()}"
+    if cut.range is None:
+        listener.said(line)
+    else:
+        first, last = cut.range
+        listener.chosen(Selection(PES_CHOICE, f"{first}-{last}", line, last - first + 1, cut.read,
+                                  part.number))
+    if damage and not cut.is_over:
+        listener.said(f"cut: {recording.shown}: {damage}; it was read up to there")
+    if cut.range is None:
+        raise Unclear("nothing of the page is in the recording at the time of the subtitles",
+                      recording.again("--origin", "T"), recording.again("--page", "P"))
+    return cut.range
+
+
+def run_of(programme: PartSearch, recording: Recording, given: Clock | None,
+           runs: Sequence[Range]) -> Range:
+    """The run that is at the origin that was given; without one, or where none is, the first."""
+    own = cut_within(programme, recording, programme.whole._replace(clock=given),
+                     programme.asked.within).range if given else None
+    return next((run for run in runs if own and run[0] <= own[0] and own[1] <= run[1]), runs[0])
+
+
+def last_time(packets: Packets, whole: Found, asked: Request) -> Range | None:
+    """Of what was cut out of a feed the PES packets of about the time of the subtitles, the last
+    time that this comes."""
+    more = max(LEAST, asked.every) + asked.within
+    cuts = (cut_of(packets, max(whole.begin - more, 0),
+                   min(whole.end + more, FRAMES_OF_A_DAY - 1), whole.origin, None, asked.within,
+                   (base.start, base.stop - 1)).range for base in reversed(packets.bases()))
+    return next(filter(None, cuts), None)
+
+
+# The pace by which a part is judged, where its PES packets are regular; else what is unseen.
+
+NEXT = 1  # frame from a PES packet to one that comes in the next frame
+UNCHECKED = "not checked: whether"  # begins the note on what nothing tells
+
+
+def paced_part(part: PartRange, times: Sequence[tuple[int, int]], listener: Listener) -> PartPace:
+    """A part with the pace of the PES packets that are judged, where they are regular and none is
+    asked for, by the frames of the subtitles. Where holes may be unseen notes say so."""
+    number, asked, recording = part.frames.number, part.frames.asked, part.frames.recording
+    pace, unseen = measured_pace(part, times)
+    jumps, count = late_jumps(part, pace)
+    notes = [jump_words(count, recording)]
+    if asked.pace_word is not None:
+        notes.append(clock_words(recording) if asked.pace_word == NONE else "")
+    else:
+        notes.append(note := unseen_words(pace, unseen, recording))
+        if pace.frames:
+            listener.chosen(chosen_of(pace, recording.is_stream, number))
+            asked = dataclasses.replace(asked, pace_word=str(pace.frames))
+        elif note:  # which is told with the verdict
+            listener.chosen(Selection(PACE_CHOICE, None, note, part=number), is_said=False)
+    listener.noted(*notes)
+    return PartPace(part, asked, jumps)
+
+
+def measured_pace(part: PartRange, times: Sequence[tuple[int, int]]) -> tuple[Pace, int | None]:
+    """How far apart the PES packets of a part come; and from how many frames on a hole of them is
+    one that the counter may not show."""
+    (_, asked, _, found, recording, _), pes, _ = part
+    size = None if recording.is_stream else os.path.getsize(recording.path)
+    rows = frame_rows(recording.packets, pes, found.origin, asked.within)
+    each = each_of(recording.packets, pes, size)
+    return pace_of(rows, each, asked.every, pauses_of(times), recording.is_stream), \
+        unseen_from(rows, each)
+
+
+def late_jumps(part: PartRange, pace: Pace) -> tuple[list[PTSPair], int]:
+    """The jumps of the counter that a stream announces where a PES packet comes later than is
+    usual; and at how many others there is a frame for one that may be missing."""
+    recording = part.frames.recording
+    if not recording.is_stream:
+        return [], 0
+    packets, usual = recording.packets, min(pace.apart, NEXT)
+    found = jumps_told(packets, part.pes, usual) if recording.survey.tells_seams else jumps_at(
+        packets, part.pes, usual, recording.path, recording.survey.size or PACKET)
+    late = [pair for pair in found if ticks_between(*pair) > pace.apart * TICKS]
+    return late, len(found) - len(late)
+
+
+def jump_words(count: int, recording: Recording) -> str:
+    """That nothing tells what is missing at so many jumps of the counter; nothing of none."""
+    return f"{UNCHECKED} some of {pid_name(recording.packets.pid)} is missing at " \
+        f"{counted(count, 'place')} where a jump of its counter is announced" if count else ""
+
+
+def chosen_of(pace: Pace, is_stream: bool, part: int) -> Selection:
+    """A pace that is asked for, by at how many places a loss takes longer, of all that there are.
+    """
+    return Selection(PACE_CHOICE, str(pace.frames), regular_words(pace, is_stream),
+                     pace.among - pace.closer, pace.among, part)
+
+
+def regular_words(pace: Pace, is_stream: bool) -> str:
+    """What PES packets are like that are regular, and the pace that comes of it."""
+    more = ", and so may three" if pace.is_dense else \
+        f", and in {pace.lost} at best where 16 TS packets are lost" if is_stream else ""
+    return f"pace: a PES packet comes within {counted(pace.apart, 'frame')} of the one before" \
+        f"{more}: --pace {pace.frames}"
+
+
+def unseen_words(pace: Pace, unseen: int | None, recording: Recording) -> str:
+    """What nothing tells of holes, which no counter shows from so many frames on; nothing where
+    `--every` or the pace tells them."""
+    if pace.kind == BY_EVERY or pace.kind == REGULAR and not pace.closer:
+        return ""
+    if without := clock_words(recording):
+        return without
+    if pace.kind == REGULAR:
+        what, whose = (f"up to {(pace.lost - 1) / FRAMES_A_SECOND:.2f} s of this PID alone",
+                       "its PES packets") if recording.is_stream else (
+                           "a PES packet of this file", "they")
+        return f"{UNCHECKED} {what} is missing, at {counted(pace.closer, 'place')} where {whose} " \
+            "come closer"
+    why = {IRREGULAR: "come at irregular distances",
+           PAUSED: f"pause, for up to {counted(pace.apart, 'frame')}",
+           TOO_FEW: "are too few to measure a pace"}[pace.kind]
+    if not recording.is_stream:
+        return f"{UNCHECKED} PES packets of this file are missing: they {why}"
+    tenths = 10 * (unseen or 0) // FRAMES_A_SECOND
+    what = f"{tenths / 10} s or more" if tenths else "some"
+    return f"{UNCHECKED} {what} of this PID alone is missing: its PES packets {why}"
+
+
+def clock_words(recording: Recording) -> str:
+    """That no PCR tells a hole, where there is none."""
+    if not recording.is_stream or recording.survey.clock_of(recording.packets.pid) is not None:
+        return ""
+    return f"there is no PCR of the programme of {pid_name(recording.packets.pid)}: a hole that " \
+        "its counter does not show, as one of 16 TS packets, can't be seen"
+
+
+# Where the pictures leave the subtitles within a part: faults for viewers, which no PTS shows.
+
+NOT_CHECKED = "not checked: whether the pictures leave the subtitles"
+
+
+class PicturesFound(NamedTuple):
+    """What is wrong, and what is said beside: what `--within` allows, and what is not checked."""
+
+    faults: list[NamedFault]
+    notes: list[str]
+
+
+def left_by_pictures(survey: Survey, pid: int, found: Found, within: int, number: int
+                     ) -> PicturesFound:
+    """What the pictures leave of a part by its number, whose Teletext is on a PID."""
+    kinds = {pid for programme in survey.programmes_of(pid) for pid in programme.kinds}
+    faults, notes = list[NamedFault](), list[str]()
+    for video, clock in survey.picture_clocks.items():
+        if video in kinds:
+            inside = departures_in(departures_of(clock.lines, pid), found)
+            faults += faults_of([one for one in inside if one.ticks], found, within, number)
+            notes += late_notes([one for one in inside if one.ticks], found, within)
+            notes += unclear_notes(clock, sum(one.ticks is None for one in inside))
+    return PicturesFound(faults, notes)
+
+
+def departures_in(several: Sequence[Departure], found: Found) -> list[Departure]:
+    """Those of the time of a part; where its clock is of the first picture, from that on."""
+    first, length = pts_of(found.begin, found.origin), TICKS * (found.end - found.begin)
+    is_of_picture = found.clock.source in (START, TCP)
+    return [one for one in several if (at := ticks_within(first, length, one.pts)) < length
+            and (at >= 0 and not one.is_begin or is_of_picture)]
+
+
+class Away(NamedTuple):
+    """From one frame of a part up to the one before another subtitles come so many ticks early for
+    viewers, late where it is less than nothing."""
+
+    first: int
+    end: int
+    ticks: int
+
+    def words(self) -> str:
+        """It in words."""
+        count = counted(abs(self.ticks) // TICKS, "frame") if self.ticks % TICKS == 0 else \
+            f"{abs(self.ticks) / TICKS:.1f} frames"
+        return f"from {time_of(self.first)} on subtitles come {count} " \
+            f"{'early' if self.ticks > 0 else 'late'} for viewers: the pictures go on elsewhere"
+
+
+def aways_of(several: Sequence[Departure], found: Found) -> Iterator[Away]:
+    """From when to when subtitles are away from the pictures, by all departures before."""
+    first, length, total = pts_of(found.begin, found.origin), found.end - found.begin, 0
+    frames = [found.begin + max(ticks_within(first, TICKS * length, one.pts), 0) // TICKS
+              for one in several]
+    for one, frame, end in zip(several, frames, [*frames[1:], found.end]):
+        total += one.ticks or 0
+        if abs(total) * 2 >= TICKS and frame < end:
+            yield Away(frame, end, total)
+
+
+def is_allowed(ticks: int, within: int) -> bool:
+    """Whether what is so early may be: late by no more frames than that."""
+    return -TICKS * within <= ticks < 0
+
+
+def faults_of(several: Sequence[Departure], found: Found, within: int, number: int) \
+        -> list[NamedFault]:
+    """Where subtitles come early, or later than is allowed."""
+    return [NamedFault(PICTURES_LEFT, away.words(), time_of(away.first), time_of(away.end - 1),
+                       part=number)
+            for away in aways_of(several, found) if not is_allowed(away.ticks, within)]
+
+
+def late_notes(several: Sequence[Departure], found: Found, within: int) -> list[str]:
+    """Where they are late as `--within` allows."""
+    return [f"{away.words()}, as --within {within} allows"
+            for away in aways_of(several, found) if is_allowed(away.ticks, within)]
+
+
+def unclear_notes(clock: PictureClock, count: int) -> list[str]:
+    """What is not checked of the clock of the pictures, of whose steps so many are not clear."""
+    if not clock.has_step:
+        return [f"{NOT_CHECKED}: their decoding times have no usual step"]
+    if clock.untold:
+        return [f"{NOT_CHECKED}: their decoding times step more often than is told"]
+    return [f"{NOT_CHECKED} at {counted(count, 'place')} where their decoding times step: the "
+            "Teletext comes too seldom there, or the multiplexer's delay varies by more than a "
+            "frame"] if count else []

@@ -1,0 +1,301 @@
+"""What is strange of a recording: warnings that break no rule, and a page that is never sent."""
+from __future__ import annotations
+
+import contextlib
+from typing import Collection, Iterator, NamedTuple, Sequence
+
+from ..clock.start import NoFirst, began
+from ..common.command_line import counted, pid_name, shown
+from ..common.files import first_bytes
+from ..common.times import (
+    FRAMES_OF_A_DAY, NO_FRAME, TICKS, frame_in, frames_at, pts_of, ticks_between, time_of, wrapped)
+from ..formats.listing import NEVER_SENT, NamedFault
+from ..formats.stl import SubtitleFile
+from ..formats.teletext import BY_WORD, OTHER_REGIONS, Page, as_sent, of_track, page_name
+from ..request.request import LC, Request, Unclear
+from ..stream.gaps import SAID, SECOND, edges_of, jumps_of, repeat_distance, strange_of, why_refused
+from ..stream.packets import PES, Packets
+from ..stream.ranges import announced_in
+from ..stream.receiver import FEW, PAUSE
+from ..stream.survey import (
+    ANY, Announced, KINDS, ProgramMap, SUBTITLE_KINDS, Survey, names_of, survey)
+
+
+# What is strange of a recording and breaks no rule of `check`: said, and the status stays.
+
+TNB, TNS = slice(238, 243), slice(243, 248)  # of a GSI block: how many TTI blocks and subtitles
+
+
+class Notice(NamedTuple):
+    """A warning: what it is about, as a word for machines, its line, and its time."""
+
+    kind: str
+    line: str
+    time: str | None = None
+
+    def said(self) -> str:
+        """The line as it is said."""
+        return f"warning: {self.line}"
+
+
+def of_timing(packets: Packets, origin: int) -> Iterator[Notice]:
+    """Where PTS and PCR do not go together."""
+    for one in strange_of(packets):
+        frame = frame_in(one.pts, origin)
+        time = time_of(frame) if frame < FRAMES_OF_A_DAY else None
+        where = f"from {time} on" if time else f"from PTS {one.pts} on"
+        yield Notice(f"pts_{one.kind}", f"{where} PTS of the Teletext {SAID[one.kind]}, by up to "
+                     f"{abs(one.worst) / SECOND:.2f} s: {one.number} of {one.among} that were "
+                     "looked at", time)
+
+
+def of_jumps(packets: Packets, origin: int, first: int, last: int) -> Iterator[Notice]:
+    """Where the clock goes on elsewhere, and no packet is missing, from a frame to another one."""
+    for jump in jumps_of(packets):
+        frame = FRAMES_OF_A_DAY if jump.before is None else frame_in(jump.before, origin)
+        if first <= frame <= last:
+            way = "by" if jump.ticks > 0 else "back by"
+            yield Notice("clock_jump", f"the clock jumps {way} {length_words(abs(jump.ticks))} at "
+                         f"{time_of(frame)}: an encoder that was started anew?",
+                         time_of(frame))
+
+
+def length_words(ticks: int) -> str:
+    """Hours, minutes and seconds, as `2:24:01`; of less than a minute seconds alone."""
+    seconds = round(ticks / SECOND)
+    if seconds < 60:
+        return f"{ticks / SECOND:.2f} s"
+    return f"{seconds // 3600}:{seconds // 60 % 60:02}:{seconds % 60:02}"
+
+
+def of_tables(survey: Survey, pid: int, asked: Request) -> Iterator[Notice]:
+    """Where the PMT announces something else than was asked for."""
+    programmes = survey.programmes_of(pid)
+    if not programmes:
+        return
+    announced = [page for one in programmes for page in one.pages.get(pid, [])]
+    own = [one for one in announced if one.page == asked.page]
+    name = asked.page_name
+    if not announced:
+        yield Notice("page", f"the PMT announces no page of {pid_name(pid)}: receivers do not find "
+                     f"page {name}")
+    elif not own:
+        yield Notice("page", f"the PMT announces {listed(announced)}, and not page {name}")
+    else:
+        yield from of_page(own, asked)
+
+
+def of_page(own: list[Announced], asked: Request) -> Iterator[Notice]:
+    """The same of what is announced of the page."""
+    name = asked.page_name
+    if not any(one.kind in SUBTITLE_KINDS for one in own):
+        kinds = " and ".join(dict.fromkeys(KINDS.get(one.kind, "of an unknown kind")
+                                           for one in own))
+        yield Notice("type", f"the PMT announces page {name} as {kinds}, and not as subtitles")
+    code = language_of(asked.stl_path)
+    wanted = {*names_of(code)}
+    languages = dict.fromkeys(one.language.lower() for one in own)
+    if wanted and not (wanted | ANY) & languages.keys():
+        yield Notice("language", f"the PMT announces page {name} in "
+                     f"{' and '.join(map(shown, languages))}; the LC of the GSI block is {code}, "
+                     f"{' or '.join(names_of(code))}")
+    yield from of_option([*languages], asked)
+
+
+def of_option(languages: list[str], asked: Request) -> Iterator[Notice]:
+    """Where no language that a PMT has for the page may be of the national option: receivers may
+    take the letters of that language."""
+    options = [of_track(one) for one in languages]
+    is_other = [bool(option and option.word != asked.option) or language in OTHER_REGIONS
+                for language, option in zip(languages, options)]
+    if not languages or not all(is_other):
+        return
+    words = list(dict.fromkeys(f"--option {one.word}" if one else "another region"
+                               for one in options))
+    yield Notice("option", f"the PMT announces page {asked.page_name} in "
+                 f"{' and '.join(languages)}, which is of {' and '.join(words)}; it was judged by "
+                 f"--option {asked.option}")
+
+
+def of_character_sets(packets: Packets, asked: Request) -> Iterator[Notice]:
+    """Where packets name another character set than that of the national option."""
+    for number, designation, region, option in packets.sets:
+        if region is None or option is None:
+            named = "an unreadable character set"
+        elif region or option != as_sent(BY_WORD[asked.option]):
+            named = f"character set {option:03b} of region {region:04b}"
+        else:
+            continue
+        yield Notice("character_set", f"packet {asked.page_name[0]}/{number}/{designation} "
+                     f"names {named}: receivers above level 1 may show other letters")
+
+
+def listed(announced: list[Announced]) -> str:
+    """Some pages, as words."""
+    return ", ".join(dict.fromkeys(one.line() for one in announced))
+
+
+def language_of(stl: str) -> str:
+    """The LC of a subtitle file."""
+    return first_bytes(stl, LC.stop)[LC].decode("latin-1")
+
+
+def count_notices(subtitles: SubtitleFile) -> Iterator[Notice]:
+    """Where the GSI block counts other blocks or subtitles than there are, as in a file that was
+    cut at the end of a block. A count that is no number tells nothing; comments may be counted."""
+    told = stated(subtitles.data[TNB])
+    there = subtitles.count()
+    if told is not None and told != there:
+        yield Notice("blocks", f"the GSI block counts {counted(told, 'TTI block')} (TNB), and "
+                     f"{there_are(there)}: is the subtitle file whole?")
+    told, known = stated(subtitles.data[TNS]), subtitles.ended()
+    if told is not None and told not in known:
+        yield Notice("subtitles", f"the GSI block counts {counted(told, 'subtitle')} (TNS), and "
+                     f"{there_are(known[0])}: is the subtitle file whole?")
+
+
+def stated(digits: bytes) -> int | None:
+    """A count of a GSI block, `None` where there is none."""
+    return int(digits) if digits.isdigit() else None
+
+
+def there_are(count: int) -> str:
+    """How many there are."""
+    return "there is 1" if count == 1 else f"there are {count:,}"
+
+
+def of_pauses(pts: Sequence[int], asked: Request, origin: int) -> Iterator[Notice]:
+    """Where no PES packet came for some frames, of what else sends one in each frame but few."""
+    frames = [frame for frame in frames_at([*pts], origin, asked.within) if frame != NO_FRAME]
+    pauses = [(first + 1, second) for first, second in zip(frames, frames[1:])
+              if second - first - 1 > PAUSE]
+    if len(pauses) * FEW <= len(frames):
+        for first, second in pauses:
+            yield Notice("pause", f"no PES packet for {counted(second - first, 'frame')} from "
+                         f"{time_of(first)} on", time_of(first))
+
+
+def of_repeat(headers: Sequence[int], asked: Request, origin: int, times: list[tuple[int, int]]) \
+        -> Iterator[Notice]:
+    """Where the page is repeated so often that `--every` would not see a repeat that is missing."""
+    every = repeat_distance((frame_in(pts, origin, asked.within) for pts in headers),
+                            edges_of(times))
+    if every is not None and every * 2 < asked.every:
+        yield Notice("repeat", f"the page is repeated each "
+                     f"{'frame' if every == 1 else counted(every, 'frame')}; --every {every} would "
+                     "hold it to that")
+
+
+# A page that the PMT announces, and that never comes on its PID.
+
+NEAR = 2 * SECOND  # ticks: a PMT has the time of the PCR before it, which is told each second
+
+
+class NeverSent(Exception):
+    """A page is announced and never sent: that is a fault, and nothing more is judged."""
+
+    def __init__(self, words: str) -> None:
+        super().__init__(words)
+        self.fault = NamedFault(NEVER_SENT, words)
+
+
+class Announcement(NamedTuple):
+    """The PIDs on which a PMT announces a page, and the programme; from which PCR on, and up to
+    which, that holds, `None` at the ends of the recording."""
+
+    number: int
+    pids: frozenset[int]
+    begin: int | None
+    end: int | None
+
+    def is_in(self, begin: int, end: int) -> bool:
+        """Whether it holds between two PTS, clearly."""
+        return (self.begin is None or ticks_between(self.begin, end) > NEAR) and (
+            self.end is None or ticks_between(begin, self.end) > NEAR)
+
+
+def announcements_of(records: Sequence[ProgramMap], page: Page) -> Iterator[Announcement]:
+    """Those of a page in the PMT of all programmes, one after another."""
+    for at, one in enumerate(records):
+        if pids := announced_in(one, page):
+            later = (other.after for other in records[at + 1:] if other.number == one.number)
+            yield Announcement(one.number, frozenset(pids), one.after, next(later, None))
+
+
+def unsent_by(announced: Sequence[Announcement], carriers: Collection[int], begin: int,
+              end: int) -> Announcement | None:
+    """The first announcement between two PTS of a programme whose page comes elsewhere alone, on
+    some PIDs: of the programme that carries it, or of any where no programme announces these."""
+    own = {one.number for one in announced if one.pids & {*carriers}}
+    return next((one for one in announced if carriers and not one.pids & {*carriers}
+                 and one.is_in(begin, end) and (not own or one.number in own)), None)
+
+
+def silent_beside(announced: Sequence[Announcement], carriers: Collection[int]) -> set[int]:
+    """The PIDs on which other programmes alone announce a page than those that send it."""
+    own = {one.number for one in announced if one.pids & {*carriers}}
+    others = {pid for one in announced if one.number not in own for pid in one.pids}
+    return (others - {*carriers}) if own else set()
+
+
+def is_due_in(clock: tuple[int, int] | None, times: Sequence[tuple[int, int]],
+              origin: int | None) -> bool:
+    """Whether a page is due in the time between two PCR: by an origin all of a subtitle's time is
+    in it, and without one it is as long as from the first TCI to the last TCO."""
+    if clock is None or not times:
+        return False
+    length = wrapped(clock[1] - clock[0])
+    if origin is None:
+        return length >= TICKS * (times[-1][1] - times[0][0])
+    return any(wrapped(pts_of(begin, origin) - clock[0]) + TICKS * (end - begin) <= length
+               for begin, end in times)
+
+
+def unread(survey: Survey, pids: Collection[int]) -> bool:
+    """Whether one of some PIDs has TS packets of which nothing is given, as where they are
+    scrambled: what they carry is not known."""
+    packets = [survey.by_pid[pid] for pid in pids if pid in survey.by_pid]
+    return any(not one.count and one.packets and why_refused(one) for one in packets)
+
+
+def never_words(survey: Survey, page: Page, pids: Collection[int],
+                carriers: Collection[int] = ()) -> str:
+    """What is wrong: where the page is announced, and which PID has it."""
+    names = " and ".join(map(pid_name, sorted(pids)))
+    words = f"page {page_name(*page)} is announced in {names}, never sent"
+    none = [pid for pid in sorted(pids)
+            if pid not in survey.by_pid or not survey.by_pid[pid].packets]
+    if none:
+        words += f" (no TS packet of {' and '.join(map(pid_name, none))})"
+    if carriers:
+        words += f"; {' and '.join(map(pid_name, sorted(carriers)))} has it"
+    return words
+
+
+def refuse_unsent(asked: Request, survey: Survey, times: Sequence[tuple[int, int]]) -> None:
+    """`NeverSent` where the page is announced, on the PID that is asked for where there is one,
+    comes nowhere there, and something of it is due in the recording."""
+    named = {pid for one in announcements_of(survey.programmes, asked.page) for pid in one.pids
+             if asked.pid in (None, pid)}
+    if named and not unread(survey, named) and any(
+            is_due_in(survey.clock_of(pid), times, origin_by(asked, survey, pid))
+            for pid in named):
+        raise NeverSent(never_words(survey, asked.page, named))
+
+
+def origin_by(asked: Request, survey: Survey, pid: int) -> int | None:
+    """The origin that is given, or that the first picture of a PID's programme tells."""
+    if asked.start is not None:
+        with contextlib.suppress(NoFirst, Unclear):
+            return began(asked, survey, Packets(pid)).clock.origin
+    return asked.origin
+
+
+def refuse_elsewhere(asked: Request, survey: Survey, begin: int, end: int) -> None:
+    """`NeverSent` where the PMT announces the page, between two PTS, on a PID where it never comes;
+    one that is asked for is judged."""
+    carriers = {pid for pid, one in survey.by_pid.items() if one.has_page}
+    announced = [*announcements_of(survey.programmes, asked.page)]
+    one = unsent_by(announced, carriers, begin, end) if asked.pid is None else None
+    if one and not unread(survey, one.pids):
+        raise NeverSent(never_words(survey, asked.page, one.pids, carriers))
