@@ -42,8 +42,8 @@ class Heard(Survey):
     """A page of a feed: what is sent of it, and the time. `clock` is that of its PES packets, and
     `packets` are those of the PID that carries it now; `changes` are those of its text, also as
     they are within some frames. `said` are lines for a person; `anew` is why nothing of what came
-    before tells what comes. `reference` is a clock that is known at the same time; `likely` is the PID
-    that carried the page when it was heard before."""
+    before tells what comes. `reference` is a clock that is known at the same time; `likely` is the
+    PID that carried the page when it was heard before."""
 
     def __init__(self, page: Page, pid: int | None, reference: FeedClock | None = None,
                  likely: int | None = None) -> None:
@@ -383,7 +383,8 @@ class Hearing:
         """A page that is heard from now on: the first one at the time that is known, each other one
         by the clock of that."""
         known = self.known
-        heard = Heard(page, self.pid, reference, known.pids.get(page_name(*page)) if known else None)
+        likely = known.pids.get(page_name(*page)) if known else None
+        heard = Heard(page, self.pid, reference, likely)
         if known and not reference:
             heard.clock.now, heard.clock.pts = known.time, known.pts
             if known.is_exact and known.pts is not None:
