@@ -20,9 +20,9 @@ _subttx_value() {
         --option) _subttx_words 'english german swedish italian french spanish czech' "$2" ;;
         --receiver) _subttx_words 'blank keep drop anew' "$2" ;;
         --packet-size) _subttx_words '188 192 204' "$2" ;;
-        --at | --breaks | --every | --flip | --from | --jobs | --late | --layout | --line | \
-            --lose | --on-alarm | --on-result | --origin | --pace | --page | --patience | \
-            --pes | --pid | --settled | --skip | --stall | --start | --to | --within)
+        --at | --breaks | --every | --flip | --from | --jobs | --late | --layout | --limit | \
+            --line | --lose | --on-alarm | --on-result | --origin | --pace | --page | \
+            --patience | --pes | --pid | --settled | --skip | --stall | --start | --to | --within)
             COMPREPLY=()
             ;;
 # end

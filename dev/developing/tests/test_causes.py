@@ -62,6 +62,21 @@ class Told(Case):
         self.must("ours", "another text in a pause" not in [one[0] for one in self.causes(told)],
                   told.said)
 
+    def test_beside(self) -> None:
+        """A row of another page stands beside what is due, of one subtitle or of two."""
+        sent = sendings(self, programme(self, TIMES))
+        own = next(some[1] for pts, some in sent if pts == TICKS * (BEGIN + 100))
+        for rows, words in (((own, row(11, b"Share prices")), "another row beside it: row 11"),
+                            ((row(3, b"A"), row(11, b"B"), own), "other rows beside it: rows 3 and "
+                             "11"), ((row(11, b"Share prices"), row(22, b"Number 9")), "")):
+            told = self.judge((100, rows))
+            found = told.result["causes"][0]
+            self.must(words, found["cause"] == "wrong text" and words in found["words"] and
+                      ("beside" in found["words"]) == bool(words), told.said)
+            self.must(f"{words}: sentence", (f"has a wrong text ({words}), sent: " if words else
+                                             "has a wrong text, sent: ") in told.verdict.sentence,
+                      told.verdict.sentence)
+
     def test_erased(self) -> None:
         """By a header without rows, at its time; where rows come later it is gone."""
         for frame, time in ((10, "10:00:00:10"), (330, "10:00:13:05")):

@@ -134,7 +134,8 @@ class Made:
         reach = Span(begin - chance.choice((2, 3, 4, 300)), held.last + chance.choice((0, 30))) \
             if chance.randrange(2) else None
         held.first = chance.choice((held.first, begin, begin + 2))
-        causes = Causes(self.programme, held, lost, reach)
+        held.lost = lost
+        causes = Causes(self.programme, held, reach)
         wrong = {frame: None for frame in range(min(held.last, END))
                  if not causes.namer.is_due(frame)}
         edges = [(63, begin + 3), (74, self.programme.subtitles[-1].end - 3)] \
@@ -271,7 +272,7 @@ class ByHand(unittest.TestCase):
                               ((5, 18), (5, 20)), ((12, 30), (10, 30))):
             held = empty()
             held.first, held.last = 10, 20
-            causes = Causes(DuePages([], []), held, (), reach and Span(*reach))
+            causes = Causes(DuePages([], []), held, reach and Span(*reach))
             self.assertEqual(causes.reached(), wanted, reach)
 
 

@@ -6,6 +6,7 @@ import contextlib
 import io
 import os
 from dataclasses import replace
+from typing import Callable
 
 from developing.pes import pes_packet
 from developing.stl import gsi_block, tti_block
@@ -19,7 +20,6 @@ from subtitles.judging.part import parted, refuse_others
 from subtitles.judging.timing import unclear_origin, with_delay
 from subtitles.judging.verdict import frames_until
 from subtitles.recording.notices import of_page
-from subtitles.request.commands import CommandWords
 from subtitles.request.lines import of_folder, request_of_line
 from subtitles.request.request import Unclear, add_options
 from subtitles.results.files import hint_in
@@ -115,46 +115,40 @@ class Folders(Case):
 
     def test_watched(self) -> None:
         """A pair is judged when it has not changed for a while, and again when it has changed."""
-        for name in ("in", "out"):
-            os.mkdir(self.path(name))
-        words = argparse.Namespace(watch=self.path("in"), out=self.path("out"), settled=10,
-                                   is_kept=False, **vars(defaults()))
-        watch = Watch(words, CommandWords("tools/qc", self.bench.program))
+        os.mkdir(self.path("in"))
+        watch = Watch(self.path("in"), 10)
         for name in ("in/one.stl", "in/one.ts"):
             self.write(name, b"1")
 
-        def due(now: float) -> list[str]:
-            return [item.name for item in watch.due(set(), lambda: now)]
+        def due(clock: Callable[[], float]) -> list[str]:
+            return [item.name for item in watch.due(of_folder(self.path("in"), defaults()), clock)]
 
         for now, wanted in ((100, []), (109, []), (110, ["one"]), (111, []), (150, [])):
-            self.must(f"at {now}", due(now) == wanted)
+            self.must(f"at {now}", due(lambda: now) == wanted)
         self.write("in/one.ts", b"12")
         for now, wanted in ((200, []), (205, []), (210, ["one"]), (230, [])):
-            self.must(f"changed, at {now}", due(now) == wanted)
+            self.must(f"changed, at {now}", due(lambda: now) == wanted)
         self.write("in/one.stl", b"12")
-        self.must("changed once more", due(300) == [] and due(310) == ["one"])
+        self.must("changed once more", due(lambda: 300) == [] and due(lambda: 310) == ["one"])
         self.write("in/two.ts", b"2")
         self.write("in/two.stl", b"2")
         self.write("in/two.done", b"")
-        self.must("somebody says so", due(311) == ["two"])
+        self.must("somebody says so", due(lambda: 311) == ["two"])
         os.unlink(self.path("in/two.done"))
         self.write("in/two.ts", b"22")
         times = iter([400.0, 409.0, 418.0, 419.0])  # a look that takes nine seconds, and two more
-        self.must("from when it was seen", [[one.name for one in watch.due(
-            set(), lambda: next(times))] for _ in range(3)] == [[], [], ["two"]])
+        self.must("from when it was seen", [due(lambda: next(times)) for _ in range(3)] ==
+                  [[], [], ["two"]])
         self.must("what was seen", isinstance(watch.seen["one"], Sighting))
 
     def test_told_once(self) -> None:
         """What is no pair is told once, and again after it was one."""
-        for name in ("in", "out"):
-            os.mkdir(self.path(name))
-        words = argparse.Namespace(watch=self.path("in"), out=self.path("out"), settled=0,
-                                   is_kept=False, **vars(defaults()))
-        watch = Watch(words, CommandWords("tools/qc", self.bench.program))
+        os.mkdir(self.path("in"))
+        watch = Watch(self.path("in"), 0)
 
         def told(now: float) -> int:
             with contextlib.redirect_stderr(io.StringIO()) as told:
-                watch.due(set(), lambda: now)
+                watch.due(of_folder(self.path("in"), defaults()), lambda: now)
             return len(told.getvalue().splitlines())
 
         self.write("in/one.stl", b"1")

@@ -229,6 +229,8 @@ class Judgements(Case):
                 self.must(f"{count} {more}: named", wanted != "refused" or "subtitle 4" in
                           one.verdict.sentence and "2 frames early" in one.verdict.sentence,
                           one.verdict.sentence)
+                self.must(f"{count} {more}: not all", not any(
+                    line.startswith("all subtitles are") for line in one.told), one.told)
             one = judged(self, stl, self.write("two.pes", joined(late(2, at, at)(sends))),
                          *words[2:])
             self.must(f"{count}: late", one.word == "accepted", one.said)

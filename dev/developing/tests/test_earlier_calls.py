@@ -8,16 +8,15 @@ import dataclasses
 import io
 import json
 import os
-from typing import Any, Iterator
+from typing import Any, Callable, Iterator
 from unittest import mock
 
-from subtitles.cli import batch
-from subtitles.cli.batch import Watch, refuse_folders
+from subtitles.cli import batch, collection
+from subtitles.cli.batch import Calls, Watch, refuse_folders
 from subtitles.cli.channel.feed import Stall
 from subtitles.cli.single import claimed
 from subtitles.common.command_line import Lateness, Stop
 from subtitles.common.program import MadeWith, about_program
-from subtitles.request.commands import CommandWords
 from subtitles.request.lines import Item
 from subtitles.request.request import Profile, Request
 from subtitles.results.files import (
@@ -229,7 +228,7 @@ class Watched(Case):
     def words(self, **more: Any) -> argparse.Namespace:
         words = argparse.Namespace(**vars(defaults()))
         vars(words).update({"watch": self.path("in"), "out": self.path("out"), "settled": 0,
-                            "is_kept": False, **more})
+                            "is_kept": False, "jobs": None, "limit": None, **more})
         return words
 
     def test_folders(self) -> None:
@@ -242,93 +241,109 @@ class Watched(Case):
         self.assertRaises(Stop, refuse_folders, self.words(out=self.path("in")))
 
     def test_verdicts(self) -> None:
-        """A line for each, and the page over all, also of what an earlier call left; what has an
-        object as it is now is not judged again."""
+        """A line for each, and the page over all, also of what an earlier call left."""
         for name in ("in", "out"):
             os.mkdir(self.path(name))
         for name in ("old", "older"):
             self.write(f"out/{name}.json", json.dumps(result("accepted")).encode())
         self.write("out/x.json", b"[]")
-        watch = Watch(self.words(), CommandWords("tools/qc", self.bench.program))
-        self.must("rows", list(watch.rows) == ["old", "older"])
+        results = collection.Results(self.path("out"))
+        self.must("rows", list(results.rows) == ["old", "older"])
         out = io.StringIO()
         with contextlib.redirect_stdout(out):
-            watch.end(row("b", "accepted", "accepted 5"))
-            watch.end(row("a", "refused", "refused 72 X", "a hint"))
+            results.take(row("b", "accepted", "accepted 5"))
+            results.take(row("a", "refused", "refused 72 X", "a hint"))
         self.must("lines", [line[21:] for line in out.getvalue().splitlines()] ==
                   ["b  accepted", "a  refused: 72 X: a hint"], out.getvalue())
         page = self.read("out/index.html").decode()
         self.must("page", "4 pairs" in page and page.index("<td>a<") < page.index("<td>b<"))
-        stl, ts = self.write("in/a.stl", b"1"), self.write("in/a.ts", b"1")
-        item = Item("a", asked_for(stl, ts), None)
-        program = about_program(watch.calls.typed.program_path)
-        asked = asked_for(stl, ts)
-        have = result(asked=ASKED.made(asked), found=found(asked), program=program._asdict())
-        other: dict[str, Any] = {"found": {**found(asked), "stl": None}}
-        for change, is_new in ((dict[str, Any](), False), (other, True), (other, False)):
-            self.write("out/a.json", json.dumps({**have, **change}).encode())
-            self.must(f"{change}", watch.is_new(item) == is_new)
+
+    def looked(self, looks: int, judged: Callable[[Calls, Item], Row],
+               change: Callable[[int], None] = lambda look: None) -> list[str]:
+        """The lines of a call that watches, which looks so many times."""
+        count = 0
+
+        def next_look(_: float) -> None:
+            nonlocal count
+            count += 1
+            if count == looks:
+                raise KeyboardInterrupt
+            change(count)
+
+        def judge(calls: Calls, waiting: collections.deque[Item], jobs: int) -> Iterator[Row]:
+            while waiting:
+                yield judged(calls, waiting.popleft())
+
+        with mock.patch("signal.signal"), mock.patch("time.sleep", next_look), \
+                mock.patch.object(batch, "judged_next", judge), \
+                contextlib.redirect_stdout(io.StringIO()) as out:
+            status = batch.watch(self.words(program=self.bench.program), "tools/qc")
+        self.must("its status", status == 2, status)
+        return [line[21:] for line in out.getvalue().splitlines()]
+
+    def test_what_earlier_calls_left(self) -> None:
+        """What has a result as it is now is not judged again, and each result is read once,
+        however often the folder is looked at."""
+        for name in ("in", "out"):
+            os.mkdir(self.path(name))
+        program = about_program(self.bench.program)
+        for name in ("a", "b", "c"):
+            asked = asked_for(self.write(f"in/{name}.stl", b"1"), self.write(f"in/{name}.ts", b"1"))
+            have = result(asked=ASKED.made(asked), found=found(asked), program=program._asdict())
+            change: dict[str, Any] = {"found": {**found(asked), "stl": None}} if name == "b" else {}
+            self.write(f"out/{name}.json", json.dumps({**have, **change}).encode())
+        reads = []
+
+        def read(path: str) -> dict[str, Any] | None:
+            reads.append(os.path.basename(path))
+            return object_at(path)
+
+        with mock.patch("subtitles.results.files.object_at", read), \
+                mock.patch("subtitles.cli.batch.object_at", read):
+            lines = self.looked(6, lambda calls, item: row(item.name, "accepted"))
+        self.must("judged", lines == ["b  accepted"], lines)
+        self.must("read", sorted(reads) == ["a.json", "b.json", "c.json"], reads)
 
     def test_pair_in_use(self) -> None:
         """One whose files another call was writing is told once, and judged again at each look."""
-        for name in ("in", "out"):
-            os.mkdir(self.path(name))
-        watch = Watch(self.words(), CommandWords("tools/qc", self.bench.program))
-        item = Item("a", asked_for(self.write("in/a.stl", b"1"), self.write("in/a.ts", b"1")), None)
-        out = io.StringIO()
-        with contextlib.redirect_stdout(out), claimed(self.path("out"), "a"):
-            for _ in range(3):
-                self.must("new", watch.is_new(item))
-                found_row = watch.calls.begin(item)
-                assert found_row
-                watch.end(found_row)
-        self.must("once", out.getvalue().count("another call is writing the files of a") == 1 and
-                  not os.path.exists(self.path("out/a.json")), out.getvalue())
-        self.must("again", watch.is_new(item) and not watch.is_new(item))
+        os.mkdir(self.path("in"))
+        for name in ("in/a.stl", "in/a.ts"):
+            self.write(name, b"1")
+        begun = list[str]()
+
+        def judged(calls: Calls, item: Item) -> Row:
+            begun.append(item.name)
+            row_of = calls.begin(item)
+            assert row_of
+            return row_of
+
+        with claimed(self.path("out"), "a"):
+            lines = self.looked(5, judged)
+        self.must("once", len(lines) == 1 and "another call is writing the files of a" in lines[0]
+                  and not os.path.exists(self.path("out/a.json")), lines)
+        self.must("at each look but the first", begun == ["a"] * 4, begun)
+
+    def test_what_changes(self) -> None:
+        """A pair is judged once as it is, and again when it has changed; what comes meanwhile is
+        judged at the next look."""
+        os.mkdir(self.path("in"))
+        for name in ("in/a.stl", "in/a.ts"):
+            self.write(name, b"1")
+
+        def change(look: int) -> None:
+            if look in (2, 5):
+                for name in ("in/a.ts", "in/b.stl", "in/b.ts"):
+                    self.write(name, b"1" * look)
+
+        lines = self.looked(9, lambda calls, item: row(item.name, "accepted"), change)
+        self.must("judged", lines == [f"{name}  accepted" for name in "aabab"], lines)
 
     def test_what_is_no_pair(self) -> None:
         """It is told once, and again where its reason is another one."""
-        for name in ("in", "out"):
-            os.mkdir(self.path(name))
-        watch = Watch(self.words(), CommandWords("tools/qc", self.bench.program))
-        told = io.StringIO()
+        os.mkdir(self.path("in"))
+        watch, told = Watch(self.path("in"), 0), io.StringIO()
         with contextlib.redirect_stderr(told):
-            for reason in ("first", "first", "second", "second", "first"):
-                self.must(reason, not watch.is_new(Item("a", None, reason)))
+            for reason in ("first", "first", "second", "second", "first", "first"):
+                self.must(reason, watch.due([Item("a", None, reason)]) == [])
         lines = [line.partition(": ")[2] for line in told.getvalue().splitlines()]
         self.must("told", lines == ["first", "second", "first"], lines)
-
-    def test_what_is_judged_now(self) -> None:
-        """A pair that is written to meanwhile, the first and the second, is judged again only when
-        it is over."""
-        for name in ("in", "out"):
-            os.mkdir(self.path(name))
-        begun, looks, running = list[str](), list[int](), list[Item]()
-        due = Watch.due
-
-        def judged_next(_: object, waiting: collections.deque[Item], *more: object) \
-                -> Iterator[Row]:
-            while waiting:
-                running.append(waiting.popleft())
-                begun.append(running[-1].name)
-            while len(looks) == 7 and running:
-                yield row(running.pop().name, "accepted")
-
-        def look(watch: Watch, busy: set[str]) -> list[Item]:
-            looks.append(len(looks))
-            if len(looks) in (1, 4):
-                for name in ("a.stl", "a.ts", "b.stl", "b.ts"):
-                    self.write(f"in/{name}", b"x" * len(looks))
-            if len(looks) == 8:
-                raise KeyboardInterrupt
-            return due(watch, busy)
-
-        with mock.patch("signal.signal"), mock.patch.object(batch, "LOOK", 0.01), \
-                mock.patch.object(Watch, "due", look), \
-                mock.patch.object(batch, "judged_next", judged_next), \
-                mock.patch("subtitles.cli.batch.Calls.items", lambda calls: running), \
-                contextlib.redirect_stdout(io.StringIO()) as out:
-            status = batch.watch(self.words(program=self.bench.program, jobs=4), "tools/qc")
-        self.must("its status", status == 2, status)
-        self.must("once", sorted(begun) == ["a", "b"] and len(out.getvalue().splitlines()) == 2,
-                  (begun, out.getvalue()))

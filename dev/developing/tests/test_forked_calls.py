@@ -12,8 +12,8 @@ from typing import Any, Callable
 from unittest import mock
 
 from subtitles.cli import batch
-from subtitles.cli.batch import (
-    Calls, Forked, all_rows, ended_of, kept_rows, progress_line, signals_held)
+from subtitles.cli.batch import Calls, Forked, all_rows, ended_of, kept_rows, signals_held
+from subtitles.cli.collection import progress_line
 from subtitles.cli.main import parser_of
 from subtitles.cli.single import PairCall
 from subtitles.common.program import about_program
@@ -40,6 +40,8 @@ while [ $# -gt 0 ]; do
 done
 kind=$(cat "$stl")
 [ "$kind" = waits ] && exec sleep SECONDS
+[ "$kind" = busy ] && while :; do :; done
+[ "$kind" = deaf ] && { trap '' TERM; sh -c 'while :; do :; done'; }
 [ "$kind" = changes ] && echo more >>"$stl"
 case $kind in
     accepted | changes | other | silent) status=0 ;; refused) status=1 ;; *) status=2 ;;
@@ -145,6 +147,28 @@ class Judged(Case):
         self.must("all are ended", not calls.running)
         calls.leave(Item("three", None, "x"), "stopped")
         self.must("nothing is written then", not os.path.exists(self.path("out/three.json")))
+
+    def test_limit(self) -> None:
+        """A pair that takes more of the processor than it may is not judged, nor one of which what
+        it calls does so and hears no signal; the one beside it is."""
+        for kind, most in (("busy", batch.TO_WRITE), ("deaf", 0)):
+            calls = Calls(self.typed, self.path("temporary"), self.path("out"), False, 1)
+            with mock.patch.object(batch, "TO_WRITE", most):
+                rows = all_rows(calls, [self.item(kind, "long"), self.item("accepted")], {}, 2)
+            self.must(kind, (rows["long"].verdict, rows["long"].line) == (
+                "not judged", "it took more than 1 second of the processor: --limit gives more")
+                and rows["one"].verdict == "accepted" and not calls.over, rows)
+            have = object_at(calls.path(self.item(kind, "long")))
+            self.must("its object", have is not None and have["reason"] == rows["long"].line, have)
+
+    def test_limits(self) -> None:
+        """By the sizes of the files, where none is given."""
+        for sizes, wanted in (((None, None), 60), ((0, 9_999_999), 60), ((1, 9_999_999), 61),
+                              ((0, 4_000_000_000), 460)):
+            found_files = {name: None if size is None else {"size": size, "modified": ""}
+                           for name, size in zip(("stl", "recording"), sizes)}
+            self.must(f"{sizes}", batch.limit_of(found_files) == wanted)
+        self.must("none of a process that is gone", batch.seconds_of("0") == 0.0)
 
     def test_one_that_dies(self) -> None:
         """It costs its own pair alone, however it ends; what it told last is its reason."""

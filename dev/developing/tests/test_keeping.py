@@ -7,7 +7,7 @@ from developing.pes import packet, pes_packet
 from subtitles.common.times import Span, TICKS, time_of
 from subtitles.formats.listing import CONTENT
 from subtitles.formats.stl import Subtitle
-from subtitles.judging.causes import Namer, REPEATED
+from subtitles.judging.causes import Faulty, Namer, REPEATED
 from subtitles.judging.check import Answer
 from subtitles.judging.transmissions import (
     DuePages, Headed, Kept, REPEATS, control_words, headed, kept_in, left_at, left_rows_words,
@@ -191,6 +191,20 @@ class RowsLeftOut(Case):
             held, due = self.held((0, WHOLE), *several, within=within)
             namer = Namer(DuePages([one], [due]), held, self.told_at(25))
             self.must(f"in two, {within}", namer.rows_left(25) == wanted, namer.rows_left(25))
+
+
+    def test_not_erased(self) -> None:
+        """A header without rows before its TCI erases no subtitle that is due; one behind it does.
+        """
+        one, faulty = Subtitle(1, 1, 25, 100, 20, 2, b"1"), Faulty()
+        for frame, name, words in ((0, "unknown", f"it has not come at {time_of(25)}"),
+                                   (30, "erased", "by a header without rows, at 00:00:01:05")):
+            bare, whole = (frame, [HEADER, CLOSING]), (26 if not frame else 25, WHOLE)
+            held, _ = self.held(*sorted([bare, whole, (50, WHOLE)]), within=1)
+            due = held.page_at(50)
+            faulty.within = Span(25 if not frame else 30, 35)
+            cause = Namer(DuePages([one], [due]), held, self.told_at(25)).cause(0, faulty)
+            self.must(name, (cause.name, cause.words) == (name, words), cause)
 
 
 def as_houses(sent: Sent, way: str = "", frames: int = 0) -> Sent:

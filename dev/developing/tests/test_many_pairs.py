@@ -97,7 +97,7 @@ class Lists(Case):
         for wrong in (4, 5, 10, 99):
             self.assertRaisesRegex(Stop, "there is no pair", at_line, path, wrong, defaults())
         self.assertRaisesRegex(Stop, "is no list", at_line, self.folder, 1, defaults())
-        with mock.patch.object(batch, "no_file", side_effect=lambda path: None) as looked:
+        with mock.patch("subtitles.request.lines.no_file", return_value=None) as looked:
             at_line(path, 8, defaults())
         self.must("files of one pair", [call[0][0] for call in looked.call_args_list] == [
             "two.stl", "one.ts"], looked.call_args_list)
@@ -141,7 +141,8 @@ class Batches(Case):
         words = argparse.Namespace(**{**vars(defaults()), "batch": self.write("list", "".join(
             f"{self.path(name)}.stl {self.path('one.ts')}\n" for name in ("one", "two", "three")
         ).encode()), "out": None, "program": self.bench.program, "is_kept": False, "jobs": None,
-            "is_resumed": False, "line": None, "json": None, "csv": None, "junit": None, **more})
+            "limit": None, "is_resumed": False, "line": None, "json": None, "csv": None,
+            "junit": None, **more})
 
         def all_rows(calls: Calls, items: list[Item], kept: dict[str, Row], jobs: int) \
                 -> dict[str, Row]:

@@ -15,9 +15,8 @@ from typing import Any, Iterator, Sequence
 from unittest import mock
 
 from subtitles.cli import collection
-from subtitles.cli.batch import Calls, Watch, kept_rows
+from subtitles.cli.batch import Calls, kept_rows
 from subtitles.common.command_line import Stop
-from subtitles.common.files import Inputs
 from subtitles.common.program import MadeWith, TOP, read
 from subtitles.common.shapes import Integer, Listed
 from subtitles.formats.listing import SILENT, UNDECIDED
@@ -201,7 +200,7 @@ class ReadBack(Case):
         words, typed = self.words(), CommandWords("tools/qc", self.bench.program)
         with contextlib.redirect_stdout(io.StringIO()), contextlib.redirect_stderr(io.StringIO()):
             status = collection.collect(words)
-            rows = Watch(words, typed).rows
+            rows = collection.Results(self.path("out")).rows
         collection.write_index(self.path("out"), [*rows.values()])
         names = sorted(name.removesuffix(".json") for name in os.listdir(self.path("out"))
                        if name.endswith(".json"))

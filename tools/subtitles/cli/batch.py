@@ -10,20 +10,20 @@ import os
 import select
 import signal
 import time
-from typing import Any, Callable, Collection, Iterable, Iterator, NamedTuple, NoReturn, Sequence
+from typing import (
+    Any, Callable, Collection, Iterable, Iterator, Mapping, NamedTuple, NoReturn, Sequence)
 
 from ..cli import collection
 from ..common.command_line import Stop, counted, ended, error_line, say, tell
-from ..common.files import Inputs, IsInput, NOTHING, temporary_folder
-from ..common.program import TOP, about_program
-from ..judging.status import ACCEPTED, NOT_JUDGED, WAIVED
+from ..common.files import IsInput, NOTHING, temporary_folder
+from ..common.program import MadeWith, TOP, about_program
+from ..judging.status import NOT_JUDGED
 from ..report import page, report, transmission
 from ..request.commands import CommandWords, Progress
-from ..request.lines import Item, at_line, of_folder, pairs_at
+from ..request.lines import Item, at_line, inputs_of, of_folder, pairs_at
 from ..request.request import Request, take_option
 from ..results.files import (
-    ENDING, Row, found, in_order, is_current, left_by_call, object_at, put_object, row_of_object,
-    rows_in, unjudged)
+    ENDING, Row, found, is_current, left_by_call, object_at, put_object, row_of_object, unjudged)
 from .main import leave
 from .single import (
     InUse, PairCall, SIGNALS, claimed, claimed_for_batch, clear, heed_signals, ignore_signals,
@@ -86,6 +86,19 @@ class Forked:
         with contextlib.suppress(ProcessLookupError):
             os.kill(self.pid, signal.SIGTERM)
 
+    def kill(self) -> None:
+        """Ends it, and all that it called."""
+        for kill in (os.killpg, os.kill):  # it may have no group of its own yet
+            with contextlib.suppress(ProcessLookupError):
+                kill(self.pid, signal.SIGKILL)
+
+    def seconds(self) -> float:
+        """The seconds of the processor that it has taken, and what it calls."""
+        with contextlib.suppress(OSError):
+            with open(f"/proc/{self.pid}/task/{self.pid}/children", encoding="ascii") as file:
+                return sum(map(seconds_of, [str(self.pid), *file.read().split()]))
+        return seconds_of(str(self.pid))
+
     def end(self) -> tuple[int, list[str]]:
         """Its status, below 0 where a signal ended it, and what it told, once it has ended."""
         _, status = os.waitpid(self.pid, 0)
@@ -94,6 +107,17 @@ class Forked:
             self.told.seek(0)
             lines = self.told.read().decode("utf-8", "replace").splitlines()
         return os.waitstatus_to_exitcode(status), lines
+
+
+def seconds_of(process: str) -> float:
+    """The seconds of the processor that a process has taken, with those of its own that have ended;
+    none of one that is gone."""
+    try:
+        with open(f"/proc/{process}/stat", encoding="utf-8", errors="replace") as file:
+            times = file.read().rpartition(")")[2].split()[11:15]  # behind its name, in brackets
+    except OSError:
+        return 0.0
+    return sum(map(int, times)) / os.sysconf("SC_CLK_TCK")
 
 
 @contextlib.contextmanager
@@ -168,14 +192,24 @@ def ended_of(calls: Collection[Forked], seconds: float) -> list[Forked]:
 # Many pairs: each judged by a call of its own, as many at a time as there are processors.
 
 WAIT = 0.2  # seconds between two looks at what is done
+# Seconds of the processor that a pair may take without --limit: what strangers send may take hours.
+LEAST_SECONDS, BYTES_A_SECOND = 60, 10_000_000  # one more for each so many bytes
+TO_WRITE = 10  # seconds in which it may write then what is known
+
+
+def limit_of(files: Mapping[str, Any]) -> int:
+    """The seconds that a pair may take, by what was found of its files."""
+    return LEAST_SECONDS + sum(about["size"] for about in files.values() if about) \
+        // BYTES_A_SECOND
 
 
 class Begun(NamedTuple):
-    """A pair that is judged, what its files were like when that began, and what keeps other calls
-    from writing its results."""
+    """A pair that is judged, what its files were like when that began, the seconds of the processor
+    that it may take, and what keeps other calls from writing its results."""
 
     item: Item
-    found: dict[str, object]
+    found: dict[str, Any]
+    limit: int
     claim: contextlib.ExitStack
 
 
@@ -185,18 +219,17 @@ class Calls:
     Objects stand in the folder `out`, with reports and lists, or in one that is temporary.
     """
 
-    def __init__(self, typed: CommandWords, folder: str, out: str | None, is_kept: bool) -> None:
+    def __init__(self, typed: CommandWords, folder: str, out: str | None, is_kept: bool,
+                 limit: int | None = None) -> None:
         self.typed, self.folder, self.out, self.is_kept = typed, folder, out, is_kept
+        self.limit = limit  # seconds of the processor, where they are given
         self.running: dict[Forked, Begun] = {}
+        self.over: set[Forked] = set()  # those that took more than their limit
         self.inputs = NOTHING  # of all pairs
         self.unwritten: dict[str, dict[str, Any]] = {}  # objects that stand in no file
         self.in_use: set[str] = set()  # pairs whose files another call was writing
         self.is_stopped = False
         about_program(typed.program_path)  # whose sum is then known to each of them
-
-    def items(self) -> list[Item]:
-        """The pairs that are judged."""
-        return [one.item for one in self.running.values()]
 
     def path(self, item: Item) -> str:
         """The file of a pair's object."""
@@ -231,10 +264,11 @@ class Calls:
         call = call._replace(out=self.out, is_kept=self.is_kept) if self.out else \
             call._replace(json=self.path(item))
         before = found(asked)
+        limit = self.limit or limit_of(before)
         try:
             with signals_held():
                 process = Forked(lambda: judge_alone(asked, call))
-                self.running[process] = Begun(item, before, claim.pop_all())
+                self.running[process] = Begun(item, before, limit, claim.pop_all())
         except Stop as reason:
             return self.leave(item, str(reason))
         return None
@@ -243,15 +277,25 @@ class Calls:
         """The rows of pairs that are judged by now, or once one is, after some seconds at most."""
         for call in ended_of(self.running, seconds):
             yield self.end(call)
+        for call, begun in self.running.items():
+            more = call.seconds() - begun.limit
+            if more >= 0:
+                self.over.add(call)
+                (call.kill if more >= TO_WRITE else call.stop)()
 
     def end(self, call: Forked) -> Row:
         """Ends a call that is over; the row of its pair."""
-        item, before, claim = self.running.pop(call)
+        item, before, limit, claim = self.running.pop(call)
+        is_over = call in self.over
+        self.over.discard(call)
         try:
-            status, told = call.end()
+            status, lines = call.end()
             if item.asked and found(item.asked) != before:
                 return self.leave(item, "a file was written to while it was judged")
-            known = left_by_call(self.path(item), item.name, status, told)
+            known = left_by_call(self.path(item), item.name, status, lines)
+            if known["verdict"] == NOT_JUDGED and is_over:
+                return self.leave(item, f"it took more than {counted(limit, 'second')} of the "
+                                        "processor: --limit gives more")
             return self.leave(item, known["reason"]) if "asked" not in known else \
                 row_of_object(known, item.name)
         finally:
@@ -274,15 +318,10 @@ class Calls:
         for call in self.running:
             call.stop()
         while self.running:
-            call, one = next(iter(self.running.items()))
+            call, begun = next(iter(self.running.items()))
             if not self.end(call).is_judged:  # else it ended by itself
                 with contextlib.suppress(OSError):
-                    os.unlink(self.path(one.item))
-
-
-def inputs_of(items: Iterable[Item], *more: str) -> Inputs:
-    """All files that are read of some pairs, and others."""
-    return Inputs(*more, *(name for item in items for name in item.files))
+                    os.unlink(self.path(begun.item))
 
 
 def judge_batch(words: argparse.Namespace, called: str) -> int:
@@ -299,7 +338,7 @@ def judge_batch(words: argparse.Namespace, called: str) -> int:
     collection.refuse_names(words, inputs, of_all)
     with temporary_folder("subttx-qc-") as folder, \
             claimed_for_batch(of_all):
-        calls = Calls(typed, folder, words.out, words.is_kept)
+        calls = Calls(typed, folder, words.out, words.is_kept, words.limit)
         calls.inputs = inputs
         kept = kept_rows(calls, items) if words.is_resumed else {}
         known = all_rows(calls, items, kept, words.jobs or os.cpu_count() or 1)
@@ -320,27 +359,36 @@ def kept_rows(calls: Calls, items: list[Item]) -> dict[str, Row]:
     for item in items:
         path = calls.path(item)
         known = object_at(path) if item.asked and os.path.exists(path) else None
-        if item.asked and known and known["verdict"] != NOT_JUDGED \
-                and is_current(known, item.asked, program):
+        if known and is_kept(known, item, program):
             rows[item.name] = row_of_object(known, item.name)
     return rows
 
 
-def all_rows(calls: Calls, items: list[Item], kept: dict[str, Row], jobs: int) \
-        -> dict[str, Row]:
-    """The rows of all pairs, with a line of progress; where a signal ends it, of those that were
-    judged before."""
+def is_kept(known: dict[str, Any] | None, item: Item, program: MadeWith) -> bool:
+    """Whether what an earlier call has judged of a pair would be judged so now."""
+    return known is not None and item.asked is not None and known["verdict"] != NOT_JUDGED \
+        and is_current(known, item.asked, program)
+
+
+def all_rows(calls: Calls, items: list[Item], kept: dict[str, Row], jobs: int,
+             take: Callable[[Row], None] = lambda row: None) -> dict[str, Row]:
+    """The rows of all pairs, with a line of progress, each `taken` once it is known; where a signal
+    ends it, of those that were judged before."""
     progress, began, rows = Progress(), time.monotonic(), dict(kept)
     waiting = collections.deque(item for item in items if item.name not in kept)
     try:
         while waiting or calls.running:
-            for row in judged_next(calls, waiting, jobs, WAIT):
+            for row in judged_next(calls, waiting, jobs):
                 rows[row.name] = row
-            progress.show(progress_line(rows, len(items), len(kept), began))
+                progress.clear()
+                take(row)
+            progress.show(collection.progress_line(rows, len(items), len(kept), began))
     except BaseException as reason:
         if isinstance(reason, KeyboardInterrupt):
             ignore_signals()  # what is known is written now
-        rows |= {row.name: row for row in calls.rows(0.0)}
+        for row in calls.rows(0.0):
+            rows[row.name] = row
+            take(row)
         calls.stop()
         if not isinstance(reason, KeyboardInterrupt):
             raise
@@ -348,32 +396,18 @@ def all_rows(calls: Calls, items: list[Item], kept: dict[str, Row], jobs: int) \
     return rows
 
 
-def judged_next(calls: Calls, waiting: collections.deque[Item], jobs: int, seconds: float) \
-        -> Iterator[Row]:
+def judged_next(calls: Calls, waiting: collections.deque[Item], jobs: int) -> Iterator[Row]:
     """Begins with pairs that are waited for, so many at a time; the rows of those that are judged
-    by then, or once one is, after some seconds at most."""
+    by then, or after a while."""
     while waiting and len(calls.running) < jobs:
         row = calls.begin(waiting.popleft())
         if row:
             yield row
-    yield from calls.rows(seconds)
+    yield from calls.rows(WAIT)
 
 
-def progress_line(rows: dict[str, Row], count: int, kept: int, began: float) -> str:
-    """How many pairs have a verdict, of which kind, and how long the others will take."""
-    verdicts = [row.verdict for row in rows.values()]
-    accepted, waived, missed = map(verdicts.count, (ACCEPTED, WAIVED, NOT_JUDGED))
-    line = (f"{len(rows)} of {counted(count, 'pair')}: {accepted} accepted, "
-            f"{f'{waived} waived, ' if waived else ''}"
-            f"{len(rows) - accepted - waived - missed} refused, {missed} not judged")
-    done = len(rows) - kept
-    if not done:
-        return line
-    left = (time.monotonic() - began) / done * (count - len(rows))
-    return f"{line}; {counted(round(left), 'second')} left"
-
-
-# A folder into which pairs are written, each judged as soon as both of its files are whole.
+# A folder into which pairs are written: judged as a batch of it is that is resumed, again and
+# again, each pair once both of its files are whole.
 
 LOOK = 1.0  # seconds between two looks: no notice comes of what another machine writes
 DONE = ".done"  # after the name of a pair: both of its files are whole
@@ -387,70 +421,40 @@ class Sighting(NamedTuple):
 
 
 class Watch:
-    """The folder, what was seen in it, and what is judged."""
+    """What was seen in a folder: `known` is what each pair was like that has its result, and why
+    another one is none, as it was told."""
 
-    def __init__(self, words: argparse.Namespace, typed: CommandWords) -> None:
-        self.words, self.folder, self.out = words, words.watch, words.out
-        self.calls = Calls(typed, words.out, words.out, words.is_kept)
-        self.program = about_program(typed.program_path)
+    def __init__(self, folder: str, settled: int) -> None:
+        self.folder, self.settled = folder, settled
         self.seen: dict[str, Sighting] = {}
-        self.tried: dict[str, object] = {}  # what was found of pairs that were judged here
-        self.named: dict[str, str] = {}  # what is no pair, and the reason that was told
-        self.rows = rows_in(self.out)
+        self.known: dict[str, object] = {}
 
-    def due(self, busy: set[str], clock: Callable[[], float] = time.monotonic) -> list[Item]:
-        """The pairs that are whole and not yet judged as they are; tells what is no pair."""
-        now = clock()
-        items = of_folder(self.folder, self.words)
-        self.calls.inputs = inputs_of(items)
-        items = [item for item in items if item.name not in busy]
-        return [item for item in items if self.is_settled(item, now, clock) and self.is_new(item)]
-
-    def is_settled(self, item: Item, now: float, clock: Callable[[], float]) -> bool:
-        """Whether the files of an item are whole: somebody says so, or they have not changed from
-        when they were seen first to when this look began."""
-        if os.path.exists(os.path.join(self.folder, item.name + DONE)):
-            return True
-        is_like = found(item.asked) if item.asked else item.reason
-        seen = self.seen.get(item.name)
-        if seen is None or seen.is_like != is_like:
-            self.seen[item.name] = Sighting(is_like, clock())
-            return False
-        return bool(now - seen.since >= self.words.settled)
-
-    def is_new(self, item: Item) -> bool:
-        """Whether a pair has no object of what it is now; what is no pair is told, once."""
-        if item.asked is None:
-            if self.named.get(item.name) != item.reason:
-                self.named[item.name] = item.reason or ""
+    def due(self, items: Iterable[Item], clock: Callable[[], float] = time.monotonic) \
+            -> list[Item]:
+        """The pairs that are whole, and new or changed; what is no pair is told, once."""
+        now, due = clock(), []
+        for item in items:
+            is_like = found(item.asked) if item.asked else item.reason
+            if self.known.get(item.name) == is_like or not self.is_whole(
+                    item.name, is_like, now, clock):
+                continue
+            self.known[item.name] = is_like
+            if item.asked:
+                due.append(item)
+            else:
                 tell(item.reason or item.name)
-            return False
-        self.named.pop(item.name, None)
-        now_found = found(item.asked)
-        if self.tried.get(item.name) == now_found:
-            return False
-        path = self.calls.path(item)
-        known = object_at(path) if os.path.exists(path) else None
-        if known is not None and is_current(known, item.asked, self.program):
-            return False
-        self.tried[item.name] = now_found
-        return True
+        return due
 
-    def end(self, row: Row) -> None:
-        """Tells a verdict, and writes the page over all pairs. A pair whose files another call was
-        writing is judged again at the next look, which is told once."""
-        if row.name in self.calls.in_use:
-            self.tried.pop(row.name, None)
-            if self.rows.get(row.name) == row:
-                return
-        self.rows[row.name] = row
-        line = collection.first_fault(row)
-        when = time.strftime("%Y-%m-%d %H:%M:%S")
-        say(f"{when}  {row.name}  {row.verdict}{': ' if line else ''}{line}")
-        try:
-            collection.write_index(self.out, in_order(self.rows))
-        except OSError as reason:
-            tell(error_line(reason))
+    def is_whole(self, name: str, is_like: object, now: float, clock: Callable[[], float]) -> bool:
+        """Whether the files of a pair are whole: somebody says so, or they have not changed from
+        when they were seen first to when this look began."""
+        if os.path.exists(os.path.join(self.folder, name + DONE)):
+            return True
+        seen = self.seen.get(name)
+        if seen is None or seen.is_like != is_like:
+            self.seen[name] = Sighting(is_like, clock())
+            return False
+        return now - seen.since >= self.settled
 
 
 def refuse_folders(words: argparse.Namespace) -> None:
@@ -469,21 +473,28 @@ def watch(words: argparse.Namespace, called: str) -> int:
     """Judges what comes, until a signal ends that; answers the status 2. Pairs that are judged then
     have no result, and are judged after a new start."""
     refuse_folders(words)
-    watching = Watch(words, CommandWords(called, words.program))
+    typed = CommandWords(called, words.program)
+    calls = Calls(typed, words.out, words.out, words.is_kept, words.limit)
+    program = about_program(typed.program_path)
+    watching = Watch(words.watch, words.settled)
+    results = collection.Results(words.out)
+
+    def take(row: Row) -> None:
+        if row.name in calls.in_use:  # it is judged again at the next look, and told once
+            watching.known.pop(row.name, None)
+            if results.rows.get(row.name) == row:
+                return
+        results.take(row)
+
     heed_signals()
-    calls, waiting, next_look = watching.calls, collections.deque[Item](), 0.0
     try:
-        while True:
-            if time.monotonic() >= next_look:
-                busy = {item.name for item in [*waiting, *calls.items()]}
-                waiting += watching.due(busy)
-                next_look = time.monotonic() + LOOK
-            for row in judged_next(calls, waiting, words.jobs or os.cpu_count() or 1, LOOK):
-                watching.end(row)
+        while not calls.is_stopped:
+            items = of_folder(words.watch, words)
+            calls.inputs = inputs_of(items)
+            due = [item for item in watching.due(items)
+                   if not is_kept(results.earlier.pop(item.name, None), item, program)]
+            all_rows(calls, due, {}, words.jobs or os.cpu_count() or 1, take)
+            time.sleep(LOOK)
     except KeyboardInterrupt:
-        ignore_signals()  # what was judged by now is known
-        calls.stop()
-        return 2
-    except BaseException:
-        calls.stop()
-        raise
+        ignore_signals()
+    return 2

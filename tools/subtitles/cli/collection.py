@@ -5,16 +5,18 @@ import argparse
 import json
 import os
 import sys
+import time
 from typing import Any, Callable, Iterator, Sequence, Union
 from urllib.parse import quote
 
-from ..common.command_line import Stop, counted, error_line, shown, silence, tell
+from ..common.command_line import Stop, counted, error_line, say, shown, silence, tell
 from ..common.files import Inputs, NOTHING, OWN_OUTPUT, refuse_name, result_file, whole_file
 from ..common.markup import BREAK, HEAD, Markup, joined, markup
-from ..judging.status import ACCEPTED, NOT_JUDGED, of_all
+from ..judging.status import ACCEPTED, NOT_JUDGED, WAIVED, of_all
 from ..request.commands import index_in
 from ..results.files import (
-    ENDING, Row, TestCase, junit_file, object_at, objects_in, row_of_object, table_lines, unjudged)
+    ENDING, Row, TestCase, in_order, junit_file, object_at, objects_in, row_of_object, table_lines,
+    unjudged)
 from ..results.schema import FORMAT
 from .single import now, refuse_files_of_all
 
@@ -158,6 +160,32 @@ def write_collection(words: argparse.Namespace, rows: Sequence[Row], places: Seq
     return status()
 
 
+class Results:
+    """The rows of a folder of results, each of which is read once, with what tells whether it is
+    still that of its pair."""
+
+    TELLING = "asked", "found", "program", "verdict"
+
+    def __init__(self, folder: str) -> None:
+        self.folder, self.rows, self.earlier = folder, dict[str, Row](), dict[str, dict[str, Any]]()
+        for path, known in objects_in(folder):
+            if known is not None:
+                name = os.path.basename(path).removesuffix(ENDING)
+                self.rows[name] = row_of_object(known, name)
+                self.earlier[name] = {word: known[word] for word in self.TELLING if word in known}
+
+    def take(self, row: Row) -> None:
+        """Tells a verdict, and writes the page over all pairs."""
+        self.rows[row.name] = row
+        line = first_fault(row)
+        when = time.strftime("%Y-%m-%d %H:%M:%S")
+        say(f"{when}  {row.name}  {row.verdict}{': ' if line else ''}{line}")
+        try:
+            write_index(self.folder, in_order(self.rows))
+        except OSError as reason:
+            tell(error_line(reason))
+
+
 def refuse_names(words: argparse.Namespace, inputs: Inputs = NOTHING,
                  folder: str | None = None) -> None:
     """Names under which nothing can be written, and those of inputs, are refused before anything is
@@ -190,6 +218,20 @@ def table_of(rows: Sequence[Row], why: str = "") -> Iterator[str]:
     counts = [f"{sum(row.verdict == verdict for row in rows)} {verdict}"
               for verdict in dict.fromkeys(row.verdict for row in rows)]
     yield f"{counted(len(rows), 'pair')}: {', '.join(counts)}" + (f"; {why}" if why else "")
+
+
+def progress_line(rows: dict[str, Row], count: int, kept: int, began: float) -> str:
+    """How many pairs have a verdict, of which kind, and how long the others will take."""
+    verdicts = [row.verdict for row in rows.values()]
+    accepted, waived, missed = map(verdicts.count, (ACCEPTED, WAIVED, NOT_JUDGED))
+    line = (f"{len(rows)} of {counted(count, 'pair')}: {accepted} accepted, "
+            f"{f'{waived} waived, ' if waived else ''}"
+            f"{len(rows) - accepted - waived - missed} refused, {missed} not judged")
+    done = len(rows) - kept
+    if not done:
+        return line
+    left = (time.monotonic() - began) / done * (count - len(rows))
+    return f"{line}; {counted(round(left), 'second')} left"
 
 
 def first_fault(row: Row) -> str:

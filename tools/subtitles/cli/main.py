@@ -38,6 +38,7 @@ def number_word(what: str, least: int, most: int) -> Callable[[str], int]:
 line_word = number_word("a line", 1, 9_999_999)
 jobs_word = number_word("pairs at a time", 1, 9_999)
 seconds_word = number_word("seconds", 0, 99_999)
+limit_word = number_word("seconds", 1, 99_999)
 minutes_word = number_word("minutes", 1, 1_440)  # a day at most
 
 ASKING = (
@@ -65,6 +66,9 @@ OF_CALL = (
            field="line", read=line_word),
     Option("--jobs", "N", "pairs at a time", (BATCH, WATCH), "as many as processors", field="jobs",
            read=jobs_word),
+    Option("--limit", "SECONDS", "seconds of the processor that a pair may take, with all that is "
+           "called for it", (BATCH, WATCH), "60, and one more for each 10 MB", field="limit",
+           read=limit_word),
     Option("--settled", "S", "seconds after which a file that does not change is whole", (WATCH,),
            "5", field="settled", default=5, read=seconds_word),
     Option("--patience", "M", "minutes within which a programme has to begin", (CHANNEL,), "60",

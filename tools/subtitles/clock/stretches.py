@@ -13,6 +13,7 @@ from ..common.command_line import Lateness
 from ..common.times import FRAMES_A_SECOND, FRAMES_OF_A_DAY
 from .alignment import Base, Early, Edge, Fit, Shown, TRIED, VOTES, edges_of, settled
 
+LEADERS = 8  # ways, the best of those up to an edge, that go on with another track
 IN_A_ROW = 5  # edges that have to agree with an origin of their own
 NEW_TRACK = IN_A_ROW - 1  # points that another origin costs
 LEAST_BREAK = 5 * FRAMES_A_SECOND  # frames; what is later by less is a delay
@@ -92,31 +93,67 @@ def find_row(bases: Sequence[Base]) -> list[Stretch]:
     return best_row(bases[0].edges, found[:TRIED]) if found else []
 
 
-def best_row(edges: Sequence[Edge], tracks: Sequence[Track]) -> list[Stretch]:
-    """The row of tracks with the most points, where another one is begun by five edges that agree;
-    what is nearer is taken of two that are as good."""
-    Way = tuple[int, int, tuple[tuple[int, int], ...]]  # points, nearness, tracks from edges on
-    best: dict[int, Way] = {}
+class Turn(NamedTuple):
+    """From which edge on, by its number, a row is on which track."""
+
+    edge: int
+    track: Track
+
+
+class Way(NamedTuple):
+    """A row of tracks up to an edge: its points, the less the farther apart its tracks are, and
+    where it turns to each."""
+
+    points: int
+    nearness: int
+    turns: tuple[Turn, ...]
+
+    @property
+    def rank(self) -> tuple[int, int]:
+        """Of two ways the one of the higher rank is better."""
+        return self.points, self.nearness
+
+    @property
+    def track(self) -> Track:
+        """The one that it is on."""
+        return self.turns[-1].track
+
+    def turned(self, edge: int, track: Track) -> Way:
+        """The way that goes on with another track from an edge on."""
+        apart = abs(track.start - self.track.start) + FRAMES_OF_A_DAY * (
+            track.base - self.track.base)
+        return Way(self.points - NEW_TRACK, self.nearness - apart,
+                   (*self.turns, Turn(edge, track)))
+
+
+def best_way(edges: Sequence[Edge], tracks: Sequence[Track]) -> Way:
+    """The way through all edges with the most points, where another track is begun by five edges
+    that agree; what is nearer is taken of two that are as good. From edge to edge the best way that
+    ends on each track is known, and only the best of these turn."""
+    best: dict[int, Way] = {}  # by the number of the track that it is on
     for at, edge in enumerate(edges):
         gap = edge.frame - edges[at - 1].frame if at else 0
-        leaders = heapq.nlargest(8, best.items(), key=lambda item: item[1][:2])
-        now: dict[int, Way] = {}
+        leaders = heapq.nlargest(LEADERS, best.values(), key=lambda way: way.rank)
+        longer: dict[int, Way] = {}
         for number, track in enumerate(tracks):
             ways = [best[number]] if number in best else []
             if track.in_a_row[at] >= IN_A_ROW:
-                ways += [(sum(track.points[:at]), 0, ((0, number),))] if not ways else []
-                ways += [(points - NEW_TRACK, near - abs(track.start - tracks[other].start)
-                          - FRAMES_OF_A_DAY * (track.base - tracks[other].base),
-                          (*steps, (at, number)))
-                         for other, (points, near, steps) in leaders
-                         if other != number and track.may_follow(tracks[other], gap)]
+                if not ways:
+                    ways.append(Way(sum(track.points[:at]), 0, (Turn(0, track),)))
+                ways += [way.turned(at, track) for way in leaders
+                         if way.track is not track and track.may_follow(way.track, gap)]
             if ways:
-                points, near, steps = max(ways, key=lambda way: way[:2])
-                now[number] = points + track.points[at], near, steps
-        best = now
-    _, _, steps = max(best.values(), key=lambda way: way[:2])
-    ends = [*(at for at, _ in steps[1:]), len(edges)]
-    row = [Stretch(tracks[number], at, end) for (at, number), end in zip(steps, ends)]
+                way = max(ways, key=lambda way: way.rank)
+                longer[number] = way._replace(points=way.points + track.points[at])
+        best = longer
+    return max(best.values(), key=lambda way: way.rank)
+
+
+def best_row(edges: Sequence[Edge], tracks: Sequence[Track]) -> list[Stretch]:
+    """The stretches of the best way; where two meet, as many edges as can go with the second."""
+    turns = best_way(edges, tracks).turns
+    ends = [*(turn.edge for turn in turns[1:]), len(edges)]
+    row = [Stretch(turn.track, turn.edge, end) for turn, end in zip(turns, ends)]
     for number in range(1, len(row)):
         before, own = row[number - 1:number + 1]
         border = border_of(edges, before, own)

@@ -14,7 +14,8 @@ from ..formats.teletext import BY_WORD, page_name
 from ..stream.packets import HEADER
 from ..stream.receiver import BLANK_PAGE, HIT, LEAST, Rows, Timeline, subcode_words, turns_of
 from .check import Answer
-from .pages import attribute_words, is_moved, is_part, moved_words, page_text, words_on
+from .pages import (
+    attribute_words, beside_words, is_moved, is_part, moved_words, page_text, words_on)
 from .transmissions import DuePages, Sendings, left_at
 
 
@@ -181,7 +182,8 @@ class Namer(Sendings):
             if places and words:
                 other = self.programme.nearest(places, one.begin)
                 return self.of_other(place, other, one.end)._replace(sent=sent)
-            return Cause(place, TEXT, None, sent, None, self.subcode_words, one.end)
+            return Cause(place, TEXT, None, sent, None,
+                         beside_words(due, sent) or self.subcode_words, one.end)
         if is_moved(due, sent):
             return Cause(place, PLACE, None, sent, None, moved_words(due, sent), one.end)
         return Cause(place, ATTRIBUTE, None, sent, None, attribute_words(due, sent), one.end)
@@ -269,11 +271,15 @@ class Namer(Sendings):
         if other is not None and other != place:
             return self.of_other(place, other, one.end)
         if page == BLANK_PAGE:
-            first = self.broken_since(span.first)
+            erased = self.held.frames[number]
+            if erased < one.begin:  # when it was not due yet
+                return self.unknown(place, span.first, one.end,
+                                    f"it has not come at {time_of(span.first)}")
             if self.is_erased(number):
-                return Cause(place, ERASED, None, None, None, "by a header without rows, at "
-                             f"{time_of(self.held.frames[number])}", one.end)
-            return self.unknown(place, span.first, one.end, f"it is gone at {time_of(first)}")
+                return Cause(place, ERASED, None, None, None,
+                             f"by a header without rows, at {time_of(erased)}", one.end)
+            return self.unknown(place, span.first, one.end, "it is gone at "
+                                f"{time_of(self.broken_since(span.first))}")
         return self.differs(place, number)
 
     def is_erased(self, number: int) -> bool:
@@ -303,15 +309,12 @@ class Causes:
     """The causes of subtitles, by the lines of the list and by what is held.
 
     `named` are those that are known, in order; `of_edge` is the subtitle whose fault a 63 or 74 is,
-    where the recording goes on there. `unseen` are
-    frames of which not all is known that was sent, beside those that can't be read, and `reach`
-    the frames of which the recording is, where that is known of more than its PES packets.
+    where the recording goes on there. `reach` are the frames of which the recording is, where that
+    is known of more than its PES packets.
     """
 
-    def __init__(self, programme: DuePages, held: Timeline, unseen: Iterable[Span] = (),
-                 reach: Span | None = None) -> None:
+    def __init__(self, programme: DuePages, held: Timeline, reach: Span | None = None) -> None:
         self.programme, self.held, self.reach = programme, held, reach
-        held.lost = list(unseen)
         self.namer = Namer(programme, held)
         self.named: dict[int, Cause] = {}
         self.of_edge: dict[int, int] = {}

@@ -118,6 +118,19 @@ def is_moved(due: Rows, sent: Rows) -> bool:
     return same and [line.column for line in one] != [line.column for line in other]
 
 
+def beside_words(due: Rows, sent: Rows) -> str:
+    """Which rows with letters a page has beside those that are due; nothing where it has none, or
+    one of those is not as it is due."""
+    if any(row != other for row, other in zip(due, sent) if row.strip()):
+        return ""
+    *others, last = ["", *(str(line.row) for line in lettered_rows(sent)
+                           if not due[line.row - 1].strip())]
+    if not last:
+        return ""
+    return f"other rows beside it: rows {', '.join(others[1:])} and {last}" if others[1:] else \
+        f"another row beside it: row {last}"
+
+
 def is_part(sent: Rows, due: Rows) -> bool:
     """Whether a page has some rows of another one, and nothing else."""
     return all(row == wanted or not row.strip() for row, wanted in zip(sent, due))

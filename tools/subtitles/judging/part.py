@@ -364,10 +364,11 @@ def refuse_others(parts: Sequence[Found], subtitles: Sequence[Subtitle], stl: st
 def part_causes(part: Part) -> Causes | None:
     """The causes of a part that was judged; `None` where there are none."""
     asked, (recording, found) = part.asked, part.recorded
-    held = timeline_near(part.packets, asked.page, found.origin, asked.within,
-                         Span(found.begin, found.end), asked.every, found.packets)
     lost = part.places() if recording.is_stream else []
-    causes = Causes(part.due(), held, unseen(lost, found.origin, asked.within),
+    held = timeline_near(part.packets, asked.page, found.origin, asked.within,
+                         Span(found.begin, found.end), asked.every, found.packets,
+                         unseen(lost, found.origin, asked.within))
+    causes = Causes(part.due(), held,
                     reach(None if recording.packets.refusal else recording.reach(), found))
     causes.name(part.answer)
     return causes if causes.named else None

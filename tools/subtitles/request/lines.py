@@ -10,7 +10,7 @@ import re
 from typing import Any, Iterable, Iterator, Mapping, NamedTuple, Sequence
 
 from ..common.command_line import Stop, Words, error_line
-from ..common.files import bounded_bytes, kind_of, plain_name
+from ..common.files import Inputs, bounded_bytes, kind_of, plain_name
 from .commands import NamesOfList, pair_name
 from .request import (
     Mode, OPTIONS, Profile, Request, Setting, add_options, pair_options, request_of, request_with)
@@ -224,6 +224,11 @@ def of_folder(folder: str, defaults: argparse.Namespace) -> list[Item]:
         if ending.lower() in (SUBTITLES, *RECORDINGS):
             alike[stem.lower()].append(file)
     return [item for files in alike.values() for item in of_files(folder, files, defaults)]
+
+
+def inputs_of(items: Iterable[Item], *more: str) -> Inputs:
+    """All files that are read of some pairs, and others."""
+    return Inputs(*more, *(name for item in items for name in item.files))
 
 
 def no_file(path: str) -> str | None:

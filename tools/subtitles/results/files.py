@@ -241,13 +241,6 @@ def objects_in(folder: str, besides: Collection[str] = ()
             yield path, object_at(path)
 
 
-def rows_in(folder: str, besides: Collection[str] = ()) -> dict[str, Row]:
-    """The rows of a folder, by their names."""
-    known = {os.path.basename(path).removesuffix(ENDING): one
-             for path, one in objects_in(folder, besides)}
-    return {name: row_of_object(one, name) for name, one in known.items() if one is not None}
-
-
 def in_order(rows: dict[str, Row]) -> list[Row]:
     """Rows in the order of their names."""
     return [rows[name] for name in sorted(rows)]

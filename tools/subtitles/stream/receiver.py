@@ -176,9 +176,9 @@ class Order:
     `least`; from there on nothing is heard, and `falls` are the frames of all such.
     """
 
-    def __init__(self, least: int = 0) -> None:
+    def __init__(self, least: int = 0, lost: Iterable[Span] = ()) -> None:
         self.least = least
-        self.lost: list[Span] = []  # frames of which something is lost, whoever knows it
+        self.lost = [*lost]  # frames of which something is lost, whoever knows it
         self.forget()
 
     def forget(self) -> None:
@@ -283,12 +283,12 @@ class Timeline(Order, Held):
 
     def __init__(self, packets: Packets, page: Page, origin: int, within: int = 0,
                  inside: Range | None = None, begin: int = NO_FRAME, came: int = NO_FRAME,
-                 is_single: bool = False) -> None:
+                 is_single: bool = False, lost: Iterable[Span] = ()) -> None:
         self.packets, self.page, self.origin, self.within = packets, page, origin, within
         self.inside = (0, packets.count - 1) if inside is None else inside
         self.begin, self.came = begin, came
         self.told: Rows = OLD_PAGE  # what is held by all that was told, of the whole recording
-        Order.__init__(self, int(is_single and not within))
+        Order.__init__(self, int(is_single and not within), lost)
         self.hear_all(dict(packets.held), dict(packets.strays))
 
     def forget(self) -> None:
@@ -380,14 +380,14 @@ class Timeline(Order, Held):
 
 
 def timeline_near(packets: Packets, page: Page, origin: int, within: int, span: Span, every: int,
-                  inside: Range | None = None) -> Timeline:
+                  inside: Range | None = None, lost: Iterable[Span] = ()) -> Timeline:
     """What is held of a recording around some frames that are due: from 250 frames before them, or
-    as many as the repeat bound, to as many after them."""
+    as many as the repeat bound, to as many after them; of some frames something is lost."""
     more = max(LEAST, every)
     cut = cut_of(packets, max(span.first - more, 0), min(span.last + more, FRAMES_OF_A_DAY - 1),
                  origin, None, within, inside)
     return Timeline(packets, page, origin, within, cut.range or (0, -1), span.first,
-                    NO_FRAME if cut.came is None else cut.came)
+                    NO_FRAME if cut.came is None else cut.came, lost=lost)
 
 
 def frames_of(run: Run, origin: int, within: int) -> Sequence[int]:

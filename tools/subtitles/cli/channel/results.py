@@ -18,7 +18,7 @@ from ...common.files import Inputs, NOTHING, result_file
 from ...judging.status import NOT_JUDGED
 from ...request.request import Request
 from ...results.files import (
-    ENDING, Row, in_order, left_by_call, object_at, put_object, row_of_object, rows_in, unjudged,
+    ENDING, Row, in_order, left_by_call, object_at, objects_in, put_object, row_of_object, unjudged,
     value_at)
 from ...results.schema import FORMAT, misfit
 from .. import collection, single
@@ -244,7 +244,9 @@ class Results:
             self.say(f"written once more, since it is not there as a whole: {', '.join(lost)}")
         self.rows = {name: record.row for name, record in by_name.items() if record.row}
         if self.out and os.path.isdir(self.out):
-            self.rows.update(rows_in(self.out, {*by_name}))
+            for path, known in objects_in(self.out, {*by_name}):
+                name = os.path.basename(path).removesuffix(ENDING)
+                self.rows.update({name: row_of_object(known, name)} if known else {})
         self.publish()
         self.verdicts += [self.rows[name].verdict for name in names if name in self.rows]
         if self.verdicts:
