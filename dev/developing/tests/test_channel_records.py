@@ -74,7 +74,7 @@ class Again(Programmes):
                 channel.results.judge_due()
         said = "one: it was not judged, and is tried again: the machine failed"
         self.must("said", channel.said == [said] and not os.listdir(out), channel.said)
-        self.must("counts", channel.lines().open == 2, channel.lines())
+        self.must("counts", channel.lines()["open"] == 2, channel.lines())
         channel.give(lines.sent(texts_of("two"), BEGIN + 60 * SECOND, 20))
         self.must("two", self.names()[-1] == "two" and channel.results.verdicts == ["accepted"])
         again = Told(self, self.listed("one", "two", "three"), out, spool=spool)

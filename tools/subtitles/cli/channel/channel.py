@@ -25,7 +25,7 @@ from ..single import locking, now, refuse_files_of_all
 from . import machine, records
 from .feed import MINUTE, SECOND, Stall
 from .hearing import Hearing
-from .machine import Alarms, DISK, LOSS, LineCounts, Machine, RECORDER, SILENCE, lines_of
+from .machine import Alarms, DISK, LOSS, Machine, RECORDER, SILENCE, lines_of
 from .records import Due
 from .recorder import Begin, Recorded, Segments, say_dated
 from .results import Results
@@ -351,7 +351,7 @@ class Channel:
             self.segments.take_away(self.segments.at + 1)
         self.tell_machine()
 
-    def lines(self) -> LineCounts:
+    def lines(self) -> dict[str, int]:
         """How many lines have what result."""
         listed, by_name = self.queue.planned.programmes, self.records.by_name
         return lines_of(len(listed), [
@@ -371,7 +371,7 @@ class Channel:
             self.free_bytes = shutil.disk_usage(self.folder).free
         self.machine.tell(
             {"sent": self.running and self.running.programme.name, "waiting": waiting,
-             "lines": self.lines()._asdict(), "alarms": [*self.alarms.on],
+             "lines": self.lines(), "alarms": [*self.alarms.on],
              "recorder": segments.is_recorded(), "last_verdict": self.results.last},
             {**about, "header": self.header,
              "silent_since": (self.header or about["came"]) if is_silent else None,
@@ -413,9 +413,9 @@ class Channel:
         if self.machine.state == machine.STOPPED:
             self.say(f"stopped at {self.time_of_feed()} of the feed")
             return
-        count = self.lines()
-        self.say(f"{self.machine.state}: {counted(count.judged, 'line')} judged, "
-                 f"{count.not_judged} not judged, {count.open} open")
+        lines = self.lines()
+        self.say(f"{self.machine.state}: {counted(lines['judged'], 'line')} judged, "
+                 f"{lines['not_judged']} not judged, {lines['open']} open")
 
 
 # A call that judges a channel: where its files are, and how it ends.

@@ -126,9 +126,9 @@ class Changes:
                           for one in (time - room - NEAR, time + room + NEAR + 1))
             return next((at for at in range(first, end) if self.letters[at] == letters), None)
         at = bisect.bisect_left(self.times, time)
-        found = min((one for one in (at - 1, at) if 0 <= one < len(self.times)),
-                    key=lambda one: abs(self.times[one] - time), default=None)
-        return found if found is not None and abs(self.times[found] - time) <= NEAR else None
+        nearest = min((one for one in (at - 1, at) if 0 <= one < len(self.times)),
+                      key=lambda one: abs(self.times[one] - time), default=None)
+        return None if nearest is None or abs(self.times[nearest] - time) > NEAR else nearest
 
 
 class Awaited:
@@ -211,11 +211,11 @@ def span_of(shown: Sequence[Shown], stl: str) -> tuple[int, int]:
 
 def subtitles_between(stl: str, option: str, between: Between) -> Iterator[Shown]:
     """The subtitles of a file that come in some frames, and go within the day."""
-    for one in readable(stl, stl_bytes(stl)):
-        begin, end = subtitle_times(one)
+    for subtitle in readable(stl, stl_bytes(stl)):
+        begin, end = subtitle_times(subtitle)
         if begin is not None and end is not None and begin < end and between.has(begin):
-            yield Shown(begin, end, (one.row, one.justify, one.text),
-                        letters_on_page(one.text, option))
+            yield Shown(begin, end, (subtitle.row, subtitle.justify, subtitle.text),
+                        letters_on_page(subtitle.text, option))
 
 
 # What a feed lacks of the PID of a page, told for a person: times at which it is silent, and places

@@ -65,8 +65,8 @@ class Heard(Survey):
         self.lately: collections.deque[tuple[int, int, Run]] = collections.deque(maxlen=PRUNED)
         self.others = set[int]()  # PIDs that send the page, too
         self.moved = ""  # what the PMT says, until something comes of the new PID
-        self.found: int | None = None  # the PTS of the first header of the page
-        self.found_at = 0  # the time then
+        self.first_header: int | None = None  # the PTS of the first header of the page
+        self.heard_since = 0  # the time then
         self.silence, self.losses = Silence(self.said), Losses(self.said)
 
     @property
@@ -119,18 +119,18 @@ class Heard(Survey):
             self.others.add(pid)
             both = f"page {page_name(*self.page)} is sent on {pid_name(self.pid)} and " \
                 f"{pid_name(pid)}"
-            is_at_once = None not in (self.found, run.pts) and \
-                abs(ticks_between(self.found or 0, run.pts or 0)) < BOTH
+            is_at_once = None not in (self.first_header, run.pts) and \
+                abs(ticks_between(self.first_header or 0, run.pts or 0)) < BOTH
             if is_at_once and self.likely not in (pid, self.pid):
                 raise Stop(f"{both}: say which one by --pid")
-            if self.likely == pid and self.now - self.found_at < BOTH:
+            if self.likely == pid and self.now - self.heard_since < BOTH:
                 self.others = {self.pid}
                 self.begin_with(pid, run)
             self.said.append(f"{both}: {pid_name(self.pid)} is heard on")
 
     def begin_with(self, pid: int, run: Run) -> None:
         """Hears a PID from what came of it on."""
-        self.pid, self.found, self.found_at = pid, run.pts, self.now
+        self.pid, self.first_header, self.heard_since = pid, run.pts, self.now
         self.changes = {is_within: Changes() for is_within in (False, True)}
         for earlier in self.by_pid[pid].runs[:-1]:
             self.go_on(earlier)
@@ -173,12 +173,12 @@ class Heard(Survey):
             self.changes = {is_within: Changes() for is_within in (False, True)}
 
     def take_rows(self, pid: str, *words: str) -> None:
-        one = self.of(pid)
-        count = len(one.changes)
+        known = self.of(pid).changes
+        count = len(known)
         super().take_rows(pid, *words)
-        if int(pid) == self.pid and len(one.changes) > count:
+        if int(pid) == self.pid and len(known) > count:
             for is_within, changes in self.changes.items():
-                changes.add(self.clock.now, one.changes[-1].letters, is_within)
+                changes.add(self.clock.now, known[-1].letters, is_within)
 
     # What is missing.
 

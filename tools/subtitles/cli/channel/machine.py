@@ -9,7 +9,7 @@ import shutil
 import signal
 import subprocess
 import time
-from typing import Any, Callable, NamedTuple, Sequence
+from typing import Any, Callable, Sequence
 
 from ...common.command_line import Stop, counted, error_line
 from ...common.files import Inputs, first_bytes, kind_of, result_file
@@ -27,23 +27,14 @@ RUNNING, ENDED, STOPPED, UNREADABLE = "running", "ended", "stopped", "unreadable
 DATES = ("came", "header", "silent_since")
 
 
-class LineCounts(NamedTuple):
-    """How many lines of the list have no result, have one that is a verdict, of these one that is
-    not accepted, have one that is none; and how many results are not written."""
-
-    open: int
-    judged: int
-    refused: int
-    not_judged: int
-    not_written: int
-
-
-def lines_of(count: int, rows: Sequence[Row], not_written: int) -> LineCounts:
-    """The same, of so many lines, by the rows of those that have a result."""
+def lines_of(count: int, rows: Sequence[Row], not_written: int) -> dict[str, int]:
+    """Of so many lines of the list how many have no result, have one that is a verdict, of these
+    one that is not accepted, have one that is none; and how many results are not written. `rows`
+    are those of the lines that have a result."""
     judged = [row for row in rows if row.is_judged]
     refused = [row for row in judged if row.verdict not in (ACCEPTED, WAIVED)]
-    return LineCounts(count - len(rows), len(judged), len(refused), len(rows) - len(judged),
-                      not_written)
+    return {"open": count - len(rows), "judged": len(judged), "refused": len(refused),
+            "not_judged": len(rows) - len(judged), "not_written": not_written}
 
 
 class Machine:

@@ -196,13 +196,13 @@ class Results:
                                         pid=due.pid, recording="-")
             shutil.rmtree(folder, ignore_errors=True)
             os.mkdir(folder)
-            status, told = called(lambda: ended(does, []), longest)
+            status, lines = called(lambda: ended(does, []), longest)
         except TimeoutError:
             return Judged(None, f"it was not judged within {longest:.0f} seconds", True)
         except (OSError, Stop, ValueError) as reason:
             return Judged(None, error_line(reason))
         known = left_by_call(os.path.join(folder, record.name + ENDING), record.name,
-                             2 if status == PASSING else status, told)
+                             2 if status == PASSING else status, lines)
         return Judged(None if status == PASSING or status < 0 else known, known["reason"] or "")
 
     def call_of(self, record: Outcome, due: Due, path: str) -> single.PairCall:

@@ -45,10 +45,6 @@ class Programme:
     awaited: Union[Awaited, Timed, None] = None
     why_not: str | None = None
 
-    @property
-    def is_waited_for(self) -> bool:
-        return self.awaited is not None or self.why_not is not None
-
     def wait(self, since: int, until: int) -> None:
         """Reads its subtitle file, and waits for what has come from one time to another."""
         self.awaited, self.why_not, asked = None, self.reason, self.asked
@@ -90,25 +86,23 @@ def edits_of(known: Sequence[Programme], lines: Sequence[Line]) -> Edits:
     changed, gone = list[Programme](), set(known)
     for count in (None, 1):  # of the words
         alike, places = (collections.defaultdict[tuple[str, ...], list[Any]](list) for _ in "ab")
-        for one in known:
-            if one in gone:
-                alike[one.line.words[:count]].append(one)
+        for programme in known:
+            if programme in gone:
+                alike[programme.line.words[:count]].append(programme)
         for at, line in enumerate(lines):
             if at not in rows:
                 places[line.words[:count]].append(at)
         for words, some in places.items():
             several = alike[words]
-            more = len(several) - len(some)
-            if more > 0:  # those stay that have no result
-                passed = {one for one in [one for one in several if one.has_ended][:more]}
-                several = [one for one in several if one not in passed]
-            for at, one in zip(some, several):
-                rows[at] = one
-                gone.remove(one)
-                if one.line.words != lines[at].words:
-                    changed.append(one)
+            more = max(len(several) - len(some), 0)  # of these those stay that have no result
+            passed = {*[programme for programme in several if programme.has_ended][:more]}
+            for at, programme in zip(some, (one for one in several if one not in passed)):
+                rows[at] = programme
+                gone.remove(programme)
+                if programme.line.words != lines[at].words:
+                    changed.append(programme)
     return Edits([(rows.get(at), line) for at, line in enumerate(lines)],
-                 [one for one in known if one in gone], changed)
+                 [programme for programme in known if programme in gone], changed)
 
 
 class Planned:
@@ -345,16 +339,16 @@ class Queue:
         if self.waiting and planned.since is None:
             self.since = max(self.since, now, self.latest)
         planned.wait_since(self.since if self.waiting else None)
-        for one in self.waiting:
-            if one not in before or not one.is_waited_for:
-                one.wait(self.ended, self.until)
+        for programme in self.waiting:
+            if programme not in before or programme.awaited is programme.why_not is None:
+                programme.wait(self.ended, self.until)
         return is_new
 
     def seen(self, hearing: Hearing) -> tuple[int, int] | None:
         """Of the first of them that is there how many stand before it, and the time of its
         midnight."""
-        for place, one in enumerate(self.waiting):
-            midnight = one.midnight(hearing)
+        for place, programme in enumerate(self.waiting):
+            midnight = programme.midnight(hearing)
             if midnight is not None:
                 return place, midnight
         return None
@@ -370,8 +364,8 @@ class Queue:
         file may have come meanwhile. What an earlier call has judged may be heard once more, and is
         over all the same: `ended` never goes back."""
         self.since, self.ended = since, max(self.ended, ended)
-        for one in self.waiting:
-            one.wait(self.ended, self.until)
+        for programme in self.waiting:
+            programme.wait(self.ended, self.until)
 
 
 # A programme of a channel that is sent, and what came of it.
@@ -385,7 +379,8 @@ LOST = "something of the feed was not recorded"
 @dataclasses.dataclass(eq=False)
 class OnAir:
     """A programme: what is asked of it, with its origin, the time of its midnight, and the frames
-    of its first TCI and its last TCO."""
+    of its first TCI and its last TCO. `begin` and `end` are their times; what is sent from `since`
+    on, and up to `until`, may be of it."""
 
     programme: Programme
     asked: Request
@@ -393,25 +388,10 @@ class OnAir:
     first: int
     last: int
 
-    @property
-    def begin(self) -> int:
-        """The time of its first TCI."""
-        return self.midnight + TICKS * self.first
-
-    @property
-    def since(self) -> int:
-        """From when on what is sent may be of it."""
-        return self.begin - max(MARGIN, TICKS * self.asked.every)
-
-    @property
-    def end(self) -> int:
-        """The time of its last TCO."""
-        return self.midnight + TICKS * self.last
-
-    @property
-    def until(self) -> int:
-        """Up to when what is sent may be of it."""
-        return self.end + LATER + TICKS * self.asked.every
+    def __post_init__(self) -> None:
+        every = TICKS * self.asked.every
+        self.begin, self.end = (self.midnight + TICKS * at for at in (self.first, self.last))
+        self.since, self.until = self.begin - max(MARGIN, every), self.end + LATER + every
 
     def has_come(self, heard: Heard, now: int, is_still: bool) -> bool:
         """Whether all has come of it, and nothing more of it can."""

@@ -50,7 +50,8 @@ def claim(folder: str, inputs: Inputs) -> None:
     for name in names:
         inputs.refuse(os.path.join(folder, name), False)
     strange = [name for name in names if not is_own(folder, name)]
-    is_known = MARK in names or not {*names} - {".lock", ".recorder.lock"} or is_old(folder, names)
+    is_known = MARK in names or not {*names} - {".lock", ".recorder.lock"} or "state" in names and \
+        os.path.getsize(os.path.join(folder, "state")) == OLD_STATE
     if strange or not is_known:
         raise Stop(f"{folder} holds {(strange or names)[0]}, which no channel made: move that "
                    "away, or give another folder by --spool")
@@ -69,11 +70,6 @@ def is_own(folder: str, name: str) -> bool:
     return bool(OWN_FOLDER.fullmatch(name)) and (name != "done" or all(
         is_old_result(os.path.join(folder, name, result))
         for result in os.listdir(os.path.join(folder, name))))
-
-
-def is_old(folder: str, names: Iterable[str]) -> bool:
-    """Whether version 1.9 made a folder, by its `state`."""
-    return "state" in names and os.path.getsize(os.path.join(folder, "state")) == OLD_STATE
 
 
 def is_old_result(path: str) -> bool:
