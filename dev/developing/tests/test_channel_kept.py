@@ -297,16 +297,21 @@ class Written(Folders):
                 for turn in range(len(data) // size + 2):
                     with self.recorder(folder, path) as one:
                         for _ in range(2):
-                            one.write(one.whole(one.source.read(size)))
+                            one.write(one.whole(one.source.read(size + max(one.written, 0))))
                         if turn % 2:
                             one.end()
+                    if turn % 3 == 1:  # a write that somebody has ended half-way
+                        self.put(folder, numbers_in(folder)[-1],
+                                 data[len(b"".join(self.kept(folder))):][:50])
                 found = self.kept(folder)
                 self.must(f"{kind} {size}", b"".join(found) == data and
                           numbers_in(folder) == [*range(len(found))], numbers_in(folder))
+                self.must("each is whole", kind == "ts" or not any(
+                    len(segment) % 184 for segment in found[:-1]), [*map(len, found)])
             last = numbers_in(folder)[-1]
             for other in (self.write("other", data), self.write(kind, data[:100])):
                 with self.recorder(folder, other) as one:
-                    self.must(other, one.number == last + 2 and one.place == 0, one.number)
+                    self.must(other, one.number == last + 2 and one.written == 0, one.number)
 
     def test_file_that_is_written_anew(self) -> None:
         """In its place, with at least as many bytes: it is recorded from its beginning; one that
@@ -331,9 +336,8 @@ class Written(Folders):
                     told = f"{path} goes on at byte {place}" if place else \
                         f"{path} is another file than before, or was written anew: it is " \
                         "recorded from its beginning"
-                    self.must(f"{name} {is_ended}", one.said == told and
-                              os.lseek(one.source.file.fileno(), 0, os.SEEK_CUR) == place and
-                              one.number == (0 if place else 2),
+                    self.must(f"{name} {is_ended}", one.place + one.written == place
+                              and one.said == told and one.number == (0 if place else 2),
                               (one.said, one.number))
 
     def test_loses_twice(self) -> None:

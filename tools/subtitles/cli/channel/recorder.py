@@ -221,11 +221,6 @@ BEHIND_TIME, SYNC = 4, b"\x47"  # bytes before the first TS packet of 192 bytes
 SUMMED = 1 << 16  # bytes of a file by which it is known again, before where it was left
 
 
-def is_pes(head: bytes) -> bool:
-    """Whether a feed that begins so is PES packets, and no TS packets with a time before each."""
-    return head.startswith(START) and head[BEHIND_TIME:][:1] != SYNC
-
-
 class NotWanted(Exception):
     """Nobody wants more of the feed."""
 
@@ -246,6 +241,7 @@ class Recorder:
         self.rest = b""  # of PES packets, what comes behind the last whole one
         self.is_damaged = self.is_lost = False
         self.place = 0  # in a file, of the segment that is written
+        self.written = 0  # bytes of a file that stand there already, of those that come next
         self.said = ""
         known, heard = numbers_in(folder), self.state[HEARD]
         self.number = max([heard - 1, *known[-1:]]) + 2 if heard or known else 0
@@ -256,14 +252,15 @@ class Recorder:
         """Of the same file, goes on where it was; it is known by its device, its number there, its
         size, and its bytes before that."""
         *own, number, place, sum_before = self.state.several(FILE, 5)
-        end = place + size_in(self.folder, number)
+        written = size_in(self.folder, number)
+        end = place + written
         where = "is another file than before, or was written anew: it is recorded from its " \
             "beginning"
         if self.own == tuple(own) and number >= self.number - 2 and end <= size and \
-                sum_before == self.sum_at(place) and self.is_written(number, end - place, end):
-            self.number, self.place, where = number, place, f"goes on at byte {end}"
-            self.is_pes = is_pes(os.pread(self.source.file.fileno(), HEAD, 0))
-            os.lseek(self.source.file.fileno(), end, os.SEEK_SET)
+                sum_before == self.sum_at(place) and self.is_written(number, written, end):
+            self.number, self.place, self.written = number, place, written
+            where = f"goes on at byte {end}"
+            os.lseek(self.source.file.fileno(), place, os.SEEK_SET)  # where a PES packet begins
         self.said = f"{self.source.name} {where}"
 
     def bytes_at(self, place: int) -> bytes:
@@ -314,7 +311,7 @@ class Recorder:
             if len(data) < HEAD:
                 self.rest = data
                 return b""
-            self.is_pes = is_pes(data)
+            self.is_pes = data.startswith(START) and data[BEHIND_TIME:][:1] != SYNC
         if not self.is_pes or self.is_damaged:
             return data
         end = begins_in(data)[-1]
@@ -324,7 +321,9 @@ class Recorder:
 
     def write(self, data: bytes) -> None:
         """Writes bytes, once there is room for them."""
-        left, tries = memoryview(data), 0
+        known = min(self.written, len(data))
+        self.written -= known
+        left, tries = memoryview(data)[known:], 0
         while left:
             try:
                 count = self.opened().write(left)
