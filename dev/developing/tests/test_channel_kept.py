@@ -300,18 +300,28 @@ class Written(Folders):
                             one.write(one.whole(one.source.read(size + max(one.written, 0))))
                         if turn % 2:
                             one.end()
-                    if turn % 3 == 1:  # a write that somebody has ended half-way
-                        self.put(folder, numbers_in(folder)[-1],
-                                 data[len(b"".join(self.kept(folder))):][:50])
                 found = self.kept(folder)
                 self.must(f"{kind} {size}", b"".join(found) == data and
                           numbers_in(folder) == [*range(len(found))], numbers_in(folder))
-                self.must("each is whole", kind == "ts" or not any(
-                    len(segment) % 184 for segment in found[:-1]), [*map(len, found)])
             last = numbers_in(folder)[-1]
             for other in (self.write("other", data), self.write(kind, data[:100])):
                 with self.recorder(folder, other) as one:
                     self.must(other, one.number == last + 2 and one.written == 0, one.number)
+
+    def test_write_that_was_ended_half_way(self) -> None:
+        """The rest of a PES packet comes to its segment, and the next one begins with a packet."""
+        whole, folder = b"".join(PES), self.new("half")
+        path = self.write("feed", whole)
+        with self.recorder(folder, path) as one:
+            one.write(one.whole(one.source.read(400)))
+        self.put(folder, 0, whole[368:418])
+        with self.recorder(folder, path) as one:
+            while data := one.source.read(300):
+                one.write(one.whole(data))
+                one.end()
+        kept = self.kept(folder)
+        self.must("each is whole", b"".join(kept) == whole and len(kept) > 1 and not any(
+            len(segment) % 184 for segment in kept), [*map(len, kept)])
 
     def test_file_that_is_written_anew(self) -> None:
         """In its place, with at least as many bytes: it is recorded from its beginning; one that
