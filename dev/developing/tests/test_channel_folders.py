@@ -7,15 +7,13 @@ import os
 import shutil
 import signal
 import subprocess
-import time
 from typing import Any, Callable
 
 from subtitles.cli.channel.spool import MARK, claim
 from subtitles.common.command_line import Stop
 from subtitles.common.files import Inputs
 from .bench import Case, example, packets, tool_path
-from .channels import BEGIN, THREE, Running, family_of, three, until
-from .listings import BEGIN
+from .channels import BEGIN, THREE, Running, three, until
 from .muxed import in_frames
 
 
@@ -161,47 +159,6 @@ class Killed(Case):
             done = self.tool("qc", "--channel", "list", example("story.pes"), "-o", which, "-p",
                              stalls)
             self.must(which, done.status == 0 and b"story  accepted 226 frames" in done.out, done)
-
-    def test_of_the_process_itself(self) -> None:
-        """The one that judges a programme: it is judged once more."""
-        self.write("list", f"{example('story.stl')}\n".encode())
-        slow = self.program_but("check*", f"test -e {self.path('on')} || sleep 600")
-        call = Running(self, "--channel", "list", example("story.pes"), "-o", "out", "-p", slow)
-        self.must("it is judged", until(lambda: len([*family_of(call.process.pid)]) > 3))
-        time.sleep(0.1)
-        until(lambda: any("check" in self.words_of(pid) for pid in family_of(call.process.pid)))
-        children = [pid for pid in family_of(call.process.pid)
-                    if self.parent_of(pid) == call.process.pid and self.is_forked(pid)]
-        self.write("on", b"")
-        for pid in children[-1:]:
-            os.killpg(pid, signal.SIGKILL)
-        self.must("again", call.end() == 0 and call.says("story  accepted 226 frames") and
-                  call.says("it was not judged, and is tried again: it did not end by itself"),
-                  call.lines())
-
-    @staticmethod
-    def words_of(pid: int) -> str:
-        try:
-            with open(f"/proc/{pid}/cmdline", encoding="utf-8", errors="replace") as file:
-                return file.read()
-        except OSError:
-            return ""
-
-    @staticmethod
-    def parent_of(pid: int) -> int:
-        try:
-            with open(f"/proc/{pid}/stat", encoding="utf-8", errors="replace") as file:
-                return int(file.read().rpartition(") ")[2].split()[1])
-        except OSError:
-            return 0
-
-    @staticmethod
-    def is_forked(pid: int) -> bool:
-        """Whether a process judges: its standard input is nothing, and it has children."""
-        try:
-            return os.readlink(f"/proc/{pid}/fd/0") == "/dev/null" and len([*family_of(pid)]) > 1
-        except OSError:
-            return False
 
 
 STARTS, END = (3, 20, 37), 55  # seconds of a feed at which programmes begin, and at which it ends

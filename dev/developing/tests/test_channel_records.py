@@ -7,17 +7,19 @@ import os
 import shutil
 import signal
 import time
+from types import SimpleNamespace
 from typing import Any, Callable
 from unittest import mock
 
-from subtitles.cli.channel import machine, records
+from subtitles.cli import single
+from subtitles.cli.channel import machine, records, results
 from subtitles.cli.channel.channel import BEFORE_IT
 from subtitles.cli.channel.records import Due, Judged, Read, Records, Tries
-from subtitles.cli.channel.results import PASSING, called
+from subtitles.cli.channel.results import PASSING
 from subtitles.cli.channel.spool import Journal, claim, path_of
 from subtitles.common.files import Inputs
 from subtitles.common.times import CLOCK, TICKS
-from subtitles.results.files import found, unjudged
+from subtitles.results.files import found, put_object, unjudged
 from subtitles.results.schema import ASKED, FORMAT
 from .bench import SECONDS
 from .channels import FIRST, SECOND
@@ -106,21 +108,34 @@ class Again(Programmes):
                       (turn == 9) and count[0] == min(turn, 4), (known, count))
 
     def test_how_a_judging_ends(self) -> None:
-        """With its status, below 0 where a signal ended it after its last word; what takes too long
-        is ended."""
-        def killed() -> int:
-            os.kill(os.getpid(), signal.SIGKILL)
-            return 0
+        """With a result; else why there is none: a signal ends it, also behind its last word, the
+        machine fails, a segment is gone, or it takes too long."""
+        channel = Told(self, self.listed("one"), self.path("out"))
+        record = channel.records.new("one", self.files["one"], 5, 5)
 
-        def slow() -> int:
-            time.sleep(SECONDS)
-            return 0
+        def judged(asked: object, call: single.PairCall, called: str) -> SimpleNamespace:
+            put_object(os.path.join(call.here or "", "one.json"), result("accepted"))
+            does()
+            return SimpleNamespace(status=0, is_final=True)
 
-        for does, wanted in ((lambda: 0, 0), (lambda: 7, 7), (killed, -signal.SIGKILL)):
-            status, _ = called(does, SECONDS)
-            self.must(f"{wanted}", status == wanted, status)
-        with self.assertRaises(TimeoutError):
-            called(slow, 0.01)
+        def failing(error: BaseException) -> Callable[[], None]:
+            return mock.Mock(side_effect=error)
+
+        rows: list[tuple[Callable[[], object], int, float, bool, str]] = [
+            (lambda: None, 0, SECONDS, True, ""),
+            (lambda: os.kill(os.getpid(), signal.SIGKILL), 0, SECONDS, False,
+             "did not end by itself"),
+            (failing(OSError(28, "No space")), 0, SECONDS, False, "No space"),
+            (failing(MemoryError()), 0, SECONDS, False, "out of memory"),
+            (lambda: None, 1, SECONDS, False, "000000007.seg"),
+            (lambda: time.sleep(SECONDS), 0, 0.01, False, "not judged within 0 seconds")]
+        for does, size, seconds, is_known, why in rows:
+            due = Due([self.files["one"]], 0, None, True, [Read(7, size)] * size)
+            with mock.patch.object(single, "judged", judged), \
+                    mock.patch.object(results, "JUDGING_SECONDS", seconds):
+                found = results.Results.judged(channel.results, record, due)
+            self.must(why, (found.known is not None) == is_known and why in found.reason and
+                      found.is_late == (seconds < 1), found)
 
     def test_segments_that_go(self) -> None:
         """Then it is not judged, for the reason for which it was not; until then they stay."""

@@ -7,15 +7,13 @@ import shutil
 from typing import Any, Iterator, NamedTuple, Sequence
 
 from developing.pes import pts_bytes
-from developing.stl import boxed, gsi_block, subtitle_blocks
 from subtitles.common.times import CLOCK, FRAMES_A_SECOND, TICKS
 from .bench import Case, packets
-from .channels import FITTED, SECOND, verdicts
+from .channels import EACH, FITTED, SECOND, SHOWN, make_subtitles, verdicts
 from .muxed import TELETEXT_PID, Sent, stream_of
 
 BEGIN = CLOCK - 20 * SECOND  # of a feed: PTS begin again within it
 FIRST = 900_000  # the frame of the first subtitle, at 10:00:00:00
-EACH, LASTS = 75, 50  # frames from one subtitle to the next one, and of each
 BEFORE, AFTER = 5, 20  # seconds of a feed before its first TCI, and after its last TCO
 OTHER_PID = 0x102
 
@@ -25,13 +23,10 @@ class Feed:
     a PTS."""
 
     def __init__(self, case: Case, name: str = "one", count: int = 20, begin: int = BEGIN) -> None:
-        self.begin, frames = begin, EACH * (count - 1) + LASTS
+        self.begin, frames = begin, EACH * (count - 1) + SHOWN
         self.first = (begin + SECOND * BEFORE) % CLOCK
         self.end = begin + SECOND * (BEFORE + AFTER) + TICKS * frames
-        blocks = [subtitle_blocks(at, FIRST + EACH * at, FIRST + EACH * at + LASTS, 20, 2,
-                                  boxed(b"%s %d" % (name.encode(), at))) for at in range(count)]
-        stl = case.write(f"{name}.stl", gsi_block(name.encode(), count, count, FIRST)
-                         + b"".join(blocks))
+        stl = make_subtitles(case, name, FIRST, [f"{name} {at}" for at in range(count)])
         case.schedule(stl, f"{name}.pes", "--origin", str((self.first - TICKS * FIRST) % CLOCK),
                       "--every", "1")
         own = packets(case.read(f"{name}.pes"))

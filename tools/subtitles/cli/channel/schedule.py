@@ -340,7 +340,8 @@ class Queue:
             self.since = max(self.since, now, self.latest)
         planned.wait_since(self.since if self.waiting else None)
         for programme in self.waiting:
-            if programme not in before or programme.awaited is programme.why_not is None:
+            is_waited_for = programme.awaited is not None or programme.why_not is not None
+            if programme not in before or not is_waited_for:
                 programme.wait(self.ended, self.until)
         return is_new
 
