@@ -67,7 +67,7 @@ class Channel:
         self.came, self.headers = time.monotonic(), 0
         self.header: float | None = None  # when the last of `headers` came
         self.loss: str | None = None  # that nothing has come behind yet
-        self.next_write = 0.0
+        self.next_write, self.free_bytes = 0.0, 0
         self.open()
         self.begin()
 
@@ -122,7 +122,12 @@ class Channel:
         with contextlib.closing(Recorded(name, self.folder)) as recording:
             while True:
                 try:
-                    self.hear_on(recording, name)
+                    self.go_on()
+                    if not self.hearing.calls:
+                        self.hearing.turn_to([self.words.page])
+                    self.follow(recording)
+                    self.take_all(self.hearing.end())
+                    self.hearing.refuse(name)
                     self.machine.state = machine.ENDED
                     return BEFORE_IT
                 except Unanswered as reason:
@@ -141,15 +146,6 @@ class Channel:
                 self.fail(f"the feed can't be read any further: {why}")
                 self.machine.state = machine.UNREADABLE
                 return why
-
-    def hear_on(self, recording: Recorded, name: str) -> None:
-        """Hears what is there and what comes."""
-        self.go_on()
-        if not self.hearing.calls:
-            self.hearing.turn_to([self.words.page])
-        self.follow(recording)
-        self.take_all(self.hearing.end())
-        self.hearing.refuse(name)
 
     def follow(self, recording: Recorded) -> None:
         """Takes what is recorded, to its end."""
@@ -378,8 +374,6 @@ class Channel:
              "free_bytes": self.free_bytes,
              "waiting_seconds": max(self.now - queue.since, 0) // SECOND if waiting else 0},
             self.results.inputs)
-
-    free_bytes = 0  # of the disk of the feed
 
     def take_alarms(self, is_silent: bool) -> None:
         """Tells what is wrong now, and what is well again."""

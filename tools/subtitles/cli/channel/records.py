@@ -6,7 +6,7 @@ import dataclasses
 import json
 import os
 import shutil
-from typing import Any, Iterator, NamedTuple, Sequence
+from typing import Any, NamedTuple, Sequence
 
 from ...common.files import BEGIN
 from ...judging.status import NOT_JUDGED
@@ -209,15 +209,13 @@ class Records:
         return sorted((record for record in self.by_name.values() if record.due),
                       key=lambda record: record.tries.next)
 
-    def result(self, record: Outcome) -> Iterator[bytes]:
+    def result(self, record: Outcome) -> bytes:
         """The JSON result of a programme."""
         if record.unkept is not None:
-            yield record.unkept
-            return
+            return record.unkept
         with open(opened(path_of(self.folder, record.number, RECORD), os.O_RDONLY), "rb") as file:
             file.readline(MOST_OF_HEAD)
-            while data := file.read(1 << 20):
-                yield data
+            return file.read()
 
     # ---- what is recorded
 

@@ -7,7 +7,6 @@ import dataclasses
 import functools
 import os
 import shutil
-import signal
 import tempfile
 import time
 from typing import Any, Callable, Sequence
@@ -62,9 +61,7 @@ def called(does: Callable[[], int], longest: float) -> tuple[int, list[str]]:
             raise TimeoutError
         return call.end()
     except BaseException:
-        for kill in (os.killpg, os.kill):  # it may have no group of its own yet
-            with contextlib.suppress(ProcessLookupError):
-                kill(call.pid, signal.SIGKILL)
+        call.kill()
         call.end()
         raise
 
@@ -87,7 +84,7 @@ class Results:
         self.verdicts: list[str] = []
         self.last: dict[str, Any] | None = None  # verdict
         self.failed: dict[str, str] = {}  # what could not be written, and why
-        self.open: dict[str, dict[str, Any]] = {}  # results that don't stay
+        self.open = set[str]()  # programmes whose results don't stay
         self.old_overs: dict[str, int] = {}  # when programmes were over, by version 1.9
         self.take_over()
 
@@ -301,14 +298,15 @@ class Results:
                 move(os.path.join(folder, file), os.path.join(self.out, file), self.inputs)
         refuse_file(path, self.inputs)
         with result_file(path) as written:
-            written.writelines(self.records.result(record))
+            written.write(self.records.result(record))
         if not record.is_mended:
             self.hook(path, record.row.verdict)
         self.records.tell(record)
 
     def leave_open(self, name: str, reason: str) -> None:
         """A programme has no result that stays when this call ends: nobody is told."""
-        self.open[name] = known = unjudged(name, reason, True)
+        known = unjudged(name, reason, True)
+        self.open.add(name)
 
         def write() -> None:
             os.makedirs(self.out or "", exist_ok=True)

@@ -182,12 +182,6 @@ class Planned:
             (one.name, is_gone, *one.line) for is_gone, several in (
                 (True, self.gone), (False, self.programmes)) for one in several])
 
-    def wait_since(self, since: int | None) -> None:
-        """Keeps since when a line has no result."""
-        if since != self.since:
-            self.since = since
-            self.keep()
-
     def look_at_file(self) -> None:
         """Looks whether the subtitle file of a programme that has its result, one at each look, is
         another one by now: nobody would judge that."""
@@ -338,7 +332,10 @@ class Queue:
         before, self.waiting = self.waiting, planned.open()[:AT_ONCE]
         if self.waiting and planned.since is None:
             self.since = max(self.since, now, self.latest)
-        planned.wait_since(self.since if self.waiting else None)
+        since = self.since if self.waiting else None
+        if since != planned.since:
+            planned.since = since
+            planned.keep()
         for programme in self.waiting:
             is_waited_for = programme.awaited is not None or programme.why_not is not None
             if programme not in before or not is_waited_for:
