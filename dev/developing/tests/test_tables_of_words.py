@@ -19,13 +19,13 @@ from unittest import mock
 from subtitles.common import command_line
 from subtitles.common.command_line import Stop
 from subtitles.common.files import (
-    Input, Inputs, MOST_BYTES, bounded_bytes, first_bytes, is_replaced, naming, plain_name,
-    result_file, temporary_folder, whole_file)
+    Input, Inputs, bounded_bytes, first_bytes, is_replaced, naming, plain_name, result_file,
+    temporary_folder, whole_file)
 from subtitles.common.markup import joined, markup
 from subtitles.formats import listing
-from subtitles.request.lines import MOST_OF_LINE, lines_in, list_at, split
+from subtitles.request.lines import MOST_BYTES, MOST_OF_LINE, lines_in, list_at, split
 from .bench import Case
-from .test_hints import TOOLS, modules
+from .test_dev_layers import TOOLS, modules
 from .test_tables_of_files import refused
 
 
@@ -299,6 +299,7 @@ class Words(Case):
         self.must("it has another name", not refused(
             lambda: Inputs(other).refuse(self.path("moved"), True)))
         gone = Inputs(other)
+        self.must("there", refused(lambda: gone.refuse(other, True)))
         os.rename(other, self.path("kept"))
         self.must("gone", not refused(lambda: gone.refuse(self.path("kept"), True)))
 
