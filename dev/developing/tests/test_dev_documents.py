@@ -240,7 +240,8 @@ PACKAGES = [*(os.path.join("tools", "subtitles", name)
               for name in ("common", "formats", "request", "stream", "clock", "recording",
                            "judging", "results", "report", "cli", os.path.join("cli", "channel"))),
             os.path.join("dev", "developing"), os.path.join("dev", "developing", "every_place")]
-ROW = re.compile(r"^\| (`.*?) \|", re.M)  # a row of a README: the names in its first cell
+# A row of a README, or an item of its lists: the names in its first cell, or before its words.
+ROW = re.compile(r"^[|-] (`.*?`)(?: \||:? )", re.M)
 LINE = re.compile(r"^([a-z_]+) +\S", re.M)  # a line of the list of a package, in its __init__.py
 
 
