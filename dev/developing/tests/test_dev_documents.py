@@ -287,12 +287,13 @@ class Lists(Case):
         self.must("names of classes", len(places) > 100 and not several, several)
 
     def test_are_those_of_the_clauses(self) -> None:
-        """Each clause that the index names is one of the sources."""
+        """Each clause that the index names is one of the sources. A row names where to begin: all
+        that a crate promises is listed by dev/graph --clauses."""
         text = read(os.path.join(TOP, "docs", "CLAUSES.md")) or ""
         unknown = unknown_clauses(text, Library(TOP))
         self.must("docs/CLAUSES.md", not unknown, unknown)
         self.must("rows", "sub_check/check_files.accepted" in clauses_in(text)
-                  and len(clauses_in(text)) > 100, len(clauses_in(text)))
+                  and len(clauses_in(text)) > 80, len(clauses_in(text)))
 
     def test_are_those_of_the_sizes(self) -> None:
         """The sizes that ASSURANCE tells are right to a tenth: dev/sizes counts them."""
