@@ -181,13 +181,17 @@ def of_qc(text: str) -> dict[str, str]:
             "status": "".join(filled(one) + "\n" for one in status)}
 
 
-def of_chapter() -> dict[str, str]:
-    """The parts of qc's chapter, by the table of options of a pair."""
-    rows = ["| Option | Is | Without it |", "|---|---|---|"]
-    for one in request.OPTIONS:
-        form = one.form.replace("|", "\\|")
-        rows.append(f"| `{form}` | {one.means} | {one.without} |")
-    return {"options": "\n".join(rows) + "\n\n" + not_with(request.OPTIONS, request.JUDGED)}
+def of_chapter(table: str = "") -> dict[str, str]:
+    """The parts of qc's chapter, by the table of options of a pair; without those that take another
+    one back, and those that `check` has, which stand in its own table."""
+    of_check = {one.name for one in options(table) if "check" in one.commands}
+    known = [one for one in request.OPTIONS if not one.name.startswith("--no-")]
+    rows = ["| Option | Is |", "|---|---|"]
+    for one in known:
+        if one.name not in of_check:
+            form = one.form.replace("|", "\\|")
+            rows.append(f"| `{form}` | {one.means} |")
+    return {"options": "\n".join(rows) + "\n\n" + not_with(known, request.JUDGED)}
 
 
 def not_with(known: Sequence[request.Option], modes: Sequence[request.Mode]) -> str:
@@ -267,7 +271,7 @@ def made() -> dict[str, str]:
     usage, table = text("subttx").partition("usage: ")[2].partition("\nEND\n")[0], text(TABLE)
     helps = [help_of(tool) for tool in TOOLS]
     parts = {PROGRAM_PAGE: of_program(usage, table), QC_PAGE: of_qc(helps[TOOLS.index("qc")]),
-             QC_CHAPTER: of_chapter(), COMPLETION: completed(usage, table, helps)}
+             QC_CHAPTER: of_chapter(table), COMPLETION: completed(usage, table, helps)}
     numbers = text(NUMBERS)
     for row, counted in rows_of_numbers(TOP):
         numbers = numbers.replace(row, counted)

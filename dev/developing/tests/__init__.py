@@ -6,5 +6,6 @@ judged     pairs judged in process, and what is sent
 muxed      transport streams with video
 parts      values: parts with answers, carriers, sendings
 runner     finds them and runs them side by side
+table      which of them are of which module of the tools
 scenario   pairs at random, by numbers
 """

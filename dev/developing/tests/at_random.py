@@ -4,9 +4,10 @@ files.
 `dev/vectors/calls.tsv` has what was said of each when somebody last looked at it: the words, the
 last line, and sums of all lines, of the JSON result, which has to be as the schema has it, and of
 the other files. A change that is meant changes them; from dev/,
-`python3 -m developing.tests.at_random ../subttx 0 240` prints the table, and `.. NUMBER` all that a
-call says, to compare. A line `# NUMBER: ..` before a row says why it says something else than it
-once did; it stays where it is.
+`python3 -m developing.tests.at_random ../dist/subttx 0 240` prints the table, `.. NUMBER` all that
+a call says, to compare, and without a number it prints the rows of calls that have a name: of a
+folder, a list, a profile, a PID that is refused, on pairs of the examples. A line `# NUMBER: ..`
+before a row says why it says something else than it once did; it stays where it is.
 """
 from __future__ import annotations
 
@@ -19,6 +20,7 @@ import io
 import json
 import os
 import re
+import shutil
 import subprocess
 import sys
 import tempfile
@@ -26,10 +28,12 @@ from typing import Any, Iterator, NamedTuple, Sequence
 from unittest import mock
 
 from subtitles.cli.main import main
+from subtitles.cli.single import claimed
 from subtitles.common.command_line import run
 from subtitles.common.program import TOP
 from subtitles.judging import faults, subtitles
 from subtitles.report import report
+from .bench import example
 from .parts import MEANINGS
 from .results import wrong_by_schema, wrong_choices
 from .scenario import Scenario
@@ -123,6 +127,44 @@ def of_several(results: Sequence[str], program: str) -> Said:
                        "one.json"], program, [])
 
 
+# Calls with a name, on pairs that stand in the folder `in`; `claimed` while another one writes the
+# files of a pair.
+PAIRS = [("a", "hello", "hello.pes"), ("b", "story", "five-faults.pes"),
+         ("c", "accent", "hello.pes"), ("d", "hello", "recording.ts")]
+TEXTS = {"house": "--every 25\n--within 1 # frame\n", "wrong": "--every 25\n--every 50\n",
+         "list": "in/a.stl in/a.pes --every 51\nin/b.stl in/b.pes --profile house --allow-lost\n"
+                 "in/none.stl in/a.pes\n\nin/a.stl\nin/a.stl in/a.pes --no-option\n"}
+OF_ALL = "-o out --csv one.csv --junit one.xml --json one.json --jobs 1"
+NAMED = {
+    "a folder": f"--batch in {OF_ALL}", "a list": f"--batch list {OF_ALL}",
+    "a line": "--batch list --line 2 -o out --json one.json --jobs 1",
+    "a line that is none": "--batch list --line 5 -o out --jobs 1",
+    "resumed without results": "--batch list --resume",
+    "claimed": f"--batch in {OF_ALL}",
+    "a profile": "in/b.stl in/b.pes --profile house --json one.json -o out",
+    "a wrong profile": "in/b.stl in/b.pes --profile wrong",
+    "measured": "--measure in/a.stl in/a.pes --origin 0",
+    "measured, two": "--measure in/a.stl in/a.pes in/b.stl in/b.pes",
+    "another PID": "in/d.stl in/d.ts --pid 0x100 --json one.json",
+    "a PID with nothing": "in/d.stl in/d.ts --pid 0x1234 --json one.json"}
+
+
+def said_of_name(name: str, program: str) -> Said:
+    """All that a call with a name says."""
+    with in_folder(), contextlib.ExitStack() as stack:
+        os.mkdir("in")
+        for pair, stl, recording in PAIRS:
+            ending = recording.rpartition(".")[2]
+            shutil.copyfile(example(f"{stl}.stl"), f"in/{pair}.stl")
+            shutil.copyfile(example(recording), f"in/{pair}.{ending}")
+        for file, text in TEXTS.items():
+            with open(file, "w", encoding="ascii") as one:
+                one.write(text)
+        if name == "claimed":
+            stack.enter_context(claimed("out", "b"))
+        return called(NAMED[name].split(), program)
+
+
 @contextlib.contextmanager
 def in_folder() -> Iterator[None]:
     """While this holds, the process is in a folder of its own."""
@@ -212,8 +254,11 @@ def rows_of(first: int, end: int, program: str) -> Iterator[str]:
 
 if __name__ == "__main__":
     PROGRAM, *NUMBERS = sys.argv[1:]
-    PROGRAM, NOTES = os.path.abspath(PROGRAM), table().notes
-    if len(NUMBERS) == 1:
+    PROGRAM, NOTES = os.path.realpath(PROGRAM), table().notes
+    if not NUMBERS:
+        for NAME in NAMED:
+            print(row_of(NAME, said_of_name(NAME, PROGRAM)), flush=True)
+    elif len(NUMBERS) == 1:
         SAID = said_of(int(NUMBERS[0]), PROGRAM)
         print("\n".join([*SAID.words, *SAID.lines, *SAID.files.values()]))
     else:

@@ -1,10 +1,7 @@
 """Finds the tests of this folder and runs them side by side."""
 from __future__ import annotations
 
-import ast
-import functools
 import gc
-import glob
 import itertools
 import json
 import os
@@ -15,15 +12,16 @@ from types import TracebackType
 from typing import Iterator, Sequence, Tuple, Type, Union
 
 from subtitles.common.command_line import Stop
-from .. import DEV, TOOLS
+from .. import DEV
 from .bench import BENCH
+from .table import tests_of
 
 FOLDER = os.path.dirname(os.path.realpath(__file__))
 PATTERN = "test_*.py"
 # What takes long is begun first, so that none of it is left alone in the end.
-LONG = ("test_hints", "test_channel_moments", "test_channel_streams", "test_channel_feeds",
-        "test_channel_folders", "test_channel_lists", "test_at_random", "test_installed",
-        "test_clones", "test_proving", "test_gate", "test_evidence", "test_hostile")
+LONG = ("test_dev_layers.Hints", "test_channel_moments", "test_channel_streams",
+        "test_channel_feeds", "test_channel_folders", "test_channel_lists", "test_at_random",
+        "test_installed", "test_dev_clones", "test_dev_gate.Gate", "test_evidence", "test_hostile")
 Error = Union[Tuple[Type[BaseException], BaseException, TracebackType], Tuple[None, None, None]]
 Several = Sequence[unittest.TestCase]
 
@@ -83,79 +81,16 @@ def flattened(tests: unittest.TestSuite) -> Iterator[unittest.TestCase]:
 
 
 def found(names: Sequence[str]) -> list[unittest.TestCase]:
-    """All tests, or those that are of one of some words: in whose names it is, or which call the
-    module of the tools that it names; each word has to be of one."""
+    """All tests, or those that are of one of some words: in whose names it is, or which are of the
+    module of the tools, or the script, that it names; each word has to be of one."""
     everything = list(flattened(unittest.TestLoader().discover(FOLDER, PATTERN, DEV)))
-    of_names = [[*(one for one in everything if name in one.id()),
-                 *of_module(module_of(name), everything)] for name in names]
+    of_names = [[one for one in everything if name in one.id() or name_of(one).startswith(
+        tuple(f"{each}." for each in tests_of(name)))] for name in names]
     for name, several in zip(names, of_names):
         if not several:
-            raise Stop(f"no test is named {name}, and none calls a module of that name")
+            raise Stop(f"no test is named {name}, and none is of a module or script of that name")
     wanted = {one for several in of_names for one in several}
     return [one for one in everything if not names or one in wanted]
-
-
-def of_module(module: str, tests: Several) -> list[unittest.TestCase]:
-    """The tests that are named after a module of the tools, or call it; where none does, those that
-    call a module that calls it, by what tests share too."""
-    named = f"developing.tests.test_{module.rpartition('.')[2]}"
-    asked, known = {module} & {*callers()}, set[str]()
-    while asked:
-        kinds = {its for its in {type(one).__module__ for one in tests}
-                 if its == named or asked & (shared_by(its) if known else called_by(its))}
-        if kinds:
-            return [one for one in tests if type(one).__module__ in kinds]
-        known |= asked
-        asked = {other for one in asked for other in callers()[one]} - known
-    return []
-
-
-@functools.lru_cache(None)
-def callers() -> dict[str, set[str]]:
-    """The modules of the tools, each with those that take something of it."""
-    paths = {path[len(TOOLS) + 1:-3].replace(os.sep, "."): path for path in
-             glob.glob(os.path.join(TOOLS, "subtitles", "**", "*.py"), recursive=True)}
-    found: dict[str, set[str]] = {name: set() for name in paths}
-    for name, path in paths.items():
-        for other in taken_in(path, name) & found.keys():
-            found[other].add(name)
-    return found
-
-
-def taken_in(path: str, module: str) -> set[str]:
-    """The modules, or what they have, of which a file takes something."""
-    with open(path, encoding="utf-8") as file:
-        tree = ast.parse(file.read())
-    taken = set[str]()
-    for one in ast.walk(tree):
-        if isinstance(one, ast.ImportFrom):
-            own = module.split(".")[:-one.level] if one.level else []
-            base = ".".join([*own, *([one.module] if one.module else [])])
-            taken |= {base, *(f"{base}.{alias.name}" for alias in one.names)}
-    return taken
-
-
-def module_of(name: str) -> str:
-    """The module of the tools that a path or a dotted name is of, as `stream/gaps.py` or
-    `stream.gaps`."""
-    dotted = name.removesuffix(".py").replace("/", ".").removeprefix("tools.")
-    return "subtitles." + dotted.removeprefix("subtitles.")
-
-
-@functools.lru_cache(None)
-def called_by(module: str) -> frozenset[str]:
-    """The modules of the tools of which the module of a test takes something by itself."""
-    path = getattr(sys.modules.get(module), "__file__", None)
-    return frozenset(taken_in(path, module) & callers().keys() if path else ())
-
-
-@functools.lru_cache(None)
-def shared_by(module: str) -> frozenset[str]:
-    """The same, and those of which what it shares with other tests takes something."""
-    path = getattr(sys.modules.get(module), "__file__", None)
-    shared = [one for one in (taken_in(path, module) if path else ())
-              if one.startswith("developing.tests.") and ".test_" not in one]
-    return called_by(module).union(*map(called_by, shared))
 
 
 def has_fixture(kind: Type[unittest.TestCase]) -> bool:

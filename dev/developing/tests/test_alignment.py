@@ -1,7 +1,7 @@
 """The edges of what is due; and pages that come again soon after they were erased: no change."""
 from __future__ import annotations
 
-from subtitles.clock.alignment import Shown, back_at, edges_of
+from subtitles.clock.alignment import Base, Shown, back_at, edges_of
 from subtitles.common.times import CLOCK, TICKS
 from subtitles.stream.packets import Change
 from .bench import Case
@@ -21,6 +21,24 @@ class Edges(Case):
                 ("on another row", Shown(20, 30, (22, 2, b"one"), b"one"), [10, 20, 30]),
                 ("other letters", Shown(20, 30, (20, 2, b"two"), b"two"), [10, 20, 30])):
             self.must(name, [edge.frame for edge in edges_of([one, other])] == frames)
+
+
+class Apart(Case):
+    """All beginnings, or all ends, so many frames late."""
+
+    def test_bounds(self) -> None:
+        """Nine in ten of them tell it, and fewer do not."""
+        several = [Shown(100 * at, 100 * at + 50, at, b"%d" % at) for at in range(10)]
+        edges = edges_of(several)
+        for is_begin in (True, False):
+            for others, is_told in ((0, True), (1, True), (2, False)):
+                late = [one for one in edges if one.is_begin == is_begin][others:]
+                changes = [Change(TICKS * (edge.frame + 7 * (edge in late)), edge.letters, at,
+                                  ((20, edge.letters),)) for at, edge in enumerate(edges)]
+                base = Base(edges, changes, 0, 1000 * TICKS, (0, 19), 0)
+                found = base.apart(base.fit_at(0))
+                self.must(f"{is_begin} {others}", (found and found[:3]) == (
+                    (is_begin, 7, 10 - others) if is_told else None), found)
 
 
 class Again(Case):

@@ -3,7 +3,7 @@ from __future__ import annotations
 
 from typing import Callable
 
-from .at_random import EACH, rows_of, table
+from .at_random import EACH, NAMED, row_of, rows_of, said_of_name, table
 from .bench import Case
 
 TABLE = table()
@@ -18,6 +18,14 @@ class Calls(Case):
         for name, lines in TABLE.notes.items():
             self.must(name, name in names and all(
                 line.startswith(f"# {name}: ") and line.endswith(".") for line in lines), lines)
+
+
+    def test_with_names(self) -> None:
+        """Of a folder, a list, a profile, what is measured, a PID that is refused."""
+        known = {row.partition("\t")[0]: row for row in TABLE.rows}
+        for name in NAMED:
+            one = row_of(name, said_of_name(name, self.bench.program))
+            self.must(name, known.get(name) == one, one)
 
 
 def rows_from(first: int) -> Callable[[Calls], None]:

@@ -43,6 +43,10 @@ class Claims(Case):
                     self.must("its file", os.listdir(folder) == [".one.lock"]
                               and len(locked) == count, locked)
         self.must("nothing is left", os.listdir(folder) == [])
+        with claimed(folder, "one"):  # meanwhile somebody has changed the folder
+            os.unlink(f"{folder}/.one.lock")
+            self.write("claimed/here/.one.lock", b"another one's")
+        self.must("another one's file stays", os.listdir(folder) == [".one.lock"])
         with self.assertRaises(OSError) as told, claimed_for_batch(self.write("file", b"")):
             self.must("never", False)
         self.must("its name", told.exception.filename == self.path("file"))

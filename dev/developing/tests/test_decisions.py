@@ -11,6 +11,7 @@ from typing import Callable
 from developing.pes import pes_packet
 from developing.stl import gsi_block, tti_block
 from subtitles.cli.batch import Sighting, Watch
+from subtitles.cli.channel.spool import spool_of
 from subtitles.clock.origin import Origin
 from subtitles.clock.start import Clock, Found, RECORDING, START
 from subtitles.common.command_line import Words
@@ -112,6 +113,15 @@ class Folders(Case):
                     os.symlink("nowhere", path)
             [item] = of_folder(folder, defaults())
             self.must(f"{first} {second}", (item.asked is not None) == is_pair, item)
+
+    def test_folder_of_a_feed(self) -> None:
+        """It is beside that of -o, however this is typed."""
+        here = os.getcwd()
+        for out, wanted in (("out", "out.feed"), ("out/", "out.feed"), ("a/out/.", "a/out.feed"),
+                            *((dots, f"{here}.feed") for dots in (".", "./", "out/..")),
+                            ("..", f"{os.path.dirname(here)}.feed")):
+            words = argparse.Namespace(stl="feed.ts", out=out, spool=None)
+            self.must(out, spool_of(words) == wanted, spool_of(words))
 
     def test_watched(self) -> None:
         """A pair is judged when it has not changed for a while, and again when it has changed."""

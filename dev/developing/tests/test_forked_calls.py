@@ -20,7 +20,7 @@ from subtitles.common.program import about_program
 from subtitles.request.commands import CommandWords
 from subtitles.request.lines import Item
 from subtitles.request.request import Request, request_of
-from subtitles.results.files import Row, found, object_at, unjudged
+from subtitles.results.files import Row, found, object_at, put_object, unjudged
 from subtitles.results.schema import ASKED
 from .bench import SECONDS, Case
 from .channels import until
@@ -172,7 +172,12 @@ class Judged(Case):
 
     def test_one_that_dies(self) -> None:
         """It costs its own pair alone, however it ends; what it told last is its reason."""
+        def written() -> None:
+            put_object(self.path("out/dies.json"), result("accepted"))
+            os.kill(os.getpid(), signal.SIGKILL)
+
         kinds: list[tuple[str, Callable[[], object], str]] = [
+            ("killed behind its result", written, "it did not end by itself"),
             ("killed", lambda: os.kill(os.getpid(), signal.SIGKILL), "it did not end by itself"),
             ("an error", lambda: 1 // 0, "it did not end by itself"),
             ("no memory", lambda: os.abort(), "it did not end by itself"),

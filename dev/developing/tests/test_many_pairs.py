@@ -16,7 +16,7 @@ from subtitles.cli import batch
 from subtitles.cli.batch import Calls, all_rows, kept_rows
 from subtitles.common import files
 from subtitles.common.command_line import Stop
-from subtitles.request.lines import Item, at_line, no_file, pairs_at
+from subtitles.request.lines import Item, at_line, inputs_of, no_file, pairs_at
 from subtitles.results.files import Row, row_of_object
 from .bench import Case
 from .parts import qc
@@ -80,7 +80,7 @@ class Lists(Case):
                       {*item.files} and ("two.stl" in item.files) == (item.name == "line 2"),
                       item.files)
             with self.assertRaises(files.IsInput):
-                batch.inputs_of([item]).refuse(self.path("one.ts"), True)
+                inputs_of([item]).refuse(self.path("one.ts"), True)
 
     def test_one_line(self) -> None:
         """The pair of a line is as that of all: it has the name that those before it leave it. What

@@ -6,8 +6,9 @@ from developing.stl import gsi_block, subtitle_blocks
 from subtitles.cli.main import parser_of
 from subtitles.cli.measure import measure
 from subtitles.common.times import TICKS, time_of
-from subtitles.judging.measurement import never_words
+from subtitles.judging.measurement import never_words, pace_found
 from subtitles.request.lines import profile_at, read_options
+from subtitles.stream.gaps import PAUSED, Pace, REGULAR
 from .bench import Case, packets
 from .judged import Sent, joined, judged
 from .test_keeping import KEEPING_HEADER
@@ -48,6 +49,15 @@ class Measured(Case):
     def proposed(self, *words: str) -> list[str]:
         """The options that are proposed."""
         return [line for line in self.profile(*words) if not line.startswith("#")]
+
+    def test_pace(self) -> None:
+        """The longest of all recordings; none where one is not regular."""
+        paces = [Pace(REGULAR, 1, 3), Pace(REGULAR, 2, 5), Pace(REGULAR, 1, 4)]
+        rows: list[tuple[list[Pace], str]] = [
+            (paces, "--pace 4"), (paces[:1], "--pace 2"), ([], ""),
+            ([*paces, Pace(PAUSED, 9, 9)], "")]
+        for some, words in rows:
+            self.must(f"{some}", pace_found(some).words == words, pace_found(some))
 
     def test_round_trip(self) -> None:
         """What is measured of a house accepts what the house sends: layout, repeats that keep, late

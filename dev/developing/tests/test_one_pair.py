@@ -10,8 +10,10 @@ from typing import Any, Sequence
 
 from subtitles.cli import collection
 from subtitles.cli.single import (
-    Files, Output, PairCall, clear, end_pair, now, pair_title, refuse_outputs, say_verdict)
+    Files, KEPT_SECONDS, Output, PairCall, clear, end_pair, now, pair_title, refuse_outputs,
+    say_verdict)
 from subtitles.clock.start import Clock, FITTED, Found, GIVEN, RECORDING
+from subtitles.common.markup import HEAD
 from subtitles.judging.check import Answer
 from subtitles.judging.part import Explanation, Part
 from subtitles.judging.status import Severity
@@ -192,15 +194,16 @@ class Writes(Case):
     def test_what_is_no_result(self) -> None:
         """It is refused, whatever it is; a link is taken away, and not what it leads to."""
         asked, out = self.verdict().asked, self.path("out")
-        page = b'<!DOCTYPE html>\n<html lang="en"><head><meta charset="UTF-8"><title>'
+        page, like = HEAD.page(), b'<!DOCTYPE html>\n<html lang="en"><head><meta charset="UTF-8">'
         rows: list[tuple[str, bytes, bool]] = [
             ("one.json", b'{\n "format": 3,\n "verdict": "accepted",', True),
             ("one.json", b'{"format": 2, "verdict": "refused"', True), ("one.json", b"{}", False),
-            ("one.txt", b"5 faults\n", True), ("one.txt", b"refused by me", False),
+            ("one.txt", b"5 faults\n", False), ("one.txt", b"refused by me", False),
             ("one.txt", b"refused 68 Parity frame 00:00:01:00 packet 9\n1 faults\n", True),
             ("one.1.txt", b"a note", False), ("one.12.html", b"<p>a page</p>", False),
-            ("one.html", page + b"accepted 5 frames &#8211; a", True), ("one.json", b"", True),
-            ("one.html", page + b"Notes", False), (".one.lock", b"", True),
+            ("one.html", page + b"<title>accepted 5 frames &#8211; a", True),
+            ("one.html", like + b"<title>not judged: &#8211; mine", False), ("one.json", b"", True),
+            ("one.html", page[:-1], False), (".one.lock", b"", True),
             (".one.lock", b"1", False), ("one.recording.ts", b"", False)]
         for name, data, is_own in rows:
             path = self.write(f"out/{name}", data)
@@ -215,9 +218,14 @@ class Writes(Case):
                 make(path)
                 self.must(f"{name}: {make}", "no result" in self.refused(asked, out=out))
                 os.rmdir(path) if make is os.mkdir else os.unlink(path)
-        self.write("out/one.json", rows[0][1])
-        self.write("out/one.recording.ts", b"any")
-        self.must("beside a result", not self.refused(asked, out=out))
+        result = self.write("out/one.json", rows[0][1])
+        kept = self.write("out/one.recording.ts", b"")
+        at = 1_700_000_000 * 10**9
+        os.utime(result, ns=(at, at))
+        for before, is_own in ((0, True), (1, True), (KEPT_SECONDS * 10**9 - 1, True),
+                               (KEPT_SECONDS * 10**9, False), (-1, False)):
+            os.utime(kept, ns=(at - before, at - before))
+            self.must(f"{before} ns before a result", bool(self.refused(asked, out=out)) != is_own)
 
     def test_sums(self) -> None:
         """They are needed for a folder, an object and lines of CSV, not for a CI."""

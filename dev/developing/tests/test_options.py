@@ -107,8 +107,8 @@ class Added(Case):
                 ("man page",
                  ".TP\n\\fB\\-\\-new\\-one\\fP \\fIK\\fP\nA new one; without it: none.\n"),
                 ("man page", ".TP\n\\fB\\-\\-newer\\fP\nIt is newer.\n"),
-                ("chapter", "| `--new-one K` | a [new](x.md) `one` | `none` |\n"),
-                ("chapter", "| `--newer` | it is newer |  |\n"),
+                ("chapter", "| `--new-one K` | a [new](x.md) `one` |\n"),
+                ("chapter", "| `--newer` | it is newer |\n"),
                 ("completion", " --new-one ")):
             self.must(name, line in made[name], made[name])
         self.must("a flag has no value", "--newer" not in made["completion"])

@@ -126,8 +126,8 @@ class Testcases(unittest.TestCase):
             self.assertEqual(suites[0][0].attrib, {"classname": "subttx", "name": "a\\x1bb",
                                                    "time": "1.250"})
             told = [(one.tag, one.text, one.attrib) for one in suites[0][0]]
-            words = {"message": "a\ufffd\nline", "type": verdict} if status else {}
-            self.assertEqual(told, [(tag, "a\ufffd\nline\none\ntwo", words)] * (tag is not None))
+            words = {"message": "a\\ufffe\nline", "type": verdict} if status else {}
+            self.assertEqual(told, [(tag, "a\\ufffe\nline\none\ntwo", words)] * (tag is not None))
 
 
 class Statuses(Case):

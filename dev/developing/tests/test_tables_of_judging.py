@@ -15,13 +15,15 @@ from subtitles.clock.origin import OfPart, Origin
 from subtitles.clock.start import Clock, Found, GIVEN, RECORDING, most_off, off_words, start_frame
 from subtitles.common.times import CLOCK, TICKS
 from subtitles.formats.stl import SubtitleFile
-from subtitles.judging.timing import found_in
+from subtitles.judging import timing
+from subtitles.judging.timing import PartSearch, found_in, run_of
 from subtitles.recording.notices import (
     Notice, count_notices, length_words, of_character_sets, of_jumps, of_pauses, of_repeat,
     of_tables, there_are)
 from subtitles.request.request import Selection, Unclear
 from subtitles.stream.gaps import ClockJump
 from subtitles.stream.packets import Packets
+from subtitles.stream.ranges import Cut
 from subtitles.stream.survey import Announced
 from .bench import Case
 from .parts import CLOSING, HEADER, PAGE, asked_for, packets_told
@@ -41,6 +43,19 @@ class Clocks(unittest.TestCase):
         told = Selection("origin", "5", "origin: 3 of 4", 3, 4)
         self.assertEqual(found_in(Origin(0, [OfPart(5, (1, 2), None, 3, 4, "3 of 4")]), whole),
                          [Found(3, 9, Clock(5, RECORDING, evidence=told), (1, 2))])
+
+
+    def test_run(self) -> None:
+        """The one in which all is that comes at the origin that was given, else the first."""
+        recording: Any = SimpleNamespace()
+        whole = Found(3, 9, Clock(7, GIVEN))
+        programme = PartSearch(asked_for("a.stl", "a.pes"), whole, None)
+        runs = [(0, 9), (20, 29), (40, 49)]
+        for own, wanted in ((None, 0), ((0, 9), 0), ((21, 25), 1), ((20, 29), 1), ((40, 41), 2),
+                            ((20, 30), 0), ((19, 25), 0), ((60, 70), 0)):
+            with mock.patch.object(timing, "cut_within", return_value=Cut(own, 50)):
+                self.assertEqual(run_of(programme, recording, whole.clock, runs), runs[wanted])
+        self.assertEqual(run_of(programme, recording, None, runs), runs[0])
 
 
 class Warnings(Case):

@@ -19,13 +19,13 @@ from unittest import mock
 from subtitles.common import command_line
 from subtitles.common.command_line import Stop
 from subtitles.common.files import (
-    Input, Inputs, MOST_BYTES, bounded_bytes, first_bytes, is_replaced, naming, plain_name,
-    result_file, temporary_folder, whole_file)
+    Input, Inputs, bounded_bytes, first_bytes, is_replaced, naming, plain_name, result_file,
+    temporary_folder, whole_file)
 from subtitles.common.markup import joined, markup
 from subtitles.formats import listing
-from subtitles.request.lines import MOST_OF_LINE, lines_in, list_at, split
+from subtitles.request.lines import MOST_BYTES, MOST_OF_LINE, lines_in, list_at, split
 from .bench import Case
-from .test_hints import TOOLS, modules
+from .test_dev_layers import TOOLS, modules
 from .test_tables_of_files import refused
 
 
@@ -191,10 +191,15 @@ class Words(Case):
         self.assertIn("more than 16,000,000 bytes", refused(lambda: list_at(path)))
 
     def test_markup(self) -> None:
-        """Text is escaped, also in a place within a tag, and what XML can't hold is a number;
-        markup is as it is, and no text."""
+        """Text is escaped, also in a place within a tag, and what XML can't hold, or what hides or
+        turns round what is read, is a number; markup is as it is, and no text."""
         for text, wanted in (("a<b>&\"'", "a&lt;b&gt;&amp;&quot;&#x27;"), ("\x07", "\\x07"),
-                             ("\udc80", "\\x80"), ("\ufffe", "\\ufffe"), ("{}", "{}")):
+                             ("\udc80", "\\x80"), ("\ufffe", "\\ufffe"), ("{}", "{}"),
+                             ("a\nb", "a\nb"), *((chr(code), f"\\u{code:04x}") for code in (
+                                 0x61C, 0x200E, 0x200F, *range(0x2028, 0x202F),
+                                 *range(0x2066, 0x206A))),
+                             *((chr(code), f"\\u{code:04x}") for code in range(0x80, 0xA0)),
+                             ("\r", "\\x0d"), ("\t", "\\x09"), ("\x7f", "\\x7f")):
             self.assertEqual(markup('<a b="{}">{}</a>', text, text).source,
                              f'<a b="{wanted}">{wanted}</a>')
         bold = markup("<b>{}</b>", 5)
@@ -299,6 +304,7 @@ class Words(Case):
         self.must("it has another name", not refused(
             lambda: Inputs(other).refuse(self.path("moved"), True)))
         gone = Inputs(other)
+        self.must("there", refused(lambda: gone.refuse(other, True)))
         os.rename(other, self.path("kept"))
         self.must("gone", not refused(lambda: gone.refuse(self.path("kept"), True)))
 

@@ -199,8 +199,8 @@ TO_WRITE = 10  # seconds in which it may write then what is known
 
 def limit_of(files: Mapping[str, Any]) -> int:
     """The seconds that a pair may take, by what was found of its files."""
-    return LEAST_SECONDS + sum(about["size"] for about in files.values() if about) \
-        // BYTES_A_SECOND
+    size: int = sum(about["size"] for about in files.values() if about)
+    return LEAST_SECONDS + size // BYTES_A_SECOND
 
 
 class Begun(NamedTuple):

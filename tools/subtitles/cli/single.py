@@ -16,8 +16,9 @@ from ..common.command_line import Stop, Unanswered, counted, error_line, escaped
 from ..common.files import (
     Inputs, OWN_OUTPUT, first_bytes, is_replaced, kind_of, naming, refuse_name, result_file,
     temporary_folder, whole_file)
+from ..common.markup import HEAD
 from ..common.program import about_program
-from ..formats.listing import is_line
+from ..formats.listing import count_of, is_line
 from ..judging.causes import count_line
 from ..judging.faults import faults_of, hints_of
 from ..judging.pair import Pair
@@ -37,10 +38,8 @@ from ..stream.gaps import first_lines
 # stands under their names is left as it is.
 
 RESULT = re.compile(rb'\{\s*"format": [0-9]+,\s*"(verdict": "|status": )')
-PAGE = re.compile(rb'<!DOCTYPE html>\n<html (xmlns="http://www.w3.org/1999/xhtml" )?lang="en">'
-                  rb'<head><meta charset="UTF-8"/?>.*?<title>([0-9]+ pairs?: |.+? &#8211; |not )',
-                  re.DOTALL)
 ENOUGH = 4096  # bytes by which a file tells what it is
+KEPT_SECONDS = 600  # within which a result is written after the recording that is kept beside it
 
 
 class InUse(Stop):
@@ -72,18 +71,26 @@ def refuse_file(path: str, inputs: Inputs) -> None:
 
 
 def is_own(path: str) -> bool:
-    """Whether these tools have written a file, by its first bytes. Those of a recording tell
-    nothing: it is kept beside a result."""
+    """Whether these tools have written a file, by its first bytes: a page by all that stands before
+    its title, a list by the line of a fault or of a verdict. Those of a recording tell nothing."""
     begin, ending = os.path.splitext(path)
     if ending in (".pes", ".ts"):
-        beside = f"{os.path.splitext(begin)[0]}.json"
-        return os.path.isfile(beside) and is_own(beside)
+        return is_kept_beside(path, f"{os.path.splitext(begin)[0]}.json")
     data = first_bytes(path, ENOUGH, is_followed=False)
     if not data or ending == f".{LOCK}":
         return not data
     if ending == ".txt":
-        return is_line(data.split(b"\n")[0].decode("utf-8", "replace"))
-    return bool((RESULT if ending == ".json" else PAGE).match(data))
+        line = data.split(b"\n")[0].decode("utf-8", "replace")
+        return is_line(line) and count_of(line) is None
+    return bool(RESULT.match(data)) if ending == ".json" else data.startswith(HEAD.page())
+
+
+def is_kept_beside(path: str, result: str) -> bool:
+    """Whether a recording is kept beside a result: it was written just before that. What somebody
+    has put there was written at another time."""
+    if not os.path.isfile(result) or not is_own(result):
+        return False
+    return 0 <= os.stat(result).st_mtime_ns - os.stat(path).st_mtime_ns < KEPT_SECONDS * 10**9
 
 
 def clear(folder: str, name: str) -> None:

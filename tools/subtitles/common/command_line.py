@@ -13,9 +13,10 @@ from typing import Callable, IO, Mapping, NamedTuple, NoReturn, Sequence, TextIO
 from .times import CLOCK, frame_of
 
 
-# Control characters, marks of the direction of writing, ends of lines, halves of characters.
+# Control characters, marks of the direction of writing, ends of lines, halves of characters, and
+# what is none: XML can't hold some of these.
 HIDDEN = re.compile("[\x00-\x1f\x7f-\x9f\u061c\u200e\u200f\u2028-\u202e\u2066-\u2069"
-                    "\ud800-\udfff]")
+                    "\ud800-\udfff\ufffe\uffff]")
 INSTALLED = "subttx-"  # before the names of tools that are installed
 MOST_EVERY = 2_160_000  # frames of a repeat bound, and of a pace: a day
 MOST_WITHIN = 50  # frames within which a page has to be whole
@@ -265,6 +266,11 @@ def shown(text: str) -> str:
     """A text without what a terminal would obey or a file of text can't hold: control characters,
     what turns the direction of writing, and bytes of a name that are not UTF-8, as \\x1b."""
     return HIDDEN.sub(lambda found: escaped(found[0]), text)
+
+
+def shown_lines(text: str) -> str:
+    """The same of a text of several lines, for pages and tables."""
+    return "\n".join(map(shown, text.split("\n")))
 
 
 def escaped(letter: str) -> str:

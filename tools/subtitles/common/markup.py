@@ -5,13 +5,12 @@ import html
 import re
 from typing import Iterable, Union
 
-from .command_line import escaped
+from .command_line import shown_lines
 
 
 # Nothing is loaded, run, sent or framed, whatever stands in a page; its style stands in it.
 POLICY = ("default-src 'none'; style-src 'unsafe-inline'; base-uri 'none'; form-action 'none'")
 ANCHOR = re.compile(' id="| href="#')
-NOT_XML = re.compile("[^\t\n\r\x20-\ud7ff\ue000-\ufffd\U00010000-\U0010ffff]")
 
 
 class Markup:
@@ -52,8 +51,8 @@ Value = Union[Markup, str, int, float]
 
 
 def escape(text: str) -> str:
-    """Any text as XML: marks escaped, and what XML can't hold by its number."""
-    return html.escape(NOT_XML.sub(lambda found: escaped(found[0]), text))
+    """Any text as XML: marks escaped, and what turns or hides what is read by its number."""
+    return html.escape(shown_lines(text))
 
 
 def markup(template: str, *values: Value) -> Markup:

@@ -12,7 +12,7 @@ import time
 import xml.etree.ElementTree as tree
 from typing import Any, Collection, Iterable, Iterator, NamedTuple, Sequence
 
-from ..common.command_line import Stop, error_line, shown
+from ..common.command_line import Stop, error_line, shown_lines
 from ..common.files import bounded_bytes, first_bytes, is_replaced, result_file
 from ..common.program import MadeWith
 from ..common.shapes import Listed, Member, Members, Shape
@@ -387,7 +387,7 @@ def said(value: object) -> object:
     table would take for a formula is led by an apostrophe."""
     if not isinstance(value, str):
         return value
-    text = "\n".join(map(shown, value.split("\n")))
+    text = shown_lines(value)
     return f"'{text}" if text.startswith(FORMULA) else text
 
 
@@ -407,9 +407,6 @@ def column_rows(known: dict[str, Any]) -> Iterator[Known]:
 
 # Pairs as testcases of JUnit, which any CI shows.
 
-NOT_XML = re.compile("[^\t\n\r\x20-\ud7ff\ue000-\ufffd\U00010000-\U0010ffff]")
-
-
 class TestCase(NamedTuple):
     """A pair: what is said of it, the first lines of its list, the seconds that it took, and how
     many subtitles were judged, where some are refused."""
@@ -423,19 +420,13 @@ class TestCase(NamedTuple):
     counts: str = ""
 
 
-def clean(text: str) -> str:
-    """A text without what XML can't hold, and what a terminal would obey."""
-    lines = map(shown, text.split("\n"))
-    return NOT_XML.sub("\ufffd", "\n".join(lines))
-
-
 def element_of(case: TestCase) -> tree.Element:
-    element = tree.Element("testcase", classname="subttx", name=clean(case.name),
+    element = tree.Element("testcase", classname="subttx", name=shown_lines(case.name),
                            time=f"{case.seconds:.3f}")
-    text = clean("\n".join([case.line, *[case.counts] * bool(case.counts), *case.lines]))
+    text = shown_lines("\n".join([case.line, *[case.counts] * bool(case.counts), *case.lines]))
     if case.status:
         kind = "error" if case.verdict == NOT_JUDGED else "failure"
-        told = tree.SubElement(element, kind, message=clean(case.line), type=case.verdict)
+        told = tree.SubElement(element, kind, message=shown_lines(case.line), type=case.verdict)
         told.text = text
     elif case.verdict != ACCEPTED:
         tree.SubElement(element, "system-out").text = text

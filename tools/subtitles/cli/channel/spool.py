@@ -37,8 +37,8 @@ def spool_of(words: argparse.Namespace) -> str | None:
             raise Stop(f"{words.stl} is a folder in which a feed is recorded: --spool is too many")
         return str(words.stl)
     if words.spool is None and words.out is not None:
-        return f"{os.path.abspath(words.out)}.feed" if os.path.basename(words.out) in (".", "..") \
-            else f"{os.path.normpath(words.out)}.feed"
+        out = os.path.normpath(words.out)
+        return f"{os.path.abspath(out) if os.path.basename(out) in ('.', '..') else out}.feed"
     return str(words.spool) if words.spool is not None else None
 
 

@@ -1,0 +1,87 @@
+"""Which tests are of which module of the tools, or of which script: by a table, which dev/plant
+makes anew."""
+from __future__ import annotations
+
+import inspect
+import os
+import re
+import sys
+from typing import AbstractSet, Collection, Iterator, Mapping, NamedTuple, Type
+
+from .. import DEV, TOOLS
+
+PATH = os.path.join(DEV, "vectors", "tests.tsv")
+PACKAGE = "subtitles/"
+TIMES = 3  # classes of tests that call each function, where there are so many
+
+
+class Called(NamedTuple):
+    """The functions that a class of tests calls, as `stream/gaps.py:late_of`, and its seconds."""
+
+    functions: AbstractSet[str]
+    seconds: float
+
+
+def rows() -> dict[str, list[str]]:
+    """The classes of tests by the module, or the script, that they are of."""
+    with open(PATH, encoding="utf-8") as file:
+        found = [line.rstrip("\n").split("\t") for line in file if not line.startswith("#")]
+    return {module: tests.split() for module, tests in found}
+
+
+def module_of(name: str) -> str:
+    """The module, or the script, that a path or a dotted name is of, as `stream/gaps.py` or
+    `stream.gaps`."""
+    path = name.removeprefix("tools/").removeprefix(PACKAGE).removeprefix("subtitles.")
+    is_path = "/" in path or path.endswith(".py") or "." not in path
+    return path if is_path else path.replace(".", "/") + ".py"
+
+
+def tests_of(name: str) -> list[str]:
+    """The classes of tests of a module, or of a script; none where the table has none of it."""
+    return rows().get(module_of(name), [])
+
+
+def chosen(functions: Collection[str], classes: Mapping[str, Called],
+           near: Collection[str] = ()) -> list[str]:
+    """The classes of tests that call each of some functions several times, where there are so many:
+    one after another the one that calls the most, for its time, that are called too seldom; those
+    that are near before the others."""
+    wanted = {name: min(TIMES, sum(name in one.functions for one in classes.values()))
+              for name in functions}
+    found = list[str]()
+
+    def lacking(name: str) -> int:
+        return sum(wanted.get(one, 0) > 0 for one in classes[name].functions)
+
+    for some in ({*near}, {*classes}):
+        while rest := [name for name in sorted(some - {*found}) if lacking(name)]:
+            best = max(rest, key=lambda name: lacking(name) / (1 + classes[name].seconds))
+            found.append(best)
+            for one in classes[best].functions & wanted.keys():
+                wanted[one] = max(wanted[one] - 1, 0)
+    return sorted(found)
+
+
+def lines(classes: Mapping[str, Called], kinds: Collection[Type[object]]) -> Iterator[str]:
+    """The rows anew: of each module by the functions that classes of tests call, and before others
+    those whose module takes something of it; of each script by its name in their text."""
+    functions = {one for called in classes.values() for one in called.functions}
+    modules = {name_of(one): inspect.getsource(sys.modules[one.__module__]) for one in kinds}
+    for module in sorted({one.partition(":")[0] for one in functions}):
+        own = [one for one in functions if one.startswith(f"{module}:")]
+        taken = f"from subtitles.{module[:-3].replace('/', '.')} import "
+        near = {one for one, text in modules.items() if taken in text and one in classes}
+        yield f"{module}\t{' '.join(chosen(own, classes, near))}\n"
+    texts = {name_of(one): inspect.getsource(one) for one in kinds}
+    for folder, before in ((TOOLS, ""), (DEV, "dev/")):
+        for name in sorted(os.listdir(folder)):
+            called = re.compile(rf"\b(?:tool|script|tool_path|typed)\(['\"]{re.escape(name)}['\"]")
+            named = sorted(one for one, text in texts.items() if called.search(text))
+            if named:
+                yield f"{before}{name}\t{' '.join(named)}\n"
+
+
+def name_of(kind: Type[object]) -> str:
+    """The name of a class of tests."""
+    return f"{kind.__module__.rpartition('.')[2]}.{kind.__name__}"

@@ -1,0 +1,393 @@
+"""What stands in documents: links, quoted sources, lists of tools, man pages, bodies."""
+from __future__ import annotations
+
+import collections
+import glob
+import os
+import re
+import shutil
+import unittest
+from typing import Iterator
+
+from subtitles.common.command_line import Stop
+from subtitles.common.program import TOP, read
+from subtitles.request.request import ALONE, CHANNEL, PAIR, Option
+from .. import pages
+from ..definitions import Library
+from ..promises import clauses_in, unknown_clauses
+from ..questions import Question, ask, count, link, page
+from ..sizes import KINDS, counted, total
+from .bench import Case
+
+
+# The documents: links lead to files and headings that are there, and quoted sources are sources.
+
+NAMES = ["*.md", "docs/*.md", "docs/manual/*.md", "examples/*.md", "tools/*.md", "dev/*.md"]
+LINK = re.compile(r"\]\(([^)\s]*)\)")
+HEADING = re.compile(r"^#+ (.*)$", re.M)
+ANCHOR = re.compile(r'<a id="([^"]+)"></a>')
+BLOCK = re.compile(r"^```(\w*)\n(.*?)^```$", re.M | re.S)
+CODE = re.compile(r"`[^`\n]*`")
+
+
+def documents() -> Iterator[tuple[str, str]]:
+    """Each document: its path, and its text."""
+    for form in NAMES:
+        for path in sorted(glob.glob(os.path.join(TOP, form))):
+            yield path, read(path) or ""
+
+
+def anchors(text: str) -> set[str]:
+    """The headings and anchors of a document, as links name them."""
+    text = BLOCK.sub("", text)
+    return {*ANCHOR.findall(text), *(re.sub(r"[^\w\- ]", "", found.lower()).replace(" ", "-")
+                                     for found in HEADING.findall(text))}
+
+
+def sources() -> str:
+    """All definitions and all code."""
+    paths = [*glob.glob(os.path.join(TOP, "crates", "*", "specs", "**", "*.antt"), recursive=True),
+             *glob.glob(os.path.join(TOP, "crates", "*", "src", "**", "*.rt"), recursive=True)]
+    return "\n".join(read(path) or "" for path in sorted(paths))
+
+
+class Documents(Case):
+    """README, docs/ and the READMEs of folders."""
+
+    def test_have_links_that_lead_somewhere(self) -> None:
+        """Each link leads to a file, and to a heading of it where it names one."""
+        count = 0
+        for path, text in documents():
+            for target in LINK.findall(CODE.sub("", BLOCK.sub("", text))):
+                if ":" in target:
+                    continue
+                count += 1
+                name, _, heading = target.partition("#")
+                there = os.path.join(os.path.dirname(path), name) if name else path
+                self.must(f"{os.path.relpath(path, TOP)}: {target}", os.path.exists(there) and (
+                    not heading or heading in anchors(read(there) or "")))
+        self.must("links", count > 100, count)
+
+    def test_quote_sources(self) -> None:
+        """A block of definitions stands in the sources; so does what a change takes away."""
+        code, count = sources(), 0
+        for path, text in documents():
+            for kind, block in BLOCK.findall(text):
+                where = f"{os.path.relpath(path, TOP)}: {block[:60]!r}"
+                if kind == "antt":
+                    count += 1
+                    self.must(where, block in code)
+                elif kind == "diff":
+                    count += 1
+                    changed = re.search(r"^--- a/(.*)$", block, re.M)
+                    old = (read(os.path.join(TOP, changed[1])) if changed else None) or ""
+                    gone = re.findall(r"^-(?!-- )(.*)$", block, re.M)
+                    self.must(where, bool(gone) and all(
+                        old.count(line + "\n") == 1 for line in gone), gone)
+        self.must("blocks", count > 2, count)
+
+    def test_are_asked(self) -> None:
+        """How many words stand before an answer, by the way that a reader goes to it."""
+        self.write("A.md",
+                   b"# A\n\nOne two [three](B.md#the-answer) four.\n\n## C d!\n\nFive | - six.")
+        self.write("B.md", b"# B\n\nNot here: yes.\n\n## The answer\n\nIt is\nyes.\n")
+        for way, answer, words in (
+                (["A.md"], "two", 2), (["A.md"], "six", 8), (["A.md#c-d"], "six", 3),
+                (["A.md", "B.md#the-answer"], "is yes", 7), (["A.md", "B.md"], "yes", 7),
+                (["B.md", "A.md"], "One", None),
+                (["A.md"], "seven", None), (["A.md#none"], "two", None)):
+            found = ask(Question("A1", "?", way, answer), self.folder)
+            self.must(f"{way} {answer}",
+                      found.words == words and (words is None) == bool(found.why),
+                      found)
+        self.must("words", count("a [b](c d) | - e`f`") == 3)
+        self.must("links", [link("docs/A.md", one) for one in (
+            "docs/B.md", "README.md#x", "docs/A.md#y")] == ["(B.md", "(../README.md#x)", "(#y)"])
+        self.must("a page", page("B.md#the-answer", self.folder).startswith("## The answer"))
+
+    def test_have_a_picture(self) -> None:
+        """dev/make-picture makes README's picture of a report: PNG, 800 wide."""
+        if not shutil.which("rsvg-convert"):
+            self.skipTest("the picture of README, since there is no rsvg-convert")
+        done = self.call([os.path.join(TOP, "dev", "make-picture"), "-p", self.bench.program,
+                          self.path("new.png")])
+        self.must("made", done.status == 0, done)
+        for path in (self.path("new.png"), os.path.join(TOP, "docs", "report.png")):
+            with open(path, "rb") as file:
+                head = file.read(24)
+            self.must(path, head[:8] == b"\x89PNG\r\n\x1a\n"
+                      and int.from_bytes(head[16:20], "big") == 800, head)
+
+
+# Man pages and completion: what dev/make-pages makes of the help texts and of the table.
+
+USAGE = """usage: subttx COMMAND FILES [options]
+
+  check STL PES          accepts a transmission, or names its place;
+                         --all lists all
+  listen PES --at TIME   prints what a receiver holds
+  packet HEX             explains one packet
+"""
+TABLE = """| Option | Of | Is | Default |
+|---|---|---|---|
+| `--page P` | `check` `listen` | the page: [one](a.md) | `888` |
+| `--all` | `check` | all of `it` | no |
+| `--at TIME` | `listen` | the last frame | has to be there |
+| `--kind K` | `listen` | `a`, `b` or `c` | `a` |
+"""
+HELP = """Cuts.
+
+    tools/text PES [--from TIME]
+              [-o OUT]
+
+It looks at `--from` first.
+
+Status 0 or 2.
+
+positional arguments:
+  PES  the file
+
+options:
+  -h, --help   show it
+  --from TIME  the first frame
+  --kind {a,b}
+               which one
+  -o OUT       the file to write
+"""
+
+
+class Made(Case):
+    """What stands in the repository."""
+
+    def test_is_as_it_is_made(self) -> None:
+        """dev/make-pages writes these files."""
+        for name, text in pages.made().items():
+            self.must(f"dev/make-pages: {name}", read(os.path.join(TOP, name)) == text)
+
+    def test_has_each_option_of_the_program(self) -> None:
+        """Each option that the manual's chapters name of a command is in the table."""
+        known = {one.name for one in pages.options(read(os.path.join(TOP, pages.TABLE)) or "")}
+        self.must("options", {"--page", "--within", "--pes", "--receiver"} < known, known)
+
+
+class Parts(unittest.TestCase):
+    """What is read, and what is made of it."""
+
+    def test_reads_the_usage(self) -> None:
+        found = pages.commands(USAGE)
+        self.assertEqual([(one.name, one.files, one.needed) for one in found],
+                         [("check", "STL PES", []), ("listen", "PES", ["--at"]),
+                          ("packet", "HEX", [])])
+        self.assertEqual(found[0].does,
+                         "accepts a transmission, or names its place; --all lists all")
+        with self.assertRaises(Stop):
+            pages.commands("usage: none")
+
+    def test_reads_the_table(self) -> None:
+        found = pages.options(TABLE)
+        self.assertEqual([(one.name, one.value, one.commands) for one in found],
+                         [("--page", "P", ["check", "listen"]), ("--all", "", ["check"]),
+                          ("--at", "TIME", ["listen"]), ("--kind", "K", ["listen"])])
+        self.assertEqual([one.choices() for one in found], [[], [], [], ["a", "b", "c"]])
+
+    def test_reads_a_help(self) -> None:
+        self.assertEqual(pages.entries(HELP), [
+            ("--help", "", "show it"), ("--from", "TIME", "the first frame"),
+            ("--kind", "{a,b}", "which one"), ("-o", "OUT", "the file to write")])
+
+    def test_makes_pages(self) -> None:
+        made = pages.of_program(USAGE, TABLE)
+        self.assertIn(".B listen\n.I PES\n.B \\-\\-at TIME\n.OP \\-\\-page P\n", made["synopsis"])
+        self.assertIn("\\fB\\-\\-page\\fP \\fIP\\fP\nThe page: one. Without it: \\fB888\\fP.",
+                      made["options"])
+        made = pages.of_qc(HELP)
+        self.assertEqual(made["status"], "Status 0 or 2.\n")
+        self.assertIn("Which one. WORD is a, b.", made["options"])
+        self.assertIn("[\\-\\-from TIME] [\\-o OUT]", made["synopsis"])
+
+    def test_says_what_a_call_does_not_take(self) -> None:
+        one, two, three = (Option(name, None, "", modes) for name, modes in (
+            ("--one", (PAIR,)), ("--two", (PAIR, ALONE)), ("--three", (PAIR, CHANNEL))))
+        rows: list[tuple[list[Option], str]] = [
+                ([], ""), ([two], "Not with `--channel`: `--two`.\n"),
+                ([one, two, three], "Not with STL alone: `--one`, `--three`. "
+                                    "Not with `--channel`: `--one`, `--two`.\n")]
+        for known, said in rows:
+            with self.subTest(said=said):
+                self.assertEqual(pages.not_with(known, (PAIR, ALONE, CHANNEL)), said)
+
+    def test_makes_a_completion(self) -> None:
+        made = pages.completed(USAGE, TABLE, [HELP])
+        self.assertIn("--kind) _subttx_words 'a b c'", made["values"])
+        self.assertIn("        --at | --from | --page)\n", made["values"])
+        self.assertIn("check) options='--page --all' ;;", made["options"])
+        self.assertEqual(made["commands"], "    local commands='check listen packet'\n")
+
+    def test_puts_parts_between_their_lines(self) -> None:
+        text = "a\n# made: one\nold\n# end\nb\n"
+        self.assertEqual(pages.with_parts(text, {"one": "new\n"}),
+                         "a\n# made: one\nnew\n# end\nb\n")
+        with self.assertRaises(Stop):
+            pages.with_parts(text, {"two": ""})
+
+
+# The lists of tools and modules: each has its row, and each row is of one that is there.
+
+# The READMEs, each with its folder, and the folder of packages in there; whether it has a row for
+# each of these.
+FOLDERS = [("tools", "subtitles", True), ("dev", "developing", False)]
+PACKAGES = [*(os.path.join("tools", "subtitles", name)
+              for name in ("common", "formats", "request", "stream", "clock", "recording",
+                           "judging", "results", "report", "cli", os.path.join("cli", "channel"))),
+            os.path.join("dev", "developing"), os.path.join("dev", "developing", "every_place")]
+# A row of a README, or an item of its lists: the names in its first cell, or before its words.
+ROW = re.compile(r"^[|-] (`.*?`)(?: \||:? )", re.M)
+LINE = re.compile(r"^([a-z_]+) +\S", re.M)  # a line of the list of a package, in its __init__.py
+
+
+def entries(folder: str) -> list[str]:
+    """What stands in a folder, as the lists name it: a module without its ending, a folder with a
+    slash."""
+    return sorted(name.removesuffix(".py") + "/" * os.path.isdir(os.path.join(folder, name))
+                  for name in os.listdir(folder) if not name.startswith("__"))
+
+
+class Lists(Case):
+    """The lists of the READMEs and of the packages."""
+
+    def test_are_whole(self) -> None:
+        """The README of a folder lists its scripts, that of tools/ the packages too."""
+        for name, package, is_listed in FOLDERS:
+            folder = os.path.join(TOP, name)
+            text = read(os.path.join(folder, "README.md")) or ""
+            rows = re.findall(r"`(.+?)`", " ".join(ROW.findall(text)))
+            inside = entries(os.path.join(folder, package)) if is_listed else []
+            wanted = [one for one in [*entries(folder), *inside]
+                      if one not in ("README.md", package + "/")]
+            self.must(name, sorted(rows) == sorted(wanted), set(rows) ^ set(wanted))
+
+    def test_are_whole_of_packages(self) -> None:
+        """The head of a package lists its modules."""
+        for name in PACKAGES:
+            folder = os.path.join(TOP, name)
+            rows = LINE.findall((read(os.path.join(folder, "__init__.py")) or "").split('"""')[1])
+            wanted = [one.rstrip("/") for one in entries(folder)
+                      if "." not in one and "-" not in one]
+            self.must(name, sorted(rows) == wanted, set(rows) ^ set(wanted))
+
+    def test_have_one_meaning(self) -> None:
+        """Each class of the tools has a name of its own."""
+        places = collections.defaultdict[str, list[str]](list)
+        for folder, _, names in os.walk(os.path.join(TOP, "tools", "subtitles")):
+            for name in names if not folder.endswith("__pycache__") else ():
+                text = read(os.path.join(folder, name)) or ""
+                for found in re.findall(r"^class (\w+)", text, re.M):
+                    places[found].append(name)
+        several = {name: files for name, files in places.items() if len(files) > 1}
+        self.must("names of classes", len(places) > 100 and not several, several)
+
+    def test_are_those_of_the_clauses(self) -> None:
+        """Each clause that the index names is one of the sources. A row names where to begin: all
+        that a crate promises is listed by dev/graph --clauses."""
+        text = read(os.path.join(TOP, "docs", "CLAUSES.md")) or ""
+        unknown = unknown_clauses(text, Library(TOP))
+        self.must("docs/CLAUSES.md", not unknown, unknown)
+        self.must("rows", "sub_check/check_files.accepted" in clauses_in(text)
+                  and len(clauses_in(text)) > 80, len(clauses_in(text)))
+
+    def test_are_those_of_the_sizes(self) -> None:
+        """The sizes that ASSURANCE tells are right to a tenth: dev/sizes counts them."""
+        text = read(os.path.join(TOP, "docs", "ASSURANCE.md")) or ""
+        _, _, told = text.partition("(`dev/sizes`): ")
+        numbers = [int(one.replace(",", "")) for one in re.findall(r"\d+,\d+", told)[:len(KINDS)]]
+        counts = total(counted(TOP))
+        self.must("sizes", len(numbers) == len(KINDS) and all(
+            abs(number - counts[kind]) * 10 < counts[kind]
+            for number, kind in zip(numbers, KINDS)), (numbers, counts))
+
+
+# Bodies that no contract holds stand as they were read.
+
+STORED = "dev/bodies-to-read.txt"
+# What asks the system, and what hands it on, by the first words of each body.
+HELD = [
+    "fn main(rt: HostRuntime)",
+    "impl<R: Files> FileSystem for SystemFiles<'_, R>",
+    "fn found_by(looked_up: io::Result<Metadata>)",
+    "impl<'a, R: Files> SystemFiles<'a, R>",
+    "impl<R: Read> FromRead<R>",
+    "impl<R: Read> Source for FromRead<R>",
+    "impl<W: Write> IntoWrite<W>",
+    "impl<W: Write> Sink for IntoWrite<W>",
+    "impl<W: Write> Flush for IntoWrite<W>",
+    "impl<W: Write> IntoFile<W>",
+    "impl<W: Write> Sink for IntoFile<W>",
+    "impl<W: Write> Flush for IntoFile<W>",
+    "impl<W: Write + LetGo + Store> Close for IntoFile<W>",
+    "impl<T: OpenFile> Store for T",
+    "impl<T: Drop> LetGo for T",
+    "impl Taken",
+]
+# An impl of Drop, at any indent and over several lines, or another name for it. Comments are none.
+DROP = re.compile(r"\bimpl\b[^{};]*\bDrop\s+for\b|\bDrop\s+as\b")
+COMMENT = re.compile(r"//[^\n]*|/\*.*?\*/", re.DOTALL)
+
+
+def text_of(name: str) -> str:
+    """The text of a file of the repository."""
+    with open(os.path.join(TOP, name), encoding="utf-8") as file:
+        return file.read()
+
+
+def text_of_sources() -> list[str]:
+    """The sources of all crates."""
+    crates = os.path.join(TOP, "crates")
+    return [os.path.relpath(os.path.join(place, name), TOP)
+            for crate in sorted(os.listdir(crates))
+            for place, _, names in os.walk(os.path.join(crates, crate, "src"))
+            for name in sorted(names) if name.endswith(".rt")]
+
+
+def implements_drop(text: str) -> bool:
+    """Whether a source says what happens where a value ends."""
+    return DROP.search(COMMENT.sub(" ", text)) is not None
+
+
+class Bodies(unittest.TestCase):
+    """What is read because no clause can speak of it."""
+
+    def test_stand_as_they_were_read(self) -> None:
+        """`main`, what asks the system for files, and the devices over those."""
+        parts = text_of(STORED).split("\n== ")[1:]
+        bodies = [part.partition("\n")[2] for part in parts]
+        self.assertEqual([next((head for head in HELD if body.startswith(f"{head} ")), body)
+                          for body in bodies], HELD)
+        for part in parts:
+            name, _, body = part.partition("\n")
+            with self.subTest(body.partition("\n")[0]):
+                self.assertIn(f"\n{body.strip()}\n", text_of(name),
+                              f"read the change of {name}, and store it in {STORED}")
+
+    def test_no_value_does_anything_when_it_ends(self) -> None:
+        """No crate says itself what happens where a value ends: no clause would speak of it."""
+        for name in text_of_sources():
+            with self.subTest(name):
+                self.assertFalse(implements_drop(text_of(name)))
+
+    def test_what_a_value_does_when_it_ends_is_found(self) -> None:
+        """At any indent and over lines; not in a comment, a bound or a derive."""
+        rows = [
+            ("impl Drop for Line {}", True),
+            ("    impl<K: Sink> Drop for Line<K> {}", True),
+            ("impl<'a, K>\n    Drop\n    for Line<'a, K>\nwhere\n    K: Sink,\n{}", True),
+            ("mod inner { impl std::ops::Drop for Line {} }", True),
+            ("impl /* one */ Drop /* two */ for Line {}", True),
+            ("use std::ops::Drop as End;", True),
+            ("impl<T: Drop> LetGo for T {}", False),
+            ("#[derive(Drop)]\npub struct Line;", False),
+            ("// impl Drop for Line {}", False),
+            ("impl Line {}\n// A Drop for each.\n", False),
+        ]
+        for text, is_found in rows:
+            with self.subTest(text):
+                self.assertEqual(implements_drop(text), is_found)

@@ -1,0 +1,488 @@
+"""What the tools and scripts are made of: layers, type hints, the graph of clauses."""
+from __future__ import annotations
+
+import ast
+import contextlib
+import fcntl
+import os
+import shutil
+import subprocess
+import tempfile
+import unittest
+from typing import Any, Iterator
+from unittest import mock
+
+from subtitles.common.command_line import Stop
+from subtitles.common.program import TOP
+from subtitles.common.times import CLOCK, ticks_between, wrapped
+from .bench import Case, SECONDS, script
+
+
+# What imports what: a package imports of those below it alone. And what has one home has it.
+
+ORDER = ["common", "formats", "request", "stream", "clock", "recording", "judging", "results",
+         "report", "cli"]  # the packages of users, lowest first
+LONGEST_LINE = 100
+# The page's parts name the page itself, for type hints alone.
+FOR_HINTS = {("subtitles.report.faults", "subtitles.report.report"),
+             ("subtitles.report.transmission", "subtitles.report.report")}
+MAIN = "subtitles.cli.main"  # imports what a call needs when it needs it
+IN_ROWS = os.path.join("developing", "signs.py")  # a table: each of its rows is a line
+# The second implementation shares with the tools codes, times, layouts and the blocks of files.
+SHARED = {"subtitles." + name for name in (
+    "common.command_line", "common.program.TOP", "common.program.built_program", "common.times",
+    "formats.layout", *("formats.stl." + name for name in (
+        "GSI", "LAST", "TEXT", "TTI", "USER_DATA")),
+    *("formats.teletext." + name for name in ("CODE_WORDS", "NUMBER", "Page", "START", "is_odd")))}
+
+
+def name_of(path: str) -> str:
+    """The name of a module by its file; a package has that of its folder."""
+    home = TOOLS if path.startswith(TOOLS + os.sep) else DEV
+    words = os.path.relpath(path, home).removesuffix(".py").split(os.sep)
+    return ".".join(words[:-1] if words[-1] == "__init__" else words)
+
+
+def imported(text: str, name: str, is_package: bool) -> Iterator[str]:
+    """The names that a module imports, also within functions and for type hints alone; of
+    `from package import module` that of the module too."""
+    here = name.split(".") if is_package else name.split(".")[:-1]
+    for node in ast.walk(ast.parse(text)):
+        if isinstance(node, ast.Import):
+            yield from (one.name for one in node.names)
+        elif isinstance(node, ast.ImportFrom):
+            above = here[:len(here) - node.level + 1] if node.level else []
+            module = ".".join([*above, *([node.module] if node.module else [])])
+            yield module
+            yield from (f"{module}.{one.name}" for one in node.names)
+
+
+def wrong_imports(name: str, names: Iterator[str]) -> list[str]:
+    """Those that a module must not import."""
+    here = name.split(".")
+    if here[0] == "developing":
+        if here[1:2] != ["every_place"]:
+            return []
+        return [one for one in names if one.startswith("subtitles")
+                and not any((one + ".").startswith(shared + ".") for shared in SHARED)
+                and not any(shared.startswith(one + ".") for shared in SHARED)]
+    allowed = ORDER[:ORDER.index(here[1]) + 1] if here[1:] else []
+    found = []
+    for one in names:
+        words = one.split(".")
+        is_right = words[0] != "developing" and (words[0] != "subtitles"
+                                                 or words[1:2] == [] or words[1] in allowed)
+        found += [] if is_right else [one]
+    return found
+
+
+def wraps(text: str) -> list[int]:
+    """The lines of a module that wrap something at the clock of PTS themselves."""
+    return [node.lineno for node in ast.walk(ast.parse(text))
+            if isinstance(node, ast.BinOp) and isinstance(node.op, (ast.Mod, ast.FloorDiv))
+            and isinstance(node.right, ast.Name) and node.right.id == "CLOCK"]
+
+
+def long_lines(text: str) -> list[int]:
+    """The numbers of the lines that are too long."""
+    return [number for number, line in enumerate(text.split("\n"), 1) if len(line) > LONGEST_LINE]
+
+
+def cycle_in(imports: dict[str, set[str]]) -> list[str]:
+    """Modules of which each imports the next one, and the last one the first; none where there are
+    no such."""
+    clear: set[str] = set()
+
+    def walk(name: str, way: list[str]) -> list[str]:
+        if name in way:
+            return way[way.index(name):]
+        if name not in clear:
+            for other in sorted(imports[name]):
+                if cycle := walk(other, [*way, name]):
+                    return cycle
+            clear.add(name)
+        return []
+
+    return next(filter(None, (walk(name, []) for name in sorted(imports))), [])
+
+
+class Layers(Case):
+    """What modules import, and what has one home."""
+
+    def test_go_downwards(self) -> None:
+        """Each module of both packages."""
+        paths = [path for folder in PACKAGES for path in modules(folder)]
+        self.must("modules", len(paths) > 50, len(paths))
+        for path in paths:
+            name = name_of(path)
+            with open(path, encoding="utf-8") as file:
+                names = imported(file.read(), name, path.endswith("__init__.py"))
+            wrong = wrong_imports(name, names)
+            self.must(name, not wrong, wrong)
+
+    def test_tells_wrong_ones(self) -> None:
+        """What has to be found, by the module that imports it."""
+        for name, text, is_right in [
+                ("subtitles.judging.pair", "from ..report.page import document", False),
+                ("subtitles.judging.pair", "from .. import report", False),
+                ("subtitles.judging.pair", "def f():\n    from ..cli import main", False),
+                ("subtitles.judging.pair",
+                 "if TYPE_CHECKING:\n    import subtitles.cli.main", False),
+                ("subtitles.judging.pair",
+                 "from ..common.command_line import Stop\nfrom .part import Part", True),
+                ("subtitles.cli.single", "from ..report.page import overview", True),
+                ("subtitles.common.command_line", "from developing import TOOLS", False),
+                ("subtitles.common.command_line", "from ..stream import survey", False),
+                ("developing.every_place.known", "from subtitles.formats.listing import told_of",
+                 False),
+                ("developing.every_place.known", "from subtitles.formats.teletext import OPTIONS",
+                 False),
+                ("developing.every_place.known", "from subtitles.common.times import CLOCK", True)]:
+            wrong = wrong_imports(name, imported(text, name, False))
+            self.must(f"{name}: {text}", (not wrong) == is_right, wrong)
+
+    def test_go_in_no_circle(self) -> None:
+        """No module imports one that imports it, over others or for type hints alone."""
+        for imports, wanted in (({"a": set[str]()}, []), ({"a": {"b"}, "b": set[str]()}, []),
+                                ({"a": {"a"}}, ["a"]), ({"a": {"b"}, "b": {"a"}}, ["a", "b"]),
+                                ({"a": {"b", "c"}, "b": set[str](), "c": {"d"}, "d": {"c"}},
+                                 ["c", "d"])):
+            self.must(f"{imports}", cycle_in(imports) == wanted)
+        texts = {}
+        for path in modules(PACKAGES[0]):
+            if not path.endswith("__init__.py"):
+                with open(path, encoding="utf-8") as file:
+                    texts[name_of(path)] = file.read()
+        found = cycle_in({
+            name: {other for other in texts.keys() & {*imported(text, name, False)}
+                   if name != MAIN and (name, other) not in FOR_HINTS}
+            for name, text in texts.items()})
+        self.must("tools", not found, found)
+
+    def test_end_in_time(self) -> None:
+        """Lines of Python end at column 100."""
+        self.must("what is found", long_lines("a" * 100 + "\n" + "ä" * 101 + "\n") == [2])
+        for path in [*(path for folder in PACKAGES for path in modules(folder)), *scripts()]:
+            if not path.endswith(IN_ROWS):
+                with open(path, encoding="utf-8") as file:
+                    found = long_lines(file.read())
+                self.must(path, not found, found)
+
+    def test_wrap_in_one_place(self) -> None:
+        """PTS are wrapped at 2^33 by `common.times` alone, in what users call."""
+        self.must("what is found", wraps("a = 1\nb = (a - 2) % CLOCK") == [2])
+        for path in modules(PACKAGES[0]):
+            with open(path, encoding="utf-8") as file:
+                found = wraps(file.read())
+            is_home = name_of(path) == "subtitles.common.times"
+            self.must(name_of(path), bool(found) == is_home, found)
+
+    def test_are_wrapped(self) -> None:
+        """Ticks as a PTS has them, and how far apart two PTS are, where these begin again between.
+        """
+        for ticks, wanted in ((0, 0), (CLOCK - 1, CLOCK - 1), (CLOCK, 0), (-1, CLOCK - 1),
+                              (2 * CLOCK + 5, 5)):
+            self.must(f"wrapped {ticks}", wrapped(ticks) == wanted, wrapped(ticks))
+        for first, second, wanted in ((0, 0, 0), (5, 8, 3), (8, 5, -3), (CLOCK - 1, 1, 2),
+                                      (1, CLOCK - 1, -2), (0, CLOCK // 2 - 1, CLOCK // 2 - 1),
+                                      (0, CLOCK // 2, -CLOCK // 2),
+                                      (0, CLOCK // 2 + 1, 1 - CLOCK // 2),
+                                      (CLOCK + 5, 8, 3)):
+            found = ticks_between(first, second)
+            self.must(f"from {first} to {second}", found == wanted, found)
+
+
+# The type hints of tools/, dev/ and bench/, by mypy --strict.
+
+TOOLS, DEV, BENCH = (os.path.join(TOP, name) for name in ("tools", "dev", "bench"))
+PACKAGES = [os.path.join(TOOLS, "subtitles"), os.path.join(DEV, "developing")]
+
+
+def is_python(path: str) -> bool:
+    """Whether a file is a script in Python."""
+    if not os.path.isfile(path):
+        return False
+    with open(path, "rb") as file:
+        return file.readline().endswith(b"python3\n")
+
+
+def modules(folder: str) -> list[str]:
+    """The modules of a folder and of those in it."""
+    found: list[str] = []
+    for name in sorted(os.listdir(folder)):
+        path = os.path.join(folder, name)
+        if os.path.isdir(path):
+            found += modules(path)
+        elif name.endswith(".py"):
+            found.append(path)
+    return found
+
+
+def scripts() -> list[str]:
+    """The scripts in Python."""
+    paths = (os.path.join(folder, name) for folder in (TOOLS, DEV, BENCH)
+             for name in sorted(os.listdir(folder)))
+    return list(filter(is_python, paths))
+
+
+@contextlib.contextmanager
+def cache_of(case: Case) -> Iterator[str]:
+    """A folder for what mypy knows of modules as they are: one of the user, which stays, where no
+    other call has it now; in the gate an empty one."""
+    home = os.environ.get("XDG_CACHE_HOME") or os.path.expanduser("~/.cache")
+    kept = os.path.join(home, "subttx-mypy")
+    with contextlib.ExitStack() as stack:
+        own = case.path("cache")
+        if "CI" not in os.environ:
+            with contextlib.suppress(OSError):
+                os.makedirs(kept, exist_ok=True)
+                lock = stack.enter_context(open(os.path.join(kept, "lock"), "w", encoding="ascii"))
+                fcntl.flock(lock, fcntl.LOCK_EX | fcntl.LOCK_NB)
+                own = kept
+        yield own
+
+
+class Hints(Case):
+    """Type hints."""
+
+    def test_are_right(self) -> None:
+        """Each module and each script is taken by mypy."""
+        mypy = shutil.which("mypy")
+        if mypy is None and "CI" not in os.environ:
+            self.skipTest("type hints, since there is no mypy")
+        assert mypy, "there is no mypy, which dev/install-test-tools installs"
+        command = [mypy, "--strict", "--scripts-are-modules", "--follow-imports=silent"]
+        try:
+            listed = [path for folder in PACKAGES for path in modules(folder)]
+            with cache_of(self) as cache:
+                done = self.call([*command, f"--cache-dir={cache}", *listed, *scripts()],
+                                 env={**os.environ, "MYPYPATH": os.pathsep.join([TOOLS, DEV])})
+        except subprocess.TimeoutExpired:
+            if "CI" in os.environ:
+                raise
+            self.skipTest(f"type hints, since mypy took more than {SECONDS} seconds")
+        self.must("mypy --strict", done.status == 0, done.out.decode())
+
+
+# Tests dev/graph on small repositories that are written here.
+
+graph = script("graph")
+
+FILES = {
+    # `app` stands on `low`, which has its line after it.
+    "crates.txt": "# name: what it stands on\napp: low\nlow: arrayvec\n",
+    "crates/low/specs/Words.antt": """-- Words.
+use Rattle.std.specs.Prelude.{ℕ}
+
+-- A pair of readings, one after the other.
+abbrev pub ◌>>=◌ : ℕ → ℕ → ℕ
+first >>= next = next
+
+-- A word.
+pub data Word : Type 0 where
+  Short : ℕ → Word
+
+abbrev pub size : Word → ℕ
+size (Short n) = n >>= n
+
+abbrev pub unused : ℕ
+unused = 0
+""",
+    "crates/low/proofs/SizeLemmas.antt": """-- Lemmas of `size`; main lemmas: size_is, renamed.
+use Rattle.low.specs.Words.{size}
+use Rattle.low.specs.Words.Word.{Short}
+
+-- A lemma of its own.
+size_is : (n : ℕ) → size (Short n) ≡ n
+size_is n = refl
+
+module _ (n : ℕ) (some : 0 < n)
+    where
+      deeper : size (Short n) ≡ n
+      deeper = size_is n
+
+      pub outer : size (Short n) ≡ n
+      unfolding size
+      outer = deeper
+
+pub of_tactic : ℕ
+of_tactic = 0
+
+pub ruleset laws = (
+  of_tactic,
+)
+
+pub dead : ℕ
+dead = of_tactic
+""",
+    "crates/low/src/reading.rt": """//! Reads.
+#![tactic(auto, using(crate::proofs::SizeLemmas::laws))]
+ghost use Rattle.low.specs.Words.{size, Word};
+
+pub struct Reader {
+    at: usize,
+}
+
+impl Reader {
+    /// Reads.
+    pub fn read(&mut self, word: u8) -> usize
+        requires room { size word.now ≡ 1 }
+        ensures one { result ≡ size word }
+        ensures kept { self.new ≡ record {
+          at = self.old.at;
+        } }
+    {
+        helper(word)
+    }
+}
+
+fn helper(word: u8) -> usize
+    ensures { result ≡ word }
+{
+    0
+}
+
+trait Other {
+    fn declared(&self)
+        ensures { Word };
+}
+""",
+    "crates/low/proofs/reading/Reader/read/Answers.antt": """-- The clause `one`.
+use Rattle.low.proofs.SizeLemmas.{outer}
+use Rattle.low.proofs.reading.Reader.read.Goals as goal
+
+pub returns-clause-one : goal.returns-clause-one
+returns-clause-one g c = outer
+""",
+    "crates/app/specs/Law.antt": """-- A law.
+use Rattle.low.specs.Words as words
+
+abbrev pub LawOfWords : Type 0
+LawOfWords = words.size
+""",
+    "crates/app/proofs/LawLemmas.antt": """-- Its proof.
+use Rattle.low.proofs.SizeLemmas.{size_is as is_size}
+
+pub law_of_words : ℕ
+law_of_words = is_size 0
+""",
+    "crates/app/src/main.rt": """//! The program.
+ghost use Rattle.app.specs.Law.{LawOfWords};
+use low::Reader;
+
+#[tactic(auto, using(crate::proofs::LawLemmas::law_of_words))]
+pub fn law_of_words()
+    ensures { LawOfWords }
+{}
+
+fn main() {
+    let mut reader = Reader::new();
+    reader.read(1);
+}
+""",
+}
+
+
+class GraphTest(unittest.TestCase):
+    folder: tempfile.TemporaryDirectory[str]
+    graph: Any
+
+    @classmethod
+    def setUpClass(cls) -> None:
+        cls.folder = tempfile.TemporaryDirectory()
+        cls.addClassCleanup(cls.folder.cleanup)
+        for path, text in FILES.items():
+            place = os.path.join(cls.folder.name, path)
+            os.makedirs(os.path.dirname(place), exist_ok=True)
+            with open(place, "w", encoding="utf-8") as file:
+                file.write(text)
+        cls.graph = graph.Graph(cls.folder.name)
+
+    def one(self, name: str) -> Any:
+        found = self.graph.matching(name)
+        self.assertEqual(len(found), 1, name)
+        return found[0]
+
+    def names(self, name: str) -> set[str]:
+        return {it.name for it in self.one(name).names if it.kind in ("definition", "lemma")}
+
+    def serves(self, name: str) -> set[str]:
+        return {it.name for it in self.graph.serves(self.one(name))}
+
+    def test_what_names_what(self) -> None:
+        for name, wanted in {
+            "size": {"Word", "◌>>=◌"},  # by its constructor, and by the sign
+            "◌>>=◌": set(),
+            "size_is": {"size", "Word"},
+            "outer": {"size", "Word", "deeper"},  # in a module whose `where` has its own line
+            "deeper": {"size", "Word", "size_is"},
+            "laws": {"of_tactic"},
+            "law_of_words": {"size_is"},  # by another name
+            "LawOfWords": {"size"},  # by the name of the module
+        }.items():
+            lemmas = [it for it in self.graph.matching(name) if it.kind in ("definition", "lemma")]
+            found = {it.name for it in lemmas[0].names}
+            self.assertEqual(found, wanted, name)
+
+    def test_what_serves_what(self) -> None:
+        for name, wanted in {
+            "outer": {"read.one"},
+            # A lemma that a law names by a tactic, and another by the lemma of a clause.
+            "size_is": {"law_of_words", "read.one"},
+            # What the tactic of a file names serves all clauses of its public functions.
+            "of_tactic": {"read.one", "read.kept"},
+            "size": {"law_of_words", "read.one", "read.kept"},
+            "dead": set(),
+        }.items():
+            self.assertEqual(self.serves(name), wanted, name)
+
+    def test_what_nothing_reaches(self) -> None:
+        self.assertEqual({it.name for it in self.graph.unreached()}, {"unused", "dead"})
+
+    def test_a_function_ends_where_its_body_does(self) -> None:
+        self.assertEqual(self.one("helper").lines, 5)
+        self.assertEqual(self.one("declared").lines, 2)
+        self.assertEqual(len([it for it in self.graph.functions if it.file.crate == "low"]), 3)
+
+    def test_heads(self) -> None:
+        for text, wanted in (
+            ("-- Of `size`: main lemmas: size_is, outer and deeper. Not dead.\n-- `gone-by`\nx",
+             {"size", "size_is", "outer", "deeper", "gone-by"}),
+            ("-- What `check --all` tells.\n\n-- `later`", set()),
+            ("use A\n-- `later`", set()),
+        ):
+            self.assertEqual(graph.named_at_head(text), wanted, text)
+        wrong = self.graph.wrong_heads()
+        self.assertEqual({name for names in wrong.values() for name in names}, {"renamed"})
+
+    def test_crates_below(self) -> None:
+        self.assertEqual(self.graph.below, {"low": [], "app": ["low"]})
+
+    def test_tables(self) -> None:
+        self.assertEqual([graph.listed(self.graph.unreached(crate)).split("\n")[-1]
+                          for crate in ("", "low", "app")],
+                         ["2 with 4 lines", "2 with 4 lines", "0 with 0 lines"])
+        rows = [row.split() for row in graph.by_promise(self.graph, "").split("\n")]
+        self.assertIn(["app/law_of_words", "2", "2"], rows)
+        self.assertEqual(graph.by_promise(self.graph, "app").split("\n")[0].split(),
+                         ["promise", "alone", "shared"])
+
+    def test_what_is_promised(self) -> None:
+        """Each function with clauses, by crate: a clause without a name has none."""
+        for crate, wanted in (
+                ("app", ["app/law_of_words  crates/app/src/main.rt:6", "1 functions"]),
+                ("low", ["low/Reader::read  crates/low/src/reading.rt:11  one  kept",
+                         "low/helper  crates/low/src/reading.rt:22",
+                         "low/Other::declared  crates/low/src/reading.rt:29", "3 functions"])):
+            self.assertEqual(graph.promised(self.graph, crate).split("\n"), wanted)
+        self.assertTrue(graph.promised(self.graph, "").endswith("\n4 functions"))
+
+    def test_about_a_name(self) -> None:
+        text = graph.about(self.graph, self.one("outer"))
+        self.assertIn("serves:\n    low/Reader::read  crates/low/src/reading.rt:11  one", text)
+
+    def test_wrong_words(self) -> None:
+        for words in ([], ["--promises", "nowhere"], ["no_such_name_at_all"]):
+            with mock.patch.object(graph, "Graph", return_value=self.graph), \
+                    self.assertRaises(Stop):
+                graph.main(words)

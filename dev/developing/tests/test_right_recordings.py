@@ -1,0 +1,370 @@
+"""Right recordings that are made to trip the rules of a verdict: nothing is wrong in any.
+
+Inserters that are late in eleven ways, PES packets at fourteen kinds of distances, breaks, several
+programmes, airings. A rule that refuses right ones is worse than none, so `LOST` has how many of
+each kind may be refused, and how many not judged, and no more are. The gate judges some of each
+kind; from dev/, `python3 -m developing.tests.test_right_recordings PROGRAM` judges all and prints
+each that is not accepted, and the counts.
+"""
+from __future__ import annotations
+
+import collections
+import random
+import sys
+from typing import Callable, Iterator, NamedTuple, Sequence
+
+from developing.multiplex import section
+from developing.pes import pes_packet
+from subtitles.common.times import TICKS, time_of
+from .bench import BENCH, Case
+from .judged import Judged, Sent, joined, judged, programme, sendings
+from .muxed import (
+    AHEAD, MPEG_2, PMT_PID, PRIVATE, TELETEXT_PID, VIDEO_PID, Maker, teletext_descriptor)
+from .parts import CLOSING, HEADER
+
+FIRST, EACH, LASTS = 900_000, 100, 60  # frames: of the first TCI, from one to the next, of each
+SILENT_PID, OTHER_PID, LATER_PMT = 0x121, 0x111, 0x110
+INSERTERS, ONE_A_FRAME, TWO_A_FRAME = "inserters", "one a frame", "two a frame"
+BREAKS, PROGRAMMES, AIRINGS = "breaks", "programmes", "airings"
+GATE = 8  # of so many of a kind the gate judges one
+
+
+class Bound(NamedTuple):
+    """How many recordings there are of a kind, and how many of these may be refused and not judged.
+    """
+
+    recordings: int
+    refused: int
+    not_judged: int
+
+
+# Late inserters whose clock is not known, silences that are no loss, breaks under five seconds, and
+# a page that two programmes announce.
+LOST = {
+    INSERTERS: Bound(66, 2, 13), ONE_A_FRAME: Bound(30, 8, 0), TWO_A_FRAME: Bound(28, 8, 0),
+    BREAKS: Bound(9, 0, 5), PROGRAMMES: Bound(8, 0, 2), AIRINGS: Bound(11, 0, 0)}
+
+
+class Recording(NamedTuple):
+    """A right recording by its kind and its name; judged by some words, with its subtitle file."""
+
+    kind: str
+    name: str
+    made: Callable[[Case], tuple[str, str]]  # of a case the paths of the subtitle file, and of it
+    words: Sequence[str]
+
+    def judge(self, case: Case) -> Judged:
+        """What is said of it."""
+        stl, path = self.made(case)
+        return judged(case, stl, path, *self.words)
+
+
+def evenly(count: int, is_adjoining: bool = False) -> list[tuple[int, int]]:
+    """The times of subtitles, a hundred frames apart."""
+    lasts = EACH if is_adjoining else LASTS
+    return [(FIRST + EACH * at, FIRST + EACH * at + lasts) for at in range(count)]
+
+
+# Inserters: how many frames begins and ends are late, by chance, and N.
+
+SHARES: dict[str, tuple[Sequence[int], Sequence[int]]] = {
+    "const": ((0,), (0,)), "b1": ((1,), (0,)), "rows": ((1, 1, 2, 2, 3), (0,)),
+    "u1": ((0, 1), (0, 1)), "u2": ((0, 1, 2), (0, 1, 2)),
+    "tri": ((0, *(1,) * 3, 2), (0, *(1,) * 3, 2)),
+    "skew": ((0, *(1,) * 5, *(2,) * 4), (0, *(1,) * 5, *(2,) * 4)),
+    "rare": ((0, *(1,) * 19), (0, *(1,) * 19)),
+    "tail": ((*(0,) * 45, *(1,) * 4, 2), (*(0,) * 45, *(1,) * 4, 2)), "bu": ((1, 2), (0,)),
+    "u5": (range(6), range(6))}
+
+
+def late_inserter(kind: str, count: int, is_adjoining: bool) -> Callable[[Case], tuple[str, str]]:
+    """A programme of which each begin and each end is late by chance."""
+    def made(case: Case) -> tuple[str, str]:
+        chance = random.Random(f"{kind} {count} {is_adjoining}")
+        begins, ends = SHARES[kind]
+        times = [(begin, begin + EACH if is_adjoining and chance.randrange(2) else end)
+                 for begin, end in evenly(count)]
+        delays = {end: chance.choice(ends) for _, end in times}
+        delays |= {begin: chance.choice(begins) for begin, _ in times}
+        stl = programme(case, times)
+        known = {pts // TICKS + delays.get(pts // TICKS, 0): some
+                 for pts, some in sendings(case, stl)}
+        known |= {frame: [HEADER, CLOSING] for frame in (
+            FIRST - 50, FIRST - 25, times[-1][1] + 25, times[-1][1] + 50)}
+        return stl, case.write("late.pes", joined([
+            (frame * TICKS, known.get(frame, [])) for frame in range(min(known), max(known) + 1)]))
+
+    return made
+
+
+def inserters() -> Iterator[Recording]:
+    """Each by twelve, 24 and 80 subtitles, of which half adjoin, or none; the clock is fitted."""
+    for kind, (begins, ends) in SHARES.items():
+        within = max([1, *begins, *ends])
+        for count in (12, 24, 80):
+            for is_adjoining in (False, True):
+                yield Recording(INSERTERS, f"{kind} {count} {is_adjoining}", late_inserter(
+                    kind, count, is_adjoining), ["--within", f"{within}", "--every", "40",
+                                                 "--no-complete"])
+
+
+# PES packets: in which frames one comes, beside those with the page.
+
+def all_but(left_out: Callable[[int], bool]) -> Callable[[random.Random, int], list[int]]:
+    """Each frame but some."""
+    return lambda chance, frames: [at for at in range(frames) if not left_out(at)]
+
+
+def share_of(one_in: int) -> Callable[[random.Random, int], list[int]]:
+    """Each frame but one in so many by chance."""
+    return lambda chance, frames: [at for at in range(frames) if chance.randrange(one_in)]
+
+
+def steps(step: Callable[[random.Random], int]) -> Callable[[random.Random, int], list[int]]:
+    """From one to the next by chance."""
+    def made(chance: random.Random, frames: int) -> list[int]:
+        at, found = 0, list[int]()
+        while at < frames:
+            found.append(at)
+            at += step(chance)
+        return found
+
+    return made
+
+
+DISTANCES: dict[str, Callable[[random.Random, int], list[int]]] = {
+    "each": all_but(lambda at: False), "one silence": all_but(lambda at: 500 <= at < 512),
+    "two silences": all_but(lambda at: at % 500 < 12 and at // 500 in (1, 2)),
+    "three silences": all_but(lambda at: at % 250 < 12 and at // 250 in (1, 2, 3)),
+    "1 in 500 left out": share_of(500), "1 in 200 left out": share_of(200),
+    "1 in 100 left out": share_of(100), "1 in 20 left out": share_of(20),
+    "geometric": steps(lambda chance: 1 + (chance.randrange(2) and int(chance.expovariate(0.7)))),
+    "slow": steps(lambda chance: 1 + int(chance.expovariate(0.15))),
+    "normal": steps(lambda chance: max(1, round(chance.gauss(3, 2)))),
+    "bursts": steps(lambda chance: chance.choice((1, 1, 1, 8))),
+    "wall clock": steps(lambda chance: chance.choices((1, 2), (9, 1))[0]),
+    "beside filler": all_but(lambda at: at % 6 == 5)}
+
+
+def paced(name: str, count: int, each: int) -> Callable[[Case], tuple[str, str]]:
+    """A stream of a programme whose PES packets come so, so many in each of these frames."""
+    def made(case: Case) -> tuple[str, str]:
+        chance, times = random.Random(f"{name} {count}"), evenly(count)
+        stl = programme(case, times)
+        known = dict(sendings(case, stl))
+        frames = {*(pts // TICKS for pts in known), *(FIRST + at for at in DISTANCES[name](
+            chance, times[-1][1] - FIRST))} if name in DISTANCES else {
+                *(pts // TICKS for pts in known), *(range(FIRST, times[-1][1], 3)
+                                                    if name == "each third" else ())}
+        sent = [(frame * TICKS + TICKS // each * at,
+                 known.get(frame * TICKS, []) if not at else [])
+                for frame in sorted(frames) for at in range(each)]
+        return stl, case.write("paced.ts", in_stream(sent))
+
+    return made
+
+
+def paces() -> Iterator[Recording]:
+    """One a frame, also the page alone and a PES packet each third frame; two a frame."""
+    for kind, each, names in ((ONE_A_FRAME, 1, [*DISTANCES, "alone"]),
+                              (TWO_A_FRAME, 2, [*DISTANCES])):
+        for name in names:
+            for count in (12, 30):
+                label = "each third" if name == "alone" and count == 30 else name
+                yield Recording(kind, f"{label} {count}", paced(label, count, each), [
+                    "--every", "40", "--no-complete", *(["--within", "1"] if each == 2 else [])])
+
+
+# Streams.
+
+class Service(NamedTuple):
+    """A programme of a multiplex: its number, and the pages that it announces by their PIDs, each
+    with its type and number."""
+
+    number: int
+    pages: Sequence[tuple[int, int, int]]
+
+
+def tables_of(services: Sequence[Service]) -> tuple[tuple[int, bytes], ...]:
+    """The PAT, and a PMT for each; all have one PCR."""
+    pids = [PMT_PID if not at else LATER_PMT + at for at in range(len(services))]
+    pat = section(0, 1, b"".join(one.number.to_bytes(2, "big") + (0xE000 | pid).to_bytes(2, "big")
+                                 for one, pid in zip(services, pids)))
+    made = [(0, pat)]
+    for one, pid in zip(services, pids):
+        streams = [(VIDEO_PID, MPEG_2, b""), *((own, PRIVATE, teletext_descriptor(
+            kind=kind, page=page)) for own, kind, page in one.pages)]
+        body = (0xE000 | VIDEO_PID).to_bytes(2, "big") + b"\xf0\0" + b"".join(
+            bytes([kind]) + (0xE000 | own).to_bytes(2, "big") + (0xF000 | len(more)).to_bytes(
+                2, "big") + more for own, kind, more in streams)
+        made.append((pid, section(2, one.number, body)))
+    return tuple(made)
+
+
+OWN = Service(1, [(TELETEXT_PID, 2, 0x88)])
+
+
+def in_stream(sent: Sent, plan: Sequence[tuple[int, Sequence[Service]]] = ((0, (OWN,)),),
+              beside: Sequence[int] = ()) -> bytes:
+    """A stream of PES packets, each behind a PCR, whose tables are those of a plan from the PES
+    packet with a number on. On other PIDs PES packets without Teletext come beside."""
+    maker = Maker([])
+    for number, (pts, some) in enumerate(sent):
+        for begin, services in plan:
+            if begin == number:
+                maker.tables = tables_of(services)  # type: ignore[assignment]
+                maker.put_tables()
+        maker.put_pcr(pts - AHEAD)
+        maker.put(TELETEXT_PID, pes_packet(pts, some))
+        for pid in beside:
+            maker.put(pid, pes_packet(pts, []))
+    return maker.data
+
+
+def services() -> Iterator[Recording]:
+    """Several programmes, and tables that change outside of the subtitles' time."""
+    silent = Service(2, [(SILENT_PID, 2, 0x88)])
+    other_page = Service(2, [(SILENT_PID, 2, 0x89)])
+    twice = Service(1, [(TELETEXT_PID, 2, 0x88), (SILENT_PID, 5, 0x88)])
+    same = Service(2, [(TELETEXT_PID, 2, 0x88)])
+    moved = Service(1, [(OTHER_PID, 2, 0x88)])
+    plans: dict[str, tuple[Callable[[int], list[tuple[int, Sequence[Service]]]], list[int]]] = {
+        "alone": (lambda end: [(0, (OWN,))], []),
+        "another page": (lambda end: [(0, (OWN, other_page))], [SILENT_PID]),
+        "silent service": (lambda end: [(0, (OWN, silent))], [SILENT_PID]),
+        "silent service without packets": (lambda end: [(0, (OWN, silent))], []),
+        "two announce one PID": (lambda end: [(0, (OWN, same))], []),
+        "of two types": (lambda end: [(0, (twice,))], [SILENT_PID]),
+        "another PID behind": (lambda end: [(0, (OWN,)), (end - 1, (moved,))], []),
+        "not announced": (lambda end: [(0, (Service(1, []),))], [])}
+    for name, (plan, beside) in plans.items():
+        def made(case: Case, plan: Callable[[int], list[tuple[int, Sequence[Service]]]] = plan,
+                 beside: list[int] = beside) -> tuple[str, str]:
+            stl = programme(case, evenly(12))
+            sent = sendings(case, stl)
+            return stl, case.write("some.ts", in_stream(sent, plan(len(sent)), beside))
+
+        yield Recording(PROGRAMMES, name, made, ["--every", "40", "--no-complete"])
+
+
+# Breaks, and the programme more than once.
+
+def broken(*lengths: int) -> Callable[[Case], tuple[str, str]]:
+    """A programme in parts, with breaks of so many frames behind twenty subtitles each."""
+    def made(case: Case) -> tuple[str, str]:
+        stl = programme(case, evenly(20 * (len(lengths) + 1)))
+        sent = []
+        for pts, some in sendings(case, stl):
+            part = (pts // TICKS - FIRST) // (20 * EACH)
+            sent.append((pts + TICKS * sum(lengths[:part]), some))
+        return stl, case.write("breaks.pes", joined(sent))
+
+    return made
+
+
+def breaks() -> Iterator[Recording]:
+    """Of one to ten seconds, also two."""
+    for lengths in ((25,), (50,), (100,), (124,), (125,), (126,), (250,), (400, 50), (400, 150)):
+        yield Recording(BREAKS, f"{lengths}", broken(*lengths), [
+            "--breaks", f"{len(lengths)}", "--every", "40", "--no-complete"])
+
+
+def with_tail(count: int) -> Callable[[Case], tuple[str, str]]:
+    """Some subtitles once more ten minutes later."""
+    def made(case: Case) -> tuple[str, str]:
+        times = [(frame + at * at * 7, end + at * at * 7) for at, (frame, end) in
+                 enumerate(evenly(20))]
+        stl = programme(case, times)
+        sent = sendings(case, stl)
+        end = times[count - 1][1] * TICKS if count else -1
+        later = [(pts + 15_000 * TICKS, some) for pts, some in sent if pts <= end]
+        return stl, case.write("tail.pes", joined([*sent, *later]))
+
+    return made
+
+
+def beside_quick(count: int, is_before: bool) -> Callable[[Case], tuple[str, str]]:
+    """A few subtitles, with six minutes of another programme's quick ones before or behind."""
+    def made(case: Case) -> tuple[str, str]:
+        quick = [(FIRST + 20 * at, FIRST + 20 * at + 15) for at in range(450)]
+        others = sendings(case, programme(case, quick, text=b"Others %d", name="quick.stl"))
+        stl = programme(case, evenly(count))
+        by = TICKS * (10_000 if not is_before else -10_000)
+        return stl, case.write("quick.pes", joined(sorted([
+            *sendings(case, stl), *((pts + by, some) for pts, some in others)])))
+
+    return made
+
+
+def cut_at(count: int) -> Callable[[Case], tuple[str, str]]:
+    """A break stands where the file adjoins and is cut: the page is erased there."""
+    def made(case: Case) -> tuple[str, str]:
+        times = evenly(20, True)
+        stl = programme(case, times)
+        own = programme(case, times[:count], name="first.stl")
+        rest = [(pts + 500 * TICKS, some) for pts, some in sendings(case, stl)
+                if pts >= times[count][0] * TICKS]
+        return stl, case.write("cut.pes", joined([*sendings(case, own), *rest]))
+
+    return made
+
+
+def airings() -> Iterator[Recording]:
+    """Tails of up to six of twenty subtitles, quick ones, a cut at a break."""
+    for count in (0, 3, 6):
+        yield Recording(AIRINGS, f"tail {count}", with_tail(count), ["--every", "40"])
+    for count in (5, 8, 12):
+        for is_before in (False, True):
+            yield Recording(AIRINGS, f"quick {count} {is_before}", beside_quick(
+                count, is_before), ["--every", "40", "--no-complete"])
+    for count in (8, 12):
+        yield Recording(AIRINGS, f"cut {count}", cut_at(count), [
+            "--every", "40", "--no-complete", "--to", time_of(FIRST + EACH * count)])
+
+
+def recordings() -> list[Recording]:
+    """All of them."""
+    return [*inserters(), *paces(), *breaks(), *services(), *airings()]
+
+
+class Right(Case):
+    """Some of each kind."""
+
+    def test_counts(self) -> None:
+        """As many of each kind as there are to be."""
+        counts = collections.Counter(one.kind for one in recordings())
+        self.must("counts", counts == {kind: one.recordings for kind, one in LOST.items()}, counts)
+
+    def test_accepted(self) -> None:
+        """Of some of each kind no more are lost than of all of them, and some are accepted."""
+        for kind in LOST:
+            several = [one for one in recordings() if one.kind == kind][::GATE]
+            words = [one.judge(self).word for one in several]
+            self.must(kind, is_bounded(kind, words) and "accepted" in words, words)
+
+
+def is_bounded(kind: str, words: Sequence[str]) -> bool:
+    """Whether no more are refused or not judged of a kind than may be."""
+    bound = LOST[kind]
+    refused = sum(word not in ("accepted", "not judged") for word in words)
+    return refused <= bound.refused and \
+        refused + words.count("not judged") <= bound.refused + bound.not_judged
+
+
+def main(program: str) -> None:
+    """Judges all, and prints the counts."""
+    BENCH.chosen = program
+    case, kinds = Right("test_accepted"), dict[str, list[str]]()
+    case.setUp()
+    for one in recordings():
+        told = one.judge(case)
+        kinds.setdefault(one.kind, []).append(told.word)
+        if told.word != "accepted":
+            print(f"{one.kind}, {one.name}: {told.verdict.sentence}", flush=True)
+    for kind, words in kinds.items():
+        print(f"{kind}: {dict(collections.Counter(words))}, "
+              f"{'no more' if is_bounded(kind, words) else 'MORE'} than {LOST[kind]}", flush=True)
+
+
+if __name__ == "__main__":
+    main(sys.argv[1])
