@@ -109,7 +109,9 @@ class Told(Channel):
         Judging.made = []
         self.said: list[str] = []
         self.back = back
-        super().__init__(words, "tools/qc", spool or tempfile.mkdtemp(dir=case.folder))
+        spool = spool or tempfile.mkdtemp(dir=case.folder)
+        os.makedirs(spool, exist_ok=True)
+        super().__init__(words, "tools/qc", spool)
         self.results.judged = self.judge_beside  # type: ignore[assignment]
         self.go_on()
         self.hearing.turn_to([self.words.page])
@@ -142,6 +144,11 @@ class Told(Channel):
         for line in lines:
             self.hearing.by_page[page].take(line)
             self.take()
+
+    def keep_now(self) -> None:
+        """What is done each second."""
+        self.next_write = 0.0
+        self.keep()
 
     def edit(self, text: str) -> None:
         """The list is another one, and is looked at twice."""

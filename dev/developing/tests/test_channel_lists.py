@@ -126,7 +126,7 @@ class Lists(Case):
             found = self.look(planned, text)
             self.must(repr(more), found == [*before, *names], found)
         known = {one.name: one for one in planned.programmes}
-        two = known["two"].asked
+        two = known["two"].request
         self.must("what is asked", two and (two.stl, two.every) == ("two.stl", 50))
         self.must("why not", "list, line 8: --pid goes with" in (known["line 8"].reason or "") and
                   "list, line 10: a quote does not end" in (known["line 10"].reason or ""),
@@ -155,12 +155,12 @@ class Lists(Case):
         planned = self.planned("a\nb --breaks 1\nc\n")
         self.look(planned)
         a, b, c = planned.programmes
-        self.must("wrong", b.asked is None and b.name == "line 2")
+        self.must("wrong", b.request is None and b.name == "line 2")
         c.has_ended = True
         self.look(planned, "c --every 7\nb\na --every 9\n", 2)
         self.must("rows", planned.programmes == [c, b, a] and planned.open() == [b, a])
-        self.must("asked", a.asked and a.asked.every == 9 and b.asked and b.reason is None)
-        self.must("as it was", c.asked and c.asked.every == 250)
+        self.must("asked", a.request and a.request.every == 9 and b.request and b.reason is None)
+        self.must("as it was", c.request and c.request.every == 250)
         self.must("said", planned.said == [
             f"{self.path('list')}: changed: c, line 2, a; in another order"], planned.said)
 
@@ -393,7 +393,6 @@ class AtRandom(Case):
     def begin(self, truth: Truth, files: dict[str, str], out: str) -> Told:
         """Begins a channel, which waits for each programme as long as it takes."""
         truth.told, truth.sent = [], []
-        os.makedirs(f"{out}.feed", exist_ok=True)
         return Told(self, truth.text(files), out, patience=DAY, spool=f"{out}.feed")
 
     def edit(self, channel: Told, truth: Truth, files: dict[str, str],

@@ -66,7 +66,6 @@ class Again(Programmes):
         """It is said once, is open meanwhile, lets others pass, and gets its verdict; also in
         another call, which does not hear it once more."""
         spool, out = self.path("spool"), self.path("out")
-        os.mkdir(spool)
         channel, lines = Told(self, self.listed("one", "two"), out, spool=spool), Lines()
         self.let_down(channel)
         with mock.patch.object(Judging, "ended", PASSING):
@@ -160,7 +159,6 @@ class Kept(Programmes):
 
     def sent(self, *names: str, spool: str, out: str, listed: str = "") -> Told:
         """A channel that has judged some programmes."""
-        os.makedirs(spool, exist_ok=True)
         channel = Told(self, listed or self.listed(*names), out, spool=spool, command="told")
         lines, begin = Lines(), BEGIN + channel.queue.ended
         for number, name in enumerate(names):
@@ -330,7 +328,6 @@ class Crashes(Programmes):
         """Ends a day at a step, and does the rest in another one; how many steps there were."""
         name = f"{at} {is_after}"
         out, steps, told = self.path(f"out {name}"), [0], list[str]()
-        os.makedirs(f"{out}.feed")
 
         def crashing(real: Callable[..., Any]) -> Callable[..., Any]:
             def call(*words: Any, **more: Any) -> Any:

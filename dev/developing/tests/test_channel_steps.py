@@ -163,7 +163,6 @@ class Steps(Programmes):
     def test_patience_of_another_call(self) -> None:
         """It counts from the end of the programme before, however much is heard once more."""
         spool, out = self.path("spool"), self.path("out")
-        os.mkdir(spool)
         channel, lines = Told(self, self.listed("one", "two"), out, spool=spool), Lines()
         channel.give(lines.sent(texts_of("one"), BEGIN, 20))
         for back in (0, 60, 600):
@@ -247,7 +246,6 @@ class Steps(Programmes):
     def test_list_that_was_empty(self) -> None:
         """Patience begins once there is a line, and goes on in another call."""
         spool, out = self.path("spool"), self.path("out")
-        os.mkdir(spool)
         channel, lines = Told(self, "", out, spool=spool), Lines()
         channel.give(lines.pes(BEGIN + SECOND * at) for at in range(0, 600, 30))
         channel.edit(self.listed("one"))
@@ -283,7 +281,6 @@ class Steps(Programmes):
         listed = self.listed("one") + self.path("copy.stl") + "\n"
         for kind in ("lost", "anew"):
             spool, out = (self.path(f"{kind} {name}") for name in ("spool", "out"))
-            os.mkdir(spool)
             for turn in range(2):
                 channel, lines = Told(self, listed, out, spool=spool), Lines()
                 channel.hearing = Pages("none", None, None, lambda: ())
@@ -355,8 +352,7 @@ class Steps(Programmes):
         channel.give(lines.sent(["other", "texts"], BEGIN))
         for second in range(20, 2000):
             channel.give([lines.pes(BEGIN + SECOND * second, "hecb" if second % 2 else "he")])
-            channel.next_write = 0.0
-            channel.keep()
+            channel.keep_now()
         heard = channel.hearing.by_page[0, 0x88]
         self.must("forgotten", not heard.changes[False].times and heard.changes[False].count == 4)
         self.must("runs", len(heard.packets.runs) < 1300, len(heard.packets.runs))

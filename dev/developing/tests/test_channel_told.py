@@ -38,15 +38,13 @@ class Machine(Programmes):
 
     def look(self, channel: Told) -> dict[str, Any]:
         """What stands there after a second."""
-        channel.next_write = 0.0
-        channel.keep()
+        channel.keep_now()
         return self.told()
 
     def test_what_it_says(self) -> None:
         """Which is sent, which are waited for and since when, the last loss and the last verdict,
         what is kept, what came of the list, and how often a judge has begun."""
         spool = self.path("spool")
-        os.mkdir(spool)
         channel, lines = Told(self, self.listed("one", "two"), self.path("out"), spool=spool), \
             Lines()
         counts = {"open": 2, "judged": 0, "refused": 0, "not_judged": 0, "not_written": 0}
@@ -139,14 +137,12 @@ class Folders(Programmes):
         for number, name in enumerate(("one", "two")):
             channel.give(lines.sent(texts_of(name), BEGIN + 60 * SECOND * number, 20))
         for _ in range(2):
-            channel.next_write = 0.0
-            channel.keep()
+            channel.keep_now()
         again = [line for line in channel.said if "is tried again" in line]
         self.must("said", [line.partition(":")[0] for line in again] == ["one", "two"],
                   channel.said)
         os.unlink(self.path("out"))
-        channel.next_write = 0.0
-        channel.keep()
+        channel.keep_now()
         self.must("written", not channel.results.failed and all(
             json.loads(self.read(f"out/{name}.json"))["verdict"] == "accepted"
             for name in ("one", "two")))

@@ -228,7 +228,7 @@ class Channel:
         """Judges what has come, and begins what can be begun."""
         self.look()
         while not self.running or self.running.has_come(
-                self.hearing.by_page[self.running.asked.page], self.now, is_still):
+                self.hearing.by_page[self.running.request.page], self.now, is_still):
             if self.running:
                 self.judge(self.running)
             if not self.begin_next():
@@ -251,7 +251,7 @@ class Channel:
         elif self.now <= queue.until:
             return False
         else:
-            origin = first.asked and first.asked.origin
+            origin = first.request and first.request.origin
             what = "its first five cues were not seen" if origin is None else \
                 f"its first TCI did not come, by --origin {origin},"
             self.leave(f"{what} within {counted(self.words.patience, 'minute')}", queue.until)
@@ -268,8 +268,8 @@ class Channel:
         planned.said.clear()
         while planned.gone:
             self.unjudged(planned.gone.pop(0), f"it is gone from {planned.path}", self.queue.since)
-        self.hearing.turn_to(programme.asked.page for programme in self.queue.waiting
-                             if programme.asked)
+        self.hearing.turn_to(programme.request.page for programme in self.queue.waiting
+                             if programme.request)
 
     def begin_seen(self, place: int, midnight: int) -> None:
         """Begins with a programme that is there; those before it in the list were not."""
@@ -280,10 +280,10 @@ class Channel:
                           f"not seen: {name}, which is behind it in the list, is sent",
                           self.queue.since)
         programme = self.queue.leave()
-        assert programme.asked and programme.awaited
-        origin = self.hearing.by_page[programme.asked.page].clock.pts_at(midnight)
+        assert programme.request and programme.awaited
+        origin = self.hearing.by_page[programme.request.page].clock.pts_at(midnight)
         self.running = OnAir(
-            programme, dataclasses.replace(programme.asked, origin=origin, pid=None), midnight,
+            programme, dataclasses.replace(programme.request, origin=origin, pid=None), midnight,
             programme.awaited.first, programme.awaited.last)
 
     def leave(self, reason: str, since: int) -> None:
@@ -296,9 +296,9 @@ class Channel:
 
     def judge(self, running: OnAir, why: str = ENDED) -> None:
         """Judges a programme by what came of it; one that did not come whole is not judged."""
-        programme, asked = running.programme, running.asked
-        heard = self.hearing.by_page[asked.page]
-        parts = self.segments.between(running.begin - TICKS * (asked.every + AROUND),
+        programme, request = running.programme, running.request
+        heard = self.hearing.by_page[request.page]
+        parts = self.segments.between(running.begin - TICKS * (request.every + AROUND),
                                       running.since, running.until)
         missing = running.missing(heard.start, self.now, why)
         over, self.running = min(running.end, self.now), None
@@ -308,10 +308,10 @@ class Channel:
             self.unjudged(programme, missing or self.why_not_kept(), over, over)
         else:
             move = heard.move_since(running.begin)
-            record = self.records.new(programme.name, asked.stl, over, over)
+            record = self.records.new(programme.name, request.stl, over, over)
             self.records.put_due(record, Due(
-                programme.line.words, asked.origin or 0, None if move else heard.pid or None,
-                bool(programme.asked and programme.asked.origin is None), parts,
+                programme.line.words, request.origin or 0, None if move else heard.pid or None,
+                bool(programme.request and programme.request.origin is None), parts,
                 f"{move.words} at {running.time_at(move.time)}" if move else ""))
             self.results.judge_due()
         self.queue.wait_anew(over, over)
@@ -319,7 +319,7 @@ class Channel:
     def unjudged(self, programme: Programme, reason: str, since: int, over: int | None = None
                  ) -> None:
         """A programme is not judged; the next one is waited for since a time."""
-        stl = programme.asked.stl if programme.asked else ""
+        stl = programme.request.stl if programme.request else ""
         record = self.records.new(programme.name, stl, self.queue.ended if over is None else over,
                                   since)
         self.results.end(record, unjudged(programme.name, reason))

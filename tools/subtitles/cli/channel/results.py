@@ -177,7 +177,7 @@ class Results:
             tempfile.tempdir = folder
             try:
                 join(path, self.folder, due.parts)
-                verdict = single.judged(asked, self.call_of(record, due, path), self.called)
+                verdict = single.judged(request, self.call_of(record, due, path), self.called)
                 return verdict.status if verdict.is_final else PASSING
             except (OSError, MemoryError) as reason:
                 tell(error_line(reason))
@@ -189,7 +189,7 @@ class Results:
         if record.tries.count:
             self.records.room.give()
         try:
-            asked = dataclasses.replace(self.asked_of([*due.words]), origin=due.origin,
+            request = dataclasses.replace(self.asked_of([*due.words]), origin=due.origin,
                                         pid=due.pid, recording="-")
             shutil.rmtree(folder, ignore_errors=True)
             os.mkdir(folder)

@@ -39,7 +39,7 @@ class Programme:
 
     name: str
     line: Line
-    asked: Request | None
+    request: Request | None
     reason: str | None
     has_ended: bool = False
     awaited: Union[Awaited, Timed, None] = None
@@ -47,26 +47,26 @@ class Programme:
 
     def wait(self, since: int, until: int) -> None:
         """Reads its subtitle file, and waits for what has come from one time to another."""
-        self.awaited, self.why_not, asked = None, self.reason, self.asked
-        if asked is None:
+        self.awaited, self.why_not, request = None, self.reason, self.request
+        if request is None:
             return
         try:
-            self.why_not = no_file(asked.stl)
+            self.why_not = no_file(request.stl)
             if not self.why_not:
-                self.awaited = Awaited(asked.stl, asked.option, since, until, asked.within,
-                                       asked.between) if asked.origin is None else \
-                    Timed(asked.stl, asked.option, asked.origin, since, asked.between)
+                self.awaited = Awaited(request.stl, request.option, since, until, request.within,
+                                       request.between) if request.origin is None else \
+                    Timed(request.stl, request.option, request.origin, since, request.between)
         except (Stop, OSError) as reason:
             self.why_not = error_line(reason)
 
     def midnight(self, hearing: Hearing) -> int | None:
         """The time of its midnight, once it is there."""
-        if self.asked is None or self.awaited is None:
+        if self.request is None or self.awaited is None:
             return None
-        heard = hearing.by_page[self.asked.page]
+        heard = hearing.by_page[self.request.page]
         if isinstance(self.awaited, Timed):
             return self.awaited.midnight(heard.clock)
-        return self.awaited.midnight(heard.changes[self.asked.within > 0])
+        return self.awaited.midnight(heard.changes[self.request.within > 0])
 
 
 class Edits(NamedTuple):
@@ -148,10 +148,10 @@ class Planned:
         for name, is_gone, number, words, fault in entries:
             line = Line(number, tuple(words), fault)
             has_ended = self.known(self.names.take(name), "") is not None
-            asked, reason = (None, None) if has_ended else self.read_line(line)
+            request, reason = (None, None) if has_ended else self.read_line(line)
             if not is_gone or not has_ended:
                 (self.gone if is_gone else self.programmes).append(
-                    Programme(name, line, asked, reason, has_ended))
+                    Programme(name, line, request, reason, has_ended))
 
     def open(self) -> list[Programme]:
         """Those that have no result."""
@@ -200,8 +200,8 @@ class Planned:
 
     def files(self) -> list[str]:
         """The files that lines name."""
-        return [name for programme in self.programmes if (asked := programme.asked)
-                for name in (asked.stl, asked.severity) if name]
+        return [name for programme in self.programmes if (request := programme.request)
+                for name in (request.stl, request.severity) if name]
 
     def read(self) -> str | None:
         """The text of the list; `None` as long as it is not there."""
@@ -229,7 +229,7 @@ class Planned:
                 programme = self.programme(line)
                 new.append(programme)
             elif programme.line.words != line.words and not programme.has_ended:
-                programme.asked, programme.reason = self.read_line(line)
+                programme.request, programme.reason = self.read_line(line)
                 programme.awaited = programme.why_not = None
             programme.line = line
             programmes.append(programme)
@@ -248,13 +248,13 @@ class Planned:
     def programme(self, line: Line) -> Programme:
         """The programme of a line that is new. A result that is there is its own, or takes the
         name."""
-        asked, reason = self.read_line(line)
-        stl = asked.stl if asked else ""
+        request, reason = self.read_line(line)
+        stl = request.stl if request else ""
         while True:
-            name = self.names.pair(stl) if asked else self.names.line(line.number)
+            name = self.names.pair(stl) if request else self.names.line(line.number)
             record = self.known(name, stl)
             if record is None or record.is_of(stl):
-                return Programme(name, line, asked, reason, record is not None)
+                return Programme(name, line, request, reason, record is not None)
 
     def read_line(self, line: Line) -> tuple[Request | None, str | None]:
         """What a line asks, or why that is nothing."""
@@ -271,11 +271,11 @@ class Planned:
         known, bare = (pair_options(words) for words in (
             self.defaults, getattr(self.defaults, "bare", self.defaults)))
         feed = {"recording": "-"}
-        asked = request_of(read_options(line_parser(), line, {**known, **feed}, {**bare, **feed},
+        request = request_of(read_options(line_parser(), line, {**known, **feed}, {**bare, **feed},
                                         folder_of(self.path)))
-        if asked.profile and asked.profile != self.defaults.profile:
-            refuse_settings(asked.profile, CHANNEL_LINE)
-        return asked
+        if request.profile and request.profile != self.defaults.profile:
+            refuse_settings(request.profile, CHANNEL_LINE)
+        return request
 
 
 def is_entry(entry: list[Any]) -> bool:
@@ -381,13 +381,13 @@ class OnAir:
     on, and up to `until`, may be of it."""
 
     programme: Programme
-    asked: Request
+    request: Request
     midnight: int
     first: int
     last: int
 
     def __post_init__(self) -> None:
-        every = TICKS * self.asked.every
+        every = TICKS * self.request.every
         self.begin, self.end = (self.midnight + TICKS * at for at in (self.first, self.last))
         self.since, self.until = self.begin - max(MARGIN, every), self.end + LATER + every
 
@@ -399,19 +399,20 @@ class OnAir:
     def is_over(self, survey: Survey, packets: Packets, is_still: bool) -> bool:
         """Whether its last page transmission has come, or can't any more; of one that stands still,
         whether the last that has come may be it."""
-        asked, origin = self.asked, self.asked.origin
-        if origin is None or asked.breaks:
+        request, origin = self.request, self.request.origin
+        if origin is None or request.breaks:
             return False
         clock = survey.clock_of(packets.pid)
         now = packets.runs[-1].last if packets.runs else None
-        frames = [frame_in(pts, origin, asked.within)
+        frames = [frame_in(pts, origin, request.within)
                   for pts in (now, clock and clock[1] - late_of(packets)) if pts is not None]
         latest = max((frame for frame in frames if frame < FRAMES_OF_A_DAY), default=-1)
         if latest < self.last:
             return False
-        cut = cut_of(packets, self.first, self.last, origin, asked.every, asked.within, (0, LAST))
+        cut = cut_of(packets, self.first, self.last, origin, request.every, request.within,
+                     (0, LAST))
         return cut.is_over or is_still and cut.has_end or \
-            latest > self.last + max(asked.every, asked.within)
+            latest > self.last + max(request.every, request.within)
 
     def missing(self, start: int, now: int, why: str) -> str | None:
         """Why it is not judged, where it did not come whole: the feed was heard from one time to
