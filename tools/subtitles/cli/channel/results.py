@@ -174,7 +174,7 @@ class Results:
         path = os.path.join(folder, RECORDING)
 
         def does(_: Sequence[str]) -> int:
-            tempfile.tempdir = folder
+            tempfile.tempdir = folder  # of this process, which is a fork of its own
             try:
                 join(path, self.folder, due.parts)
                 verdict = single.judged(request, self.call_of(record, due, path), self.called)
