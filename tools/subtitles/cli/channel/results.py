@@ -190,7 +190,7 @@ class Results:
             self.records.room.give()
         try:
             request = dataclasses.replace(self.asked_of([*due.words]), origin=due.origin,
-                                        pid=due.pid, recording="-")
+                                          pid=due.pid, recording="-")
             shutil.rmtree(folder, ignore_errors=True)
             os.mkdir(folder)
             status, lines = called(lambda: ended(does, []), longest)

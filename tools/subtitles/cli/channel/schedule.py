@@ -272,7 +272,7 @@ class Planned:
             self.defaults, getattr(self.defaults, "bare", self.defaults)))
         feed = {"recording": "-"}
         request = request_of(read_options(line_parser(), line, {**known, **feed}, {**bare, **feed},
-                                        folder_of(self.path)))
+                                          folder_of(self.path)))
         if request.profile and request.profile != self.defaults.profile:
             refuse_settings(request.profile, CHANNEL_LINE)
         return request
