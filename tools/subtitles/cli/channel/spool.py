@@ -124,7 +124,7 @@ def set_aside(folder: str, name: str) -> str:
     return f"{path} is damaged: it is {name}{ASIDE} now, and what it said is not known"
 
 
-# KeptRoom that is kept for results: given away where the disk is full.
+# Room that is kept for results: given away where the disk is full.
 
 ROOM, SHARE = 4 << 20, 32  # bytes, and at most such a share of the disk
 
