@@ -107,8 +107,8 @@ class Told(Case):
             self.must(f"{frames}", told.word == "refused" and names == wanted, told.said)
 
     def test_manual(self) -> None:
-        """Each cause begins a row there."""
+        """Each cause begins an item there."""
         rows = read(os.path.join(TOP, "docs", "manual", "refusals.md")) or ""
-        begins = [line.partition(" | ")[0] for line in rows.splitlines() if line.startswith("| `")]
+        begins = [line.partition(": ")[0] for line in rows.splitlines() if line.startswith("- `")]
         for name in NAMES:
             self.must(name, any(f"`{name}" in one for one in begins))

@@ -4,7 +4,6 @@ from __future__ import annotations
 
 import json
 import os
-import re
 import sys
 from typing import Any
 
@@ -112,10 +111,6 @@ class Added(Case):
                 ("completion", " --new-one ")):
             self.must(name, line in made[name], made[name])
         self.must("a flag has no value", "--newer" not in made["completion"])
-        lacks = dict(re.findall(r"Not with ([^:]+): ([^.]+)\.", " ".join(made["chapter"].split())))
-        for name in ("`--channel`", "a line of a channel", "STL alone"):
-            self.must("chapter", "`--newer`" in lacks.get(name, "").split(", "), made["chapter"])
-        self.must("chapter", "--new-one" not in " ".join(lacks.values()), made["chapter"])
         for name, members in (("asked", ("5", True)), ("left out", (None, False)),
                               ("line", ("5", True))):
             found = made[name]["new_one"], made[name]["newer"]
