@@ -14,7 +14,7 @@ import re
 import subprocess
 import sys
 import textwrap
-from typing import NamedTuple, Sequence
+from typing import NamedTuple
 
 from subtitles.common.command_line import INSTALLED, Stop
 from subtitles.common.program import COMPLETION, TOOLS, TOP, read
@@ -185,23 +185,12 @@ def of_chapter(table: str = "") -> dict[str, str]:
     """The parts of qc's chapter, by the table of options of a pair; without those that take another
     one back, and those that `check` has, which stand in its own table."""
     of_check = {one.name for one in options(table) if "check" in one.commands}
-    known = [one for one in request.OPTIONS if not one.name.startswith("--no-")]
     rows = ["| Option | Is |", "|---|---|"]
-    for one in known:
-        if one.name not in of_check:
+    for one in request.OPTIONS:
+        if one.name not in of_check and not one.name.startswith("--no-"):
             form = one.form.replace("|", "\\|")
             rows.append(f"| `{form}` | {one.means} |")
-    return {"options": "\n".join(rows) + "\n\n" + not_with(known, request.JUDGED)}
-
-
-def not_with(known: Sequence[request.Option], modes: Sequence[request.Mode]) -> str:
-    """What options a way to call does not take, as a sentence for each that lacks one."""
-    told = []
-    for mode in modes:
-        lacked = [f"`{one.name}`" for one in known if mode not in one.modes]
-        if lacked:
-            told.append(f"Not with {mode.name}: {', '.join(lacked)}.")
-    return textwrap.fill(" ".join(told), WIDTH, break_on_hyphens=False) + "\n" if told else ""
+    return {"options": "\n".join(rows) + "\n"}
 
 
 def completed(usage: str, table: str, helps: list[str]) -> dict[str, str]:

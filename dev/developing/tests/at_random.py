@@ -162,7 +162,8 @@ def said_of_name(name: str, program: str) -> Said:
                 one.write(text)
         if name == "claimed":
             stack.enter_context(claimed("out", "b"))
-        return called(NAMED[name].split(), program)
+        said = called(NAMED[name].split(), program)
+    return said
 
 
 @contextlib.contextmanager

@@ -144,3 +144,26 @@ def in_pipe(case: Case, data: bytes, path: str = "") -> str:
     os.mkfifo(path)
     threading.Thread(target=send, args=(path, data), daemon=True).start()
     return path
+
+
+# A programme of subtitles that are as far apart, some of them late, or sent in parts.
+
+EACH, LASTS = 100, 60  # frames from a TCI to the next one, and to its TCO
+ORIGIN = 20_000 * TICKS + 7
+PAUSES = 880, 1680  # frames before the 9th subtitle and the 17th, where the parts begin
+
+
+def times(count: int) -> list[tuple[int, int]]:
+    return [(EACH * number, EACH * number + LASTS) for number in range(1, count + 1)]
+
+
+def one_late(number: int, by: int) -> Change:
+    """The sendings of a subtitle so many frames late."""
+    begin = EACH * number * TICKS
+    return late(by, begin, begin + LASTS * TICKS - 1)
+
+
+def apart(sent: Sent, *shifts: int) -> Sent:
+    """What is sent from each pause on moved by so many frames."""
+    begun = [sum(pts >= pause * TICKS for pause in PAUSES[:len(shifts)]) for pts, _ in sent]
+    return [(ORIGIN + pts + TICKS * (0, *shifts)[at], some) for at, (pts, some) in zip(begun, sent)]

@@ -3,9 +3,10 @@ from __future__ import annotations
 
 from typing import Iterator, NamedTuple
 
+from developing.multiplex import BEGINS, PACKET, PAYLOAD, head, section
 from developing.pes import pts_bytes, pts_in
 from subtitles.common.times import CLOCK, TICKS, ticks_between, wrapped
-from developing.multiplex import BEGINS, PACKET, PAYLOAD, head, section
+from subtitles.stream.gaps import SECOND
 from .bench import packets
 
 RANDOM_ACCESS = 0x40
@@ -218,3 +219,78 @@ def filler(pid: int, counters: dict[int, int]) -> Sent:
 
 FILLERS = {pid: [Sent(pid, head(pid, 0, PAYLOAD | counter) + b"\x55" * (PACKET - 4))
                  for counter in range(16)] for pid in (VIDEO_PID, AUDIO_PID)}
+
+
+# A multiplex of some shape, from the first PES packet to the last.
+
+NULL_PID = 0x1FFF
+FILLING = b"\x55" * (PACKET - 4)
+
+
+class Shape(NamedTuple):
+    """A multiplex: TS packets a second, ticks from a PCR to the next one, whether it has null
+    packets; the frames in which no PCR is sent, and from which frame on all times are later by so
+    many ticks, which may be announced."""
+
+    rate: int = 1000
+    every: int = 3600
+    has_null: bool = False
+    pause: tuple[int, int] = (0, 0)
+    jump: tuple[int, int] = (0, 0)
+    is_announced: bool = False
+
+
+def multiplexed(pes: list[bytes], shape: Shape) -> list[Sent]:
+    """A multiplex of some PES packets, video with the PCR, and audio."""
+    maker = Maker([(VIDEO_PID, MPEG_2, b""), (TELETEXT_PID, PRIVATE, teletext_descriptor())])
+    made: list[Sent] = []
+
+    def take(pid: int) -> None:
+        made.extend(Sent(pid, maker.data[at:at + PACKET])
+                    for at in range(0, len(maker.data), PACKET))
+        maker.data = b""
+
+    maker.put_tables()
+    take(0)
+    begin, end = (pts_in(pes[at]) for at in (0, -1))
+    frames, due, waiting = (end - begin) // TICKS + 30, begin - SECOND, list(pes)
+    for number in range(frames * shape.rate // 25):
+        now = begin - SECOND + number * SECOND // shape.rate
+        frame = (now - begin) // TICKS
+        later = shape.jump[1] if shape.jump[1] and frame >= shape.jump[0] else 0
+        if now >= due:
+            due += shape.every
+            if not shape.pause[0] <= frame < shape.pause[1]:
+                maker.put_pcr(now - AHEAD + later)
+                is_first = later and shape.is_announced
+                take(VIDEO_PID)
+                if is_first:
+                    made[-1] = Sent(VIDEO_PID, announced(made[-1].data))
+        if waiting and pts_in(waiting[0]) <= now:
+            maker.put(TELETEXT_PID, waiting.pop(0))
+            take(TELETEXT_PID)
+        pid = NULL_PID if shape.has_null and number % 3 else \
+            AUDIO_PID if number % 9 == 0 else VIDEO_PID
+        maker.put_packet(pid, 0, FILLING)
+        take(pid)
+    return made
+
+
+def announced(data: bytes) -> bytes:
+    """A TS packet that says that its clock goes on elsewhere."""
+    return data[:5] + bytes([data[5] | 0x80]) + data[6:]
+
+
+def without(made: list[Sent], first: int, count: int) -> list[Sent]:
+    """All but what was sent from a packet of Teletext on to another one, so many behind it."""
+    own = [at for at, one in enumerate(made) if one.pid == TELETEXT_PID]
+    return made[:own[first]] + made[own[first + count]:]
+
+
+def beside_video(pes: bytes, descriptor: bytes = teletext_descriptor(),
+                 ahead: int = AHEAD) -> bytes:
+    """PES packets beside a video PID that has the PCR."""
+    maker = Maker([(VIDEO_PID, MPEG_2, b""), (TELETEXT_PID, PRIVATE, descriptor)])
+    maker.put_tables()
+    put_teletext(maker, pes, ahead)
+    return maker.data

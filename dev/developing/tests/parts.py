@@ -106,3 +106,9 @@ def timeline_of(case: Case, data: bytes, origin: int = 0, within: int = 0) -> Ti
 def in_page(*values: Value) -> str:
     """What stands in a page of values that are put there one after another."""
     return joined(values).source
+
+
+def script(lines: list[str], status: int) -> str:
+    """A shell's program that prints lines and ends with a status, or below 0 by a signal."""
+    said = "".join(f"echo '{line}'; " for line in lines)
+    return said + (f"exit {status}" if status >= 0 else f"kill {status} $$")

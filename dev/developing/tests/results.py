@@ -13,7 +13,9 @@ from typing import Any, Iterator, Sequence
 from subtitles.common.program import TOP
 from subtitles.judging.causes import NAMES
 from subtitles.judging.status import NOT_JUDGED, STATUSES
+from subtitles.results.files import Row, row_of_object
 from subtitles.results.schema import FORMAT, LISTS
+from .bench import Case
 
 SCHEMA = os.path.join(TOP, "docs", "verdict.schema.json")
 KINDS: dict[str, Any] = {"object": dict, "array": list, "string": str, "null": type(None),
@@ -159,3 +161,19 @@ def some_of(value: dict[str, Any]) -> dict[str, Any]:
              for one in LISTS if one.name in value}
     return {**value, **lists, **({"pairs": list(map(some_of, value["pairs"]))}
                                  if "pairs" in value else {})}
+
+
+def row(name: str, verdict: str, line: str = "", hint: str = "", faults: int = 0) -> Row:
+    """A row of a table."""
+    made = row_of_object(result(verdict, fault_count=faults), name)
+    return made._replace(line=line, hint=hint)
+
+
+def agrees(case: Case, verdict: Any, name: str = "the schema") -> None:
+    """Tests an object against the schema, by one reader of it, and by two where there is another.
+    """
+    over = "a second reader of docs/verdict.schema.json, since there is no python3-jsonschema"
+    if second_reader() is None and over not in case.bench.over:
+        case.bench.over.append(over)
+    wrong = wrong_by_schema(verdict)
+    case.must(name, not wrong, wrong)

@@ -10,8 +10,8 @@ from developing.stl import boxed, gsi_block, subtitle_blocks
 from subtitles.common.times import CLOCK, TICKS, time_of
 from .bench import Case, example, example_bytes, moved
 from .judged import Judged, Sent, in_pipe, joined, judged, late, programme, sendings
-from .muxed import H_264, HEVC, MPEG_2, programme as stream_with
-from .test_qc import FITTED, TS, in_two_parts, lines_of, qc
+from .muxed import HEVC, H_264, MPEG_2, programme as stream_with
+from .test_cli_pairs import FITTED, TS, in_two_parts, lines_of, qc
 
 FIRST, EACH, LASTS = 900_000, 125, 60  # frames: of the first subtitle, from one to the next, of one
 WORDS = ["--every", "25", "--no-complete"]

@@ -5,15 +5,15 @@ import collections
 import glob
 import os
 import re
-import shutil
+import struct
 import unittest
 from typing import Iterator
 
 from subtitles.common.command_line import Stop
 from subtitles.common.program import TOP, read
-from subtitles.request.request import ALONE, CHANNEL, PAIR, Option
 from .. import pages
 from ..definitions import Library
+from ..looks import browser
 from ..promises import clauses_in, unknown_clauses
 from ..questions import Question, ask, count, link, page
 from ..sizes import KINDS, counted, total
@@ -106,17 +106,21 @@ class Documents(Case):
         self.must("a page", page("B.md#the-answer", self.folder).startswith("## The answer"))
 
     def test_have_a_picture(self) -> None:
-        """dev/make-picture makes README's picture of a report: PNG, 800 wide."""
-        if not shutil.which("rsvg-convert"):
-            self.skipTest("the picture of README, since there is no rsvg-convert")
-        done = self.call([os.path.join(TOP, "dev", "make-picture"), "-p", self.bench.program,
-                          self.path("new.png")])
+        """dev/make-picture makes README's picture of a report, PNG, and says whether one is of the
+        report that is made today."""
+        tool = [os.path.join(TOP, "dev", "make-picture"), "-p", self.bench.program]
+        made = self.write("old.png", b"\x89PNG\r\n\x1a\n")
+        done = self.call([*tool, "--compare", made])
+        self.must("an old one", done.status == 1 and b"is not of today's report" in done.out, done)
+        if not browser():
+            self.skipTest("the picture of README, since there is no browser")
+        done = self.call([*tool, made])
         self.must("made", done.status == 0, done)
-        for path in (self.path("new.png"), os.path.join(TOP, "docs", "report.png")):
-            with open(path, "rb") as file:
-                head = file.read(24)
-            self.must(path, head[:8] == b"\x89PNG\r\n\x1a\n"
-                      and int.from_bytes(head[16:20], "big") == 800, head)
+        with open(made, "rb") as file:
+            head = file.read(24)
+        self.must("PNG", head[:8] == b"\x89PNG\r\n\x1a\n"
+                  and struct.unpack(">II", head[16:]) == (1000, 800), head)
+        self.must("a new one", self.call([*tool, "--compare", made]).status == 0)
 
 
 # Man pages and completion: what dev/make-pages makes of the help texts and of the table.
@@ -205,16 +209,12 @@ class Parts(unittest.TestCase):
         self.assertIn("Which one. WORD is a, b.", made["options"])
         self.assertIn("[\\-\\-from TIME] [\\-o OUT]", made["synopsis"])
 
-    def test_says_what_a_call_does_not_take(self) -> None:
-        one, two, three = (Option(name, None, "", modes) for name, modes in (
-            ("--one", (PAIR,)), ("--two", (PAIR, ALONE)), ("--three", (PAIR, CHANNEL))))
-        rows: list[tuple[list[Option], str]] = [
-                ([], ""), ([two], "Not with `--channel`: `--two`.\n"),
-                ([one, two, three], "Not with STL alone: `--one`, `--three`. "
-                                    "Not with `--channel`: `--one`, `--two`.\n")]
-        for known, said in rows:
-            with self.subTest(said=said):
-                self.assertEqual(pages.not_with(known, (PAIR, ALONE, CHANNEL)), said)
+    def test_makes_the_table_of_a_chapter(self) -> None:
+        """Of what `check` has not; without what takes an option back."""
+        made = pages.of_chapter("| `--page P` | `check` | the page | 888 |\n")["options"]
+        for name, is_there in (("--page P", False), ("--every N", True), ("--strict", True),
+                               ("--no-keeping", False)):
+            self.assertEqual(f"| `{name}` | " in made, is_there, name)
 
     def test_makes_a_completion(self) -> None:
         made = pages.completed(USAGE, TABLE, [HELP])

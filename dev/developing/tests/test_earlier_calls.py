@@ -18,16 +18,15 @@ from subtitles.cli.single import claimed
 from subtitles.common.command_line import Lateness, Stop
 from subtitles.common.program import MadeWith, about_program
 from subtitles.request.lines import Item
-from subtitles.request.request import Profile, Request
+from subtitles.request.request import Profile
 from subtitles.results.files import (
     MOST_VALUES, Row, found, is_current, left_by_call, may_take, object_at, objects_in,
     row_of_object, unjudged)
 from subtitles.results.schema import ASKED, FORMAT
 from .bench import Case, example, example_bytes
-from .parts import asked_for
 from .channels import defaults
-from .results import FAULT, result
-from .test_many_pairs import row
+from .parts import asked_for
+from .results import FAULT, result, row
 
 PROGRAM = MadeWith("1", "ab" * 32, None)
 # What is asked otherwise than by the earlier call, each by itself.

@@ -12,11 +12,11 @@ from subtitles.stream.packets import Change, Mark, Packets, Run
 from subtitles.stream.ranges import Stage, joined_stages, part_inside, stages_of, up_to
 from subtitles.stream.survey import survey
 from .bench import Case, moved, packets
-from .judged import in_pipe, judged, programme
-from .muxed import MPEG_2, PRIVATE, TELETEXT_PID, VIDEO_PID, Maker, teletext_descriptor
+from .judged import in_pipe, judged, programme, times
+from .muxed import (
+    MPEG_2, Maker, PRIVATE, Sent as Packet, Shape, TELETEXT_PID, VIDEO_PID, multiplexed,
+    teletext_descriptor)
 from .parts import CLOSING, HEADER, row
-from .test_holes import Sent as Packet, Shape, sent_of
-from .test_pairs_in_parts import times
 
 OLD, NEW, THIRD = 0x101, 0x111, 0x121
 WORDS = "--every", "100"
@@ -233,7 +233,7 @@ class Moves(Case):
 
     def test_a_hole_where_it_moves(self) -> None:
         """What is lost of the whole stream between the two is lost of what is judged."""
-        made = sent_of(self.pes, Shape())
+        made = multiplexed(self.pes, Shape())
         own = [at for at, one in enumerate(made) if one.pid == TELETEXT_PID]
         at = own[sum(-(-len(one) // 184) for one in self.pes[:24])]
         after = [moved_to(NEW, one) if one.pid == TELETEXT_PID else one.data for one in made[at:]]

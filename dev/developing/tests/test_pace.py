@@ -13,9 +13,7 @@ from subtitles.stream.gaps import (
 from subtitles.stream.packets import Packets, Run
 from .bench import Case
 from .judged import Judged, Sent, in_pipe, joined, judged, programme, sendings
-from .muxed import TELETEXT_PID
-from .test_holes import Sent as Packet
-from .test_holes import Shape, sent_of, without
+from .muxed import Sent as Packet, Shape, TELETEXT_PID, multiplexed, without
 
 BEGIN = 900_000  # the first frame
 LONG = range(5000)  # frames, of which five may be otherwise
@@ -310,7 +308,7 @@ class Holes(Case):
     """Holes of 1 to 48,000 TS packets of the PID alone, and of all."""
 
     def multiplexed(self, sent: Sent, rate: int = 100) -> list[Packet]:
-        return sent_of([pes_packet(pts, some) for pts, some in sent], Shape(rate))
+        return multiplexed([pes_packet(pts, some) for pts, some in sent], Shape(rate))
 
     def in_bursts(self, times: Sequence[tuple[int, int]]) -> list[Packet]:
         return self.multiplexed(in_bursts(sendings(self, programme(self, times), every=1), times))

@@ -7,10 +7,8 @@ from developing.pes import STUFFING_UNIT, pes_packet
 from subtitles.common.times import TICKS
 from .bench import Case
 from .judged import Judged, Sent, joined, judged, programme, sendings
-from .muxed import TELETEXT_PID
+from .muxed import Sent as Packet, Shape, TELETEXT_PID, multiplexed
 from .parts import CLOSING, HEADER, row
-from .test_holes import Sent as Packet
-from .test_holes import Shape, sent_of
 from .test_pace import BEGIN, TIMES, filled
 
 WRONG = [HEADER, row(22, b"Wrong"), CLOSING]
@@ -38,7 +36,7 @@ def lost(made: list[Packet], count: int, is_announced: bool = False, frame: int 
     announced, by a packet without a payload."""
     gone = of_pid(made, frame)[:count]
     field = bytes([PACKET - 5, 0x80]).ljust(PACKET - 4, b"\xff")
-    says = Packet(head(TELETEXT_PID, 0, ADAPTATION_ALONE) + field, TELETEXT_PID)
+    says = Packet(TELETEXT_PID, head(TELETEXT_PID, 0, ADAPTATION_ALONE) + field)
     return [says if at == gone[-1] else one for at, one in enumerate(made)
             if at not in gone or is_announced and at == gone[-1]]
 
@@ -59,7 +57,7 @@ class Hidden(Case):
         """A multiplex in which so many PES packets take several TS packets each."""
         made = [pes_packet(pts, some) for pts, some in sent]
         made[first:first + count] = [large(one, size) for one in made[first:first + count]]
-        return sent_of(made, Shape(400))
+        return multiplexed(made, Shape(400))
 
     def test_two_large_ones(self) -> None:
         """16 TS packets of two PES packets, where most others take one."""
@@ -157,7 +155,7 @@ class Hidden(Case):
             known = [one.replace(self.folder + "/", "") for one in told.result["notes"]]
             self.must(f"a file, {word}", len(sent) < 101 and told.word == word and note in known
                       and told.parts("pace") == [(None,)], told.said)
-        made = sent_of([large(pes_packet(pts, some), 4) for pts, some in sent], Shape(100))
+        made = multiplexed([large(pes_packet(pts, some), 4) for pts, some in sent], Shape(100))
         note = "not checked: whether 1.4 s or more of this PID alone is missing: its PES packets " \
             "are too few to measure a pace"
         for count, is_announced, word in ((0, False, "refused"), (16, False, "accepted"),

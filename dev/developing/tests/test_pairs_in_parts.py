@@ -11,30 +11,13 @@ from subtitles.common.command_line import counted
 from subtitles.common.times import CLOCK, EARLY, TICKS, time_of
 from subtitles.judging.timing import origin_in
 from .bench import Case, example
+from .judged import (
+    Change, EACH, FEW, Judged, LASTS, ORIGIN, Sent, apart, joined, judged, late, one_late,
+    programme, sendings, times)
 from .parts import packets_told
-from .judged import FEW, Change, Judged, Sent, joined, judged, late, programme, sendings
 
 HELLO = example("hello.stl")
-EACH, LASTS = 100, 60  # frames from a TCI to the next one, and to its TCO
-ORIGIN = 20_000 * TICKS + 7
-PAUSES = 880, 1680  # frames before the 9th subtitle and the 17th, where the parts begin
 WARNING = "! warning: the page is repeated each 25 frames; --every 25 would hold it to that"
-
-
-def times(count: int) -> list[tuple[int, int]]:
-    return [(EACH * number, EACH * number + LASTS) for number in range(1, count + 1)]
-
-
-def one_late(number: int, by: int) -> Change:
-    """The sendings of a subtitle so many frames late."""
-    begin = EACH * number * TICKS
-    return late(by, begin, begin + LASTS * TICKS - 1)
-
-
-def apart(sent: Sent, *shifts: int) -> Sent:
-    """What is sent from each pause on moved by so many frames."""
-    begun = [sum(pts >= pause * TICKS for pause in PAUSES[:len(shifts)]) for pts, _ in sent]
-    return [(ORIGIN + pts + TICKS * (0, *shifts)[at], some) for at, (pts, some) in zip(begun, sent)]
 
 
 def cause_of(number: int, begin: int, by: int) -> str:

@@ -9,9 +9,8 @@ from developing.pes import DATA, MARK, UNIT, mirrored, pes_packet, pts_bytes, pt
 from developing.stl import gsi_block, subtitle_blocks
 from subtitles.common.times import CLOCK, TICKS, time_of
 from .bench import Case, example, example_bytes, moved, packets, random_subtitles
-from .judged import FEW, Judged, Sent, in_pipe, joined, judged, programme, sendings
-from .test_pairs_in_parts import ORIGIN, one_late, times
-from .test_qc_batch import agrees
+from .judged import FEW, Judged, ORIGIN, Sent, joined, judged, one_late, programme, sendings, times
+from .results import agrees
 
 STORY, HELLO, ACCENT = example("story.stl"), example("hello.stl"), example("accent.stl")
 UNREAD = "nothing of the recording was read, and --severity leaves no fault an error"

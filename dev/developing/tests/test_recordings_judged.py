@@ -10,11 +10,10 @@ import re
 from developing.pes import pes_packet, pts_in
 from subtitles.common.times import TICKS
 from .bench import Case, example_bytes, moved, packets, random_subtitles
-from .judged import in_pipe, joined, judged, programme, sendings
+from .judged import ORIGIN, apart, in_pipe, joined, judged, programme, sendings, times
 from .muxed import (
-    MPEG_2, PRIVATE, TELETEXT_PID, VIDEO_PID, Maker, put_teletext, spaced, teletext_descriptor)
+    MPEG_2, Maker, PRIVATE, TELETEXT_PID, VIDEO_PID, put_teletext, spaced, teletext_descriptor)
 from .parts import HEADER
-from .test_pairs_in_parts import ORIGIN, apart, times
 from .test_pairs_judged import ACCENT, EVERY, HELLO, STORY, broken
 
 

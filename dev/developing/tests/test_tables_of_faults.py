@@ -25,11 +25,9 @@ from subtitles.request.commands import CLEAR, Listener, Progress, Speech
 from subtitles.request.request import Unclear
 from subtitles.stream.receiver import BLANK_PAGE, OLD
 from .bench import Case
-from .judged import Heard
+from .judged import Heard, ORIGIN
 from .parts import (
-    CLOSING, HEADER, answer, asked_for, packets_told, part_with, row, timeline_of)
-from .test_helpers import script
-from .test_pairs_in_parts import ORIGIN
+    CLOSING, HEADER, answer, asked_for, packets_told, part_with, row, script, timeline_of)
 from .test_parts_of_verdicts import verdict_of
 
 BEFORE = CLOCK - 60 * TICKS  # an origin whose frames go on over the wrap

@@ -1,0 +1,475 @@
+"""Installed tools, and houses that send otherwise."""
+from __future__ import annotations
+
+import glob
+import itertools
+import json
+import os
+import re
+import shutil
+import signal
+import subprocess
+import sys
+import tarfile
+import time
+import xml.etree.ElementTree as tree
+from typing import Any
+from urllib.parse import unquote
+
+from subtitles.common.program import PAGES, TOP, chosen, documents, read, without_dead_links
+from ..compiled import plain_environment
+from ..proved import lacking, parsed
+from .bench import Case, Done, SECONDS, example, example_bytes, tool_path
+from .channels import until
+
+
+# tools/install and dev/dist: what they make is run from another folder.
+
+COMPLETE = '''source "$1"
+COMP_WORDS=("${@:2}")
+COMP_CWORD=$((${#COMP_WORDS[@]} - 1))
+if [ "$2" = subttx ]; then _subttx; else _subttx_tool "$2"; fi
+printf '%s\\n' "${COMPREPLY[@]}"
+'''
+
+
+def runs_the_whole_way(case: Case, prefix: str) -> None:
+    """From a recording to a verdict, with the tools of a prefix."""
+    def run(name: str, *words: str) -> Done:
+        return case.call([os.path.join(prefix, "bin", name), *words], env=plain_environment())
+
+    stl = example("story.stl")
+    stream = case.tool("pes2ts", example("story.pes"), "0x101")
+    recording = run("subttx-ts2pes", case.write("story.ts", stream.out), "0x101")
+    pes = case.write("recording.pes", recording.out)
+    done = run("subttx", "check", stl, pes, "--pes", "0-4")
+    case.must("check", done.out == b"accepted 226 frames 5 transmissions\n", done)
+    done = run("subttx-qc", stl, "story.ts", "-o", "report")
+    case.must("qc", done.out.endswith(b"accepted 226 frames 5 transmissions\n") and
+              os.path.join(prefix, "bin", "subttx").encode() in done.out and
+              os.path.exists(case.path("report/story.html")), done)
+    done = run("subttx-ts2pes", "--help")
+    case.must("its own names in the help", b"subttx-ts2pes TS PID" in done.out
+              and b"tools/" not in done.out, done)
+    done = run("subttx-qc", "--help")
+    named = re.findall(r"\S+/docs/manual/\w+\.md", done.out.decode())
+    case.must("documents in the help", len(named) == 2 and all(map(os.path.isfile, named)), named)
+
+
+def proved_here(case: Case) -> str:
+    """The file PROVED beside the program; the test is passed over where the gate has not proved
+    that."""
+    program, _ = chosen(TOP)
+    proved = os.path.join(os.path.dirname(program), "PROVED")
+    if not program or lacking(parsed(read(proved))):
+        case.skipTest("dev/dist, since the gate has not proved the program here")
+    return proved
+
+
+def is_compiled(folder: str) -> bool:
+    """Whether each module has a file that Python takes without a look at the times of that."""
+    for place, _, names in os.walk(folder):
+        for name in names:
+            if not name.endswith(".py"):
+                continue
+            made = os.path.join(place, "__pycache__",
+                                f"{name.removesuffix('.py')}.{sys.implementation.cache_tag}.pyc")
+            if not os.path.exists(made):
+                return False
+            with open(made, "rb") as file:
+                if file.read(8)[4:] != bytes([1, 0, 0, 0]):  # by its sum, which nobody compares
+                    return False
+    return True
+
+
+class Installed(Case):
+    """What is installed and packed."""
+
+    def test_installs(self) -> None:
+        """The program and the tools, also when the folder was moved."""
+        done = self.tool("install", "-p", self.bench.program, "first/prefix")
+        self.must("status", done.status == 0, done)
+        os.rename(self.path("first/prefix"), self.path("moved"))
+        paths = [path.replace("first/prefix", self.path("moved"))
+                 for path in done.out.decode().splitlines()]
+        self.must("each file that is told", paths and all(map(os.path.exists, paths)), paths)
+        again = self.tool("install", "-p", self.bench.program, "moved")
+        self.must("once more over it", again.status == 0, again)
+        self.must("compiled", is_compiled(self.path("moved/lib/subttx/tools/subtitles")))
+        runs_the_whole_way(self, self.path("moved"))
+
+    def test_removes(self) -> None:
+        """All that was installed goes, and its folders where nobody else has a file in them."""
+        tool = ("install", "--remove")
+        done = self.tool("install", "-p", self.bench.program, "own/prefix")
+        told = done.out.decode().splitlines()
+        done = self.tool(*tool, "own/prefix")
+        self.must("what is told", done.status == 0 and {*told} <= {*done.out.decode().splitlines()},
+                  done)
+        self.must("its folder", not os.path.exists(self.path("own/prefix"))
+                  and os.path.isdir(self.path("own")))
+        self.tool("install", "-p", self.bench.program, "linked")
+        os.rename(self.path("linked/lib/subttx"), self.path("elsewhere"))
+        os.symlink(self.path("elsewhere"), self.path("linked/lib/subttx"))
+        done = self.tool(*tool, "linked")
+        self.must("a link", done.status == 2 and "linked/lib/subttx is a link" in done.told[0] and
+                  os.path.exists(self.path("linked/bin/subttx")), done)
+        os.makedirs(self.path("shared/bin"))
+        os.makedirs(self.path("shared/share/man/man1"))
+        self.write("shared/bin/subttx-own", b"of somebody else")
+        self.tool("install", "-p", self.bench.program, "shared")
+        self.tool("install", "-p", self.bench.program, "shared")  # once more over it
+        self.write("shared/share/man/other", b"")
+        os.symlink("../lib/subttx/tools/older", self.path("shared/bin/subttx-older"))
+        done = self.tool(*tool, "shared")
+        left = sorted(os.path.relpath(os.path.join(place, name), self.path("shared"))
+                      for place, folders, names in os.walk(self.path("shared"))
+                      for name in [*folders, *names])
+        self.must("of others nothing", done.status == 0 and left == [
+            "bin", "bin/subttx-own", "share", "share/man", "share/man/man1", "share/man/other"],
+                  left)
+        for words in ([*tool, "shared"], [*tool, "none"],
+                      [*tool, "-p", self.bench.program, "shared"],
+                      list(tool)):
+            done = self.tool(*words)
+            self.must(" ".join(words[1:]), done.status == 2 and len(done.told) == 1, done)
+
+    def test_has_no_dead_links(self) -> None:
+        """Each link of an installed document leads to a file there, and each tool that an example
+        of the manual calls beside the program is installed."""
+        self.tool("install", "-p", self.bench.program, "prefix")
+        home = self.path("prefix/lib/subttx")
+        paths = [path for path in glob.glob(os.path.join(home, "**", "*.md"), recursive=True)
+                 if os.path.relpath(path, home) in documents()]
+        self.must("documents", len(paths) > 30, paths)
+        count = 0
+        for path in paths:
+            text = read(path) or ""
+            for target in re.findall(r"\]\(([^)\s#]+)", text):
+                count += 1
+                self.must(f"{os.path.relpath(path, home)}: {target}", ":" in target or
+                          os.path.exists(os.path.join(os.path.dirname(path), target)))
+            called = set(re.findall(r"^\$ .*?\btools/(\w+)", text, re.MULTILINE)) \
+                if "/manual/" in path else set()
+            self.must(f"{os.path.relpath(path, home)}: tools", all(
+                os.path.exists(os.path.join(home, "tools", name)) for name in called
+                if name not in ("install", "dist")), called)
+        self.must("links", count > 40, count)
+        text = without_dead_links("![a](x.png) [`b`](y.md#z) [c](http://d) [e](f.md)", self.folder)
+        self.must("their words", text == "a `b` [c](http://d) e", text)
+
+    def test_completes(self) -> None:
+        """Commands, and the options of each command that the manual names; those of a tool."""
+        if not shutil.which("bash"):
+            self.skipTest("completion, since there is no bash")
+
+        def offered(*words: str) -> set[str]:
+            done = self.call(["bash", "-c", COMPLETE, "bash",
+                              os.path.join(TOP, "tools", "completion.bash"), *words])
+            return set(done.out.decode().split())
+
+        paths = glob.glob(os.path.join(TOP, "docs", "manual", "*.md"))
+        manual = "".join(read(path) or "" for path in paths)
+        headings = re.findall(r"^## `(\w+) (.*)`$", manual, re.MULTILINE)
+        self.must("commands", offered("subttx", "") == {name for name, _ in headings}, headings)
+        for name, words in headings:
+            options = set(re.findall(r"--[\w-]+", words))
+            self.must(name, options <= offered("subttx", name, "-"), (options, name))
+        self.must("values", offered("subttx", "check", "--option", "g") == {"german"})
+        tool = os.path.join(TOP, "tools", "ts2pes")
+        self.must("a tool", {"--version", "-p"} <= offered(tool, "-"), offered(tool, "-"))
+        tool = os.path.join(TOP, "tools", "qc")
+        self.must("qc", {"--batch", "--allow-lost", "--severity", "-o"} <= offered(tool, "-"),
+                  offered(tool, "-"))
+
+    def test_names_one_version(self) -> None:
+        version = (read(os.path.join(TOP, "VERSION")) or "none").strip()
+        for name in PAGES:
+            page = read(os.path.join(TOP, "docs", name)) or ""
+            self.must(name, re.search(rf'^\.TH .*"subttx {re.escape(version)}"', page, re.M))
+        log = re.search(r"^## (\S+), \d", read(os.path.join(TOP, "CHANGELOG.md")) or "", re.M)
+        self.must("the first of the change log with a date", log and log[1] == version, log)
+
+    def test_makes_an_archive(self) -> None:
+        """The archive's sums are right, and what is in it runs; twice the same bytes."""
+        proved = proved_here(self)
+        done = self.tool("dist")
+        path = self.path(done.out.decode().strip())
+        self.must("status", done.status == 0, done)
+        before = self.read(path)
+        done = self.tool("dist", "new/folder")
+        self.must("the same bytes again, in a folder that is made",
+                  self.read(done.out.decode().strip()) == before, done)
+        done = self.tool("dist", self.write("file", b""))
+        self.must("no folder", done.status == 2 and done.told == [
+            f"dist: {self.path('file')} is no folder"], done)
+        with tarfile.open(path) as archive:
+            archive.extractall(self.folder)
+            folder = self.path(archive.getnames()[0])
+        sums = subprocess.run(["sha256sum", "--quiet", "-c", "SHA256SUMS"], cwd=folder, check=False)
+        self.must("its sums", sums.returncode == 0)
+        self.must("what was proved", read(os.path.join(folder, "PROVED")) == read(proved))
+        runs_the_whole_way(self, folder)
+
+    def test_makes_a_package(self) -> None:
+        """A package of Debian: twice the same bytes, unpacked it judges, and lintian finds no
+        error."""
+        proved = proved_here(self)
+        if not shutil.which("dpkg-deb"):
+            self.skipTest("dev/dist --deb, since there is no dpkg-deb")
+        done = self.tool("dist", "--deb")
+        path = self.path(done.out.decode().strip())
+        self.must("status", done.status == 0, done)
+        before = self.read(path)
+        self.tool("dist", "--deb")
+        self.must("the same bytes again", self.read(path) == before)
+        done = self.call(["dpkg-deb", "-f", path, "Version", "Depends"])
+        self.must("version, and what it needs", done.out.decode().splitlines() == [
+            f"Version: {(read(os.path.join(TOP, 'VERSION')) or '').strip()}",
+            "Depends: libc6 (>= 2.34), python3 (>= 3.9)"], done)
+        done = self.call(["dpkg-deb", "-x", path, "empty"])
+        self.must("unpacked", done.status == 0, done)
+        folder = self.path("empty/usr/share/doc/subttx")
+        self.must("the manual", os.path.isfile(os.path.join(folder, "docs", "manual", "qc.md")))
+        self.must("what was proved", read(os.path.join(folder, "PROVED")) == read(proved))
+        self.call(["dpkg-deb", "-e", path, "control"])
+        shared = "/usr/lib/subttx/tools/subtitles"
+        for name, is_there in (("postinst", True), ("prerm", False)):
+            script = self.read(f"control/{name}").decode().replace(shared, f"empty{shared}")
+            done = self.call(["sh", "-c", script], env=os.environ | {"PYTHONPYCACHEPREFIX": ""})
+            self.must(name, done.status == 0 and is_compiled(self.path(f"empty{shared}"))
+                      == is_there, done)
+            if is_there:
+                runs_the_whole_way(self, self.path("empty/usr"))
+        if shutil.which("lintian"):
+            done = self.call(["lintian", "--allow-root", "--fail-on", "error", path])
+            self.must("lintian", done.status == 0, done)
+        else:
+            self.bench.over.append("the package by lintian, which is not there")
+
+
+# tools/qc in a house: a batch that goes on, hostile names, a folder that is watched.
+
+SETTLED = 2  # seconds after which a file is whole
+HOSTILE = [b"\xff\xfe", b"caf\xe9", "caf\u00e9".encode(), b"-o", b"--help", b"=1+2", b"\x1b[31mred",
+           b"two\nlines", b"tab\there", b" leading", b"trailing ", b"a  b", b"$(date)", b"`date`",
+           b"*", b"?", b"[a]", b"a;b", b"a|b&c", b"#one", b"100%", b"back\\slash", b"it's\"",
+           b"<b>&amp;"]
+
+
+def qc(case: Case, *words: str) -> Done:
+    return case.tool("qc", *words, "-p", case.bench.program)
+
+
+def fill(case: Case, folder: str, count: int) -> None:
+    """A folder with pairs, of which the second is refused."""
+    os.mkdir(case.path(folder))
+    for number in range(1, count + 1):
+        is_broken = number == 2
+        case.write(f"{folder}/{number}.stl", example_bytes("hello.stl"))
+        case.write(f"{folder}/{number}.pes",
+                   example_bytes("no-erase.pes" if is_broken else "hello.pes"))
+
+
+def waiting_program(case: Case, count: int) -> str:
+    """The program, which counts the transmissions that it checks, and behind so many of them waits
+    until it may go on: a second look, whether `--keeping` accepts it, is none."""
+    case.write("checked", b"")
+    script = ("#!/bin/sh\n"
+              "case $* in *--keeping*) ;; check*--pes*--all*) echo one >>'{0}'\n"
+              "    while [ $(wc -l <'{0}') -gt {1} ] && [ ! -e '{2}' ]; do sleep 0.02; done ;;\n"
+              "esac\n"
+              "exec '{3}' \"$@\"\n").format(case.path("checked"), count, case.path("goes on"),
+                                         case.bench.program)
+    return case.write_program("program", script)
+
+
+def count_judged(case: Case) -> int:
+    """How many pairs were judged: a transmission is checked once."""
+    return len(case.read("checked").splitlines())
+
+
+def judges_another(case: Case, folder: str, count: int) -> bool:
+    """Whether there come so many objects in a folder, and the next pair is being judged."""
+    return until(lambda: os.path.isdir(case.path(folder)) and count_judged(case) == count + 1
+                 and len(objects_in(case, folder)) == count)
+
+
+def objects_in(case: Case, folder: str) -> dict[str, Any]:
+    """The objects in a folder, each of which has to be whole."""
+    found = {}
+    for name in os.listdir(case.path(folder)):
+        if name.endswith(".json") and not name.startswith("."):
+            found[name.removesuffix(".json")] = json.loads(case.read(f"{folder}/{name}"))
+    return found
+
+
+def comes_slowly(case: Case, name: str) -> float:
+    """Writes a pair, its recording in parts, for longer than a file has to be the same; for how
+    long it was the same at the most, which may be long on a machine that does other things too."""
+    data, longest = example_bytes("recording.ts"), 0.0
+    case.write(f"{name}.stl", example_bytes("story.stl"))
+    last = time.monotonic()
+    for part in range(8):
+        before = time.monotonic()
+        with open(case.path(f"{name}.ts"), "ab") as file:
+            file.write(data[part * len(data) // 8:(part + 1) * len(data) // 8])
+        longest, last = max(longest, time.monotonic() - last), before
+        time.sleep(SETTLED / 5)
+    return longest
+
+
+def put(case: Case, name: str, of: str) -> None:
+    """Puts an example under a name at once: nobody sees a part of it."""
+    os.rename(case.write("whole", example_bytes(of)), case.path(name))
+
+
+def judges_what_comes(case: Case, process: subprocess.Popen[bytes]) -> None:
+    """What a call that watches does of files that come slowly, at once, and again."""
+    def lines() -> list[str]:
+        told = [line.partition("  ")[2] for line in case.read("log").decode().splitlines()
+                if line[:1].isdecimal()]
+        return [line for line in told if line.partition("  ")[0] not in too_slow]
+
+    too_slow = set[str]()
+    case.write("in/lone.stl", example_bytes("story.stl"))
+    for name in map("slow {}".format, itertools.count()):
+        if comes_slowly(case, f"in/{name}") < SETTLED:
+            break
+        too_slow.add(name)
+    whole = [f"{name}  accepted"]
+    case.must("not before it is whole", lines() in ([], whole), lines())
+    case.must("when it is whole", until(lambda: lines() == whole), lines())
+    case.must("a file without a partner, once", until(
+        lambda: case.read("log").count(b"lone.stl: no recording") == 1), case.read("log"))
+    put(case, "in/now.stl", "hello.stl")
+    put(case, "in/now.pes", "no-erase.pes")
+    case.write("in/now.done", b"")
+    case.must("at once", until(lambda: any(line.startswith("now  refused: 67 Control ")
+                                           for line in lines())), lines())
+    put(case, "in/now.pes", "hello.pes")
+    case.must("again", until(lambda: "now  accepted" in lines()), lines())
+    process.send_signal(signal.SIGTERM)
+    case.must("it ends", process.wait(SECONDS) == 2)
+    case.must("no more than that", len(lines()) == 3 and b"Traceback" not in case.read("log"),
+              case.read("log"))
+
+
+class Sites(Case):
+    """Batches that end early, folders that are watched."""
+
+    def test_goes_on_after_a_kill(self) -> None:
+        """A batch that is killed leaves whole objects, also of the call that was running, which
+        ends by itself; the next one judges the others alone."""
+        fill(self, "in", 4)
+        program = waiting_program(self, 1)
+        words = [tool_path("qc"), "--batch", "in", "-o", "out", "--jobs", "1", "-p", program]
+        with subprocess.Popen(words, cwd=self.folder, stdout=subprocess.DEVNULL,
+                              stderr=subprocess.DEVNULL) as process:
+            came = judges_another(self, "out", 1)
+            process.kill()
+        self.write("goes on", b"")
+        self.must("both are judged", came and until(lambda: len(objects_in(self, "out")) == 2))
+        kept = set(objects_in(self, "out"))
+        for again in (2, 0):
+            before = count_judged(self)
+            done = self.tool("qc", "--batch", "in", "-o", "out", "--resume", "-p", program)
+            judged = count_judged(self) - before
+            self.must(f"{again} are judged", judged == again, (judged, kept, before))
+            self.must("all are told", done.status == 1 and
+                      done.out.decode().splitlines()[-1] == "4 pairs: 3 accepted, 1 refused", done)
+
+    def test_tells_what_is_judged_when_it_is_stopped(self) -> None:
+        """By a signal a batch ends with what it has: the table, the files, and how many there were.
+        """
+        fill(self, "in", 6)
+        for one in (signal.SIGINT, signal.SIGTERM, signal.SIGHUP):
+            name, out, program = one.name, f"out.{one.name}", waiting_program(self, 2)
+            words = [tool_path("qc"), "--batch", "in", "-o", out, "--jobs", "1", "-p", program,
+                     "--json", "all.json"]
+            with subprocess.Popen(words, cwd=self.folder, stdout=subprocess.PIPE,
+                                  stderr=subprocess.PIPE) as process:
+                came = judges_another(self, out, 2)
+                process.send_signal(one)
+                lines, told = (text.decode().splitlines() for text in process.communicate())
+            known = json.loads(self.read("all.json"))
+            count = len(known["pairs"])
+            self.must(f"{name}: status", came and (process.returncode, known["status"]) == (2, 2),
+                      (lines, told))
+            self.must(f"{name}: is said", count == 2 and told == [
+                f"qc: stopped when {count} of 6 pairs were judged; --resume judges the others"],
+                      told)
+            self.must(f"{name}: the table", len(lines) == count + 2
+                      and lines[-1].startswith(f"{count} pair"), lines)
+            self.must(f"{name}: the page", self.read(f"{out}/index.html").count(b">report<") ==
+                      count)
+
+    def test_judges_hostile_names(self) -> None:
+        """Names that a shell, a terminal, a page or a table would take for something else."""
+        os.mkdir(self.path("in"))
+        for name in HOSTILE:
+            for ending, data in ((b".stl", "hello.stl"), (b".pes", "hello.pes")):
+                path = os.path.join(os.fsencode(self.path("in")), name + ending)
+                with open(path, "wb") as file:
+                    file.write(example_bytes(data))
+        done = qc(self, "--batch", "in", "-o", "out", "--csv", "all.csv", "--junit", "all.xml")
+        lines = done.out.decode().splitlines()
+        self.must("all are accepted", done.status == 0 and
+                  lines[-1] == f"{len(HOSTILE)} pairs: {len(HOSTILE)} accepted", done)
+        self.must("a line each", len(lines) == len(HOSTILE) + 2, lines)
+        self.must("nothing that a terminal obeys", not re.search(
+            "[\x00-\x09\x0b-\x1f\x7f\x9b\u202e]", done.out.decode()), done.out)
+        self.must("an object each", len(objects_in(self, "out")) == len(HOSTILE))
+        page = self.read("out/index.html").decode()
+        links = [unquote(link) for link in re.findall(r'href="\./([^"]+)"', page)]
+        self.must("its links", len(links) == 3 * len(HOSTILE) and all(
+            os.path.exists(self.path(f"out/{link}")) for link in links), links)
+        self.must("no mark of a name is one of the page", "<b>" not in page, page)
+        self.must("files for machines", self.read("all.csv").decode() and
+                  len(tree.fromstring(self.read("all.xml"))[0]) == len(HOSTILE))
+
+    def test_watches_a_folder(self) -> None:
+        """A pair is judged when both files are whole, again when one changes, and not twice."""
+        os.mkdir(self.path("in"))
+        words = [tool_path("qc"), "--watch", "in", "-o", "out", "--settled", str(SETTLED), "-p",
+                 self.bench.program]
+        with open(self.path("log"), "wb") as log, subprocess.Popen(
+                words, cwd=self.folder, stdout=log, stderr=log) as process:
+            try:
+                judges_what_comes(self, process)
+            finally:
+                process.kill()
+
+    def test_signal_while_a_pair_is_judged(self) -> None:
+        """It has no result, and is judged after a new start."""
+        os.mkdir(self.path("in"))
+        for name in ("one.stl", "one.pes"):
+            self.write(f"in/{name}", example_bytes(name.replace("one", "hello")))
+        self.write("in/one.done", b"")
+        slow = self.program_but("*check*", f"touch '{self.path('begun')}'; exec sleep {SECONDS}")
+        # The line of a pair comes behind its result, when nothing of it can be stopped any more.
+        for program, wanted, words_in in ((slow, "begun", b""),
+                                          (self.bench.program, "said", b"accepted")):
+            words = [tool_path("qc"), "--watch", "in", "-o", "out", "-p", program]
+            with open(self.path("said"), "wb") as said, \
+                    subprocess.Popen(words, cwd=self.folder, stdout=said) as process:
+                until(lambda: os.path.exists(self.path(wanted)) and
+                      words_in in self.read(wanted))
+                process.send_signal(signal.SIGTERM)
+                self.must(f"{wanted}: it ends", process.wait(SECONDS) == 2)
+            self.must(f"{wanted}: its result", os.path.exists(self.path("out/one.json")) ==
+                      (program != slow), os.listdir(self.path("out")))
+        self.must("accepted", json.loads(self.read("out/one.json"))["verdict"] == "accepted")
+
+    def test_has_units(self) -> None:
+        """The units of the manual, with a path that exists here."""
+        if not shutil.which("systemd-analyze"):
+            self.skipTest("the units, since there is no systemd-analyze")
+        for name in ("watch", "recorder", "channel"):
+            unit = f"subttx-{name}.service"
+            with open(os.path.join(TOP, "docs", "manual", unit), encoding="utf-8") as file:
+                text = file.read()
+            path = self.write(unit, text.replace("/usr/bin/subttx-qc", tool_path("qc")).replace(
+                "User=subtitles", "User=root").encode())
+            done = self.call(["systemd-analyze", "verify", path])
+            self.must(unit, done.status == 0 and not any(unit in line for line in done.told), done)

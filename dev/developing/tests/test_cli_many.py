@@ -1,0 +1,502 @@
+"""Many pairs: of a folder or a list, each in a process of its own."""
+from __future__ import annotations
+
+import argparse
+import contextlib
+import io
+import json
+import os
+import signal
+import socket
+import sys
+import time
+from typing import Any, Callable
+from unittest import mock
+
+from subtitles.cli import batch
+from subtitles.cli.batch import Calls, Forked, all_rows, ended_of, kept_rows, signals_held
+from subtitles.cli.collection import progress_line
+from subtitles.cli.main import parser_of
+from subtitles.cli.single import PairCall
+from subtitles.common import files
+from subtitles.common.command_line import Stop
+from subtitles.common.program import about_program
+from subtitles.request.commands import CommandWords
+from subtitles.request.lines import Item, at_line, inputs_of, no_file, pairs_at
+from subtitles.request.request import Request, request_of
+from subtitles.results.files import Row, found, object_at, put_object, unjudged
+from subtitles.results.schema import ASKED
+from .bench import Case, SECONDS
+from .channels import defaults, until
+from .parts import asked_for, call_words, qc
+from .results import result, row
+
+
+# Calls for many pairs, in process: lists, what is judged anew, and what is kept.
+
+
+class Lists(Case):
+    """Pairs of a list and of a folder."""
+
+    def setUp(self) -> None:
+        super().setUp()
+        for name in ("one.stl", "one.ts", "two.stl", "x.stl"):
+            self.write(name, b"")
+        os.mkdir(self.path("folder"))
+        os.mkfifo(self.path("pipe"))
+
+    def test_lines(self) -> None:
+        """Comments and empty lines are none; each other line is a pair, or why it is none, with its
+        number; a name that comes again has a number too."""
+        lines = ("# none\n\n{0}/one.stl {0}/one.ts --every 50 # more\n"
+                 "{0}/two.stl {0}/one.ts\n"
+                 "{0}/one.stl {0}/one.ts\n\"\n{0}/one.stl\n{0}/one.stl {0}/folder\n"
+                 "{0}/none.stl {0}/one.ts\n{0}/one.stl {0}/pipe\n{0}/x.stl -\n"
+                 "{0}/x.stl /dev/null --within 2\n{0}/x.stl {0}/socket\n").format(self.folder)
+        with socket.socket(socket.AF_UNIX) as made:
+            made.bind(self.path("socket"))
+        items = pairs_at(self.write("list", lines.encode() + b"caf\xe9.stl x.ts"), defaults())
+        self.must("names", [item.name for item in items] == [
+            "one", "two", "one~2", "line 6", "line 7", "one~3", "none", "one~4", "line 11", "x",
+            "x~2", "caf%E9"],
+            [item.name for item in items])
+        self.must("options", [item.asked.every for item in items if item.asked] == [50, 250, 250])
+        reasons = [item.reason for item in items if item.reason]
+        for reason, words in zip(reasons, (
+                f"{self.path('list')}, line 6: ", f"{self.path('list')}, line 7: ",
+                f"{self.path('folder')} is a folder",
+                f"{self.path('none.stl')}: No such file or directory",
+                f"{self.path('pipe')} is a pipe",
+                f"{self.path('list')}, line 11: - is no recording", "/dev/null is a device",
+                f"{self.path('socket')} is a socket", "caf\udce9.stl: No such file")):
+            self.must(words, reason.startswith(words), reason)
+        self.must("reasons", len(reasons) == 9, reasons)
+        self.must("a file", no_file(self.path("one.stl")) is None)
+        for path in (self.write("empty", b"# none\n"), self.path("folder")):
+            with self.assertRaises(Stop):
+                pairs_at(path, defaults())
+
+    def test_inputs_of_a_line_that_is_none(self) -> None:
+        """They are inputs all the same, as typed and from the folder of the list; whatever stands
+        behind an option too."""
+        path = self.write("list", b"one.stl one.ts --bogus\none.stl one.ts --pace=two.stl\n")
+        for item in pairs_at(path, defaults()):
+            self.must(item.name, item.asked is None and {"one.stl", self.path("one.ts")} <=
+                      {*item.files} and ("two.stl" in item.files) == (item.name == "line 2"),
+                      item.files)
+            with self.assertRaises(files.IsInput):
+                inputs_of([item]).refuse(self.path("one.ts"), True)
+
+    def test_one_line(self) -> None:
+        """The pair of a line is as that of all: it has the name that those before it leave it. What
+        other lines name is looked at where a file is written over alone, and may be no list."""
+        lines = [f"one.stl one.ts --within {number}" for number in range(3)] + [
+            "", "# none", '"', "x.stl", "two.stl one.ts", "one.stl none.ts --origin 5"]
+        path = self.write("list", "\n".join(lines).encode())
+        whole = {item.name: item for item in pairs_at(path, defaults())}
+        for number, name in ((1, "one"), (2, "one~2"), (3, "one~3"), (6, "line 6"), (7, "line 7"),
+                             (8, "two"), (9, "one~4")):
+            item, words = at_line(path, number, defaults())
+            self.must(f"{number}", item == whole[name] and {
+                "one.stl", "one.ts", "x.stl", "two.stl", "none.ts", '"'} <= {*words}, (item, words))
+        for wrong in (4, 5, 10, 99):
+            self.assertRaisesRegex(Stop, "there is no pair", at_line, path, wrong, defaults())
+        self.assertRaisesRegex(Stop, "is no list", at_line, self.folder, 1, defaults())
+        with mock.patch("subtitles.request.lines.no_file", return_value=None) as looked:
+            at_line(path, 8, defaults())
+        self.must("files of one pair", [call[0][0] for call in looked.call_args_list] == [
+            "two.stl", "one.ts"], looked.call_args_list)
+        with mock.patch.object(files, "identities", side_effect=files.identities) as looked:
+            inputs = files.Inputs(*words)
+            inputs.refuse(self.path("none"), True)
+            self.must("nothing is there", looked.call_count == 1, looked.call_args_list)
+            inputs.refuse(self.path("list"), True)
+            self.must("something is", looked.call_count == 2 + len(words), looked.call_count)
+
+    def test_folder(self) -> None:
+        """Names, what lacks its other half, what is more than one, in the order of the names."""
+        for name in ("B.STL", "b.TS", "c.stl", "c.ts", "c.pes", "d.m2t", "e.stl", "e.txt", "F.pes",
+                     "f.stl", "f.trp", "G.stl", "g.MTS", "g.stl", "h\x1b.m2ts", "h\x1b.stl"):
+            self.write(f"folder/{name}", b"")
+        items = pairs_at(self.path("folder"), defaults())
+        at = self.path("folder")
+        self.must("items", [(item.name, item.reason) for item in items] == [
+            ("B", None),
+            ("F", f"{at}/F.pes: no subtitle file of that name"), ("f", None),
+            ("G", f"{at}/G.stl: no recording of that name"), ("g", None),
+            ("c", f"more than one pair is possible: {at}/c.stl, {at}/c.pes, {at}/c.ts"),
+            ("d", f"{at}/d.m2t: no subtitle file of that name"),
+            ("e", f"{at}/e.stl: no recording of that name"), ("h%1B", None)],
+            [(item.name, item.reason) for item in items])
+        self.must("files", [(item.asked.stl, item.asked.recording) for item in items if item.asked]
+                  == [(f"{at}/{one}", f"{at}/{two}") for one, two in (
+                      ("B.STL", "b.TS"), ("f.stl", "f.trp"), ("g.stl", "g.MTS"),
+                      ("h\x1b.stl", "h\x1b.m2ts"))])
+
+
+class Batches(Case):
+    """A whole call for many pairs, in which a test stands for the judging."""
+
+    seen: Any = None  # how the judging was called
+
+    def batch(self, judged: str, *, is_stopped: bool = False, **more: Any) \
+            -> tuple[int, list[str], list[str]]:
+        """The status, the lines of the table, and what is told, where the pairs of a list have
+        these verdicts by and by."""
+        words = argparse.Namespace(**{**vars(defaults()), "batch": self.write("list", "".join(
+            f"{self.path(name)}.stl {self.path('one.ts')}\n" for name in ("one", "two", "three")
+        ).encode()), "out": None, "program": self.bench.program, "is_kept": False, "jobs": None,
+            "limit": None, "is_resumed": False, "line": None, "json": None, "csv": None,
+            "junit": None, **more})
+
+        def all_rows(calls: Calls, items: list[Item], kept: dict[str, Row], jobs: int) \
+                -> dict[str, Row]:
+            self.seen = calls, [item.name for item in items], kept, jobs
+            self.must("folders", os.path.isdir(words.out or calls.folder) and
+                      (calls.out, calls.is_kept) == (words.out, words.is_kept))
+            rows = {}
+            for item, verdict in reversed(list(zip(items, judged.split(", ")))):
+                with open(calls.path(item), "w", encoding="ascii") as file:
+                    json.dump(result(verdict, **{
+                        "reason" if verdict == "not judged" else "lead": item.name}), file)
+                rows[item.name] = row(item.name, verdict, item.name)
+            calls.is_stopped = is_stopped
+            return rows
+
+        out, told = io.StringIO(), io.StringIO()
+        with mock.patch.object(batch, "all_rows", all_rows), contextlib.redirect_stdout(out), \
+                contextlib.redirect_stderr(told):
+            status = batch.judge_batch(words, "tools/qc")
+        return status, out.getvalue().splitlines(), told.getvalue().splitlines()
+
+    def setUp(self) -> None:
+        super().setUp()
+        for name in ("one.stl", "two.stl", "three.stl", "one.ts"):
+            self.write(name, b"")
+
+    def test_status(self) -> None:
+        """The worst of all, in the order of the list; 2 where a signal left some."""
+        for judged, status in (("accepted, accepted, waived", 0), ("lost, accepted, accepted", 1),
+                               ("accepted, accepted, refused", 1),
+                               ("refused, not judged, accepted", 2)):
+            for jobs, wanted in ((None, os.cpu_count()), (3, 3)):
+                found_status, lines, told = self.batch(judged, jobs=jobs, json=self.path("all"))
+                self.must(judged, (found_status, told) == (status, []) and [
+                    line.split()[0] for line in lines[1:]] == ["one", "two", "three", "3"], lines)
+                self.must("at a time", self.seen[1:] == (["one", "two", "three"], {}, wanted))
+                have = json.loads(self.read("all"))
+                names = [one["lead"] or one["reason"] for one in have["pairs"]]
+                self.must("objects", (names, have["status"]) == (
+                    ["one", "two", "three"], status))
+                self.must("the folder went", not os.path.exists(self.seen[0].folder))
+        for out, more in ((None, ""), (self.path("out"), "; --resume judges the others")):
+            stopped = self.batch("accepted, accepted", is_stopped=True, out=out)
+            self.must("stopped", (stopped[0], len(stopped[1]), [line.partition(": ")[2] for line in
+                                                                stopped[2]]) == (
+                2, 4, [f"stopped when 2 of 3 pairs were judged{more}"]), stopped)
+        self.must("page", b"2 pairs: 2 accepted" in self.read("out/index.html")
+                  and ".lock" not in os.listdir(self.path("out")))
+
+    def test_goes_on(self) -> None:
+        """With what is there of an earlier call, where that is asked; which needs a folder."""
+        earlier = {"two": row("two", "lost")}
+        with mock.patch.object(batch, "kept_rows", lambda calls, items: earlier):
+            for is_resumed, kept in ((False, []), (True, ["two"])):
+                self.batch("accepted, accepted, accepted", out=self.path("out"),
+                           is_resumed=is_resumed, is_kept=True)
+                self.must(f"{is_resumed}", [*self.seen[2]] == kept, self.seen)
+        refused: list[dict[str, Any]] = [
+            {"is_resumed": True}, {"csv": self.path("none/x")}, {"csv": self.path("list")},
+            {"junit": self.path("three.stl")}, {"json": self.path("one.ts")}]
+        for more in refused:
+            self.seen = None
+            with self.assertRaises(Stop):
+                self.batch("accepted", **more)
+            self.must(f"{more}", self.seen is None)
+
+
+# Calls for pairs in processes that are forked: what each has, how it ends, what becomes of others.
+
+# A call that writes the object of its pair, with the verdict that its subtitle file names, and ends
+# with its status.
+CALL = """#!/bin/sh
+words="$*" out= object= files="$(readlink /proc/$$/fd/0) $(readlink /proc/$$/fd/1)"
+while [ $# -gt 0 ]; do
+    case $1 in
+        --name=*) name=${1#*=} ;; --json) object=$2 ;; -o) out=$2 ;; --) stl=$2 ;;
+    esac
+    shift
+done
+kind=$(cat "$stl")
+[ "$kind" = waits ] && exec sleep SECONDS
+[ "$kind" = busy ] && while :; do :; done
+[ "$kind" = deaf ] && { trap '' TERM; sh -c 'while :; do :; done'; }
+[ "$kind" = changes ] && echo more >>"$stl"
+case $kind in
+    accepted | changes | other | silent) status=0 ;; refused) status=1 ;; *) status=2 ;;
+esac
+case $kind in other | changes) kind=accepted ends=9 ;; *) ends=$status ;; esac
+echo "qc: one" >&2; echo "qc: told last" >&2
+session=$(cut -d ' ' -f 6 /proc/$$/stat)
+[ "$kind" = silent ] ||
+    sed "s|WORDS|$words|; s|OWN|$((session == $$))|; s|FILES|$files|" "${0%/*}/$kind" \
+        >"${object:-$out/$name.json}"
+exit $ends
+"""
+TOLD = ["WORDS", "OWN", "FILES"]  # in whose place the call has how it was called
+
+
+class Judged(Case):
+    """Calls for pairs, side by side."""
+
+    def setUp(self) -> None:
+        super().setUp()
+        path = self.write_program("call", CALL.replace("SECONDS", f"{SECONDS}"))
+        for verdict in ("accepted", "refused", "not judged"):
+            self.write(verdict, json.dumps(result(verdict, notes=TOLD)).encode())
+        self.typed = CommandWords("tools/qc", self.bench.program)
+
+        def execute(asked: Request, call: PairCall) -> int:
+            kept = ["-o", call.out] if call.out else ["--json", call.json or ""]
+            words = [f"--name={call.name}", *["--claimed"] * call.is_claimed, *kept,
+                     *["--keep"] * call.is_kept, "-p", call.program or "", *call_words(asked)]
+            for file in os.listdir("/proc/self/fd"):  # that it goes on is known by one of them
+                with contextlib.suppress(OSError):
+                    os.set_inheritable(int(file), True)
+            os.execv(path, [path, *words])
+
+        asking = mock.patch.object(batch, "judge_alone", execute)
+        asking.start()
+        self.addCleanup(asking.stop)
+        os.mkdir(self.path("temporary"))
+        os.mkdir(self.path("out"))
+        self.write("one.ts", b"1")
+
+    def item(self, kind: str, name: str = "one", *words: str) -> Item:
+        """A pair whose call ends so."""
+        stl = self.write(f"{name}.stl", kind.encode())
+        return Item(name, asked_for(stl, self.path("one.ts"), *words), None)
+
+    def judged(self, calls: Calls, item: Item) -> Row:
+        """The row of a pair that is judged alone."""
+        return calls.begin(item) or next(calls.rows(SECONDS))
+
+    def test_words(self) -> None:
+        """Of the call for a pair: where its object goes, and what is asked."""
+        for out, is_kept in ((None, False), (self.path("out"), False), (self.path("out"), True)):
+            calls = Calls(self.typed, self.path("temporary"), out, is_kept)
+            item = self.item("refused", "one", "--every", "50")._replace(name="pair")
+            path = os.path.join(out or self.path("temporary"), "pair.json")
+            self.must("row", self.judged(calls, item).name == "pair" and calls.path(item) == path)
+            have = object_at(path)
+            kept = f"-o {out}{' --keep' * is_kept}" if out else f"--json {path}"
+            called, own, files = have["notes"] if have else TOLD
+            self.must("words", called.startswith(
+                f"--name=pair --claimed {kept} -p {self.typed.program_path} --every 50 ") and
+                called.endswith(f" -- {self.path('one.stl')} {self.path('one.ts')}")
+                and own == "1" and files.split() == [os.devnull, os.devnull]
+                and not calls.running, have)
+
+    def test_all_words(self) -> None:
+        """What is asked of a pair is asked of its call, also where it is 0."""
+        for words in ("", "--origin 0 --pid 0", "--start tcp", "--origin 5 --pid 257 --within 3",
+                      "--strict --allow-lost --no-complete --severity file --breaks 2 --pes 3-9",
+                      "--page 1A0 --every 7 --option german"):
+            asked = asked_for("a.stl", "a.ts", *words.split())
+            again = request_of(parser_of("").parse_args(call_words(asked)))
+            self.must(words, again == asked, again)
+
+    def test_one(self) -> None:
+        """The row by its object; where that is another call's, or files changed, none, and nothing
+        is left of an earlier call."""
+        calls = Calls(self.typed, self.path("temporary"), self.path("out"), False)
+        for kind, verdict, line in (
+                ("accepted", "accepted", "accepted 72 Content"),
+                ("refused", "refused", "refused 72 Content"),
+                ("not judged", "not judged", "why"), ("silent", "not judged", "told last"),
+                ("other", "not judged", "told last"),
+                ("changes", "not judged", "a file was written to while it was judged")):
+            item = self.item(kind)
+            self.write("out/one.json", json.dumps(result("accepted")).encode())
+            found_row = self.judged(calls, item)
+            self.must(kind, (found_row.name, found_row.verdict, found_row.line) == (
+                "one", verdict, line), found_row)
+            have = object_at(calls.path(item))
+            self.must("its object", have is not None and have["verdict"] == verdict, have)
+        none = self.judged(calls, Item("two", None, "no pair"))
+        self.must("no pair", (none.name, none.verdict, none.line) == (
+            "two", "not judged", "no pair") and object_at(self.path("out/two.json")) == unjudged(
+                "two", "no pair"))
+        with mock.patch("os.fork", side_effect=BlockingIOError(11, "Try again")):
+            gone = self.judged(calls, self.item("accepted"))
+        self.must("no call", gone.line == "no process was begun: Try again", gone)
+        for name in ("one", "two"):
+            calls.begin(self.item("waits", name))
+        calls.stop()
+        self.must("all are ended", not calls.running)
+        calls.leave(Item("three", None, "x"), "stopped")
+        self.must("nothing is written then", not os.path.exists(self.path("out/three.json")))
+
+    def test_limit(self) -> None:
+        """A pair that takes more of the processor than it may is not judged, nor one of which what
+        it calls does so and hears no signal; the one beside it is."""
+        for kind, most in (("busy", batch.TO_WRITE), ("deaf", 0)):
+            calls = Calls(self.typed, self.path("temporary"), self.path("out"), False, 1)
+            with mock.patch.object(batch, "TO_WRITE", most):
+                rows = all_rows(calls, [self.item(kind, "long"), self.item("accepted")], {}, 2)
+            self.must(kind, (rows["long"].verdict, rows["long"].line) == (
+                "not judged", "it took more than 1 second of the processor: --limit gives more")
+                and rows["one"].verdict == "accepted" and not calls.over, rows)
+            have = object_at(calls.path(self.item(kind, "long")))
+            self.must("its object", have is not None and have["reason"] == rows["long"].line, have)
+
+    def test_limits(self) -> None:
+        """By the sizes of the files, where none is given."""
+        for sizes, wanted in (((None, None), 60), ((0, 9_999_999), 60), ((1, 9_999_999), 61),
+                              ((0, 4_000_000_000), 460)):
+            found_files = {name: None if size is None else {"size": size, "modified": ""}
+                           for name, size in zip(("stl", "recording"), sizes)}
+            self.must(f"{sizes}", batch.limit_of(found_files) == wanted)
+        self.must("none of a process that is gone", batch.seconds_of("0") == 0.0)
+
+    def test_one_that_dies(self) -> None:
+        """It costs its own pair alone, however it ends; what it told last is its reason."""
+        def written() -> None:
+            put_object(self.path("out/dies.json"), result("accepted"))
+            os.kill(os.getpid(), signal.SIGKILL)
+
+        kinds: list[tuple[str, Callable[[], object], str]] = [
+            ("killed behind its result", written, "it did not end by itself"),
+            ("killed", lambda: os.kill(os.getpid(), signal.SIGKILL), "it did not end by itself"),
+            ("an error", lambda: 1 // 0, "it did not end by itself"),
+            ("no memory", lambda: os.abort(), "it did not end by itself"),
+            ("no words", lambda: qc(["--none"]), "--none"),
+            ("a signal", lambda: signal.raise_signal(signal.SIGTERM), "it did not end by itself")]
+        for name, does, reason in kinds:
+            calls = Calls(self.typed, self.path("temporary"), self.path("out"), False)
+            with mock.patch.object(batch, "judge_alone", lambda *_: does()):
+                calls.begin(self.item("accepted", "dies"))
+            calls.begin(self.item("accepted", "other"))
+            rows: dict[str, Row] = {}
+            while calls.running:
+                rows.update((one.name, one) for one in calls.rows(SECONDS))
+            self.must(name, [rows[one].verdict for one in ("dies", "other")] == [
+                "not judged", "accepted"] and reason in rows["dies"].line, rows)
+
+    def test_what_a_call_has(self) -> None:
+        """Its own session, nothing to read, nobody who reads what it prints, and no file and lock
+        of who called it. Signals end it as ever, though they are held when it begins; one that is
+        ignored does not."""
+        kept = open(self.write("kept", b""), "rb")
+        self.addCleanup(kept.close)
+
+        def look() -> int:
+            files = [os.path.realpath(f"/proc/self/fd/{file}") for file in range(2)]
+            told = [files == [os.devnull] * 2, os.getsid(0) == os.getpid(),
+                    not os.path.exists(f"/proc/self/fd/{kept.fileno()}"),
+                    not signal.pthread_sigmask(signal.SIG_BLOCK, []),
+                    [signal.getsignal(one) for one in (signal.SIGTERM, signal.SIGHUP)] == [
+                        signal.default_int_handler, signal.SIG_IGN]]
+            print(told, file=sys.stderr)
+            return 7
+
+        for one, taken in ((signal.SIGTERM, signal.SIG_DFL), (signal.SIGHUP, signal.SIG_IGN)):
+            self.addCleanup(signal.signal, one, signal.signal(one, taken))
+        with signals_held():
+            call = Forked(look)
+        ended = call.end()
+        self.must("all", ended == (7, [str([True] * 5)]), ended)
+
+    def test_all(self) -> None:
+        """Each once, what is kept not again; the words of each are its own."""
+        calls = Calls(self.typed, self.path("temporary"), self.path("out"), False)
+        items = [self.item(kind, f"name{at}", *(["--strict"] if at == 1 else []))
+                 for at, kind in enumerate(("accepted", "refused", "accepted", "not judged"))]
+        kept = {"name2": row("name2", "waived", "kept")}
+        rows = all_rows(calls, items, kept, 2)
+        self.must("verdicts", {name: one.verdict for name, one in rows.items()} == {
+            "name0": "accepted", "name1": "refused", "name2": "waived", "name3": "not judged"},
+            rows)
+        self.must("strict", ["--strict" in (object_at(calls.path(one)) or {})["notes"][0]
+                             for one in items[:2]] == [False, True])
+        self.must("not called", not os.path.exists(calls.path(items[2])))
+
+    def test_stopped(self) -> None:
+        """A signal ends the calls that run, and no other is begun: what was judged is kept. What
+        else ends them is told."""
+        kinds = ("accepted", "waits", "waits", "waits")
+        for reason in (KeyboardInterrupt(), ValueError("odd")):
+            calls = Calls(self.typed, self.path("temporary"), self.path("out"), False)
+            items = [self.item(kind, f"name{at}") for at, kind in enumerate(kinds)]
+            lines: list[str] = []
+
+            def show(progress: object, line: str) -> None:
+                lines.append(line)
+                if line.startswith("1 of 4 pairs: 1 accepted"):
+                    raise reason
+
+            with mock.patch("subtitles.request.commands.Progress.show", show), \
+                    mock.patch.object(batch, "ignore_signals") as ignored:
+                if isinstance(reason, KeyboardInterrupt):
+                    rows = all_rows(calls, items, {}, 2)
+                    self.must("rows", list(rows) == ["name0"], rows)
+                else:
+                    self.assertRaises(ValueError, all_rows, calls, items, {}, 2)
+            self.must("ended", calls.is_stopped and not calls.running and lines and
+                      ignored.called == isinstance(reason, KeyboardInterrupt))
+            self.must("objects", os.listdir(self.path("out")) == ["name0.json"])
+
+    def test_stopped_when_others_are_over(self) -> None:
+        """What was judged by then counts, though nobody had looked at it yet."""
+        calls = Calls(self.typed, self.path("temporary"), self.path("out"), False)
+        items = [self.item("accepted", f"name{at}") for at in range(3)]
+
+        def are_over() -> bool:
+            running = calls.running  # none, where all ended before the first look
+            return all(os.path.exists(calls.path(item)) for item in items) and (
+                not running or len(ended_of(running, SECONDS)) == len(running))
+
+        def stopped(*_: object) -> None:
+            until(are_over)
+            raise KeyboardInterrupt
+
+        with mock.patch("subtitles.request.commands.Progress.show", stopped), \
+                mock.patch.object(batch, "ignore_signals"):
+            rows = all_rows(calls, items, {}, 3)
+        self.must("all", sorted(rows) == ["name0", "name1", "name2"], rows)
+
+    def test_kept(self) -> None:
+        """What an earlier call has judged as it would be judged now; not what it did not judge, and
+        no object of another program, or that is none."""
+        calls = Calls(self.typed, self.path("temporary"), self.path("out"), False)
+        items = [self.item("accepted", name) for name in (
+            "one", "two", "three", "four", "six", "seven", "eight")]
+        items.append(Item("five", None, "no pair"))
+        program = about_program(self.typed.program_path)
+        mores: list[dict[str, Any]] = [
+            {}, {}, {"program": {**program._asdict(), "sha256": "1" * 64}}, {}, {"format": 2},
+            {"found": None}, {"asked": None}]
+        verdicts = ("refused", "not judged", "accepted", "waived", *["accepted"] * 3)
+        for item, verdict, more in zip(items, verdicts, mores):
+            assert item.asked
+            have = {**result(verdict), "asked": ASKED.made(item.asked), "found": found(item.asked),
+                    "program": program._asdict(), **more}
+            self.write(f"out/{item.name}.json", json.dumps(have).encode())
+        self.write("out/five.json", json.dumps(result()).encode())
+        for text in (b"", b"{", b"[]"):
+            self.write("out/eight.json", text)
+            rows = kept_rows(calls, items)
+            self.must("kept", {name: one.verdict for name, one in rows.items()} ==
+                      {"one": "refused", "four": "waived"}, rows)
+
+    def test_progress(self) -> None:
+        """How many of which verdict, and how long the others will take, by those of this call."""
+        rows = {name: row(name, verdict) for name, verdict in (
+            ("a", "accepted"), ("b", "refused"), ("c", "lost"), ("d", "not judged"))}
+        self.must("none of this call", progress_line(rows, 9, 4, 0.0) ==
+                  "4 of 9 pairs: 1 accepted, 2 refused, 1 not judged")
+        rows["e"] = row("e", "waived")
+        with mock.patch.object(time, "monotonic", return_value=110.0):
+            said = progress_line(rows, 9, 3, 100.0)
+        self.must("left", said == "5 of 9 pairs: 1 accepted, 1 waived, 2 refused, 1 not judged; "
+                  "20 seconds left", said)

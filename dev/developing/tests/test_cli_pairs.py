@@ -1,0 +1,428 @@
+"""One pair by qc: as a file, through a pipe, with warnings, in a batch."""
+from __future__ import annotations
+
+import csv
+import io
+import json
+import os
+import shutil
+import signal
+import subprocess
+import xml.etree.ElementTree as tree
+from typing import Any
+from unittest import mock
+
+from developing.stl import gsi_block, subtitle_blocks
+from subtitles.cli.single import claimed_for_batch
+from subtitles.common.command_line import counted
+from subtitles.common.program import TOP
+from subtitles.common.times import TICKS
+from subtitles.formats.stl import MOST_STL
+from subtitles.recording import recording
+from .bench import Case, Done, SECONDS, example, example_bytes, tool_path
+from .channels import until
+from .judged import in_pipe, judged
+from .muxed import beside_video, teletext_descriptor
+from .results import agrees
+
+
+# tools/qc on a pair: from a recording to a verdict.
+
+STORY, RECORDING = example("story.stl"), example("recording.ts")
+ACCEPTED = "accepted 226 frames 5 transmissions"
+FITTED = "the clock was fitted to the recording: a delay that all subtitles share is not seen; " \
+    "give --origin or --start"
+TS = 188  # bytes of a packet
+
+
+def qc(case: Case, *words: str, data: bytes | None = None) -> Done:
+    """A call of qc with the program of the bench."""
+    return case.tool("qc", *words, "-p", case.bench.program, data=data)
+
+
+def lines_of(done: Done) -> list[str]:
+    return done.out.decode().splitlines()
+
+
+def stream(case: Case, name: str, pes: bytes, pid: str = "0x101", page: str = "888") -> bytes:
+    """PES packets as a transport stream."""
+    done = case.tool("pes2ts", case.write(name + ".in.pes", pes), pid, "--page", page)
+    assert done.status == 0, done
+    return done.out
+
+
+def in_two_parts(case: Case) -> tuple[str, bytes]:
+    """A subtitle file, and PES packets that have a break of three minutes in its middle."""
+    blocks = [subtitle_blocks(number, begin, begin + 60, 20, 2, b"Subtitle %d" % number)
+              for number, begin in enumerate(range(900_000, 902_000, 100))]
+    data = b""
+    for number, origin in ((0, 1000), (10, 1000 + 4500 * TICKS)):
+        part = case.write("part.stl", gsi_block(b"Part", 10, 10) +
+                          b"".join(blocks[number:number + 10]))
+        case.schedule(part, "part.pes", "--every", "25", "--origin", str(origin))
+        data += case.read("part.pes")
+    return case.write("two.stl", gsi_block(b"Two parts", 20, 20) + b"".join(blocks)), data
+
+
+class Pairs(Case):
+    """Pairs, feeds and subtitle files."""
+
+    def test_judges_a_recording(self) -> None:
+        """One command is said, the one that is proved; typed again it answers the same."""
+        done = qc(self, STORY, RECORDING, "-o", "out")
+        lines = lines_of(done)
+        commands = [line[2:] for line in lines if line.startswith("+ ")]
+        self.must("accepted", (done.status, lines[-1], done.told) == (0, ACCEPTED, [
+            "qc: not checked: whether some of this PID alone is missing: its PES packets are too "
+            "few to measure a pace"]), done)
+        self.must("one command, on the two files", [one.split()[1:] for one in commands] == [[
+            "check", STORY, RECORDING, "--pid", "0x101", "--pes", "2-6", "--complete", "--origin",
+            "5000000000", "--all"]], commands)
+        kept = sorted(os.listdir(self.path("out")))
+        self.must("its files", kept == ["story.html", "story.json", "story.txt"], kept)
+        again = self.call(["sh", "-c", commands[0]])
+        said = lines[lines.index("+ " + commands[0]) + 1:][:1]
+        self.must("typed again", (again.status, again.out.decode().splitlines()) == (0, said),
+                  again)
+
+    def test_takes_pes_packets(self) -> None:
+        """From a file and from standard input; the same ends of all ways."""
+        pes = example_bytes("story.pes")
+        for name, words, data in (("a file", [example("story.pes")], None), ("a pipe", ["-"], pes),
+                                  ("a stream in a pipe", ["-"], example_bytes("recording.ts")),
+                                  ("/dev/stdin", ["/dev/stdin"], pes)):
+            done = qc(self, STORY, *words, data=data)
+            self.must(name, done.status == 0 and lines_of(done)[-1] == ACCEPTED, done)
+        with open(RECORDING, "rb") as file:
+            again = subprocess.run([os.path.join(TOP, "tools", "qc"), STORY, "-", "-p",
+                                    self.bench.program, "--json", "one.json"], stdin=file,
+                                   stdout=subprocess.PIPE, cwd=self.folder, check=False)
+        self.must("a file as standard input", again.returncode == 0, again)
+        part = json.loads(self.read("one.json"))["parts"][0]
+        self.must("its part", part["judged"] and (part["pid"], part["pes"]) == (257, "2-6"), part)
+
+
+# tools/qc on many pairs, and what it writes for machines.
+
+FIVE = example("five-faults.pes")
+
+
+def json_of(case: Case, name: str) -> Any:
+    return json.loads(case.read(name))
+
+
+class Batches(Case):
+    """Batches, and files for machines."""
+
+    def test_judges_a_folder(self) -> None:
+        """By files of several endings, of which one is broken and one lacks its recording; into a
+        folder in which no other batch judges meanwhile."""
+        os.mkdir(self.path("in"))
+        for name, data in (("a.STL", "hello.stl"), ("a.pes", "hello.pes"), ("b.stl", "story.stl"),
+                           ("b.ts", "recording.ts"), ("c.stl", "story.stl"),
+                           ("c.PES", "five-faults.pes"), ("d.stl", "story.stl")):
+            self.write(f"in/{name}", example_bytes(data))
+        words = ["--batch", "in", "-o", "out", "--json", "all.json", "--csv", "all.csv", "--junit",
+                 "all.xml"]
+        with claimed_for_batch(self.path("out")):
+            self.must("refused", qc(self, *words) == Done(2, b"", [
+                "qc: another batch is judging into out"]))
+        done = qc(self, *words)
+        lines = lines_of(done)
+        self.must("table", done.status == 2 and [line.split()[:2] for line in lines[1:-1]] == [
+            ["a", "accepted"], ["b", "accepted"], ["c", "refused"], ["d", "not"]] and
+            lines[-1] == "4 pairs: 2 accepted, 1 refused, 1 not judged", lines)
+        self.must("the broken one", lines[3].split()[2:4] == ["4", "72"] and lines[4].endswith(
+            "in/d.stl: no recording of that name"), lines)
+        verdicts = [one["verdict"] for one in json_of(self, "all.json")["pairs"]]
+        self.must("its object", verdicts == ["accepted"] * 2 + ["refused", "not judged"], verdicts)
+        rows = list(csv.DictReader(io.StringIO(self.read("all.csv").decode())))
+        self.must("its lines", [row["number"] for row in rows] ==
+                  ["", "", "", "67", "72", "68", "69", ""], rows)
+        suite = tree.fromstring(self.read("all.xml"))[0]
+        self.must("its testcases", [suite.get(name) for name in ("tests", "failures", "errors")] ==
+                  ["4", "1", "1"], suite.attrib)
+
+    def test_judges_a_list(self) -> None:
+        """Lines with options of their own; the same recording on several of them."""
+        text = (f"# of one day\n{STORY} {RECORDING}\n\n{example('hello.stl')} {RECORDING} --every "
+                f"100\n{example('german.stl')} {example('german.pes')} --option german\n")
+        self.write("list", text.encode())
+        done = qc(self, "--batch", "list", "--jobs", "2", "-o", "out")
+        self.must("accepted", done.status == 0 and [line.split()[0] for line in lines_of(done)] == [
+            "pair", "story", "hello", "german", "3"], done)
+        kept = sorted(os.listdir(self.path("out")))
+        self.must("its files", len(kept) == 3 * 3 + 1 and {"german.html", "index.html"} <= {*kept},
+                  kept)
+
+    def test_tells_what_is_known_of_a_fault(self) -> None:
+        qc(self, STORY, FIVE, "--every", "25", "--json", "five.json")
+        verdict = json_of(self, "five.json")
+        faults = {fault["number"]: fault for fault in verdict["faults"]}
+        known = {name: faults[72][name] for name in ("pes", "time", "row", "column", "due", "held",
+                                                     "until")}
+        self.must("72", known == {
+            "pes": 2, "time": "20:15:03:00", "row": 22, "column": 27,
+            "due": {"code": "65", "character": "e"}, "held": {"code": "61", "character": "a"},
+            "until": "20:15:03:24"}, known)
+        cause = faults[72]["cause"]
+        self.must("its cause", (cause["cause"], cause["subtitle"]["number"], cause["text"],
+                                cause["sent"]) ==
+                  ("wrong text", 2, "Thank you, Anne.", "Thank you, Anna."), cause)
+        self.must("of no other fault", [*filter(lambda number: faults[number]["cause"], faults)] ==
+                  [72] and verdict["causes"] == [{"part": 1, **cause}], verdict["causes"])
+        self.must("means and do", all(fault["means"] and fault["do"] for fault in faults.values()))
+        qc(self, example("accent.stl"), "--json", "accent.json")
+        fault = json_of(self, "accent.json")["faults"][0]
+        fault["subtitle"].pop("position")
+        self.must("50", (fault["block"], fault["byte"], fault["character"], fault["subtitle"]) ==
+                  (1, "C2", "é", {"number": 1, "begin": "10:00:00:00", "end": "10:00:02:00"}),
+                  fault)
+
+    def test_takes_lines_of_every_kind(self) -> None:
+        """Stretches that may be trusted, and where PES packets end that were passed over."""
+        told = ["trusted frames 20:15:00:00 20:15:00:24", "refused 38 UnitLength pes 1",
+                "ended 38 UnitLength pes 2", "refused 72 Content frame 20:15:05:12 row 22 column 9",
+                "trusted frames 20:15:07:00 20:15:09:00", "ended 72 Content frame 20:15:06:24",
+                "2 faults"]
+        lines = " ".join(f"'{line}'" for line in told)
+        program = self.program_but("check*--pes*--all*", f"printf '%s\\n' {lines}; exit 1")
+        done = self.tool("qc", STORY, example("story.pes"), "-p", program, "--json", "lines.json",
+                         "--csv", "lines.csv")
+        self.must("status", done.status == 1, done)
+        verdict = json_of(self, "lines.json")
+        self.must("trusted", verdict["trusted"] == [
+            {"part": 1, "from": "20:15:00:00", "to": "20:15:00:24"},
+            {"part": 1, "from": "20:15:07:00", "to": "20:15:09:00"}], verdict["trusted"])
+        faults = [{name: fault[name] for name in
+                   ("number", "pes", "until", "until_pes", "pes_time")}
+                  for fault in verdict["faults"]]
+        self.must("until", faults == [
+            {"number": 38, "pes": 1, "until": None, "until_pes": 2, "pes_time": "20:15:03:00"},
+            {"number": 72, "pes": 2, "until": "20:15:06:24", "until_pes": None,
+             "pes_time": "20:15:05:12"}],
+            faults)
+        rows = list(csv.DictReader(self.read("lines.csv").decode().splitlines()))
+        self.must("a line a fault",
+                  [(row["number"], row["until"], row["until_pes"]) for row in rows] ==
+                  [("", "", ""), ("38", "", "2"), ("72", "20:15:06:24", "")], rows)
+
+    def test_agrees_with_the_schema(self) -> None:
+        self.write("list", f"{STORY} {FIVE}\n{STORY}\n{STORY} none.ts\n".encode())
+        for name, words in {
+            "accepted": [STORY, RECORDING], "refused": [STORY, FIVE, "--every", "25"],
+            "not judged": [STORY, "none.ts"], "subtitles": [STORY],
+            "refused subtitles": [example("accent.stl")], "a batch": ["--batch", "list"],
+        }.items():
+            qc(self, *words, "--json", "one.json")
+            agrees(self, json_of(self, "one.json"), name)
+            os.remove(self.path("one.json"))
+
+    def test_object_on_standard_output(self) -> None:
+        done = qc(self, STORY, RECORDING, "--json", "-")
+        self.must("alone", json.loads(done.out)["line"] == done.told[-1] == ACCEPTED, done)
+
+
+# What tools/qc finds strange of a recording: said, in the report and the object, the status stays.
+
+
+def warnings(case: Case, name: str, done: Done, kinds: list[str]) -> list[Any]:
+    """Tests that these are the kinds of warnings, and that each is said and stands in the report;
+    the object is one.json, the report in the folder out."""
+    verdict = json_of(case, "one.json")
+    agrees(case, verdict, f"{name}: the schema")
+    found: list[Any] = verdict["warnings"]
+    case.must(f"{name}: kinds", [one["kind"] for one in found] == kinds, (found, done))
+    lines = [one["line"] for one in found]
+    said = [line.removeprefix("qc: warning: ") for line in done.told
+            if line.startswith("qc: warning: ")]
+    case.must(f"{name}: said", said == lines, done.told)
+    report = case.read("out/story.html").decode()
+    case.must(f"{name}: in the report", all(
+        f'<p class="note">warning: {line}</p>' in report for line in lines), lines)
+    return found
+
+
+class Warnings(Case):
+    """What is strange, and does not change the status."""
+
+    def test_said_everywhere(self) -> None:
+        """On the terminal, in the report, in the result: also what a terminal would obey."""
+        rows: list[tuple[bytes, list[str], str]] = [
+            (teletext_descriptor(), [], ""),
+            (teletext_descriptor(b"\x1b[2"), ["language"],
+             "the PMT announces page 888 in \\x1b[2; the LC of the GSI block is 09, eng")]
+        for descriptor, kinds, words in rows:
+            done = qc(self, STORY, self.write("one.ts", beside_video(
+                example_bytes("story.pes"), descriptor)), "-o", "out", "--json", "one.json")
+            self.must(f"{kinds}: accepted", done.status == 0 and lines_of(done)[-1] == ACCEPTED,
+                      done)
+            found = warnings(self, f"{kinds}", done, kinds)
+            self.must(f"{kinds}: its line", [one["line"] for one in found] == [words] * len(kinds),
+                      found)
+
+
+# tools/qc on recordings that come through a pipe; signals, a reader that leaves, no room.
+
+FIVE_WORDS = ("--origin", "0", "--every", "25")
+
+
+class Piped(Case):
+    """What comes through a pipe is judged at its end, as a file is."""
+
+    def test_as_a_file(self) -> None:
+        """The verdict, what is said, and the result, of PES packets and of a stream."""
+        for name, data in (("one.pes", example_bytes("five-faults.pes")),
+                           ("one.ts", stream(self, "five", example_bytes("five-faults.pes"))),
+                           ("cut.ts", stream(self, "five", example_bytes("five-faults.pes"))[:-99]),
+                           ("empty.pes", b"")):
+            of_file = qc(self, STORY, self.write(name, data), *FIVE_WORDS, "--json", "file.json")
+            piped_in = qc(self, STORY, "-", *FIVE_WORDS, "--json", "pipe.json", data=data)
+            self.must(name, of_file.status == piped_in.status and len(of_file.told) ==
+                      len(piped_in.told), (of_file, piped_in))
+            one, other = (json.loads(self.read(f"{kind}.json")) for kind in ("file", "pipe"))
+            for member in ("verdict", "line", "faults", "causes", "trusted", "lost", "notes"):
+                self.must(f"{name}: {member}", one[member] == other[member],
+                          (one[member], other[member]))
+
+    def test_what_does_not_end(self) -> None:
+        """A device is refused, and of a pipe no more is copied than the bound."""
+        done = self.tool("qc", STORY, "/dev/zero", "-p", self.bench.program)
+        self.must("a device", done.status == 2 and done.told[-1] ==
+                  "qc: /dev/zero is a device: give a file or a pipe", done)
+        pes = example_bytes("story.pes")
+        for most, word in ((len(pes), "accepted"), (len(pes) - 1, "not judged")):
+            with mock.patch.object(recording, "MOST_PIPED", most):
+                found = judged(self, STORY, in_pipe(self, pes), "--origin", "0")
+            self.must(f"{most}", found.word == word, found.said)
+        self.must("what to type", found.told[-1].endswith(
+            f" has not ended after {most:,} bytes: what does not end is judged with --channel LIST")
+            and recording.MOST_PIPED == 32_000_000_000, found.told)
+
+    def test_no_room(self) -> None:
+        """Where what comes can't be kept that is said, and nothing waits."""
+        data = stream(self, "story", example_bytes("story.pes")) * 400
+        command = 'ulimit -f 200; exec "$0" "$1" - --json one.json -p "$2"'
+        done = self.call(["bash", "-c", command, tool_path("qc"), STORY, self.bench.program], data)
+        self.must("said", done.status == 2 and "File too large" in done.told[-1], done)
+        self.must("its object", "File too large" in json.loads(self.read("one.json"))["reason"])
+
+
+class Ended(Case):
+    """Calls that somebody ends."""
+
+    def test_signals_while_it_comes(self) -> None:
+        """That is said and written, and no temporary folder is left."""
+        os.mkdir(self.path("temporary"))
+        for one in (signal.SIGINT, signal.SIGTERM, signal.SIGHUP):
+            with subprocess.Popen(
+                    [tool_path("qc"), "-p", self.bench.program, STORY, "-", "--json", "one.json",
+                     "-o", "out"], cwd=self.folder, stdin=subprocess.PIPE, stdout=subprocess.PIPE,
+                    stderr=subprocess.PIPE, env={**os.environ, "TMPDIR": self.path("temporary")}) \
+                    as process:
+                assert process.stdin and process.stderr
+                process.stdin.write(example_bytes("story.pes"))
+                process.stdin.flush()
+                is_there = until(lambda: any("story.recording" in files for _, _, files in os.walk(
+                    self.path("temporary"))))
+                process.send_signal(one if is_there else signal.SIGKILL)
+                told = process.stderr.read().decode().splitlines()
+            known = json.loads(self.read("one.json"))
+            self.must(f"{one}", process.returncode == 2 and known["status"] == 2 and told ==
+                      [f"qc: not judged: {known['reason']}"] and not known["faults"] and
+                      known["reason"].startswith("stopped at "), told)
+            self.must(f"{one}: nothing is left", os.listdir(self.path("temporary")) == [] and
+                      sorted(os.listdir(self.path("out"))) == [
+                          "story.html", "story.json"], os.listdir(self.path("out")))
+
+    def test_tells_what_was_judged_of_a_file(self) -> None:
+        """Where a signal comes while `check` judges a file: how far it had come, and what it told.
+        """
+        for count, faults, up_to in ((0, 0, "nothing yet"), (1, 0, "all up to 20:15:00:24"),
+                                     (2, 1, "all up to 20:15:01:00"),
+                                     (4, 3, "all up to 20:15:03:00")):
+            begun = self.path(f"begun {count}")
+            self.program_but("check*--pes*--all*", f"'{self.bench.program}' \"$@\" | head -n "
+                             f"{count}; touch '{begun}'; exec sleep {SECONDS} 2>/dev/null")
+            with subprocess.Popen([tool_path("qc"), STORY, example("five-faults.pes"), "--every",
+                                   "25",
+                                   "-o", "out", "-p", "./program"], cwd=self.folder,
+                                  stdout=subprocess.PIPE, stderr=subprocess.PIPE) as process:
+                assert process.stdout
+                for line in process.stdout:
+                    if line.startswith(b"+ ./program check"):
+                        break
+                came = [process.stdout.readline() for _ in range(count)]
+                until(lambda: os.path.exists(begun))
+                process.send_signal(signal.SIGTERM)
+                lines, told = (text.decode().splitlines() for text in process.communicate())
+            known = json.loads(self.read("out/story.json"))
+            self.must(f"{count}: status", process.returncode == 2 and known["status"] == 2, told)
+            self.must(f"{count}: how much", f"{counted(faults, 'fault')} so far" in lines, lines)
+            self.must(f"{count}: how far", told[-1:] == [f"qc: not judged: {known['reason']}"]
+                      and known["reason"].endswith(f"Z, when check had reported {up_to}"), told)
+            self.must(f"{count}: the object", len(known["faults"]) == faults
+                      and known["parts"][0]["verdict"] == "not judged", known)
+            self.must(f"{count}: the list", self.read("out/story.txt") == b"".join(came), came)
+
+    def test_lets_a_reader_leave(self) -> None:
+        """`| head -2`: no traceback, and the object is whole."""
+        five = self.write("five.ts", stream(self, "five", example_bytes("five-faults.pes")))
+        command = ('cat "$1" | "$2" "$3" "$4" --origin 0 --every 25 --json one.json -p "$5" 2>told '
+                   '| head -2; echo ${PIPESTATUS[1]}')
+        for name, recording in (("a feed", "-"), ("a file", five)):
+            done = self.call(["bash", "-c", command, "bash", five, tool_path("qc"), STORY,
+                              recording,
+                              self.bench.program])
+            told = self.read("told").decode()
+            self.must(name, len(done.out.splitlines()) == 3 and "Traceback" not in told
+                      and "Exception" not in told, (done, told))
+            self.must(f"{name}: its object", json.loads(self.read("one.json"))["fault_count"] == 5)
+
+
+# A subtitle file that comes through a pipe is judged as the same one that is a file.
+
+PES = example("story.pes")
+
+
+class Pipes(Case):
+    """The verdict, what is said, and the result."""
+
+    def qc(self, *words: str) -> Done:
+        return self.tool("qc", *words, "-p", self.bench.program, "--json", self.path("x.json"))
+
+    def test_as_a_file(self) -> None:
+        """Accepted, refused, of the option that its GSI block names; and by -o too."""
+        french = example_bytes("story.stl")[:14] + b"0F" + example_bytes("story.stl")[16:]
+        rows: list[tuple[bytes, list[str]]] = [
+            (example_bytes("story.stl"), [PES, "--origin", "0"]),
+            (example_bytes("story.stl"), [PES, "--start", "tcp"]),
+            (example_bytes("story.stl"), []), (example_bytes("accent.stl"), [PES]),
+            (french, [PES, "--origin", "0", "--option", "auto"]),
+            (b"", [PES]), (example_bytes("story.pes"), [PES]), (b"x" * 2000, [PES])]
+        for data, words in rows:
+            name = self.write("one.stl", data)
+            of_file = self.qc(name, *words, "-o", self.path("out"))
+            known = json.loads(self.read("x.json"))
+            pipe = self.path("pipe/one.stl")  # the name of the pair
+            shutil.rmtree(os.path.dirname(pipe), ignore_errors=True)
+            os.mkdir(os.path.dirname(pipe))
+            in_pipe(self, data, pipe)
+            of_pipe = self.qc(pipe, *words, "-o", self.path("out"))
+            other = json.loads(self.read("x.json"))
+            self.must(f"{words}", of_pipe.status == of_file.status and
+                      [line.replace(pipe, name) for line in of_pipe.told] == of_file.told and
+                      of_pipe.out.decode().replace(pipe, name) == of_file.out.decode(), of_pipe)
+            same = [{**one, "inputs": {**one["inputs"], "stl": one["inputs"]["stl"] and {
+                **one["inputs"]["stl"], "name": ""}}} for one in (known, other)]
+            for member in ("verdict", "status", "fault_count", "faults", "inputs", "trusted"):
+                self.must(f"{words}: {member}", same[0][member] == same[1][member],
+                          (same[0][member], same[1][member]))
+            self.must(f"{words}: option", known["asked"]["option"] == other["asked"]["option"])
+
+    def test_no_end(self) -> None:
+        """No more is read than `check` looks at."""
+        done = self.call(["sh", "-c", 'mkfifo endless; (yes >endless &) ; exec "$@"', "sh",
+                          tool_path("qc"), "endless", PES, "-p", self.bench.program])
+        self.must("endless", done.status in (1, 2) and len(done.told) <= 3, done)
+        self.assertEqual(MOST_STL, 1024 + 128 * 99_999 + 1)

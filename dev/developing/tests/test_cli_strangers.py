@@ -1,0 +1,219 @@
+"""What strangers' files and folders do to a call."""
+from __future__ import annotations
+
+import csv
+import errno
+import json
+import os
+import shutil
+import subprocess
+import xml.etree.ElementTree as tree
+from unittest import mock
+
+from subtitles.cli.single import claimed, claimed_for_batch
+from subtitles.common.command_line import Stop
+from .bench import Case, Done, example, example_bytes, tool_path
+from .muxed import beside_video, teletext_descriptor
+from .test_cli_pairs import ACCEPTED, RECORDING, STORY, in_two_parts, lines_of, qc
+
+
+# tools/qc with names of files that are hostile, with folders that can't be written to, and with
+# transport streams that begin as something else.
+
+ESC = "\x1b[31m"
+NAMES = {"an escape": f"a{ESC}b", "a dash": "-story", "an equals sign": "=story", "a plus": "+s",
+         "not UTF-8": "caf\udce9", "a new line": "two\nlines", "a quote": "it's \\ \u202e"}
+NOBODY = 65534
+FULL = "64k"  # of a file system
+
+
+def controls(data: bytes) -> list[int]:
+    """What a terminal would obey in some bytes."""
+    return [byte for byte in data if byte < 0x20 and byte != 0x0A or byte == 0x7F]
+
+
+def in_folder(case: Case, folder: str, *words: str) -> Done:
+    """A call of qc there."""
+    return case.call([tool_path("qc"), "-p", case.bench.program, *words], folder=folder)
+
+
+def is_told(case: Case, what: str, folder: str) -> None:
+    """Tests the files for machines, and the report: they can be read, and nothing in them is a
+    formula."""
+    def read(name: str) -> bytes:
+        return case.read(os.path.join(folder, name))
+
+    verdict = json.loads(read("one.json"))
+    case.must(f"{what}: the object", verdict["verdict"] == "accepted", verdict["asked"])
+    rows = list(csv.reader(read("one.csv").decode().splitlines()))
+    case.must(f"{what}: the lines", len(rows) == 2 and not controls(read("one.csv"))
+              and not any(cell.startswith(("=", "-", "+", "@")) for cell in rows[1]), rows)
+    case.must(f"{what}: for a CI", tree.fromstring(read("one.xml")).get("tests") == "1")
+    kept = [name for name in os.listdir(os.path.join(case.folder, folder, "out"))]
+    report = next((name for name in kept if name.endswith(".html")), "")
+    case.must(f"{what}: its report", len(kept) == 3 and report and not controls(
+        os.fsencode("".join(kept))) and not controls(read(os.path.join("out", report))), kept)
+
+
+def commands_are_right(case: Case, what: str, folder: str, lines: list[str]) -> None:
+    """What is typed again in bash does the same."""
+    commands = [line[2:] for line in lines if line.startswith("+ ")]
+    for command in commands:
+        done = subprocess.run(["bash", "-c", command], cwd=os.path.join(case.folder, folder),
+                              stdin=subprocess.DEVNULL, stdout=subprocess.PIPE,
+                              stderr=subprocess.PIPE, check=False)
+        # The program asks for UTF-8; so nothing is extracted, or read of that.
+        case.must(f"{what}: {command}", done.returncode == 0 or what == "not UTF-8", done)
+
+
+class Hostile(Case):
+    """Names and folders that are hostile."""
+
+    def test_judges_names_like_any_other(self) -> None:
+        """Both files, also in a list and in a folder; nothing of it reaches a terminal as it is."""
+        for what, name in NAMES.items():
+            folder = what.replace(" ", "-")
+            os.mkdir(self.path(folder))
+            for ending, data in (("stl", example_bytes("story.stl")),
+                                 ("ts", example_bytes("recording.ts"))):
+                with open(os.path.join(self.folder, folder, f"{name}.{ending}"), "wb") as file:
+                    file.write(data)
+            done = in_folder(self, folder, "--csv", "one.csv", "--json", "one.json", "--junit",
+                             "one.xml", "-o", "out", "--", f"{name}.stl", f"{name}.ts")
+            self.must(what, done.status == 0 and lines_of(done)[-1] == ACCEPTED, done)
+            shown = done.out + "".join(done.told).encode("utf-8", "replace")
+            self.must(f"{what}: is shown escaped", not controls(shown), shown)
+            is_told(self, what, folder)
+            commands_are_right(self, what, folder, lines_of(done))
+            done = in_folder(self, ".", "--batch", folder, "-o", "all")
+            self.must(f"{what}: in a folder", done.status == 0 and " accepted " in lines_of(done)[1]
+                      and not controls(done.out), done)
+
+    def test_writes_into_a_folder_of_any_name(self) -> None:
+        """One part, which is kept, several, and a batch."""
+        os.mkdir(self.path("in"))
+        stl, pes = in_two_parts(self)
+        two = self.write("in/two.pes", pes)
+        os.rename(stl, self.path("in/two.stl"))
+        for what in ("an escape", "a dash", "not UTF-8", "a quote"):
+            name = NAMES[what]
+            out = self.path(name)
+            words = [f"-o{name}"] if name[0] == "-" else ["-o", name]
+            done = qc(self, STORY, example("five-faults.pes"), "--every", "25", "--keep", *words)
+            self.must(what, done.status == 1 and sorted(os.listdir(out)) == [
+                "story.html", "story.json", "story.txt"], (done, os.listdir(out)))
+            self.must(f"{what}: is shown escaped", not controls(
+                done.out + "".join(done.told).encode("utf-8", "replace")), done)
+            verdict = json.loads(self.read(f"{name}/story.json"))
+            self.must(f"{what}: the object", verdict["verdict"] == "refused"
+                      and len(verdict["faults"]) == 5, verdict)
+            tree.fromstring(self.read(f"{name}/story.html"))
+            for command in [line[2:] for line in lines_of(done) if line.startswith("+ ")]:
+                again = self.call(["bash", "-c", command])
+                is_program = what == "not UTF-8" and "check" in command
+                self.must(f"{what}: {command}", again.status in (0, 1) or is_program, again)
+            done = qc(self, self.path("in/two.stl"), two, "--breaks", "1", *words)
+            self.must(f"{what}: two parts", done.status == 0 and "two.2.txt" in os.listdir(out),
+                      done)
+            done = qc(self, "--batch", "in", "--breaks", "1", *words)
+            self.must(f"{what}: a batch", done.status == 0 and not controls(done.out)
+                      and "index.html" in os.listdir(out), done)
+
+    def test_shows_a_language_escaped(self) -> None:
+        """The bytes of a PMT's language, in the list and in what is not clear."""
+        data = beside_video(example_bytes("story.pes"), teletext_descriptor(b"\x1b[2"))
+        path = self.write("one.ts", data)
+        done = self.tool("ts2pes", path)
+        self.must("the list", b"888 \\x1b[2 subtitles" in done.out and not controls(done.out), done)
+        done = qc(self, STORY, path, "--page", "801")
+        self.must("not clear", done.status == 2 and not controls("".join(done.told).encode()), done)
+
+    def test_says_that_a_folder_is_in_use(self) -> None:
+        with claimed(self.path("out"), "story"):
+            done = qc(self, STORY, RECORDING, "-o", "out")
+        self.must("two", done == Done(2, b"", [
+            "qc: another call is writing the files of story in out"]), done)
+
+    def test_says_that_a_folder_can_not_be_written_to(self) -> None:
+        if os.geteuid() != 0:
+            self.skipTest("a folder of somebody else, since this is not root")
+        os.mkdir(self.path("theirs"), 0o755)
+        done = self.call([tool_path("qc"), STORY, RECORDING, "-o", self.path("theirs"), "-p",
+                          self.bench.program], user=NOBODY)
+        self.must("theirs", done.status == 2 and done.told == [
+            f"qc: {self.path('theirs')}: Permission denied"], done)
+        done = qc(self, STORY, RECORDING, "-o", self.write("file", b""))
+        self.must("a file", done.status == 2 and len(done.told) == 1 and "file" in done.told[0],
+                  done)
+
+    def test_says_that_a_disk_is_full(self) -> None:
+        """With -o on a small file system that is full but for some bytes, in turn fuller."""
+        script = ('mount -t tmpfs -o size="$1" none full || exit 77; head -c "$2" /dev/zero '
+                  '>full/zeros 2>/dev/null; shift 2; "$@"')
+        words = [tool_path("qc"), STORY, RECORDING, "-o", "full", "-p", self.bench.program]
+        os.mkdir(self.path("full"))
+        for taken in ("64k", "56k"):
+            command = ["unshare", "-rm", "sh", "-c", script, "sh", FULL, taken, *words]
+            done = self.call(command) if shutil.which("unshare") else Done(77, b"", [])
+            if done.status in (1, 77) and not any("qc: " in line for line in done.told):
+                self.skipTest("a full disk, since no file system can be mounted here")
+            self.must(f"{taken} taken", done.status == 2 and "No space left" in done.told[-1]
+                      and "full/" in done.told[-1], done)
+
+    def test_takes_any_first_time_stamp(self) -> None:
+        """Of packets of 192 bytes, the first four: they may be those of a PES packet."""
+        data = example_bytes("recording.ts")
+        for stamp in (b"\0\0\1\xbd", b"\0\0\1\xe0", b"G\0\0\0"):
+            long = stamp + b"TIME".join(data[at:at + 188] for at in range(0, len(data), 188))
+            done = qc(self, STORY, self.write("long.ts", long))
+            self.must(stamp.hex(), done.status == 0 and lines_of(done)[-1] == ACCEPTED, done)
+            done = qc(self, STORY, "-", data=long)
+            self.must(f"{stamp.hex()}, a pipe", done.status == 0, done)
+            done = qc(self, self.path("long.ts"), STORY)
+            self.must(f"{stamp.hex()}, the wrong way round", done.status == 2 and
+                      "is a recording" in done.told[0], done)
+
+
+# The files of a pair in a folder of results belong to one call at a time.
+
+
+class Claims(Case):
+    """Claims of a folder."""
+
+    def test_calls_one_after_another(self) -> None:
+        """A folder and the files of a pair belong to one call at a time; each may come after."""
+        folder = self.path("claimed/here")
+        for turn in range(2):
+            with claimed(folder, "one"), claimed(folder, "two"), claimed_for_batch(folder):
+                for again, why in ((claimed(folder, "one"), "another call is writing the files of "
+                                    f"one in {folder}"), (
+                        claimed_for_batch(folder), f"another batch is judging into {folder}")):
+                    with self.assertRaises(Stop) as refused, again:
+                        self.must("never", False)
+                    self.must("why", str(refused.exception) == why, refused.exception)
+            self.must(f"turn {turn}", os.listdir(folder) == [])
+        with claimed(None, "one"), claimed_for_batch(None):
+            self.must("no folder", True)
+        locked: list[str] = []
+
+        def flock(handle: int, kind: int) -> None:
+            """The first time somebody takes the file away, and then locks are not known."""
+            locked.append(os.readlink(f"/proc/self/fd/{handle}"))
+            if len(locked) == 1:
+                os.unlink(locked[0])
+            elif len(locked) == 3:
+                raise OSError(errno.ENOLCK, "No locks")
+
+        with mock.patch("fcntl.flock", flock):
+            for count in (2, 3):
+                with claimed(folder, "one"):
+                    self.must("its file", os.listdir(folder) == [".one.lock"]
+                              and len(locked) == count, locked)
+        self.must("nothing is left", os.listdir(folder) == [])
+        with claimed(folder, "one"):  # meanwhile somebody has changed the folder
+            os.unlink(f"{folder}/.one.lock")
+            self.write("claimed/here/.one.lock", b"another one's")
+        self.must("another one's file stays", os.listdir(folder) == [".one.lock"])
+        with self.assertRaises(OSError) as told, claimed_for_batch(self.write("file", b"")):
+            self.must("never", False)
+        self.must("its name", told.exception.filename == self.path("file"))

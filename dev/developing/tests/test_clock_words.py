@@ -1,0 +1,361 @@
+"""What is said of an origin, and of the first picture; the programme that comes next."""
+from __future__ import annotations
+
+import unittest
+from types import SimpleNamespace
+from typing import Any, Sequence
+
+from developing.pes import packet
+from subtitles.clock.alignment import Early
+from subtitles.clock.origin import (
+    Origin, Sought, break_lines, frames_words, part_lines, shift_lines, take_parts)
+from subtitles.clock.start import Clock, First, NoFirst, START, first_picture, left_out
+from subtitles.clock.stretches import Stretch
+from subtitles.common.times import CLOCK, TICKS
+from subtitles.stream.receiver import control_text, national_option, printed_rows
+from subtitles.stream.survey import Survey
+from .bench import Case
+from .judged import Judged, Sent, joined, judged, late, programme, sendings
+from .muxed import HEVC, H_264, MPEG_2
+
+
+# What is said of an origin that was found, by tables: how a part agrees, from when on subtitles
+# are late, where breaks are.
+
+ORIGIN = CLOCK - 5 * TICKS
+
+
+def part_at(frames: int, begin: int = 0, base: int = 0) -> Any:
+    """A part whose origin is so many frames later, from a frame on, in a time base."""
+    return SimpleNamespace(origin=(ORIGIN + TICKS * frames) % CLOCK, begin=begin, base=base)
+
+
+class Words(unittest.TestCase):
+    """The lines, word for word."""
+
+    def part(self, agree: int, among: int, letters: int, edges: int = 20, **more: Any) -> Any:
+        """A part, of whose edges some agree with the best origin."""
+        best: dict[str, Any] = {"agree": agree, "among": among, "letters": letters, "exact": agree,
+                                "first_other": None, "late": [0], "origin": 9, "start": 0}
+        best.update({name: more.pop(name) for name in list(more) if name in best})
+        fit = SimpleNamespace(**best, points=lambda is_one=True: best["agree"])
+        sent = SimpleNamespace(edges=[None] * edges, within=more.get("within", 0),
+                               apart=lambda _: more.get("apart"))
+        return SimpleNamespace(best=fit, others=more.get("others", []), sent=sent,
+                               early=more.get("early"))
+
+    def other(self, origin: int, agree: int) -> Any:
+        return SimpleNamespace(origin=origin, agree=agree, start=900, texts=1,
+                               points=lambda is_one=True: agree)
+
+    def test_part(self) -> None:
+        """How many agree, the next best, what is late, where one does not agree, what is apart."""
+        rows: list[tuple[Any, int, list[str]]] = [
+            (self.part(20, 20, 18), 20, ["20 of 20 cues agree, 18 with the letters that are due; "
+                                         "the file has 20; next best: none"]),
+            (self.part(1, 1, 0), 40, ["1 of 1 cue agrees, 0 with the letters that are due; this "
+                                      "part has 20; next best: none"]),
+            (self.part(9, 12, 9, others=[self.other(7, 8), self.other(5, 3)], exact=7,
+                       first_other=50), 20,
+             ["9 of 12 cues agree, 9 with the letters that are due; the file has 20; next best: "
+              "--origin 7 with 8", "the first cue that does not agree is 00:00:02:00",
+              "2 of them only to the nearest frame: PTS that are not whole frames apart are "
+              "refused as 61"]),
+            (self.part(9, 9, 9, others=[self.other(7, 9), self.other(5, 9)]), 20,
+             ["9 of 9 cues agree, 9 with the letters that are due; the file has 20; next best: "
+              "--origin 7 with 9",
+              "it is not unique: as good as --origin 9 are --origin 7, --origin 5"]),
+            (self.part(9, 9, 9, others=[self.other(at, 9) for at in range(7)]), 20,
+             ["9 of 9 cues agree, 9 with the letters that are due; the file has 20; next best: "
+              "--origin 0 with 9", "it is not unique: as good as --origin 9 are --origin 0, "
+              "--origin 1, --origin 2, --origin 3, --origin 4 and 2 more"]),
+            (self.part(4, 9, 4), 20,
+             ["4 of 9 cues agree, 4 with the letters that are due; the file has 20; next best: "
+              "none", "fewer than half of the cues agree with --origin 9: check that this is the "
+              "right subtitle file"]),
+            (self.part(9, 9, 9, within=3, late=[2, 0, 1]), 20,
+             ["9 of 9 cues agree, 9 with the letters that are due; the file has 20; next best: "
+              "none", "cues are 0 to 2 frames late, 1 in the middle"]),
+            (self.part(9, 9, 9, within=3, late=[0, 0]), 20,
+             ["9 of 9 cues agree, 9 with the letters that are due; the file has 20; next best: "
+              "none", "no cue is late"]),
+            (self.part(9, 10, 9, within=3, late=[0], early=Early(1, 30, 2), first_other=50), 20,
+             ["9 of 10 cues agree, 9 with the letters that are due; the file has 20; next best: "
+              "none", "no cue is late", "1 of 30 cues comes up to 2 frames before what is usual "
+              "for the others: that is early", "the first cue that does not agree is 00:00:02:00"]),
+            (self.part(8, 10, 8, within=3, late=[0], early=Early(2, 10, 1)), 20,
+             ["8 of 10 cues agree, 8 with the letters that are due; the file has 20; next best: "
+              "none", "no cue is late", "2 of 10 cues come up to 1 frame before what is usual for "
+              "the others: early subtitles, or an inserter that is late for the others? Give "
+              "--origin or --start"])]
+        for is_begin, agree, late, line in (
+                (True, 5, 2, "all beginnings are 2 frames late compared with the ends"),
+                (False, 4, -1, "4 of 5 ends are 1 frame early compared with the beginnings")):
+            apart = SimpleNamespace(is_begin=is_begin, agree=agree, of=5, late=late)
+            rows.append((self.part(4, 9, 4, apart=apart), 20, [
+                "4 of 9 cues agree, 4 with the letters that are due; the file has 20; next best: "
+                "none", line]))
+        for part, count, lines in rows:
+            self.assertEqual(list(part_lines(part, count)), lines)
+
+    def test_early_parts(self) -> None:
+        """An origin that is given is that of the first part: where many cues of another one come
+        early nothing is clear."""
+        many, few = Early(9, 20, 1), Early(1, 30, 1)
+        for early, origin, status in (((None, None), None, 0), ((many, None), None, 1),
+                                      ((many, None), 9, 0), ((None, many), None, 1),
+                                      ((None, many), 9, 1), ((many, few), 9, 0)):
+            parts = [self.part(20, 20, 20, early=one) for one in early]
+            for one in parts:
+                one.begin, one.end, one.base, one.over, one.origin = 0, 50, 0, [], 9
+            found = Origin()
+            take_parts(found, Sought("a", "b", origin=origin, breaks=1), [parts[0].sent], parts)
+            self.assertEqual((found.status, len(found.parts)), (status, 2 - 2 * status), early)
+
+    def test_frames(self) -> None:
+        for ticks, words in ((TICKS, "1 frame late"), (-2 * TICKS, "2 frames early"),
+                             (TICKS + 7, "1 frame and 7 ticks late"), (-9, "0 frames and 9 ticks "
+                                                                           "early")):
+            self.assertEqual(frames_words(ticks), words)
+
+    def test_breaks(self) -> None:
+        """Of the second part and the third: what is longer, shorter, or goes back."""
+        parts = [part_at(0), part_at(25, 100), part_at(-50, 200), part_at(0, 300, 1)]
+        parts.append(SimpleNamespace(origin=ORIGIN + 7, begin=400, base=1))
+        self.assertEqual(list(break_lines(parts)), [
+            "part 2 begins at 00:00:04:00, after a break of 00:00:01:00",
+            "part 3 begins at 00:00:08:00, where the recording lacks 00:00:03:00",
+            "part 4 begins at 00:00:12:00, where PTS go back",
+            "part 5 begins at 00:00:16:00, after a break of 00:00:00:00 and 7 ticks"])
+        self.assertEqual(list(break_lines(parts[:1])), [])
+
+    def shifts(self, *frames: int, bases: tuple[int, ...] = ()) -> list[str]:
+        """What is said of stretches that are so many frames late, a minute each."""
+        parts = [part_at(one, 1500 * at, (*bases, *[0] * 99)[at]) for at, one in enumerate(frames)]
+        edges = [SimpleNamespace(frame=1500 * at) for at in range(len(parts))]
+        tracks: list[Any] = [SimpleNamespace(edges=edges, start=one, base=part.base)
+                             for one, part in zip(frames, parts)]
+        return shift_lines([Stretch(one, at, at + 1) for at, one in enumerate(tracks)], parts,
+                           ORIGIN)
+
+    def test_shifts(self) -> None:
+        """Late, early, on time; back; of many the first and the last."""
+        said = "on subtitles are"
+        self.assertEqual(self.shifts(0, 25), [f"from 00:01:00:00 {said} 1.00 s (25 frames) late"])
+        self.assertEqual(self.shifts(0, 26, 0), [
+            f"from 00:01:00:00 {said} 1.04 s (26 frames) late", f"from 00:02:00:00 {said} on time"])
+        self.assertEqual(self.shifts(0, -1500), [
+            f"from 00:01:00:00 {said} 60.00 s (1500 frames) early"])
+        self.assertEqual(self.shifts(0, -1500, -3000), [
+            f"from 00:01:00:00 {said} 60.00 s (1500 frames) early",
+            f"from 00:02:00:00 {said} 120.00 s (3000 frames) early"])
+        self.assertEqual(self.shifts(0, 5, bases=(0, 1)), [
+            "from 00:01:00:00 on, where PTS go back, subtitles are 0.20 s (5 frames) late"])
+        for count, left in ((20, 0), (21, 1), (25, 5)):
+            found = self.shifts(*((at * 7) % 5 * 30 for at in range(count + 1)))
+            words = f"and so on, {left} time{'s' * (left != 1)} more"
+            self.assertEqual((len(found), words in found), (20 + (left > 0), left > 0), found)
+            self.assertTrue(found[-1].startswith(f"from 00:{count:02}:00:00"), found)
+
+
+# The first picture of a recording, by what `survey` tells of its video, or why there is none.
+
+TELETEXT, VIDEO = 0x101, 0x200
+# In the order in which they are sent, by frames: groups of I B B P B B P B B.
+GROUP = [2, 0, 1, 5, 3, 4, 8, 6, 7]
+
+
+def programme_with(*streams: tuple[int, int]) -> list[str]:
+    """A PMT with Teletext and these streams, each a PID and its stream_type."""
+    return [f"programme 1 {VIDEO}", f"stream {TELETEXT} 6",
+            *(f"stream {pid} {kind}" for pid, kind in streams)]
+
+
+def surveyed(lines: Sequence[str], is_whole: bool = True) -> Survey:
+    survey = Survey()
+    for line in lines:
+        survey.take(line)
+    survey.is_whole = is_whole
+    return survey
+
+
+def shown(frames: Sequence[int | None], end: str = "0 0", passed: int = 3) -> list[str]:
+    """The lines of pictures at some frames from a PTS on, which passes 2^33 behind it."""
+    pts = ["-" if one is None else (CLOCK - 5 + TICKS * one) % CLOCK for one in frames]
+    return [*programme_with((VIDEO, MPEG_2)), f"video {VIDEO} {passed}",
+            *(f"picture {VIDEO} {one}" for one in pts), f"pictures {VIDEO} {end}"]
+
+
+class Pictures(unittest.TestCase):
+    """What there is, and why it is not clear."""
+
+    def said(self, lines: Sequence[str], is_whole: bool = True) -> str | First:
+        try:
+            return first_picture(surveyed(lines, is_whole), TELETEXT)
+        except NoFirst as reason:
+            return str(reason)
+
+    def test_the_smallest(self) -> None:
+        """Pictures that are sent later and shown before are among them; one alone."""
+        for frames, least in ((GROUP, 0), ([0], 0), ([7, 5, 6], 5), ([0, 1, 2], 0)):
+            self.assertEqual(self.said(shown(frames)), First(
+                VIDEO, MPEG_2, (CLOCK - 5 + TICKS * least) % CLOCK, 3), frames)
+        for kind in (0x01, H_264, HEVC):
+            lines = [*programme_with((VIDEO, kind)), f"video {VIDEO} 0", f"picture {VIDEO} 9"]
+            self.assertEqual(self.said(lines), First(VIDEO, kind, 9, 0))
+        self.assertIn("PTS 9, HEVC of PID 0x200; 1 PES packet of video before it skipped",
+                      First(VIDEO, HEVC, 9, 1).line())
+
+    def test_groups(self) -> None:
+        """Of a closed group the smallest; of one that is open or unknown the one with the flag;
+        both are said where they differ."""
+        flagged, least = (CLOCK - 5 + TICKS * 2) % CLOCK, CLOCK - 5
+        begin = ", MPEG-2 of PID 0x200; 3 PES packets of video before it skipped"
+        for frames, form, first, other, away, more in (
+                (GROUP, "closed", least, flagged, 2, "; the one with the random_access_indicator "
+                 f"has PTS {flagged}, 2 frames later"),
+                (GROUP, "open", flagged, least, -2, "; those of its group that come before it, "
+                 f"from PTS {least} on, 2 frames, can't be decoded"),
+                (GROUP, "unknown", flagged, least, -2, "; those of its group that come before it, "
+                 f"from PTS {least} on, 2 frames, can't be decoded"),
+                ([0, 1, 2], "open", least, None, 0, ""), ([0, 2, 1], "closed", least, None, 0, "")):
+            lines = shown(frames)
+            found = self.said([*lines[:-1], f"group {VIDEO} {flagged} {least} {form}", lines[-1]])
+            self.assertEqual(found, First(VIDEO, MPEG_2, first, 3, other), (frames, form))
+            assert isinstance(found, First)
+            self.assertEqual((found.away, found.line()), (
+                away, f"the first picture has PTS {first}{begin}{more}"))
+
+    def test_questions(self) -> None:
+        """A delay of all that is just as long as to the other picture asks whether the time code is
+        of that."""
+        for away, delay, words in (
+                (-2, -2, "is the time code that of the GOP header?"), (-2, 2, ""), (-2, -1, ""),
+                (-2, 0, ""), (-2, None, ""), (0, 0, ""), (0, None, ""), (2, -2, ""),
+                (2, 2, "is the time code that of the picture with the random_access_indicator?")):
+            said = Clock(0, START, delay, away=away).question()
+            self.assertTrue(said.startswith(words) and bool(said) == bool(words), said)
+
+    def test_none(self) -> None:
+        """Each reason."""
+        two = programme_with((VIDEO, MPEG_2), (0x201, H_264))
+        rows: list[tuple[list[str], bool, str]] = [
+                ([], True, "no PMT names PID 0x101"),
+                (programme_with(), True, "has no video: PID 0x101 stream_type 06"),
+                (two, True, "has several video PIDs: PID 0x101 stream_type 06, PID 0x200 MPEG-2, "
+                            "PID 0x201 H.264"),
+                (programme_with((VIDEO, 0x33)), True, "pictures of VVC are not read"),
+                (programme_with((VIDEO, MPEG_2)), True, "MPEG-2, has no PES packets of video"),
+                (programme_with((VIDEO, MPEG_2)), False, "no PES packet of MPEG-2 of PID 0x200 has "
+                 "come with the random_access_indicator"),
+                ([*programme_with((VIDEO, MPEG_2)), f"pictures {VIDEO} 0 0 7 0"], True,
+                 "none of 7 PES packets of MPEG-2 of PID 0x200 has the random_access_indicator"),
+                (shown([0, 1], "2 0"), True, "2 TS packets of MPEG-2 of PID 0x200 lost among"),
+                (shown([0, 1], "1 1"), True, "is scrambled"),
+                (shown([0, None]), True, "a picture of MPEG-2 of PID 0x200 has no PTS"),
+                (shown([None]), True, "a picture of MPEG-2 of PID 0x200 has no PTS"),
+                # Two pictures in each PES packet: the first that is shown has no PTS.
+                (shown(GROUP[::2] + [9]), True, "leave out 3 frames: a PES packet has several")]
+        for lines, is_whole, words in rows:
+            self.assertIn(words, self.said(lines, is_whole))
+
+    def test_left_out(self) -> None:
+        """Frames and fields have a PTS each; of pictures that are cut the last may be missing."""
+        frame, field = TICKS, TICKS // 2
+        long = [frame * one for one in range(260)]
+        for pts, is_cut, count in (
+                ([0], False, 0), ([frame * one for one in GROUP], False, 0),
+                ([field * one for one in GROUP], False, 0), ([0, frame + field // 2], False, 0),
+                ([0, frame + field // 2 + 1], False, 0), ([0, 2 * frame], False, 1),
+                ([0, 4 * frame, 6 * frame], False, 4), ([0, frame, 3 * frame], True, 0),
+                ([0, 2 * frame, *(frame * one for one in range(3, 18))], True, 0),
+                ([0, 2 * frame, *(frame * one for one in range(3, 19))], True, 1),
+                ([*long[:250], long[251]], False, 0), ([*long[:100], *long[101:]], False, 1),
+                ([*long[:245], *long[246:251]], False, 1),
+                ([(CLOCK - frame + one) % CLOCK for one in (0, frame, 3 * frame)], False, 1)):
+            self.assertEqual(left_out(pts, is_cut), count, (pts[:5], is_cut))
+
+
+# What qc says of pages that are not as they seem, in process: the next programme's page at the
+# last TCO, rows that come when the page is not open, two subtitles that are sent as one.
+
+BEGIN, EACH, LENGTH, COUNT = 900_000, 60, 40, 6  # frames, and subtitles of the first programme
+OWN = [(BEGIN + EACH * at, BEGIN + EACH * at + LENGTH) for at in range(COUNT)]
+LAST = OWN[-1][1]  # its last TCO
+OTHERS = [(LAST + EACH * at, LAST + EACH * at + LENGTH) for at in range(COUNT)]
+NEXT = "unknown: the page that comes at the last TCO is the next programme's"
+OTHER = packet(0, 0, [9, 8, 0, 8, 0, 8, 1, 0], b" " * 32)  # a header of page 889
+
+
+class Pages(Case):
+    """What is sent of the first programme, and of others behind it."""
+
+    def setUp(self) -> None:
+        super().setUp()
+        self.stl = programme(self, OWN)
+        self.sent = self.planned(OWN)
+
+    def planned(self, times: list[tuple[int, int]], first: int = 1) -> Sent:
+        return sendings(self, programme(self, times, first=first, name="sent.stl"))
+
+    def judge(self, sent: Sent, *words: str) -> Judged:
+        return judged(self, self.stl, self.write("one.pes", joined(sent)), "--origin", "0", *words)
+
+    def test_what_comes_at_the_last_tco(self) -> None:
+        """The next programme's page, our own text that stays, and our own text once more."""
+        stays = [*OWN[:-1], (OWN[-1][0], LAST + 30)]
+        again = self.planned([(LAST, LAST + 30)], 1)
+        before = [one for one in self.sent if one[0] < LAST * TICKS]
+        following = self.planned(OTHERS, 50)
+        after = late(30)(following)
+        for name, sent, words in (
+                ("next", before + following, NEXT),
+                ("stays", self.planned(stays), "not erased at "),
+                ("stays up to the next", [
+                    one for one in self.planned(stays) if one[0] < after[0][0]] + after,
+                 "not erased at "),
+                ("an older one", before + again, "sent after its TCO, at ")):
+            for within in ("0", "1"):
+                found = self.judge(sent, "--within", within)
+                causes = found.lines("cause: ")
+                self.must(f"{name} {within}", found.word == "refused" and len(causes) == 1 and
+                          causes[0].startswith(f"subtitle {COUNT} at ") and words in causes[0],
+                          found.said)
+
+    def test_rows_when_the_page_is_not_open(self) -> None:
+        """A header of another page in the magazine stands before the rows, of one and of all."""
+        for count in (1, COUNT):
+            begins = [begin * TICKS for begin, _ in OWN[:count]]
+            sent = [(pts, [some[0], OTHER, *some[1:]] if len(some) > 2 and any(
+                begin <= pts < begin + LENGTH * TICKS for begin in begins) else some)
+                    for pts, some in self.sent]
+            causes = self.judge(sent).lines("cause: ")
+            self.must(f"{count}", len(causes) == count and all(line.endswith(
+                ": rows came while 888 was not open") for line in causes), causes)
+
+    def test_two_that_are_sent_as_one(self) -> None:
+        """A subtitle that is not erased before one that is the same: up to that, not beyond it."""
+        stl = programme(self, OWN, text=b"The same")
+        sent = sendings(self, programme(self, [*OWN[:2], (OWN[2][0], OWN[3][1]), *OWN[4:]],
+                                        text=b"The same", name="sent.stl"))
+        causes = judged(self, stl, self.write("one.pes", joined(sent)), "--origin",
+                        "0").lines("cause: ")
+        self.must("its cause", len(causes) == 1 and causes[0].startswith("subtitle 3 at ") and
+                  causes[0].endswith("it stays for 20 frames, up to subtitle 4, which is the same"),
+                  causes)
+
+    def test_words(self) -> None:
+        """Control bits and rows as they are printed."""
+        for header, words, option in (
+                ([8, 8, 0, 8, 0, 8, 1, 0], "C4 C6 C7", 0), ([0] * 8, "none", 0),
+                ([8, 8, 0, 0, 0, 4, 8, 15], "C5 C10 C11 C12 C13 C14", 7),
+                ([8, 8, 0, 0, 0, 0, 0, 8], "C14", 4), ([8, 8, 0, 0, 0, 0, 0, 1], "C11", 0)):
+            self.must(words, control_text(bytes(header)) == words and
+                      national_option(bytes(header)) == option,
+                      (control_text(bytes(header)), national_option(bytes(header))))
+        rows = {1: b"\x0b\x0bHi\x7f~", 6: b"\xa0" * 40, 7: b"a\xa0b", 24: b"\xbf" * 40}
+        shown = printed_rows(tuple(rows.get(at, b"").ljust(40) for at in range(1, 25)))
+        self.must("rows", shown == [
+            f"row {at:02} |{text.ljust(40)}|" for at, text in (
+                (1, "..Hi.~"), (7, "a b"), (24, "?" * 40))])
+        self.must("blank", printed_rows((b" " * 40, b"\xa0" * 40)) == ["blank"])

@@ -1,0 +1,414 @@
+"""Letters, national options and character sets."""
+from __future__ import annotations
+
+import csv
+import ctypes
+import dataclasses
+import os
+import unittest
+from typing import Iterator, NamedTuple
+
+from developing.pes import (
+    NATIONAL, address_of, data_field, header_of, packet, pes_packet, pts_in, teletext_packets)
+from developing.stl import END_BOX, START_BOX, gsi_block, tti_block
+from subtitles.common.program import TOP
+from subtitles.common.times import TICKS
+from subtitles.formats.stl import UNUSED
+from subtitles.formats.teletext import (
+    BY_WORD, CODE_WORDS, CZECH, ENGLISH, FRENCH, GERMAN, ITALIAN, NationalOption, OPTIONS, PLACES,
+    RESERVED, SPANISH, SWEDISH, character_of, codes_of, has_bit, has_characters, letter_at, letters,
+    named_by, of_track, option_name, options_with)
+from subtitles.judging.subtitles import advice_of
+from subtitles.recording.notices import of_character_sets, of_option
+from subtitles.request.request import Request
+from .bench import Case, example_bytes, packets
+from .parts import packets_told
+from .test_cli_pairs import STORY, lines_of, qc, warnings
+
+
+# The table of national options, beside the tables of an outside decoder; and the advice for a
+# letter that an option lacks.
+
+VECTORS = os.path.join(TOP, "dev", "vectors", "national")
+
+
+def rows_of(name: str) -> Iterator[dict[str, str]]:
+    """The rows of one of the tables from outside."""
+    with open(os.path.join(VECTORS, name), encoding="utf-8", newline="") as file:
+        yield from csv.DictReader(file, delimiter="\t", quoting=csv.QUOTE_NONE)
+
+
+class Table(unittest.TestCase):
+    """Each entry of the tables from outside."""
+
+    def test_each_byte_gives_its_cell_and_its_character(self) -> None:
+        count = 0
+        for row in rows_of("options.tsv"):
+            count += 1
+            option, text = BY_WORD[row["option"]], bytes.fromhex(row["stl"])
+            cell, character = int(row["cell"], 16), row["char"].replace("SPACE", " ")
+            with self.subTest(option=option.word, stl=row["stl"]):
+                bits = sum(int(row[name]) << at for at, name in enumerate(("C12", "C13", "C14")))
+                self.assertEqual(option.bits, bits)
+                self.assertEqual(codes_of(text, option), [cell])
+                self.assertEqual(character_of(text), character)
+                self.assertEqual(letters(bits)[cell], character)
+                self.assertIn(option, options_with(text))
+        self.assertEqual(count, 658)
+
+    def test_characters_that_no_text_has(self) -> None:
+        """As libzvbi 0.2.41 has them in its Latin set, by `vbi_teletext_unicode`."""
+        for option in OPTIONS:
+            self.assertEqual(letters(option.bits)[0x7F], "\u25a0")
+        self.assertEqual("".join(letters(ENGLISH.bits)[code] for code in b"[\\]^`{|}~"),
+                         "←½→↑—¼‖¾÷")
+        self.assertEqual(letters(GERMAN.bits)[0x5E:0x60], ["^", "_"])
+
+    def test_nothing_else_has_a_cell(self) -> None:
+        known = {(row["option"], bytes.fromhex(row["stl"])) for row in rows_of("options.tsv")}
+        for option in OPTIONS:
+            for first in range(0x20, 0x100):
+                for text in (bytes([first]), *(bytes([first, second]) for second in b"AaeEzZ ")):
+                    whole = codes_of(text, option)
+                    if (option.word, text) not in known and len(whole) == 1:
+                        self.assertEqual(whole, [None], (option.word, text))
+
+    def test_texts_in_eleven_languages(self) -> None:
+        count = 0
+        for row in rows_of("vectors.tsv"):
+            if row["kind"] in ("drawn", "refused"):
+                count += 1
+                with self.subTest(no=row["no"], option=row["option"], text=row["text"]):
+                    text = bytes.fromhex(row["stl"])
+                    self.assertEqual(has_characters(text, BY_WORD[row["option"]]),
+                                     row["kind"] == "drawn")
+        self.assertGreater(count, 150)
+        for byte in range(0x80, 0x90):
+            self.assertTrue(has_characters(b"A%cA" % byte, ENGLISH), byte)
+        self.assertFalse(has_characters(b"A\x90A", ENGLISH))
+
+    def test_languages(self) -> None:
+        for code, option in ((b"09", ENGLISH), (b"08", GERMAN), (b"27", SWEDISH), (b"28", SWEDISH),
+                             (b"1B", SWEDISH), (b"1b", SWEDISH), (b"15", ITALIAN), (b"0F", FRENCH),
+                             (b"0A", SPANISH), (b"21", SPANISH), (b"06", CZECH), (b"25", CZECH),
+                             (b"00", ENGLISH), (b"20", ENGLISH), (b"", ENGLISH), (b"\xff\x00",
+                                                                                   ENGLISH)):
+            self.assertEqual(named_by(code), option, code)
+        for track, named in (("fra", FRENCH), ("FRE", FRENCH), ("swe", SWEDISH), ("slo", CZECH),
+                             ("por", SPANISH), ("eng", ENGLISH), ("deu", GERMAN)):
+            self.assertEqual(of_track(track), named, track)
+        self.assertIsNone(of_track("pol"))
+
+    def test_names(self) -> None:
+        self.assertEqual([option_name(bits) for bits in (0, 4)], ["English", "German"])
+        self.assertIn("reserved", option_name(RESERVED))
+        self.assertEqual({len(one.characters) for one in OPTIONS}, {len(PLACES)})
+
+
+class Advice(unittest.TestCase):
+    """What to do about a letter."""
+
+    def test_letters(self) -> None:
+        for text, words in (
+                ("C265", "é is in --option swedish, italian, french, spanish, czech"),
+                ("24", "$ is in --option english, german, italian, spanish"),
+                ("C24F", "Ó is in no option"), ("F9", "ø is in no option"),
+                ("C2", "byte C2 is no character"), ("FF", "byte FF is no character")):
+            self.assertTrue(advice_of(bytes.fromhex(text), []).startswith(words), text)
+        self.assertEqual(advice_of(b"\xc2e", [FRENCH, SPANISH]),
+                         "the whole file draws in --option french, spanish")
+
+    def test_a_mark_takes_the_letter_behind_it(self) -> None:
+        for text, at, letter in ((b"a\xc2eb", 1, b"\xc2e"), (b"a\xc2", 1, b"\xc2"),
+                                 (b"\xc2\x80e", 0, b"\xc2"), (b"ab", 1, b"b"),
+                                 (b"\xc2 e", 0, b"\xc2"), (b"\xc9e", 0, b"\xc9")):
+            self.assertEqual(letter_at(text, at), letter, text)
+
+
+# What the program sends of each national option, beside the tables of `dev/vectors/national/`:
+# each letter, texts in eleven languages, and what is refused. libzvbi shows the same letters.
+
+FIRST, LENGTH = 90_000, 25  # the frame of the first subtitle, and how many each is due
+MARKS = range(0xC0, 0xD0)  # diacritical
+SPACING = {*range(0x01, 0x0E), 0x1C, 0x1D}  # the spacing attributes that a text may have
+WITHOUT_CELL = {*range(0x80, 0x86), 0x8A}  # italics, underline, boxing; the end of a line
+
+
+class Text(NamedTuple):
+    """A text, where it stands, and the row of 40 cells that it gives."""
+
+    text: bytes
+    row: int
+    justify: int
+    cells: bytes = b""
+
+
+def letters_of(option: NationalOption) -> list[tuple[Text, str]]:
+    """The texts of single characters that an option has, each with its character."""
+    return [(Text(bytes.fromhex(line["stl"]), 5, 0, (
+        START_BOX * 2 + bytes([int(line["cell"], 16)]) + END_BOX * 2).ljust(40)),
+        chr(int(line["unicode"][2:], 16)))
+            for line in rows_of("options.tsv") if line["option"] == option.word]
+
+
+def texts(option: NationalOption) -> list[tuple[Text, str]]:
+    """The longer texts, each with how it is refused, or nothing."""
+    found = []
+    for line in rows_of("vectors.tsv"):
+        cells, told = b"", line["prepared line or refusal"]
+        if line["kind"] == "drawn":
+            cells = bytes.fromhex(line["row of 40 cells"])
+        elif told.startswith("drawn "):
+            drawn = bytes.fromhex(told.split()[1])
+            cells = (b" " * ((40 - len(drawn)) // 2) + drawn).ljust(40)
+        if line["option"] == option.word:
+            found.append((Text(bytes.fromhex(line["stl"]), 22, 2, cells), "" if cells else told))
+    return found
+
+
+class Sliced(ctypes.Structure):
+    """`vbi_sliced` of libzvbi."""
+
+    _fields_ = [("id", ctypes.c_uint32), ("line", ctypes.c_uint32), ("data", ctypes.c_uint8 * 56)]
+
+
+HANDLER = ctypes.CFUNCTYPE(None, ctypes.c_void_p, ctypes.c_void_p)
+TELETEXT_B = 3  # VBI_SLICED_TELETEXT_B
+PAGE_EVENT = 2  # VBI_EVENT_TTX_PAGE: pages are decoded where there is a handler for it
+ANY_SUBCODE = 0x3F7F
+LEVEL_1 = 0  # VBI_WST_LEVEL_1
+TEXT_AT, CHARACTER = 28, 8  # of `vbi_page`: where its characters begin, and the size of one
+UNICODE_AT = 6  # of `vbi_char`
+
+
+class Receiver:
+    """libzvbi, of the default region 0000 and level 1."""
+
+    def __init__(self) -> None:
+        self.library = ctypes.CDLL("libzvbi.so.0")
+        self.library.vbi_decoder_new.restype = ctypes.c_void_p
+        self.decoder = ctypes.c_void_p(self.library.vbi_decoder_new())
+        self.handler = HANDLER(lambda event, data: None)
+        self.library.vbi_event_handler_register(self.decoder, PAGE_EVENT, self.handler, None)
+        self.library.vbi_teletext_set_default_region(self.decoder, 0)
+        self.time = 0.0
+
+    def row(self, sent: list[bytes], row: int) -> str:
+        """The characters of a row of page 888, after these packets."""
+        lines = (Sliced * len(sent))()
+        for line, packet in zip(lines, sent):
+            line.id = TELETEXT_B
+            line.line = 0
+            line.data[:42] = list(packet)
+        self.time += 0.04
+        self.library.vbi_decode(self.decoder, lines, len(sent), ctypes.c_double(self.time))
+        page = ctypes.create_string_buffer(65536)
+        if not self.library.vbi_fetch_vt_page(self.decoder, page, 0x888, ANY_SUBCODE, LEVEL_1, 25,
+                                              0):
+            return ""
+        at = [TEXT_AT + CHARACTER * (41 * row + column) + UNICODE_AT for column in range(40)]
+        return "".join(chr(int.from_bytes(page.raw[place:place + 2], "little")) for place in at)
+
+
+class Sent(Case):
+    """What the program makes of texts."""
+
+    def schedule_of(self, option: NationalOption, several: list[Text]) -> str:
+        """The last line of the schedule of subtitles that come straight one after the other."""
+        blocks = [tti_block(number, begin, begin + LENGTH, one.row, one.justify, one.text)
+                  for number, one in enumerate(several) for begin in [FIRST + LENGTH * number]]
+        self.write("a.stl", gsi_block(b"", len(blocks), len(blocks), FIRST) + b"".join(blocks))
+        return self.program("schedule", "a.stl", "a.pes", "--every", "1500", "--option",
+                            option.word)[1][-1]
+
+    def sent(self, option: NationalOption, several: list[Text]) -> list[list[bytes]]:
+        """What is sent of each; of the same page as before nothing."""
+        line = self.schedule_of(option, several)
+        self.must(f"{option.word}: a schedule", line.startswith("written "), line)
+        line = self.program("check", "a.stl", "a.pes", "--every", "1500", "--option",
+                            option.word)[1][-1]
+        self.must(f"{option.word}: a check", line.startswith("accepted "), line)
+        by_frame = {pts_in(one) // TICKS: teletext_packets(data_field(one))
+                    for one in packets(self.read("a.pes"))}
+        return [by_frame.get(FIRST + LENGTH * number, []) for number in range(len(several))]
+
+    def are_sent(self, option: NationalOption, several: list[Text]) -> None:
+        """Each gives its row, in a page whose header has the option's three bits."""
+        before = b""
+        for one, found in zip(several, self.sent(option, several)):
+            name = f"{option.word} {one.text.hex()}"
+            if not found:
+                self.must(f"{name}: the same page", one.cells == before)
+                continue
+            header, *rows, _ = found
+            bits = [has_bit(header_of(header) or b"", bit) for bit in NATIONAL]
+            self.must(f"{name}: C12 to C14", bits == [
+                bool(option.bits >> at & 1) for at in range(3)], bits)
+            told = [(address_of(row), bytes(byte & 0x7F for byte in row[2:])) for row in rows]
+            self.must(f"{name}: the row", told == [((0, one.row), one.cells)], told)
+            before = one.cells
+
+    def test_letters(self) -> None:
+        for option in OPTIONS:
+            self.are_sent(option, [one for one, _ in letters_of(option)])
+
+    def test_texts(self) -> None:
+        """Texts that are drawn, and of those that are refused the byte."""
+        for option in OPTIONS:
+            several = texts(option)
+            self.are_sent(option, [one for one, told in several if not told])
+            for one, told in several:
+                if told:
+                    line = self.schedule_of(option, [one])
+                    self.must(f"{option.word} {one.text.hex()}", line ==
+                              "refused {} {} block 1 {} {}".format(*told.split()), line)
+
+    def test_others(self) -> None:
+        """Every other byte, and every other two of which the first is a diacritical mark."""
+        singles = [bytes([byte]) for byte in range(256) if byte != UNUSED[0]]
+        tried = singles + [bytes([mark, byte]) for mark in MARKS for byte in range(256)]
+        for option in OPTIONS:
+            known = {one.text for one, _ in letters_of(option)}
+            known |= {bytes([byte]) for byte in SPACING | WITHOUT_CELL}
+            wanted = []
+            for number, text in enumerate(tried, 1):
+                if text not in known:
+                    is_control = text[0] < 0x20 or 0x80 <= text[0] < 0xA0
+                    told = "51 Control" if is_control else "50 Character"
+                    wanted.append(f"refused {told} block {number} at 0")
+            self.schedule_of(option, [Text(text, 5, 0) for text in tried])
+            lines = self.program("check", "a.stl", "/dev/null", "--all", "--option", option.word)[1]
+            found = [line for line in lines if " block " in line]
+            self.must(option.word, found == wanted, sorted(set(found) ^ set(wanted))[:4])
+
+    def test_letters_by_libzvbi(self) -> None:
+        try:
+            receiver = Receiver()
+        except OSError:
+            self.skipTest("the letters by libzvbi, which is not installed")
+        for option in OPTIONS:
+            several = letters_of(option)
+            for (one, character), found in zip(several, self.sent(option, [
+                    one for one, _ in several])):
+                shown = receiver.row(found, one.row)[2:3] if found else character
+                self.must(f"{option.word} {one.text.hex()} {character}", shown == character, shown)
+
+
+# The character sets that packets X/28 and M/29 name, the languages that a PMT does, and the
+# warnings of both.
+
+PAGE = (0, 0x88)
+ASKED = Request(stl="a.stl", recording="a.ts", page=PAGE, every=250, option="english", origin=0,
+              is_complete=True, pid=None, is_loss_allowed=False, severity=None, breaks=0, pes=None,
+                start=None)
+HEADER, OTHER, CLOSING = (packet(0, 0, numbers, b" " * 32) for numbers in (
+    (8, 8, 0, 8, 0, 8, 1, 0), (1, 0, 0, 0, 0, 0, 0, 0), (15, 15, 15, 7, 15, 3, 0, 0)))
+ROW = packet(0, 20, (), b"a row".ljust(40))
+
+
+# The places of the 18 bits among those of three Hamming 24/18 bytes, counted from 1: all but powers
+# of 2, which are checks, and the last.
+DATA_BITS = tuple(at for at in range(1, 24) if at & at - 1)
+
+
+def triplet(value: int) -> bytes:
+    """Three Hamming 24/18 bytes: what makes each of the five checks, and all bits, odd."""
+    word = sum((value >> bit & 1) << at - 1 for bit, at in enumerate(DATA_BITS))
+    wrong = 31
+    for at in DATA_BITS:
+        wrong ^= at if word >> at - 1 & 1 else 0
+    word |= sum(1 << (1 << check) - 1 for check in range(5) if wrong >> check & 1)
+    word |= (bin(word).count("1") + 1 & 1) << 23
+    return word.to_bytes(3, "little")
+
+
+def naming(number: int, character_set: int, designation: int = 0, magazine: int = 0,
+           function: int = 0) -> bytes:
+    """A packet that names a character set, seven bits."""
+    first = triplet(function | character_set << 7)
+    address = magazine + 8 * number
+    head = bytes(CODE_WORDS[one] for one in (address & 15, address >> 4, designation))
+    return (head + first).ljust(42, triplet(0)[:1])
+
+
+def with_bits(data: bytes, *bits: int) -> bytes:
+    """Bytes with some bits the other way."""
+    found = bytearray(data)
+    for bit in bits:
+        found[bit >> 3] ^= 1 << (bit & 7)
+    return bytes(found)
+
+
+class Warnings(Case):
+    """What is said of it."""
+
+    def test_lines(self) -> None:
+        may = "receivers above level 1 may show other letters"
+        cases: list[tuple[str, bytes, list[str]]] = [
+            ("another region", naming(29, 8),
+             [f"packet 8/29/0 names character set 000 of region 0001: {may}"]),
+            ("another option", naming(29, 1, 4),
+             [f"packet 8/29/4 names character set 001 of region 0000: {may}"]),
+            ("not to be read", with_bits(naming(29, 8), 30, 40),
+             [f"packet 8/29/0 names an unreadable character set: {may}"]),
+            ("the same", naming(29, 0), []),
+            ("another magazine's", naming(29, 8, magazine=1), [])]
+        for name, more, lines in cases:
+            told = packets_told(self, pes_packet(0, [HEADER, ROW, CLOSING, more]))
+            found = list(of_character_sets(told, ASKED))
+            self.must(name, [one.line for one in found] == lines, found)
+            self.must(f"{name}: kind", {one.kind for one in found} <= {"character_set"}, found)
+
+    def test_option_that_is_named(self) -> None:
+        told = packets_told(self, pes_packet(0, [HEADER, naming(29, 0b100)]))
+        for option in OPTIONS:
+            asked = dataclasses.replace(ASKED, option=option.word)
+            self.must(option.word, bool([*of_character_sets(told, asked)]) == (option != FRENCH))
+
+    def test_verdict_stays(self) -> None:
+        """It is said, stands in the report and in the object, and counts with --strict alone."""
+        pes = packets(example_bytes("story.pes"))
+        sent = [*teletext_packets(data_field(pes[1])), naming(29, 8)]
+        data = b"".join([pes[0], pes_packet(pts_in(pes[1]), sent), *pes[2:]])
+        path = self.write("one.pes", data)
+        done = qc(self, STORY, path, "--origin", "0", "-o", "out", "--json", "one.json")
+        self.must("accepted", done.status == 0, done)
+        warnings(self, "a file", done, ["character_set"])
+        done = qc(self, STORY, "-", "--origin", "0", "--strict", data=data)
+        self.must("strict, a feed", done.status == 1 and lines_of(done)[-1].startswith(
+            "not accepted, since warnings count (character_set): accepted"), done)
+
+
+class Languages(unittest.TestCase):
+    """The option of the language that a PMT has for the page."""
+
+    def test_lines(self) -> None:
+        cases: list[tuple[list[str], str, str]] = [
+            (["eng"], "english", ""), (["eng"], "french", "eng, which is of --option english"),
+            (["fre"], "french", ""), (["fra"], "german", "fra, which is of --option french"),
+            (["hun"], "swedish", ""), (["slo"], "czech", ""), (["por"], "spanish", ""),
+            (["pol"], "english", "pol, which is of another region"),
+            (["ces", "pol"], "english", "ces and pol, which is of --option czech and another "
+             "region"),
+            (["fre", "fra"], "english", "fre and fra, which is of --option french"),
+            (["fre", "eng"], "english", ""), (["nld"], "english", ""), (["nld"], "czech", ""),
+            (["fre", "und"], "english", ""), ([], "english", "")]
+        for languages, option, words in cases:
+            found = [one.line for one in of_option(languages, dataclasses.replace(
+                ASKED, option=option))]
+            line = f"the PMT announces page 888 in {words}; it was judged by --option {option}"
+            with self.subTest(languages=languages, option=option):
+                self.assertEqual(found, [line] * bool(words))
+
+    def test_table_of_languages(self) -> None:
+        """Each language of a PMT as a receiver's own list has it."""
+        path = os.path.join(TOP, "dev", "vectors", "national", "pmt.tsv")
+        with open(path, encoding="utf-8", newline="") as file:
+            rows = [*csv.DictReader(file, delimiter="\t", quoting=csv.QUOTE_NONE)]
+        self.assertEqual(len(rows), 32)
+        for row in rows:
+            language, word = row["ISO 639-2"], row["option"]
+            for option in OPTIONS:
+                found = [*of_option([language], dataclasses.replace(ASKED, option=option.word))]
+                with self.subTest(language=language, option=option.word):
+                    self.assertEqual(bool(found), word != option.word)

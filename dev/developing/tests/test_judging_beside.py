@@ -1,0 +1,347 @@
+"""Beside refused subtitles the others are judged, also where what comes before is large."""
+from __future__ import annotations
+
+import csv
+import json
+import random
+import re
+import subprocess
+import time
+import unittest
+import xml.etree.ElementTree as tree
+from typing import Sequence
+
+from developing.every_place import due as defined
+from developing.every_place.words import options_of
+from developing.multiplex import BEGINS, PACKET, PAYLOAD, head
+from developing.stl import gsi_block, tti_block
+from subtitles.cli.collection import pair_line, table_of
+from subtitles.common.times import ALL_DAY, Between
+from subtitles.formats.listing import fault_of_line
+from subtitles.formats.stl import SubtitleFile
+from subtitles.judging.subtitles import Counts, beside_of, due_beside, is_judged_beside
+from subtitles.results.files import row_of_object
+from subtitles.stream.packets import Packets, Run
+from .bench import Case, example_bytes, packets
+from .judged import Judged, joined, judged, late, sendings, times
+from .parts import answer, part_with
+from .test_pairs_judged import UNREAD, broken
+
+
+# Beside refused subtitles the others are judged, where the program does so: by one that stands in
+# for it. By the program of today a refused file is refused, and nothing else changes.
+
+BAD = b"no letter: \xe6"
+CURE = "it needs another region, or packets X/26, which are refused (70): write it otherwise"
+WORDS = "--origin", "0", "--every", "100"
+Block = tuple[int, int, bytes]  # TCI, TCO, text
+PAGE = 0, 0x88
+
+
+def stl_of(blocks: Sequence[Block], changes: dict[int, dict[int, int]] | None = None) -> bytes:
+    """A subtitle file, of whose blocks some bytes are changed, by the number of the block."""
+    made = []
+    for number, (begin, end, text) in enumerate(blocks, 1):
+        one = bytearray(tti_block(number, begin, end, 22, 2, text))
+        for at, byte in (changes or {}).get(number, {}).items():
+            one[at] = byte
+        made.append(bytes(one))
+    return gsi_block(b"Beside", len(blocks), len(blocks)) + b"".join(made)
+
+
+class Beside(Case):
+    """Ten subtitles, with a page transmission a second."""
+
+    def setUp(self) -> None:
+        super().setUp()
+        self.blocks: list[Block] = [(begin, end, b"Number %d" % number)
+                                    for number, (begin, end) in enumerate(times(10), 1)]
+        self.stl = self.write("good.stl", stl_of(self.blocks))
+        self.sent = sendings(self, self.stl)
+        self.pes = self.write("one.pes", joined(self.sent))
+
+    def file(self, *bad: int) -> str:
+        """It with a letter that level 1 lacks in some subtitles."""
+        return self.write("bad.stl", stl_of([
+            (begin, end, BAD if number in bad else text)
+            for number, (begin, end, text) in enumerate(self.blocks, 1)]))
+
+    def judge(self, stl: str, *words: str) -> Judged:
+        return judged(self, stl, *words, *WORDS)
+
+    def test_sentence(self) -> None:
+        """How many were judged, how they stand, and which are refused, with letter and cure."""
+        first = f"subtitle 3 at 00:00:12:00 is refused by 50 Character, \u0132: \u0132 is in no " \
+            f"option: at level 1 {CURE}"
+        slow = self.write("slow.pes", joined(late(5, 3600 * 600, 3600 * 650)(self.sent)))
+        for pes, end in ((self.pes, "each of them is as it is due from the first frame on"),
+                         (slow, 'at 00:00:24:00 subtitle 6, "Number 6", is 5 frames late')):
+            found = self.judge(self.file(3), pes)
+            self.must(pes, found.word == "refused" and found.verdict.sentence ==
+                      f"Refused: {first}; 9 other subtitles were judged: {end}.",
+                      found.verdict.sentence)
+            self.must(f"{pes}: line", found.said[-1] == "refused 50 Character block 3 at 11" and
+                      found.verdict.status == 1 and found.lines("undecided: ") == [
+                          first.replace(" is refused", ", to 00:00:14:10, is refused", 1)],
+                      found.said)
+            self.must(f"{pes}: list", found.listed[0] == found.said[-1] and
+                      "refused 78 Undecided frame 00:00:10:10" in found.listed, found.listed)
+        for bad, words in (((3, 5), "2 of 10 subtitles are refused, subtitle 3 at "),
+                           (range(2, 9), "7 of 10 subtitles are refused, subtitle 2 at ")):
+            found = self.judge(self.file(*bad), self.pes)
+            self.must(f"{bad}", words in found.verdict.sentence and (
+                " and 4 more; 3 other subtitles were judged: " in found.verdict.sentence) ==
+                (len(bad) > 3), found.verdict.sentence)
+
+    def test_results(self) -> None:
+        """Both counts stand in the result, the tables, and what collects them."""
+        files = {"--json": self.path("x.json"), "--csv": self.path("x.csv"),
+                 "--junit": self.path("x.xml")}
+        found = self.judge(self.file(3, 7), self.pes, *(
+            word for option in files.items() for word in option))
+        known = json.loads(self.read("x.json"))
+        self.must("result", known["subtitle_counts"] == {"judged": 8, "refused": 2} ==
+                  found.result["subtitle_counts"] and known["fault_count"] == 4, known)
+        self.must("faults", [(one["number"], one["subtitle"] and one["subtitle"]["position"],
+                              one["character"]) for one in known["faults"]] == [
+            (50, 3, "\u0132"), (50, 7, "\u0132"), (78, None, None), (78, None, None)],
+            known["faults"])
+        self.must("subtitles", [one["position"] for one in known["subtitles"]] == [
+            1, 2, 4, 5, 6, 8, 9, 10], known["subtitles"])
+        rows = list(csv.DictReader(self.read("x.csv").decode().splitlines()))
+        self.must("table", {(one["subtitles_judged"], one["subtitles_refused"]) for one in rows} ==
+                  {("8", "2")}, rows)
+        words, case = "8 subtitles judged, 2 refused", tree.fromstring(self.read("x.xml"))
+        self.must("case", words in "".join(case.itertext()))
+        row = row_of_object(known, "one")
+        self.must("collected", words in "".join(table_of([row])) and
+                  words in pair_line(self.folder, row).source)
+        for more, counts in (((self.stl, self.pes, *WORDS), {"judged": 10, "refused": 0}),
+                             ((self.stl,), {"judged": 10, "refused": 0}),
+                             ((self.file(3),), None)):
+            result = judged(self, *more).result
+            self.must(f"{more}", result["subtitle_counts"] == counts, result)
+
+    def test_severities(self) -> None:
+        """The subtitle file's faults and 78 are waived by their numbers; a fault of the
+        transmission is not."""
+        slow = self.write("slow.pes", joined(late(5, 3600 * 600, 3600 * 650)(self.sent)))
+        for text, pes, word in ((b"50 warning\n78 warning\n", self.pes, "waived"),
+                                (b"50 warning\n", self.pes, "refused"),
+                                (b"78 warning\n", self.pes, "refused"),
+                                (b"50 warning\n78 warning\n", slow, "refused"),
+                                (b"50 warning\n78 warning\n72 warning\n", slow, "waived"),
+                                (b"others warning\n", self.pes, "waived")):
+            found = self.judge(self.file(3), pes, "--severity", self.write("severity", text))
+            self.must(f"{text!r} {pes}", found.word == word, found.said)
+            self.must(f"{text!r} {pes}: said", pes == slow or found.verdict.sentence.endswith(
+                "9 other subtitles were judged: each of them is as it is due from the first frame "
+                "on."), found.verdict.sentence)
+        unread = self.write("unread.pes", b"".join(
+            broken(one, 33) for one in packets(self.read("one.pes"))))
+        found = self.judge(self.file(3), unread, "--severity",
+                           self.write("severity", b"others warning\n"))
+        self.must("nothing was read", found.word == "not judged" and
+                  found.verdict.why_not == UNREAD, found.said)
+
+    def test_ranges(self) -> None:
+        """What is refused outside of a range is not told; where nothing is left, that is."""
+        for words, word, counts in (
+                (("--from", "00:00:20:00"), "accepted", (6, 0)),
+                (("--to", "00:00:12:00"), "accepted", (2, 0)),
+                (("--to", "00:00:24:00"), "refused", (4, 1)),
+                (("--from", "00:00:20:00", "--to", "00:00:10:00"), "not judged", None)):
+            found = self.judge(self.file(3), self.pes, *words)
+            self.must(f"{words}", found.word == word and found.verdict.counts == (
+                counts and Counts(*counts)), found.said)
+        self.must("none is left", "no subtitle of " in found.told[0] and " is left: " in
+                  found.told[0], found.told)
+
+    def test_parts(self) -> None:
+        """After a break, with a refused subtitle in the second part alone, and in both."""
+        moved = [(pts + 3600 * 500 * (pts >= 3600 * 480), some) for pts, some in self.sent]
+        path = self.write("two.pes", joined(moved))
+        for bad in ((7,), (2, 7)):
+            found = judged(self, self.file(*bad), path, "--breaks", "1", "--every", "100")
+            self.must(f"{bad}", found.word == "refused" and len(found.result["parts"]) == 2 and
+                      found.verdict.counts == Counts(10 - len(bad), len(bad)) and
+                      "each of them is as it is due" in found.verdict.sentence, found.said)
+
+    def test_reports(self) -> None:
+        """The report draws the refused subtitles as undecided, and pictures of those of the others
+        that are not as due. Each link leads somewhere, and each place has a name of its own."""
+        slow = self.write("slow.pes", joined(late(5, 3600 * 600, 3600 * 650)(self.sent)))
+        for number, (bad, pes) in enumerate((((3,), self.pes), ((3, 4, 9), slow))):
+            out, stl = self.path(f"out{number}"), self.file(*bad)
+            self.judge(stl, pes, "-o", out)
+            for name in (f"{out}/one.html",):
+                page = self.read(name).decode()
+                tree.fromstring(page.partition("\n")[2])
+                names = re.findall(r' id="([^"]+)"', page)
+                links = set(re.findall(r'href="#([^"]+)"', page))
+                self.must(f"{bad} {name}: names", len(names) == len(set(names)), names)
+                self.must(f"{bad} {name}: links", links <= {*names, "n78"}, links - {*names})
+                spans = re.findall(r'class="unknown"[^>]*><title>undecided: ([^<]*)<', page)
+                self.must(f"{bad} {name}: undecided", spans == {
+                    (3,): ["00:00:10:10 to 00:00:15:24"],
+                    (3, 4, 9): ["00:00:10:10 to 00:00:19:24", "00:00:34:10 to 00:00:39:24"]}[bad],
+                    spans)
+                drawn = set(re.findall(r'id="s(\d+)"', page))
+                self.must(f"{bad} {name}: drawn",
+                          drawn == ({"6"} if len(bad) > 1 else set()), drawn)
+                self.must(f"{bad} {name}: said", "other subtitles were judged: " in page and
+                          "It is drawn as undecided" in page and "Refused subtitles" in page)
+
+    def test_layouts(self) -> None:
+        """A layout draws what is due of the subtitles that are judged."""
+        self.blocks = [(begin, end, b"Number %d" % number)
+                       for number, (begin, end) in enumerate(times(14), 1)]
+        self.schedule(self.file(), "house.pes", "--every", "25", "--layout", "row=-2")
+        for bad, words in (((), ""), ((3,), "13 other subtitles were judged: each of them is as it "
+                                      "is due from the first frame on")):
+            found = self.judge(self.file(*bad), self.path("house.pes"), "--layout", "row=-2")
+            self.must(f"{bad}", found.word == ("refused" if bad else "accepted") and
+                      words in found.verdict.sentence and
+                      " --layout " in found.lines("+ ")[-1], found.said)
+
+    def test_not_judged(self) -> None:
+        """Where the others can't be judged the subtitle file is refused, and a note says why."""
+        empty = self.write("empty.pes", b"")
+        found = judged(self, self.file(3), empty, *WORDS)
+        self.must("refused", found.word == "refused" and found.listed == [
+            "refused 50 Character block 3 at 11", "1 faults"] and
+            found.result["subtitle_counts"] is None and
+            f"the other subtitles were not judged: {empty} is empty" in found.verdict.notes and
+            found.verdict.sentence.startswith("Refused: in block 3 a letter "), found.said)
+
+    def test_many(self) -> None:
+        """800 subtitles, of which 1, 5 and 40 are refused: judged in little time more."""
+        blocks = [(200 * at, 200 * at + 100, b"Number %d" % at) for at in range(1, 801)]
+        good = self.write("many.stl", stl_of(blocks))
+        self.schedule(good, "many.pes", "--every", "200")
+        for count in (1, 5, 40):
+            bad = {at * 800 // count + 1 for at in range(count)}
+            data = stl_of([(*one[:2], BAD if at in bad else one[2])
+                           for at, one in enumerate(blocks, 1)])
+            file = SubtitleFile(self.write("bad.stl", data))
+            faults = [told for at in sorted(bad)
+                      if (told := fault_of_line(f"refused 50 Character block {at} at 11"))]
+            began = time.process_time()
+            found = beside_of(file, faults, "english")
+            due = due_beside(found.judged, PAGE, "english")
+            took = time.process_time() - began
+            self.must(f"{count}", len(found.judged) == len(due.pages) == 800 - count and took < 5,
+                      took)
+
+
+class Judgeable(unittest.TestCase):
+    """Which subtitles are judged, and what is due of them, by the definitions."""
+
+    def test_what_is_asked(self) -> None:
+        rows: list[tuple[set[int], bool]] = [
+            ({60}, False), ({50}, False), ({50, 60}, True), (set(), False), ({10, 60}, True),
+            ({72, 60}, False), ({57, 78, 60}, True)]
+        for numbers, wanted in rows:
+            self.assertEqual(is_judged_beside(numbers), wanted, numbers)
+
+
+    def test_was_read(self) -> None:
+        """Of a recording something was read where a line of the list is of it."""
+        refused, trusted = "refused 50 Character block 1 at 4", "trusted frames 10:00:00:00 " \
+            "10:00:01:24"
+        rows: list[tuple[list[str], bool]] = [
+            ([refused, "1 faults"], False), ([refused, trusted, "1 faults"], True),
+            ([refused, "refused 78 Undecided frame 10:00:02:00", "2 faults"], True),
+            ([refused, "refused 33 Flags pes 0", "2 faults"], True),
+            ([refused, "refused 33 Flags pes 0", "ended 33 Flags pes 1", "2 faults"], False),
+            (["accepted 51 frames 2 transmissions"], True)]
+        for lines, wanted in rows:
+            part = part_with(0, 9, 0, answer(lines), pes=(0, 1),
+                             packets=Packets(0, [Run(0, 2, 0, 0, "h", "")]))
+            self.assertEqual(part.is_read(), wanted, lines)
+
+
+class AtRandom(Case):
+    """Files at random in which something is refused, held against the second implementation."""
+
+    def random_file(self, chance: random.Random) -> bytes:
+        """A few subtitles; times that overlap, fall, are empty or none; letters and bytes."""
+        blocks: list[Block] = []
+        frame = chance.randrange(1, 1000)
+        for number in range(chance.randrange(1, 9)):
+            begin = frame + chance.choice([0, 0, 5, 40, -60 if number else 0])
+            end = begin + chance.choice([20, 50, 50, 0, -3 if begin > 3 else 1])
+            text = chance.choice([b"Number %d" % number, b"Number %d" % number, BAD, b"x" * 45])
+            blocks.append((max(begin, 0), max(end, 0), text))
+            frame = max(begin, end, 1)
+        changes = {number: chance.choice([{4: 1}, {14: 4}, {13: 0}, {12: 25}, {15: 1}, {8: 99}])
+                   for number in range(1, len(blocks) + 1) if chance.random() < 0.15}
+        return stl_of(blocks, changes)
+
+    def test_at_random(self) -> None:
+        """The subtitles and their pages, with all frames and with some."""
+        chance, beside = random.Random(5), 0
+        for _ in range(400):
+            data, between = self.random_file(chance), ALL_DAY
+            if chance.random() < 0.3:
+                between = Between(chance.randrange(200), chance.randrange(200, 900))
+            options = options_of(between.words())
+            wanted = defined.subtitles_in(data, options)
+            if wanted.records is None or not wanted.lines:
+                continue
+            beside += 1
+            file = SubtitleFile(self.write("one.stl", data), between)
+            found = beside_of(file, filter(None, map(fault_of_line, wanted.lines)), "english")
+            self.must(f"{wanted.lines}", [(one.begin, one.end) for one in found.judged] == [
+                (one.tci, one.tco) for one in wanted.records], found)
+            due = due_beside(found.judged, PAGE, "english")
+            pages = defined.Due(wanted.records, wanted.others, options)
+            held = due.timeline
+            for one, rows in zip(found.judged, due.pages):
+                self.must("page", b"".join(rows) == pages.at(one.begin) and held and
+                          held.page_at(one.begin) == rows, rows)
+        self.must("some", beside > 60, beside)
+
+
+# Inputs are read to their end: what no proof says of a long one is tried.
+
+NULL_PID, PID = 0x1FFF, 0x101
+NULL = head(NULL_PID, 0, PAYLOAD).ljust(PACKET, b"\xff")
+AT_ONCE, TIMES = 1000, 1001  # null packets: over a million, 188 MB
+
+
+class WholeInputs(Case):
+    """Long recordings and long subtitle files."""
+
+    def test_surveys_what_is_behind_a_million_packets(self) -> None:
+        """A PES packet behind 188 MB of null packets, which come through a pipe, is listed."""
+        first = packets(example_bytes("hello.pes"))[0]
+        parts = [first[at:at + 184] for at in range(0, len(first), 184)]
+        sent = b"".join(head(PID, 0 if number else BEGINS, PAYLOAD | number) + part
+                        for number, part in enumerate(parts))
+        with subprocess.Popen([self.bench.program, "survey", "/dev/stdin"], stdin=subprocess.PIPE,
+                              stdout=subprocess.PIPE) as run:
+            assert run.stdin and run.stdout
+            for _ in range(TIMES):
+                run.stdin.write(NULL * AT_ONCE)
+            run.stdin.write(sent)
+            run.stdin.close()
+            lines = run.stdout.read().decode().splitlines()
+        self.must("status", run.returncode == 0, run.returncode)
+        self.must("over", lines[-1] == f"over 0 {AT_ONCE * TIMES + len(parts)}", lines[-1])
+        told = [line for line in lines if line.startswith(f"pes {PID} 0 1 ")]
+        self.must("its PES packet", len(told) == 1, lines)
+
+    def test_judges_beside_a_refused_subtitle_behind_twelve(self) -> None:
+        """Twelve good subtitles, one that is refused, and a good one: 13 are judged."""
+        blocks = [(begin, end, b"Number %d" % number)
+                  for number, (begin, end) in enumerate(times(14), 1)]
+        self.schedule(self.write("good.stl", stl_of(blocks)), "sent.pes")
+        begin, end, _ = blocks[12]
+        blocks[12] = begin, end, BAD
+        status, lines = self.program("check", self.write("bad.stl", stl_of(blocks)),
+                                     self.path("sent.pes"), "--all")
+        self.must("status", status == 1, status)
+        self.must("the subtitle", lines[0] == "refused 50 Character block 13 at 11", lines)
+        self.must("the others", [line for line in lines[1:] if line.startswith("refused ")] == [
+            f"refused 78 Undecided frame {when}" for when in ("00:00:50:10",)], lines)

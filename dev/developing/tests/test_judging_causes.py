@@ -1,0 +1,389 @@
+"""Why subtitles are refused: causes, by tables and at random."""
+from __future__ import annotations
+
+import os
+import random
+import unittest
+from types import SimpleNamespace
+from typing import Any
+
+from developing.pes import pes_packet
+from subtitles.common.program import TOP, read
+from subtitles.common.times import Span, Spans, TICKS, time_of
+from subtitles.formats.listing import fault_of_line
+from subtitles.formats.stl import Subtitle
+from subtitles.judging.causes import Causes, NAMES
+from subtitles.judging.transmissions import DuePages
+from subtitles.judging.verdict import frames_of
+from subtitles.stream.packets import Packets
+from subtitles.stream.receiver import BLANK_PAGE, Rows, Timeline
+from .. import DEV
+from .bench import Case
+from .judged import Judged, Sent, joined, judged, programme, sendings
+from .muxed import Shape, multiplexed
+from .parts import CLOSING, HEADER, PAGE, row
+from .test_paced import of_pid
+
+
+# Causes of what nobody is to blame for but who sent it: a text of others in a pause, a header
+# without rows.
+
+BEGIN = 900_000
+TIMES = [(BEGIN + 100 * at, BEGIN + 100 * at + 50) for at in range(6)]
+
+
+def with_page(sent: Sent, frame: int, *rows: bytes) -> Sent:
+    """A page at a frame, beside what is sent."""
+    pts = frame * TICKS
+    return sorted([*(one for one in sent if one[0] != pts), (pts, [HEADER, *rows, CLOSING])])
+
+
+class Told(Case):
+    """What is told of pages that somebody else sent, or erased."""
+
+    def judge(self, *pages: tuple[int, tuple[bytes, ...]]) -> Judged:
+        sent = sendings(self, programme(self, TIMES))
+        for frame, rows in pages:
+            sent = with_page(sent, BEGIN + frame, *rows)
+        self.write("one.pes", joined(sent))
+        return judged(self, self.path("one.stl"), self.path("one.pes"), "--origin", "0")
+
+    def causes(self, told: Judged) -> list[tuple[Any, ...]]:
+        return [(one["cause"], one["subtitle"]["number"], one["words"])
+                for one in told.result["causes"]]
+
+    def test_in_a_pause(self) -> None:
+        """It is told as that, the first, one between and the last, and no subtitle is blamed."""
+        wrong = (row(22, b"Others"),)
+        for number, frame, time in ((1, 60, "10:00:02:10"), (3, 270, "10:00:10:20")):
+            told = self.judge((frame, wrong))
+            words = f"another text was sent in a pause, at {time}"
+            self.must(f"{frame}", self.causes(told) == [
+                ("another text in a pause", number, f'{words}, sent: "Others"')] and
+                told.verdict.sentence == f'Refused: {words}, "Others".' and
+                told.lines("cause: ") == [f'{words}, sent: "Others"'], told.said)
+        told = self.judge((60, wrong), (270, wrong))
+        self.must("two", told.verdict.sentence == "Refused: another text was sent in 2 pauses, the "
+                  "first at 10:00:02:10.", told.verdict.sentence)
+        told = self.judge((60, wrong), (130, wrong))
+        self.must("a wrong text", told.result["cause_counts"]["another text in a pause"] == 1 and
+                  told.result["cause_counts"]["wrong text"] == 1, told.said)
+
+    def test_of_ours(self) -> None:
+        """A text of the file that comes in a pause is no text of others."""
+        told = self.judge((60, (row(22, b"Number 1"),)))
+        self.must("ours", "another text in a pause" not in [one[0] for one in self.causes(told)],
+                  told.said)
+
+    def test_beside(self) -> None:
+        """A row of another page stands beside what is due, of one subtitle or of two."""
+        sent = sendings(self, programme(self, TIMES))
+        own = next(some[1] for pts, some in sent if pts == TICKS * (BEGIN + 100))
+        for rows, words in (((own, row(11, b"Share prices")), "another row beside it: row 11"),
+                            ((row(3, b"A"), row(11, b"B"), own), "other rows beside it: rows 3 and "
+                             "11"), ((row(11, b"Share prices"), row(22, b"Number 9")), "")):
+            told = self.judge((100, rows))
+            found = told.result["causes"][0]
+            self.must(words, found["cause"] == "wrong text" and words in found["words"] and
+                      ("beside" in found["words"]) == bool(words), told.said)
+            self.must(f"{words}: sentence", (f"has a wrong text ({words}), sent: " if words else
+                                             "has a wrong text, sent: ") in told.verdict.sentence,
+                      told.verdict.sentence)
+
+    def test_erased(self) -> None:
+        """By a header without rows, at its time; where rows come later it is gone."""
+        for frame, time in ((10, "10:00:00:10"), (330, "10:00:13:05")):
+            told = self.judge((frame, ()))
+            self.must(f"{frame}", self.causes(told) == [(
+                "erased", frame // 100 + 1, f"erased: by a header without rows, at {time}")] and
+                "is erased while it is due (by a header without rows, at" in told.verdict.sentence,
+                told.said)
+        sent = sendings(self, programme(self, TIMES))
+        at = next(number for number, (pts, _) in enumerate(sent) if pts == (BEGIN + 25) * TICKS)
+        pts, packets = sent[at]
+        sent[at:at + 1] = [(pts, packets[:1]), (pts + 2 * TICKS, packets[1:])]
+        self.write("one.pes", joined(sent))
+        told = judged(self, self.path("one.stl"), self.path("one.pes"), "--origin", "0")
+        self.must("rows later", [one[0] for one in self.causes(told)] == ["unknown"] and
+                  "it is gone at 10:00:01:00" in self.causes(told)[0][2], told.said)
+
+    def test_not_received(self) -> None:
+        """Whose page transmissions are lost, all of them; one of two that is lost is none."""
+        made = multiplexed([pes_packet(*one) for one in sendings(self, programme(self, TIMES))],
+                       Shape(100))
+        for frames, wanted in (((200, 225), [("not received", 3)]), ((225,), [])):
+            gone = {of_pid(made, BEGIN + frame)[0] for frame in frames}
+            self.write("one.ts", b"".join(one.data for at, one in enumerate(made)
+                                          if at not in gone))
+            told = judged(self, self.path("one.stl"), self.path("one.ts"), "--origin", "0")
+            names = [(one["cause"], one["subtitle"]["number"]) for one in told.result["causes"]]
+            self.must(f"{frames}", told.word == "refused" and names == wanted, told.said)
+
+    def test_manual(self) -> None:
+        """Each cause begins an item there."""
+        rows = read(os.path.join(TOP, "docs", "manual", "refusals.md")) or ""
+        begins = [line.partition(": ")[0] for line in rows.splitlines() if line.startswith("- `")]
+        for name in NAMES:
+            self.must(name, any(f"`{name}" in one for one in begins))
+
+
+# Causes of what is held at random: each row of `dev/vectors/causes.tsv` has subtitles, what a
+# receiver holds when, and what was said of it when somebody last looked at it.
+
+VECTORS = os.path.join(DEV, "vectors", "causes.tsv")
+COUNT = 500  # rows
+BY = (-260, -30, -3, -1, 1, 1, 2, 3, 5, 8, 30, 240, 260)  # frames by which something is moved
+END = 1600  # frames that are looked at
+
+
+def page_of(name: str) -> Rows:
+    """A page by its name: two lines of a subtitle; with a comma one of them is another one, moved,
+    or of another colour, or is missing; nothing for `-`."""
+    page = list(BLANK_PAGE)
+    if name[0] == "-":
+        return BLANK_PAGE
+    first, second = b"\x0b\x0bLine " + name[0].encode(), b"\x0b\x0band more " + name[0].encode()
+    if "," in name:
+        first = {"t": b"\x0b\x0bstrange", "a": b"\x03" + first, "r": b"", "m": b"  " + first,
+                 "p": first}[name[2]]
+    page[18 - ("p" in name)], page[20] = first.ljust(40), second.ljust(40)
+    return tuple(page)
+
+
+def empty(within: int = 0) -> Timeline:
+    """A timeline of which nothing was heard."""
+    return Timeline(Packets(0), PAGE, 0, within)
+
+
+def steady(held: Timeline) -> None:
+    """Makes it one of 500 PES packets, so that a pause is one."""
+    held.count = 500
+
+
+def told(spans: list[tuple[int, int]], *edges: tuple[int, int]) -> Any:
+    """What `check` told: frames at which the content is refused, and others by number and frame."""
+    firsts = {number: fault_of_line(f"refused {number} Edge frame {time_of(frame)}")
+              for number, frame in edges}
+    return SimpleNamespace(firsts=firsts, marks={72: Spans(spans)})
+
+
+class Made:
+    """A programme and what is held, by a number."""
+
+    def __init__(self, number: int) -> None:
+        self.chance = chance = random.Random(number)
+        frame, times = chance.choice((100, 300, 500)), list[tuple[int, int]]()
+        for _ in range(chance.randrange(1, 6)):
+            end = frame + chance.choice((25, 50, 80))
+            times.append((frame, end))
+            frame = end + chance.choice((0, 0, 10, 60, 300))
+        texts = [chance.choice("abcdefgh") for _ in times]
+        self.programme = DuePages(
+            [Subtitle(at, at + (number % 7 == 0), begin, end, 20, 2, b"")
+             for at, (begin, end) in enumerate(times, 1)], [page_of(text) for text in texts])
+        due = {0: "-"}
+        for (begin, end), text in zip(times, texts):
+            due |= {begin: text, end: "-"}
+        for _ in range(chance.choice((1, 1, 2, 3))):
+            due = self.wrong(due, texts)
+        self.sent = sorted((max(frame, 0), text) for frame, text in due.items())
+        self.within = chance.choice((0, 0, 1, 3))
+        self.held = self.hold()
+        self.subtitles = ";".join(f"{begin}-{end} {text}"
+                                  for (begin, end), text in zip(times, texts))
+
+    def wrong(self, due: dict[int, str], texts: list[str]) -> dict[int, str]:
+        """What is sent, with something more that is wrong."""
+        chance = self.chance
+        frame = chance.choice(list(due)[1:] or list(due))
+        text, kind = due[frame], chance.randrange(9)
+        left = {at: one for at, one in due.items() if at != frame}
+        if kind < 3:
+            return {**left, frame + chance.choice(BY): text}
+        if kind == 3:
+            return left or due
+        if kind == 8:
+            return {at: one for at, one in due.items() if at <= frame}
+        if kind == 4:
+            return {**due, frame: chance.choice(texts)}
+        if kind == 5 and text != "-":
+            return {**due, frame: f"{text[0]},{chance.choice('tarmp')}"}
+        if kind == 6:
+            return {at + chance.choice(BY) * (at >= frame): one for at, one in due.items()}
+        return {**due, frame + chance.choice((1, 3, 10, 40)): chance.choice([*texts, "z", "-"])}
+
+    def hold(self) -> Timeline:
+        """What a receiver holds then; in some rows not all can be read, or nothing comes for a
+        while."""
+        chance, held = self.chance, empty(self.within)
+        held.first = chance.choice((0, 0, self.programme.begins[0] - 20))
+        for frame, text in self.sent:
+            held.change(frame, page_of(text))
+            for at in (frame, frame + chance.choice((0, 0, 1, 4))) * (text != "-"):
+                held.turn(at)
+        held.last = chance.choice((END, END, self.sent[-1][0] + 10))
+        if chance.randrange(4) == 0:
+            begin = chance.randrange(600)
+            held.doubts = [Span(begin, begin + chance.choice((5, 100)))]
+        if chance.randrange(4) == 0:
+            begin = chance.choice(self.programme.begins) - 5
+            steady(held)
+            held.pauses = [Span(begin, begin + chance.choice((4, 5, 6, 40)))]
+        if chance.randrange(8) == 0:
+            frame = self.programme.begins[-1] + 2
+            held.strays = [(Span(frame, frame), ((19, self.programme.pages[-1][18]),))]
+        return held
+
+    def row(self) -> str:
+        """The row: what is due, what is held, and what is said of it."""
+        held, chance, begin = self.held, self.chance, self.programme.begins[0]
+        lost = [Span(one, one + 30) for one in (begin - 10, begin + 200)
+                if chance.randrange(5) == 0]
+        reach = Span(begin - chance.choice((2, 3, 4, 300)), held.last + chance.choice((0, 30))) \
+            if chance.randrange(2) else None
+        held.first = chance.choice((held.first, begin, begin + 2))
+        held.lost = lost
+        causes = Causes(self.programme, held, reach)
+        wrong = {frame: None for frame in range(min(held.last, END))
+                 if not causes.namer.is_due(frame)}
+        edges = [(63, begin + 3), (74, self.programme.subtitles[-1].end - 3)] \
+            if self.chance.randrange(3) == 0 else []
+        begins = [frame for frame in wrong if frame - 1 not in wrong]
+        ends = [frame for frame in wrong if frame + 1 not in wrong]
+        causes.name(told([*zip(begins, ends)], *edges))
+        pages = {page: text for text in [*(text for _, text in self.sent), "-"]
+                 if (page := page_of(text))}
+        said = [f"{one.place} {one.name} {one.frames} {one.other} "
+                f"{'' if one.sent is None else pages.get(one.sent, 'due')} {one.known} {one.words}"
+                for one in causes.all()]
+        known = [one and one.place for one in (causes.of(63, 0), causes.of(74, 0), *(
+            causes.of(72, frame) for frame in begins[:3]))]
+        delays = [frames_of(self.programme, held, is_complete) for is_complete in (False, True)]
+        sent = " ".join(f"{frame}:{text}" for frame, text in self.sent)
+        about = f"{self.within} {held.first} {held.last} {lost} {reach} {known}"
+        return "\t".join([self.subtitles, sent, about,
+                          "; ".join(said), f"{delays[0]} {delays[1]} {causes.unsent_from()}"])
+
+
+class Table(unittest.TestCase):
+    """Rows of the table."""
+
+    def test_causes(self) -> None:
+        with open(VECTORS, encoding="utf-8") as file:
+            rows = file.read().splitlines()
+        self.assertEqual(len(rows), COUNT)
+        for number, row in enumerate(rows):
+            self.assertEqual(Made(number).row(), row, number)
+
+
+# Subtitles, what is held from when on, and the causes by hand: each the place of its subtitle, its
+# name, the frames, the place of another one, and the page that is sent.
+BY_HAND: list[tuple[str, str, list[tuple[int, str, int | None, int | None, str | None]]]] = [
+    ("100-150 a", "0:- 100:a 150:-", []), ("100-150 a", "0:- 103:a 150:-", [
+        (0, "late", 3, None, "a")]),
+    # All are moved by as many frames, also to where another one is due; or one alone is.
+    ("100-200 a;200-300 b", "0:- 200:a 300:b 400:-", [(0, "late", 100, None, "a"),
+                                                     (1, "late", 100, None, "b")]),
+    ("200-300 a;300-400 b", "0:- 100:a 200:b 400:-", [(0, "early", 100, None, "a"),
+                                                     (1, "early", 100, None, "b")]),
+    ("100-200 a;200-300 b", "0:- 200:a 250:b 300:-", [
+        (0, "never sent", None, None, None), (1, "another subtitle's text", None, 0, "a")]),
+    ("100-150 a;200-250 b;300-350 c", "0:- 100:a 150:- 200:c 250:- 300:c 350:-", [
+        (1, "another subtitle's text", None, 2, "c")]),
+    # Looked for up to 250 frames before and after its TCI, where no other one is farther away.
+    ("100-150 a;300-340 b", "0:- 300:b 340:- 350:a 380:-", [(0, "late", 250, None, "a")]),
+    ("100-150 a;300-340 b", "0:- 300:b 340:- 351:a 380:-", [
+        (0, "never sent", None, None, None), (1, "unknown", None, None, "a")]),
+    ("10-20 a;400-450 b", "0:- 10:a 20:- 150:b 160:-", [(1, "early", 250, None, "b")]),
+    # Of several pages the one that is held for longest; before its own one came; behind it.
+    ("100-150 a", "0:- 100:z 110:y 150:-", [(0, "wrong text", None, None, "y")]),
+    ("100-150 a", "0:- 100:z 140:y 150:-", [(0, "wrong text", None, None, "z")]),
+    ("100-150 a", "0:- 100:z 105:y 108:x 150:-", [(0, "wrong text", None, None, "x")]),
+    ("100-150 a", "0:- 100:z 125:y", [(0, "wrong text", None, None, "z")]),
+    ("100-150 a", "0:- 100:z 120:a 150:-", [(0, "wrong text", None, None, "z")]),
+    ("100-150 a", "0:z 120:a 150:-", [(0, "late", 20, None, "a")]),
+    # One of no subtitle comes in a pause, and stays in the time of the next: there it is wrong too.
+    ("100-150 a;200-250 b", "0:- 100:a 150:- 180:z 220:b 250:-", [
+        (0, "another text in a pause", None, None, "z"), (1, "wrong text", None, None, "z")]),
+    ("100-150 a;200-250 b", "0:z 100:a 150:- 200:b 250:-", [(0, "unknown", None, None, "a")]),
+    ("100-150 a;200-250 b", "0:- 100:a 150:b 250:-", [(1, "early", 50, None, "b")]),
+    ("100-150 a", "0:- 100:a 120:z 150:-", [(0, "wrong text", None, None, "z")]),
+    ("50-60 c;100-150 a;300-350 b", "0:- 50:c 110:- 120:b 150:- 300:b 350:-", [
+        (0, "not erased", None, None, "c"), (1, "another subtitle's text", None, 2, "b")]),
+    # No PES packet comes for some frames, of what else sends one in each: up to when the page is
+    # erased, or comes; or for longer, or less long, than that.
+    ("100-150 a", "0:- 100:a 161:- !148-160", [(0, "unknown", None, None, "a")]),
+    ("100-150 a", "0:- 100:a 165:- !148-160", [(0, "not erased", None, None, "a")]),
+    ("100-150 a", "0:- 111:a 150:- !95-110", [(0, "unknown", None, None, None)]),
+    ("100-150 a", "0:- 112:a 150:- !95-110", [(0, "late", 12, None, "a")]),
+    ("100-150 a", "0:- 160:- !95-149", [(0, "unknown", None, None, None)]),
+    ("100-150 a", "0:- 160:- !95-148", [(0, "never sent", None, None, None)]),
+    # Rows of it that come while the page is not open: before its time, in it, and behind it.
+    ("100-150 a", "0:- 160:- @99 @150", [(0, "never sent", None, None, None)]),
+    ("100-150 a", "0:- 160:- @90 @120", [(0, "unknown", None, None, None)]),
+    ("100-150 a", "0:- 160:- @149 @160", [(0, "unknown", None, None, None)]),
+    # What can't be read: behind a stretch of faulty frames, and in it.
+    ("100-150 a", "0:- 100:a 110:z 130:a 150:- ?130-140", [(0, "wrong text", None, None, "z")]),
+    ("100-150 a", "0:- 100:a 110:z 130:a 150:- ?129-140", [(0, "unknown", None, None, "z")]),
+    ("100-150 a", "0:- 100:a 110:z 130:a 150:- ?100-109", [(0, "wrong text", None, None, "z")]),
+    ("100-150 a", "0:- 120:a 150:- ?90-99", [(0, "late", 20, None, "a")]),
+    ("100-150 a", "0:- 120:a 150:- ?120-130", [(0, "unknown", None, None, None)]),
+    ("100-150 a", "0:- 160:- ?149-155", [(0, "unknown", None, None, None)]),
+    ("100-150 a", "0:- 160:- ?150-155", [(0, "never sent", None, None, None)]),
+    ("100-150 a", "0:- 100:a 110:- 120:z 150:-", [(0, "unknown", None, None, None)]),
+    ("100-150 a", "0:- 100:a,r 150:-", [(0, "wrong text", None, None, "a,r")]),
+    ("100-150 a", "0:- 100:a,m 150:-", [(0, "wrong place", None, None, "a,m")]),
+    ("100-150 a", "0:- 100:a,a 150:-", [(0, "wrong colour or attribute", None, None, "a,a")]),
+    # Not erased: up to another text, up to the same one, and for ever.
+    ("100-150 a;200-250 b", "0:- 100:a 200:b 250:-", [(0, "not erased", None, None, "a")]),
+    ("100-150 a;160-250 a", "0:- 100:a 250:-", [(0, "not erased", None, None, "a")]),
+    ("100-150 a", "0:- 100:a", [(0, "not erased", None, None, "a")])]
+
+
+class ByHand(unittest.TestCase):
+    """Rows that were worked by hand."""
+
+    def test_causes(self) -> None:
+        for subtitles, sent, wanted in BY_HAND:
+            times = [[int(frame) for frame in one.split()[0].split("-")]
+                     for one in subtitles.split(";")]
+            programme = DuePages(
+                [Subtitle(at, at, begin, end, 20, 2, b"") for at, (begin, end) in
+                 enumerate(times, 1)], [page_of(one[-1]) for one in subtitles.split(";")])
+            held, pages = empty(), dict[Rows, str]()
+            for frame, _, name in (one.partition(":") for one in sent.split() if ":" in one):
+                held.change(int(frame), page_of(name))
+                pages[page_of(name)] = name
+            held.first, held.last = 0, 999
+            held.doubts, held.pauses = (
+                [Span(*map(int, one[1:].split("-"))) for one in sent.split() if one[0] == mark]
+                for mark in "?!")
+            steady(held)
+            held.strays = [(Span(int(one[1:]), int(one[1:])), ((19, programme.pages[0][18]),))
+                           for one in sent.split() if one[0] == "@"]
+            causes = Causes(programme, held)
+            faulty = [frame for frame in range(500) if not causes.namer.is_due(frame)]
+            causes.name(told([(begin, next(last for last in range(begin, 501)
+                                           if last + 1 not in faulty))
+                              for begin in faulty if begin - 1 not in faulty]))
+            for begin in faulty:
+                one = causes.of(72, begin)
+                self.assertTrue(one and one.place in [place for place, *_ in wanted], sent)
+            with self.subTest(subtitles=subtitles, sent=sent):
+                self.assertEqual([(one.place, one.name, one.frames, one.other,
+                                   None if one.sent is None else pages.get(one.sent, "due"))
+                                  for one in causes.all()], wanted)
+
+    def test_reached(self) -> None:
+        """The frames of which a recording is: of its PES packets, or more by its PCR."""
+        for reach, wanted in ((None, (10, 20)), ((5, 30), (5, 30)), ((12, 18), (10, 20)),
+                              ((5, 18), (5, 20)), ((12, 30), (10, 30))):
+            held = empty()
+            held.first, held.last = 10, 20
+            causes = Causes(DuePages([], []), held, reach and Span(*reach))
+            self.assertEqual(causes.reached(), wanted, reach)
+
+
+if __name__ == "__main__":
+    for NUMBER in range(COUNT):
+        print(Made(NUMBER).row())

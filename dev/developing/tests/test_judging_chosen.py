@@ -1,0 +1,437 @@
+"""What is chosen and said so, and what is measured of recordings that are right."""
+from __future__ import annotations
+
+import json
+import os
+import re
+from typing import Any, Sequence
+
+from developing.pes import data_field, pes_packet, pts_in, teletext_packets
+from developing.stl import gsi_block, subtitle_blocks
+from subtitles.cli.main import parser_of
+from subtitles.cli.measure import measure
+from subtitles.common.program import TOP, read
+from subtitles.common.times import TICKS, time_of
+from subtitles.judging.measurement import never_words, pace_found
+from subtitles.request.lines import profile_at, read_options
+from subtitles.request.request import CHOICES, option_line, request_of
+from subtitles.stream.gaps import PAUSED, Pace, REGULAR
+from .bench import Case, example, packets, tool_path
+from .judged import Judged, ORIGIN, Sent, apart, in_pipe, joined, judged, programme, sendings, times
+from .muxed import AHEAD, Maker, Shape, TELETEXT_PID, components, multiplexed
+from .results import wrong_choices
+from .test_judging_reasons import KEEPING_HEADER
+from .test_moves import NEW, OLD, in_turn
+
+
+# What `qc` chooses by itself stands in the JSON result, by the evidence that was printed; what was
+# typed does not.
+
+TS = example("story.stl"), example("recording.ts")
+PES = example("story.stl"), example("story.pes")
+RECORDING_PID = "PID 0x101: page 888 has a header in 7 of 7 PES packets, and on no other PID"
+AGREE = "origin: 5 of 5 cues agree, 5 with the letters that are due; the file has 5; next best: "
+ORIGIN_OF_TS = "origin", "5000000000", 5, 5, 1, f"{AGREE}--origin 1678370000 with 2"
+CUT = "pes", "2-6", 5, 7, 1, "cut: 5 of 7 PES packets, from 20:15:00:00 to 20:15:09:00"
+PID = "pid", "0x101", 7, 7, None, RECORDING_PID
+PACE = "pace", None, None, None, 1, "not checked: whether some of this PID alone is missing: " \
+    "its PES packets are too few to measure a pace"
+# Words of a call, and what is chosen: the option, its value, how many agree among how many, of
+# which part, and the line.
+ROWS: list[tuple[Sequence[str], list[tuple[Any, ...]]]] = [
+    (TS, [PID, ORIGIN_OF_TS, CUT, PACE]),
+    ((*TS, "--pid", "0x101"), [ORIGIN_OF_TS, CUT, PACE]),
+    ((*TS, "--origin", "5000000000"), [PID, CUT, PACE]),
+    ((*TS, "--pid", "0x101", "--origin", "5000000000"), [CUT, PACE]),
+    ((TS[0],), []),
+    ((TS[0], "--option", "auto"), [
+        ("option", "english", None, None, None,
+         "option: english, since the language of the file (LC) is 09")]),
+]
+LANGUAGES = {b"08": ("german", "the language of the file (LC) is 08"),
+             b"0F": ("french", "the language of the file (LC) is 0F"),
+             b"  ": ("english", "the language of the file (LC) is   "),
+             b"\x1b[": ("english", r"the language of the file (LC) is \x1b["),
+             None: ("english", "the file names no language (LC)")}
+
+
+def told(found: Judged) -> list[tuple[Any, ...]]:
+    """What a result says that was chosen, in the order of the options."""
+    return sorted((tuple(one[name] for name in ("what", "value", "agree", "among", "part", "line"))
+                   for one in found.result["chosen"]), key=lambda one: CHOICES.index(one[0]))
+
+
+class Chosen(Case):
+    """Pairs of which something is chosen."""
+
+    def must_tell(self, name: str, found: Judged, wanted: list[tuple[Any, ...]]) -> None:
+        """Just that stands in the result, and each line was printed."""
+        wrong = [*wrong_choices(found.result, found.said)]
+        self.must(name, told(found) == wanted and not wrong, (told(found), wrong, found.said))
+
+    def test_rows(self) -> None:
+        for words, wanted in ROWS:
+            self.must_tell(f"{words}", judged(self, *words), wanted)
+
+    def test_parts(self) -> None:
+        """Each part has a clock and a range of its own; of one that was given the others alone."""
+        stl = programme(self, times(24))
+        path = self.write("one.pes", joined(apart(sendings(self, stl), 130)))
+        second = f"{ORIGIN + 130 * TICKS}"
+        for words, clocks in (((), [(f"{ORIGIN}", 1), (second, 2)]),
+                              (("--origin", f"{ORIGIN}"), [(second, 2)])):
+            found = judged(self, stl, path, "--breaks", "1", "--every", "25", *words)
+            self.must("clocks", [(one[1], one[4]) for one in told(found) if one[0] == "origin"]
+                      == clocks and [one[4] for one in told(found) if one[0] == "pes"] == [1, 2]
+                      and not [*wrong_choices(found.result, found.said)], found.said)
+
+    def test_moves(self) -> None:
+        """Both PIDs are chosen, by what each of them has."""
+        stl = programme(self, times(10))
+        self.schedule(stl, "sent.pes", "--every", "25")
+        data = self.read("sent.pes")
+        pes = [data[at.start():] for at in re.finditer(b"\0\0\1\xbd", data)]
+        pes = [one[:6 + int.from_bytes(one[4:6], "big")] for one in pes]
+        found = judged(self, stl, self.write("one.ts", in_turn(pes, [(0, OLD), (20, NEW)])),
+                       "--origin", "0", "--every", "25")
+        said = [one for one in told(found) if one[0] == "pid"]
+        self.must("both", said == [
+            ("pid", f"0x{pid:X}", count, count, None, f"PID 0x{pid:X}: page 888 has a header in "
+             f"{count} of {count} PES packets, and the PMT moves it")
+            for pid, count in ((OLD, 20), (NEW, len(pes) - 20))], said)
+        self.must("sound", not [*wrong_choices(found.result, found.said)], found.said)
+
+    def test_pace(self) -> None:
+        """By at how many places a loss takes longer; where none is asked the note says why."""
+        stl = programme(self, times(60))
+        sent = sendings(self, stl)
+        every = [(TICKS * frame, dict(sent).get(TICKS * frame, [])) for frame in range(100, 6100)]
+        path = self.write("one.pes", joined(every))
+        found = judged(self, stl, path, "--origin", "0")
+        pace = [one for one in told(found) if one[0] == "pace"]
+        self.must("asked", pace == [
+            ("pace", "1", pace[0][3], pace[0][3], 1, "pace: a PES packet comes within 1 frame of "
+             "the one before: --pace 1")] and pace[0][3] > 5_000, found.said)
+        made = multiplexed([pes_packet(pts + TICKS * 250, some) for pts, some in every
+                        if some or pts // TICKS % 60 < 25], Shape(100))
+        path = self.write("one.ts", b"".join(one.data for one in made))
+        for words in ((), ("--pace", "none")):
+            found = judged(self, stl, path, "--origin", f"{TICKS * 250}", *words)
+            pace = [one for one in told(found) if one[0] == "pace"]
+            self.must(f"{words}",
+                      [one[1:5] for one in pace] == [(None, None, None, 1)] * (not words)
+                      and all("not checked: " in one[5] for one in pace)
+                      and not [*wrong_choices(found.result, found.said)], found.said)
+
+    def test_languages(self) -> None:
+        """What the file names, with what a terminal would obey escaped."""
+        with open(TS[0], "rb") as file:
+            data = file.read()
+        for language, (option, why) in LANGUAGES.items():
+            path = self.write(
+                "one.stl", b"" if language is None else data[:14] + language + data[16:])
+            asked = request_of(parser_of("").parse_args([path, "--option", "auto"]))
+            self.must(f"{language!r}", asked.option == option and
+                      option_line(asked) == f"option: {option}, since {why}", option_line(asked))
+
+    def test_batch(self) -> None:
+        """What the file of a pair names is its own call's choice."""
+        self.write("list", "\n".join([" ".join(PES), f"{' '.join(PES)} --option english"]).encode())
+        done = self.call([tool_path("qc"), "--batch", "list", "-o", "out", "-p", self.bench.program,
+                          "--option", "auto"])
+        results = [json.loads(self.read(f"out/{name}.json")) for name in ("story", "story~2")]
+        options = [[one["value"] for one in known["chosen"] if one["what"] == "option"]
+                   for known in results]
+        self.must("the first", done.status == 0 and options == [["english"], []], (done, options))
+        done = self.call([tool_path("qc"), "--batch", "list", "-o", "out", "-p", self.bench.program,
+                          "--option", "auto", "--resume"])
+        self.must("kept", done.status == 0 and results == [
+            json.loads(self.read(f"out/{name}.json")) for name in ("story", "story~2")], done)
+
+    def test_manual(self) -> None:
+        """The manual says what is chosen, and which options are typed and never chosen."""
+        manual = read(os.path.join(TOP, "docs", "manual", "qc.md")) or ""
+        rule = manual.partition('<a id="what-qc-chooses">')[2].partition("<a id=")[0]
+        rule = " ".join(rule.split())
+        words = {"pid": "the PID that the programme announces", "origin": "a clock",
+                 "pes": "the PES packets of the time", "pace": "a pace", "option": "`--option`"}
+        for what in CHOICES:
+            self.must(what, words[what] in rule, rule)
+        for option in ("layout", "within", "keeping", "breaks", "every", "option", "allow-lost",
+                       "severity"):
+            self.must(f"--{option}", f"`--{option}`" in rule, rule)
+
+
+# The page that is asked for, and a PID that carries something else from a PES packet on.
+
+WORDS = "--origin", "0", "--every", "100"
+
+
+class Pages(Case):
+    """Pages with the number 88 in each magazine, of which one has what is due."""
+
+    def test_each_magazine(self) -> None:
+        """What is asked for is judged: right where its page is, refused where another one is right,
+        and not judged where it is not sent."""
+        stl = programme(self, times(5))
+        other = programme(self, times(5), text=b"Another %d", name="other.stl")
+        for magazine in range(1, 9):
+            page, wrong = f"{magazine}88", "188" if magazine == 8 else "888"
+            for name, first, second in (("right", page, wrong), ("wrong", wrong, page)):
+                self.schedule(stl, "first.pes", "--page", first, "--every", "25")
+                self.schedule(other, "second.pes", "--page", second, "--every", "25")
+                both = zip(packets(self.read("first.pes")), packets(self.read("second.pes")))
+                path = self.write("both.pes", b"".join(pes_packet(pts_in(one), [
+                    *teletext_packets(data_field(one)), *teletext_packets(data_field(two))])
+                    for one, two in both))
+                found = judged(self, stl, path, "--page", page, *WORDS)
+                self.must(f"{page} {name}", found.word == (
+                    "accepted" if name == "right" else "refused") and
+                    found.result["asked"]["page"] == page and
+                    (f"--page {page}" in found.lines("+ ")[-1]) == (page != "888"), found.said)
+            found = judged(self, stl, self.path("first.pes"), "--page", page, *WORDS)
+            self.must(f"{page}: not sent", found.word == "not judged", found.said)
+
+
+class Pids(Case):
+    """What comes in the place of Teletext."""
+
+    def setUp(self) -> None:
+        super().setUp()
+        self.stl = programme(self, times(10))
+        self.schedule(self.stl, "one.pes", "--every", "25")
+        self.pes = packets(self.read("one.pes"))
+        last = self.pes[-1]
+        self.pes += [pes_packet(pts_in(last) + 90_000 * at, teletext_packets(data_field(last)))
+                     for at in range(1, 5)]
+
+    def stream(self, first: int, number: int) -> bytes:
+        """From a PES packet on of another kind, or of another length."""
+        made = Maker(components())
+        made.put_tables()
+        for at, one in enumerate(self.pes):
+            made.put_pcr(pts_in(one) - AHEAD)
+            if at >= first:
+                one = b"\0\0\1\xbf" + one[4:] if number == 31 else \
+                    one[:4] + (len(one) + 4).to_bytes(2, "big") + one[6:] + b"\xff" * 10
+            made.put(TELETEXT_PID, one)
+        return made.data
+
+    def test_something_else(self) -> None:
+        """What comes up to then is judged, and why it ends is told; after the programme it changes
+        nothing."""
+        for number, word in ((31, "Start"), (32, "Length")):
+            for first, line in ((1, "refused 74 Late frame 00:00:04:00"),
+                                (20, "refused 74 Late frame 00:00:19:10"),
+                                (48, "refused 74 Late frame 00:00:42:00"),
+                                (49, "accepted 961 frames 49 transmissions"),
+                                (52, "accepted 961 frames 49 transmissions")):
+                data, end = self.stream(first, number), min(first, 49) - 1
+                for recording, words in ((self.write("one.ts", data), ()),
+                                         (self.path("one.ts"), ("--pid", "0x101")),
+                                         (in_pipe(self, data), ())):
+                    found = judged(self, self.stl, recording, *WORDS, *words)
+                    why = f"from PES packet {first} on: refused {number} {word} pes {first}"
+                    self.must(f"{number} {first} {words}", found.verdict.line == line and
+                              (why in found.verdict.sentence) == (first < 49) and
+                              found.parts("pes") == [(f"0-{end}",)] and not any(
+                                  one["kind"] == "cut" for one in found.result["warnings"]),
+                              found.said)
+        found = judged(self, self.stl, self.write("one.ts", self.stream(0, 31)), *WORDS)
+        self.must("nothing", found.word == "not judged" and
+                  "no PES packets of private_stream_1" in found.told[0], found.told)
+
+
+# --measure: what a profile says of recordings that are right, and what none ever says.
+
+FIRST, EACH, LASTS = 900_000, 100, 60  # frames: of the first TCI, from one to the next, of each
+LINES = ("Good evening.", "Here", "is the news of today", "Thank you, Anne.", "Yes", "No no no")
+CLOCK_WORDS = ["--start", time_of(FIRST - 50)]
+
+
+def text_of(number: int, end: str = "") -> bytes:
+    """The text of a subtitle: two lines of other lengths."""
+    both = [f"{end}{number} {LINES[(number + at) % len(LINES)]}{end}" for at in (0, 1)]
+    return "\x8a\x8a".join(both).encode("latin-1")
+
+
+class Measured(Case):
+    """Recordings of twelve subtitles."""
+
+    def file(self, name: str, end: str = "", justify: int = 2, count: int = 12) -> str:
+        """A subtitle file of so many; `end` stands at both ends of each line."""
+        blocks = [subtitle_blocks(number, FIRST + EACH * number, FIRST + EACH * number + LASTS, 20,
+                                  justify, text_of(number, end)) for number in range(count)]
+        return self.write(name, gsi_block(b"Measured", count, count) + b"".join(blocks))
+
+    def sent(self, stl: str, *words: str) -> Sent:
+        """What the program sends of it."""
+        self.schedule(stl, "planned.pes", "--every", "25", *words)
+        return [(pts_in(one), teletext_packets(data_field(one)))
+                for one in packets(self.read("planned.pes"))]
+
+    def profile(self, *words: str) -> list[str]:
+        """What is printed of a call, which a profile may have."""
+        done = self.tool("qc", "--measure", *words)
+        self.must(f"{words}", done.status == 0 and not done.told, done)
+        profile_at(self.write("profile", done.out))
+        return done.out.decode().splitlines()
+
+    def proposed(self, *words: str) -> list[str]:
+        """The options that are proposed."""
+        return [line for line in self.profile(*words) if not line.startswith("#")]
+
+    def test_pace(self) -> None:
+        """The longest of all recordings; none where one is not regular."""
+        paces = [Pace(REGULAR, 1, 3), Pace(REGULAR, 2, 5), Pace(REGULAR, 1, 4)]
+        rows: list[tuple[list[Pace], str]] = [
+            (paces, "--pace 4"), (paces[:1], "--pace 2"), ([], ""),
+            ([*paces, Pace(PAUSED, 9, 9)], "")]
+        for some, words in rows:
+            self.must(f"{some}", pace_found(some).words == words, pace_found(some))
+
+    def test_round_trip(self) -> None:
+        """What is measured of a house accepts what the house sends: layout, repeats that keep, late
+        cues; read as it was printed."""
+        stl = self.file("one.stl")
+        sent = self.sent(stl, "--layout", "fit,after=0A")
+        moved = []
+        for pts, some in sent:
+            frame = pts // TICKS - FIRST
+            is_begin = frame % EACH == 0 and 0 <= frame < 12 * EACH
+            moved.append((pts + TICKS * (frame // EACH % 3) * is_begin, some))
+        pes = self.write("one.pes", joined(moved))
+        words = [stl, pes, "--origin", "0"]
+        found = self.proposed(*words)
+        self.must("proposed", found == [
+            "--page 888", "--option english", "--every 25", "--within 2",
+            "--late 0:3,1:4,2:4/0:12", "--layout after=0A"], found)
+        again = judged(self, stl, pes, "--origin", "0", "--profile", self.path("profile"))
+        self.must("accepted", again.word == "accepted", again.said)
+
+    def test_delays(self) -> None:
+        """Begins and ends apart, where a clock is given; of the first begin nothing is known, since
+        nothing came before. The early ones are named, and accepted by nothing."""
+        stl = self.file("one.stl")
+        sent = self.sent(stl)
+        rows: list[tuple[str, dict[int, int], dict[int, int], tuple[str, str, list[str]]]] = [
+                ("none", {}, {}, ("0:11", "0:12", [])),
+                ("begins", {1: 3, 2: 1}, {}, ("0:9, 1:1, 3:1", "0:12", [
+                    "--within 3", "--late 0:9,1:1,3:1/0:12"])),
+                ("ends", {}, {at: 2 for at in range(12)}, ("0:11", "2:12", [
+                    "--within 2", "--late 0:11/2:12"])),
+                ("early", {4: -3}, {5: -1}, ("0:10", "0:11", []))]
+        for name, begins, ends, wanted in rows:
+            moved = []
+            for pts, some in sent:
+                number, rest = divmod(pts // TICKS - FIRST, EACH)
+                by = begins.get(number, 0) if rest == 0 else ends.get(number, 0) \
+                    if rest == LASTS else 0
+                moved.append((pts + by * TICKS, some))
+            pes = self.write(f"{name}.pes", joined(sorted(moved, key=lambda one: one[0])))
+            lines = self.profile(stl, pes, "--origin", "0")
+            counts = f"# within, late: begins {wanted[0]}; ends {wanted[1]} (frames late: how many)"
+            self.must(name, counts in lines, lines)
+            bound = [line for line in lines if line.startswith(("--within", "--late"))]
+            self.must(f"{name}: proposed", bound == wanted[2], bound)
+            early = [line for line in lines if line.startswith("# early, which nothing accepts: ")]
+            self.must(f"{name}: early", bool(early) == (name == "early") and all(
+                "subtitle 5 (SN 4) at 10:00:16:00 begins 3 frames early; " in line and
+                "subtitle 6 (SN 5) at 10:00:20:00 ends 1 frame early" in line for line in early),
+                lines)
+        lines = self.profile(stl, self.path("begins.pes"), "--within", "3")
+        self.must("no clock", not any(line.startswith(("--within", "--late")) for line in lines) and
+                  any("no clock is given" in line for line in lines), lines)
+
+    def test_layouts(self) -> None:
+        """How the house draws: what ten subtitles show; never flash, one start box, or all rows
+        moved far. What no layout says is named, with the nearest."""
+        stl = self.file("one.stl")
+        for text, why in (
+                ("before=0B0B08", "all would flash"),
+                ("before=0B", "receivers show a line behind two start boxes"),
+                ("row=-10", "no house moves all by more than 2 rows"), ("row=-1", ""),
+                ("before=0B0B06", ""), ("double,row=-1", ""), ("", "")):
+            pes = self.write("one.pes", joined(self.sent(
+                stl, *(["--layout", text] if text else []))))
+            lines = self.profile(stl, pes)
+            found = [line for line in lines if line.startswith("--layout")]
+            self.must(text, found == ([f"--layout {text}"] if text and not why else []), lines)
+            self.must(f"{text}: why", not why or any(line.endswith(f"more of 12: {why}") for line in
+                                                   lines), lines)
+        for name, end, justify, words, said in (
+                ("spaces", " ", 2, (), "a space stands in the box in 12 of these 12 others"),
+                ("block", "", 1, ("--layout", "left=9"),
+                 "lines are a block, aligned left, in ")):
+            pes = self.write("one.pes", joined(self.sent(
+                self.file(f"{name}.stl", end, justify), *words)))
+            lines = self.profile(stl, pes)
+            self.must(name, not any(line.startswith("--layout") for line in lines) and
+                      any(said in line for line in lines) and
+                      any("The nearest, " in line for line in lines) and
+                      any(line.startswith(f"# against it: {stl}, subtitle 1 (SN 0) at 10:00:00:00: "
+                                          "sent row ") for line in lines), lines)
+
+    def test_against(self) -> None:
+        """A subtitle that the house drew otherwise is named beside what is proposed."""
+        stl = self.file("one.stl")
+        one, other = self.sent(stl, "--layout", "after=0A"), self.sent(stl)
+        frame = (FIRST + 3 * EACH) * TICKS
+        mixed = [second if frame <= first[0] < frame + LASTS * TICKS else first
+                 for first, second in zip(one, other)]
+        lines = self.profile(stl, self.write("one.pes", joined(mixed)))
+        against = [line for line in lines if line.startswith("# against it: ")]
+        self.must("one", "--layout after=0A" in lines and len(against) == 1 and
+                  f"{stl}, subtitle 4 (SN 3) at 10:00:12:00: sent row 20" in against[0], lines)
+        self.must("rests", "# layout: 11 of 12 subtitles as they were sent; after=0A rests on 12, "
+                  "of which 11 were sent so" in lines, lines)
+
+    def test_keeping(self) -> None:
+        """Headers that keep the page, where nothing else of them is wrong."""
+        stl = self.file("one.stl")
+        sent = self.sent(stl)
+        for name, changed, is_proposed in (("erase", None, False), ("keep", KEEPING_HEADER, True)):
+            pes = self.write("one.pes", joined([
+                (pts, [changed if changed and at == 0 and (pts // TICKS - FIRST) % EACH in (25, 50)
+                       else one for at, one in enumerate(some)]) for pts, some in sent]))
+            lines = self.profile(stl, pes)
+            count = 24 if changed else 0
+            self.must(name, ("--keeping" in lines) == is_proposed and
+                      f"# keeping: C4 (erase page) is clear in {count} of 59 headers" in lines,
+                      lines)
+
+    def test_several(self) -> None:
+        """All pairs together: what one of them alone shows is not taken from it alone."""
+        paths = []
+        for number, every in enumerate((25, 50)):
+            stl = self.file(f"{number}.stl", count=6)
+            self.schedule(stl, f"{number}.pes", "--every", str(every), "--layout", "after=0A")
+            paths += [stl, self.path(f"{number}.pes")]
+        found = self.proposed(*paths)
+        self.must("both", "--every 50" in found and "--layout after=0A" in found, found)
+        alone = self.proposed(*paths[:2])
+        self.must("one", "--every 25" in alone and "--layout after=0A" not in alone, alone)
+
+    def test_wrong_words(self) -> None:
+        stl = self.file("one.stl")
+        pes = self.write("one.pes", joined(self.sent(stl)))
+        for words, said in (
+                ([stl], f"--measure takes pairs, STL RECORDING: {stl} has no recording"),
+                ([stl, pes, stl, pes, "--origin", "0"], "--origin is the clock of one recording"),
+                ([stl, self.write("none.pes", b"")], "none.pes is empty"),
+                ([stl, pes, "--every", "25"], "--every goes with a recording"),
+                ([stl, pes, "--batch", "x"], "are two calls")):
+            done = self.tool("qc", "--measure", *words)
+            self.must(said, done.status == 2 and not done.out and len(done.told) == 1 and
+                      said in done.told[0], done)
+        known = read_options(parser_of(""), ["--measure", stl, pes], {}, {})
+        self.must("a call", measure(known, "tools/qc") == 0)
+
+    def test_never(self) -> None:
+        for text, words in (
+                ("before=0B0B08", "all would flash"),
+                ("row=3", "no house moves all by more than 2 rows"),
+                ("strip=03", "it takes from a page what a viewer sees"),
+                ("after=0A", "10 subtitles have to show it, and 9 in 10 of these as they were "
+                 "sent")):
+            self.assertEqual(never_words(text), words, text)

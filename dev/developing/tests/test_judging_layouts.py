@@ -1,0 +1,363 @@
+"""Pairs of a house that draws otherwise."""
+from __future__ import annotations
+
+import os
+import random
+import sys
+from typing import Callable, NamedTuple
+
+from developing.multiplex import ADAPTATION_ALONE, PACKET, head
+from developing.pes import data_field, pes_packet, pts_in, teletext_packets
+from developing.stl import gsi_block, subtitle_blocks
+from subtitles.common.command_line import quoted
+from subtitles.common.times import TICKS
+from subtitles.formats.layout import Layout, PLAIN, Refused, drawn, fault_in, layout_of, page_rows
+from subtitles.formats.stl import Subtitle
+from subtitles.formats.teletext import ENGLISH
+from subtitles.judging.pages import cells_words
+from subtitles.stream.layout import sent_in
+from .bench import BENCH, Case, packets
+from .judged import Judged, Sent, joined, judged
+from .muxed import Sent as Packet, Shape, TELETEXT_PID, multiplexed
+from .parts import CLOSING, HEADER, row, timeline_of
+from .test_layouts import HOUSES, line
+
+
+# Recordings of houses that draw otherwise: what is told of them; and files of open subtitles.
+
+FIRST, EACH, LASTS = 3000, 60, 45  # frames: of the first TCI, from one to the next, of each
+DSC = slice(11, 12)
+FAULTS = [
+    ("left=40", "left=40 is no item: left takes 0 to 39"), ("fit,fit", "fit is there twice"),
+    ("fit=1", "fit=1 is no item: fit takes no value"), ("pitch=1", "pitch=1 is no item"),
+    ("", "nothing between commas is no item"), ("fit,", "nothing between commas is no item"),
+    ("up,after=0E", "after=0E is no item: after takes up to 4 codes 01 to 0D"), ("fit,up", None)]
+def file_of(case: Case, texts: list[tuple[bytes, int]], name: str, dsc: bytes = b"1") -> str:
+    """A subtitle file: texts, each with its justification code."""
+    blocks = b"".join(subtitle_blocks(
+        at, FIRST + EACH * at, FIRST + EACH * at + LASTS, 18, justify, text)
+                      for at, (text, justify) in enumerate(texts))
+    gsi = bytearray(gsi_block(b"As sent", len(blocks) // 128, len(texts), FIRST))
+    gsi[DSC] = dsc
+    return case.write(name, bytes(gsi) + blocks)
+
+
+def texts_of(some: random.Random, has_codes: bool, between: bytes, count: int
+             ) -> list[tuple[bytes, int]]:
+    """Texts of one or two lines, some with a number so that they differ."""
+    return [(between.join(line(some, has_codes) for _ in range(some.choice([1, 2, 2]))),
+             some.choice([2, 2, 2, 1, 3, 0])) for _ in range(count)]
+
+
+class Houses(Case):
+    """Pairs of which the recording is drawn as a house does."""
+
+    def judge(self, texts: list[tuple[bytes, int]], drawn: str, *words: str,
+              sent: list[tuple[bytes, int]] | None = None) -> Judged:
+        """A pair whose recording is drawn by a layout, of other texts where these are given."""
+        number = str(len(os.listdir(self.folder)))
+        stl = file_of(self, texts, f"{number}.stl")
+        other = file_of(self, sent or texts, f"{number}.sent.stl")
+        layout = ["--layout", drawn] if drawn else []
+        pes = self.schedule(other, f"{number}.pes", "--every", "20", *layout)
+        return judged(self, stl, pes, *words)
+
+    def test_is_told(self) -> None:
+        """Content that is refused for how it is drawn: in which cells the first subtitle differs,
+        and nothing of what would draw it. Nothing of a wrong letter."""
+        some = random.Random(85)
+        texts = texts_of(some, False, b"\x8a", 30)
+        found = self.judge(texts, "after=0A", "-o", self.path("out"))
+        words = "the letters of subtitle 1 (SN 0) are right and drawn otherwise: row 18, 0A " \
+            "behind its letters where 0A 0A is due, and so are those of 29 more subtitles"
+        self.must("told", found.word == "refused" and found.result["hints"] == [f"72: {words}"]
+                  and f"72: {words}" in found.said
+                  and found.result["faults"][0]["do"] == words, found.said)
+        self.must("report", words.encode() in self.read("out/one.html"))
+        texts[7] = b"Hi there", 2
+        sent = [*texts[:7], (b"Hi thEre", 2), *texts[8:]]
+        plain = self.judge(texts, "", sent=sent)
+        self.must("a letter", plain.word == "refused" and plain.result["hints"] == [], plain.said)
+
+
+class Sendings(Case):
+    """What is taken of a recording to find the layout, and told of it."""
+
+    def test_the_page_that_is_held_for_longest(self) -> None:
+        """Of those with the letters of a subtitle, while it is due; the pages differ in their
+        rows."""
+        for begin, end, pages, wanted in (
+                (0, 50, ((0, 18), (10, 20)), [20]), (0, 30, ((0, 18), (20, 20)), [18]),
+                (50, 80, ((0, 18), (60, 20)), [20]), (0, 50, ((0, 18), (25, 20)), [18]),
+                (0, 50, ((0, 18), (5, 19), (20, 20), (30, 21)), [21]),
+                (0, 50, ((0, 18), (10, None)), [18]), (0, 50, ((50, 18),), [])):
+            pes = [pes_packet(TICKS * frame, [HEADER, *[row(number or 1, b"ab" if number else b"c"
+                                                            )], CLOSING])
+                   for frame, number in (*pages, (200, None))]
+            one = Subtitle(1, 0, begin, end, 18, 2, b"ab")
+            found = sent_in([one], timeline_of(self, b"".join(pes)), ENGLISH)
+            rows = [number for sent in found for number, cells in enumerate(sent.rows, 1)
+                    if cells.strip()]
+            self.must(f"{begin} {end} {pages}", rows == wanted, rows)
+
+
+class Words(Case):
+    """What is said of layouts."""
+
+    def test_faults_of_a_text(self) -> None:
+        for text, fault in FAULTS:
+            self.must(text, fault_in(text) == fault and (layout_of(text) is None) == bool(fault),
+                      fault_in(text))
+
+    def test_auto(self) -> None:
+        """It is gone: what to type is said."""
+        done = self.tool("qc", "one.stl", "one.ts", "--layout", "auto")
+        self.must("auto", done.status == 2 and len(done.told) == 1 and
+                  "`--measure STL RECORDING ..` finds how a house draws" in done.told[0], done)
+
+    def test_cells(self) -> None:
+        """In which cells a page with the same letters differs."""
+        for text, wanted in (
+                ("row=1", "row 19 where 18 is due"), ("after=0A", "row 18, 0A behind its letters "
+                 "where 0A 0A is due"), ("after=", "row 18, column 18 where 17 is due, nothing "
+                 "behind its letters where 0A 0A is due"),
+                ("before=060B0B", "row 18, column 16 where 17 is due, 06 0B 0B before its letters "
+                 "where 0B 0B is due")):
+            due, sent = (page_rows(lines) for layout in (PLAIN, layout_of(text)) if layout and
+                         not isinstance(lines := drawn(b"Hi", 18, 2, layout, ENGLISH), Refused))
+            self.must(text, cells_words(due, sent) == wanted, cells_words(due, sent))
+        one, two = (drawn(text, 18, 2, PLAIN, ENGLISH) for text in (b"Hi Ho", b"Hi\x8aHo"))
+        assert not isinstance(one, Refused) and not isinstance(two, Refused)
+        self.must("rows", cells_words(page_rows(one), page_rows(two)) ==
+                  "in 2 rows, where 1 are due")
+        inner = drawn(b"H\x02i", 18, 2, PLAIN, ENGLISH)
+        plain = drawn(b"H i", 18, 2, PLAIN, ENGLISH)
+        assert not isinstance(inner, Refused) and not isinstance(plain, Refused)
+        self.must("between", cells_words(page_rows(plain), page_rows(inner)) ==
+                  "row 18, other codes between its letters")
+
+
+class Open(Case):
+    """Files of open subtitles."""
+
+    def test_open(self) -> None:
+        """A refusal names the option, and with it the pair is judged and its report is drawn."""
+        texts = [(b"Number %d" % at, 2) for at in range(12)]
+        for dsc, kind in ((b"0", "0, open subtitles"), (b" ", "a space, none"), (b"3", None)):
+            stl = file_of(self, texts, "open.stl", dsc)
+            alone = judged(self, stl)
+            hint = f"its DSC is {kind}: --open takes it"
+            self.must(f"{kind}: 13", alone.result["line"] == "refused 13 Display block 0"
+                      and alone.result["hints"] == [f"13: {hint}"] * bool(kind)
+                      and (alone.result["faults"][0]["do"] == hint) == bool(kind), alone.said)
+            if kind is None:
+                other = judged(self, stl, "--open")
+                self.must("with --open", other.result["line"] == "refused 13 Display block 0",
+                          other.said)
+                continue
+            self.must(f"{kind}: a file", judged(self, stl, "--open").word == "accepted")
+            pes = self.schedule(stl, "open.pes", "--open", "--every", "20", "--layout", "after=0A")
+            found = judged(self, stl, pes, "--open", "--layout", "after=0A", "-o", self.path("out"))
+            self.must(f"{kind}: a pair", found.word == "accepted" and found.result["asked"]["open"]
+                      and b"12 subtitles" in self.read("out/one.html"), found.said)
+            late = judged(self, stl, pes, "--open")
+            self.must(f"{kind}: causes", late.word == "refused"
+                      and len(late.result["causes"]) == 12, late.said)
+
+
+# What `qc` chooses by itself at random, each offered a wrong one: programmes as houses draw them,
+# of which a few subtitles were sent otherwise, one came a frame early, a row of one never came, or
+# a wrong page was sent where some TS or PES packets are lost.
+
+# Seeds of which the gate judges the programmes.
+GATE = (3, 5, 11, 17, 24, 31, 42, 50, 57, 68, 77, 89, 101, 123, 150, 171, 200, 217, 260, 299)
+UNSEEN = "not checked: whether"
+WRONG = [HEADER, row(20, b"Nobody wrote this"), CLOSING]
+Said = tuple[bytes, int]  # a text with its justification code
+
+
+def otherwise(said: Said, kind: int) -> Said:
+    """What the file has, where this is sent: more than an inserter draws, or other letters."""
+    text, justify = said
+    return [(b"\x03" + text, justify), (b"\x08" + text, justify), (b"\x0d" + text, justify),
+            (b"  " + text, justify), (text.replace(b"\x8a", b"\x8a\x8a\x8a", 1), justify),
+            (text, justify % 3 + 1), (b"\x07" + text, justify),
+            (text.replace(b"a", b"o").replace(b"e", b"u"), justify)][kind]
+
+
+class Programme(NamedTuple):
+    """A pair by its seed: what the file has, and what is sent, by which layout; how PES packets
+    come, how many are lost and where, whether as a file of PES packets, and whether a wrong page
+    was sent there."""
+
+    text: str
+    file: list[Said]
+    sent: list[Said]
+    step: int  # frames from a PES packet to the next one, at most; 0: as they are due alone
+    place: int  # of what is lost, in the PES packets
+    lost: int
+    is_stream: bool
+    is_announced: bool
+    has_wrong: bool
+    early: int | None = None  # the subtitle that comes a frame early
+    missing: int | None = None  # the subtitle of which one row never comes
+    profile: str = ""  # what the house says beside its layout
+    is_known: bool = True  # whether a clock is given
+
+    @property
+    def layout(self) -> Layout:
+        found = layout_of(self.text) if self.text else PLAIN
+        assert found is not None
+        return found
+
+    def page(self, said: Said) -> object:
+        """What the house draws of a text."""
+        lines = drawn(said[0], 18, said[1], self.layout, ENGLISH)
+        return lines if isinstance(lines, Refused) else page_rows(lines)
+
+    def is_right(self) -> bool:
+        """Whether each cell that was sent is as it is due."""
+        pages = [(self.page(one), self.page(other)) for one, other in zip(self.file, self.sent)]
+        return not self.has_wrong and self.early is None and self.missing is None and \
+            all(one == other for one, other in pages)
+
+
+def programme_of(seed: int) -> Programme:
+    """The programme of a seed."""
+    some = random.Random(seed)
+    has_codes, leaves_room, text = some.choice(HOUSES)
+    between = b"\x8a\x8a" if leaves_room else b"\x8a"
+    count = some.choice((12, 40, 60, 90))
+    found = Programme(text, [], [], some.choice((0, 1, 1, 1, 2)), some.randrange(100, count * 20),
+                      some.choice((0, 1, 2, 3, 5, 15, 16, 17, 32, 48)), some.random() < 0.6,
+                      some.random() < 0.3, some.random() < 0.6)
+    while len(found.file) < count:
+        said = between.join(line(some, has_codes) for _ in range(some.choice([1, 2, 2]))), \
+            some.choice([2, 2, 2, 1, 3, 0])
+        if not isinstance(found.page(said), Refused):
+            found.file.append(said)
+    found.sent.extend(found.file)
+    kind = some.randrange(8)
+    for at in some.sample(range(count), some.choice((0, 0, 0, 1, 1, 2, 5, 9))):
+        said = otherwise(found.file[at], kind)
+        if not isinstance(found.page(said), Refused):
+            found.file[at] = said
+    # Later than all else, so that a seed is what it was.
+    kind = some.randrange(4)
+    lost = found.lost if kind == 0 else 0  # alone, so that nothing else refuses it
+    return found._replace(
+        lost=lost, has_wrong=found.has_wrong and lost > 0,
+        early=some.randrange(1, count) if kind == 1 else None,
+        missing=some.randrange(1, count) if kind == 2 else None,
+        profile=some.choice(("", "", "--keeping\n", "--within 2\n",
+                             "--within 2\n--late 0:90,1:5,2:5/0:1\n")),
+        is_known=some.random() < 0.5)
+
+
+def spoilt(one: Programme, sent: Sent) -> Sent:
+    """What is sent of one subtitle otherwise: a frame early, or without its last row."""
+    made = []
+    for pts, some in sent:
+        place, rest = divmod(pts // TICKS - FIRST, EACH)
+        if place == one.early and rest == 0:
+            pts -= TICKS
+        if place == one.missing and rest < LASTS and len(some) > 2:
+            some = [*some[:-2], some[-1]]
+        made.append((pts, some))
+    return made
+
+
+def filled(sent: Sent, step: int) -> Sent:
+    """With a PES packet without Teletext so many frames after another one."""
+    if not step:
+        return sent
+    known = dict(sent)
+    begin, end = sent[0][0] // TICKS, sent[-1][0] // TICKS
+    return [(frame * TICKS, known.get(frame * TICKS, [])) for frame in range(begin, end + 1)
+            if (frame - begin) % step == 0 or frame * TICKS in known]
+
+
+def recorded(one: Programme, sent: Sent) -> bytes:
+    """What is left of it, as a transport stream or as PES packets."""
+    place = min(one.place, max(len(sent) - 60, len(sent) // 2))
+    if one.has_wrong:
+        sent = [*sent[:place], (sent[place][0], WRONG), *sent[place + 1:]]
+    if not one.is_stream:
+        return joined(sent[:place] + sent[place + min(one.lost, 9):])
+    made = multiplexed([pes_packet(pts, some) for pts, some in sent], Shape(150))
+    own = [at for at, packet in enumerate(made) if packet.pid == TELETEXT_PID]
+    begin = pes_packet(sent[place][0], [])[9:14]
+    first = next(number for number, at in enumerate(own) if begin in made[at].data[4:40])
+    gone = own[first:first + one.lost]
+    field = bytes([PACKET - 5, 0x80]).ljust(PACKET - 4, b"\xff")
+    says = Packet(TELETEXT_PID, head(TELETEXT_PID, 0, ADAPTATION_ALONE) + field)
+    made = [says if at in gone else packet for at, packet in enumerate(made)
+            if at not in gone or one.is_announced and at == gone[-1]]
+    return b"".join(packet.data for packet in made)
+
+
+def judge(case: Case, seed: int) -> tuple[Programme, Judged]:
+    """What is said of the programme of a seed."""
+    one = programme_of(seed)
+    stl = file_of(case, one.file, f"{seed}.stl")
+    other = file_of(case, one.sent, f"{seed}.sent.stl")
+    layout = ["--layout", one.text] if one.text else []
+    pes = case.schedule(other, "planned.pes", "--every", "25", *layout)
+    sent = filled(spoilt(one, sendings_of(case, pes)), one.step)
+    profile = case.write(f"{seed}.profile", (
+        f"--layout {quoted(one.text)}\n" * bool(one.text) + one.profile).encode())
+    name = f"{seed}.ts" if one.is_stream else f"{seed}.pes"
+    path = case.write(name, recorded(one, sent))
+    return one, judged(case, stl, path, "--profile", profile, *["--origin", "0"] * one.is_known)
+
+
+def sendings_of(case: Case, path: str) -> Sent:
+    """The PES packets of a file, each with its Teletext packets."""
+    with open(path, "rb") as file:
+        return [(pts_in(one), teletext_packets(data_field(one))) for one in packets(file.read())]
+
+
+def is_sound(one: Programme, told: Judged) -> bool:
+    """Whether nothing wrong is accepted, but with a note that says what is not checked, and what is
+    right and whole is."""
+    if told.verdict.status:
+        return bool(one.lost) or not one.is_right()
+    return one.is_right() or any(UNSEEN in note for note in told.result["notes"])
+
+
+class Chosen(Case):
+    """Some of them."""
+
+
+def test_of(seed: int) -> Callable[[Chosen], None]:
+    """The test of a seed."""
+
+    def test(self: Chosen) -> None:
+        one, told = judge(self, seed)
+        self.must(f"seed {seed}", is_sound(one, told), (one, told.said))
+
+    return test
+
+
+for _seed in GATE:
+    setattr(Chosen, f"test_{_seed:03}", test_of(_seed))
+
+
+def main(program: str, first: int, end: int) -> None:
+    """Judges the programmes of some seeds."""
+    BENCH.chosen = program
+    case, wrong = Chosen(f"test_{GATE[0]:03}"), list[int]()
+    case.setUp()
+    for seed in range(first, end):
+        one, told = judge(case, seed)
+        if not is_sound(one, told):
+            wrong.append(seed)
+        print(seed, one.text or "-", one.step, one.lost, "ts" if one.is_stream else "pes",
+              "right" if one.is_right() else "wrong", told.word, told.parts("pace"),
+              "" if is_sound(one, told) else "UNSOUND", flush=True)
+    print(f"{end - first} programmes, {len(wrong)} accepted of which a wrong cell was sent, or not "
+          f"accepted though right and whole: {wrong}")
+
+
+if __name__ == "__main__":
+    main(sys.argv[1], *map(int, sys.argv[2:4]))

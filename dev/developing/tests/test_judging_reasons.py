@@ -1,0 +1,477 @@
+"""Why a pair is refused or not judged; headers that keep the page."""
+from __future__ import annotations
+
+from typing import Sequence
+
+from developing.pes import address_of, header_of, packet, pes_packet, pts_in
+from subtitles.clock.origin import other_words
+from subtitles.common.times import Span, TICKS, time_of
+from subtitles.formats.listing import CONTENT
+from subtitles.formats.stl import Subtitle
+from subtitles.formats.teletext import CODE_WORDS
+from subtitles.judging.causes import EVEN, Faulty, IN_PARTS, Namer, REPEATED, UNSEEN
+from subtitles.judging.check import Answer
+from subtitles.judging.transmissions import (
+    DuePages, Headed, Kept, REPEATS, control_words, headed, kept_in, left_at, left_rows_words,
+    unerased_words)
+from subtitles.recording.recording import header_bytes, pes_header_words
+from subtitles.stream.gaps import Place, places_of, what_of
+from subtitles.stream.packets import Clocked, Mark, Packets, Run
+from subtitles.stream.receiver import BLANK_PAGE, Rows, TUNED, Timeline, subcode_of, turns_of
+from .bench import Case, packets
+from .judged import Judged, Sent, in_pipe, joined, judged, programme, sendings, times
+from .muxed import (
+    AHEAD, Maker, Shape, TELETEXT_PID, beside_video, components, multiplexed, put_teletext, without)
+from .parts import CLOSING, HEADER, PAGE, answer, asked_for, row, timeline_of
+
+
+# Why a recording is refused, or not judged: the reason that is told is the sender's fault.
+
+WORDS = "--every", "100"
+OTHER_PAGE = packet(0, 0, [0, 0, 0, 8, 0, 0, 0, 0], b" " * 32)  # a header of 800
+
+
+def changed(one: bytes, at: int, off: int, on: int) -> bytes:
+    """A header of page 888 with some bits of one of its numbers clear, and others set; another
+    packet as it is."""
+    address = address_of(one)
+    numbers = header_of(one) if address and address[1] == 0 else None
+    if numbers is None or numbers[:2] != b"\x08\x08":
+        return one
+    return one[:2 + at] + bytes([CODE_WORDS[numbers[at] & ~off | on]]) + one[3 + at:]
+
+
+def all_changed(sent: Sent, at: int, off: int, on: int) -> Sent:
+    return [(pts, [changed(one, at, off, on) for one in some]) for pts, some in sent]
+
+
+class Reasons(Case):
+    """Ten subtitles, with a page transmission a second."""
+
+    def setUp(self) -> None:
+        super().setUp()
+        self.stl = programme(self, times(10))
+        self.sent = sendings(self, self.stl)
+        self.pes = packets(joined(self.sent))
+
+    def test_erasing(self) -> None:
+        """C4 is clear in all headers: that is told, and nothing of PES packets of one frame."""
+        path = self.write("one.pes", joined(all_changed(self.sent, 3, 8, 0)))
+        found = judged(self, self.stl, path, "--origin", "0", *WORDS)
+        words = "C4 (erase page) is clear in 49 of 49 headers: see --keeping in the profile"
+        self.must("said", found.word == "refused" and found.verdict.sentence ==
+                  'Refused: at 00:00:04:00 subtitle 1, "Number 1", may stand over old text on some '
+                  f"sets: {words}; in all 49 faults." and
+                  found.result["hints"] == [f"67: {words}"] and
+                  not any(IN_PARTS in line for line in found.said), found.said)
+
+    def test_hidden(self) -> None:
+        """Why a page is not due at a frame at whose end it is held: several PES packets, bytes of
+        even parity."""
+        text = row(20, b"Text")
+        even = text[:10] + bytes([text[10] ^ 0x80]) + text[11:]
+        for name, sent, words in (
+                ("two of a frame", [(0, [HEADER, text, CLOSING]), (0, [HEADER, CLOSING])],
+                 IN_PARTS),
+                ("even parity", [(0, [HEADER, even, CLOSING])], EVEN),
+                ("whole", [(0, [HEADER, text, CLOSING])], "")):
+            held = timeline_of(self, joined(sent), within=1)
+            found = Namer(DuePages([], []), held).hidden_words(0)
+            self.must(name, found == words, found)
+        back = [(7200, [HEADER, text, CLOSING]), (3600, [HEADER, text, CLOSING])]
+        held = timeline_of(self, joined(back))
+        found = Namer(DuePages([], []), held).hidden_words(5)
+        self.must("behind one that goes back", found == UNSEEN, found)
+
+    def test_another_option(self) -> None:
+        """A header of another national option is told, and none is advised: in all headers, in one.
+        """
+        for wrong in (range(99), [0], [5]):
+            sent = [(pts, [changed(one, 7, 14, 8) for one in some] if at in wrong else some)
+                    for at, (pts, some) in enumerate(self.sent)]
+            found = judged(self, self.stl, self.write("one.pes", joined(sent)), "--origin", "0",
+                           *WORDS)
+            words = "the header is German, and english is asked for"
+            self.must(f"{wrong}", found.word == "refused" and
+                      found.result["hints"] == [f"67: {words}"] and all(
+                          one["means"] == words for one in found.result["faults"]), found.said)
+
+    def test_scrambled(self) -> None:
+        """A PID that is scrambled is told so, in files and feeds; no other page is advised."""
+        data = bytearray(beside_video(b"".join(self.pes)))
+        for at in range(0, len(data), 188):
+            if (data[at + 1] & 31, data[at + 2]) == (TELETEXT_PID >> 8, TELETEXT_PID & 255):
+                data[at + 3] |= 0x80
+        words = f"PID 0x101 is scrambled: all {len(self.pes)} TS packets of it"
+        for recording in (self.write("one.ts", data), in_pipe(self, bytes(data))):
+            found = judged(self, self.stl, recording)
+            self.must(recording, found.word == "not judged" and found.verdict.sentence ==
+                      f"Not judged: {recording} has no header of page 888; {words}." and
+                      not any("type " in line for line in found.told), found.told)
+
+    def test_headers_of_another_length(self) -> None:
+        """The PID, how long the PES headers are, and how long they have to be."""
+        for length in (0, 5, 14, 0x23, 0x25, 36 + 184):
+            of_length = [one[:4] + (len(one) - 6 + length - 36).to_bytes(2, "big") + one[6:8]
+                         + bytes([length]) + one[9:14].ljust(length, b"\xff")[:length] + one[45:]
+                         for one in self.pes]
+            made = Maker(components())
+            made.put_tables()
+            for one, own in zip(self.pes, of_length):
+                made.put_pcr(pts_in(one) - AHEAD)
+                made.put(TELETEXT_PID, own)
+            path = self.write("one.ts", made.data)
+            words = f"the PES header of PID 0x101 has {9 + length} bytes (PES_header_data_length " \
+                f"{length:02X}), where Teletext has 45 (24): EN 300 472"
+            found = judged(self, self.stl, path, "--origin", "0")
+            self.must(f"{length}", words in found.verdict.sentence and
+                      found.word == ("refused" if length > 99 else "not judged"), found.said)
+            self.must(f"{length}: asked for", words in judged(
+                self, self.stl, path, "--pid", "0x101", "--origin", "0").verdict.sentence)
+            words = words.replace(" of PID 0x101", "")
+            self.assertEqual(pes_header_words(of_length[0], 0), words)
+        found = judged(self, self.stl, self.write("one.pes", b"".join(of_length)), "--origin", "0")
+        self.must("PES packets", words in found.verdict.sentence, found.said)
+        for data in (b"", b"refused 60", self.pes[0], self.pes[0][:8]):
+            self.assertEqual(pes_header_words(data, 0), "")
+        path = self.write("none", b"\x47\x41\x01\x30\xff".ljust(188, b"\0") * 9)
+        self.assertEqual(header_bytes(self.bench.program, path, TELETEXT_PID, 188), b"refused 6")
+
+    def test_rows_of_a_page_that_is_not_open(self) -> None:
+        """Another header, or one that ends all pages, between header and rows: that is told with
+        the origin, and without."""
+        for name, between in (("FF", CLOSING), ("800", OTHER_PAGE)):
+            sent = [(pts, [some[0], between, *some[1:]]) for pts, some in self.sent]
+            path = self.write("one.pes", joined(sent))
+            for words, word in (((), "not judged"), (("--origin", "0"), "refused")):
+                found = judged(self, self.stl, path, *WORDS, *words)
+                self.must(f"{name} {words}", found.word == word and
+                          "rows came while 888 was not open" in found.verdict.sentence, found.said)
+            reason = judged(self, self.stl, path, *WORDS).verdict.sentence
+            self.must(f"{name}: first", reason.startswith(
+                "Not judged: the origin is not clear: rows came while 888 was not open, in "),
+                reason)
+
+    def test_sub_pages(self) -> None:
+        """Sub-pages that alternate are told, with their subcodes; those that do not are not."""
+        alternate = [one for pts, some in all_changed(self.sent, 2, 15, 1) for one in (
+            (pts, some), (pts + 4 * TICKS, [changed(HEADER, 2, 15, 2), row(20, b"Other"),
+                                            CLOSING]))]
+        once = all_changed(self.sent[:20], 2, 15, 1) + all_changed(self.sent[20:], 2, 15, 2)
+        words = "sub-pages of 888 alternate, by the sub-codes 0001 and 0002"
+        blank = [(pts, [HEADER, CLOSING]) for pts, _ in self.sent]
+        for name, sent, is_told in (("alternate", alternate, True), ("once", once, False),
+                                    ("one", blank, False)):
+            found = judged(self, self.stl, self.write("one.pes", joined(sent)), "--origin", "0",
+                           *WORDS)
+            self.must(name, (words in found.verdict.sentence) == is_told and
+                      any(words in one["words"] for one in found.result["causes"]) == is_told,
+                      found.said)
+        self.assertEqual(subcode_of(bytes([8, 8, 1, 8 + 2, 3, 8 + 2, 1, 0])), "2321")
+
+    def test_turns(self) -> None:
+        """From how many turns on sub-pages alternate, however PES packets have them."""
+        def sent(*codes: str) -> Packets:
+            return Packets(0, [Run(at, int(word[0]), 0, 0, "h", "+".join(
+                f"88{one}80810" for one in word[1:])) for at, word in enumerate(codes)])
+
+        for codes, wanted in ((("91",), []), (("11", "12", "11", "12"), []),
+                              (("11", "12") * 3, ["0001", "0002"]), (("212",), []),
+                              (("312",), ["0001", "0002"]), (("11", "12", "13") * 3,
+                                                             ["0001", "0002", "0003"]),
+                              (("11", "12", "13", "14", "15", "16"), [])):
+            self.assertEqual(turns_of(sent(*codes)), wanted, codes)
+        self.assertEqual([*other_words(sent("11", "12"), PAGE)], [])
+
+    def test_losses_by_the_clock(self) -> None:
+        """Of more packets than a counter counts the PCR tells how long they took."""
+        stl = programme(self, [(2000 + 25 * at, 2020 + 25 * at) for at in range(40)],
+                        name="long.stl")
+        self.schedule(stl, "long.pes", "--every", "1")
+        made = multiplexed(packets(self.read("long.pes")), Shape(4000, 1800))
+        for count, lost, words in (
+                (2, 2, "2 TS packets lost"), (16, 0, "TS packets of 0.64 s are missing, by the PCR "
+                                              "and the counters of other PIDs"),
+                (50, 2, "TS packets of 2.00 s are missing, by the PCR; their counter tells 2 of "
+                 "them")):
+            path = self.write("one.ts", b"".join(one.data for one in without(made, 200, count)))
+            found = judged(self, stl, path, "--origin", "0")
+            self.must(f"{count}", [one["ts_packets"] for one in found.result["lost"]] == [lost] and
+                      any(line.endswith(f": {words}") for line in found.told), found.said)
+        far = 200_000
+        one = Packets(1, [Run(0, 4, 0, 10, "h", ""), Run(4, 1, None, 0, "m", ""),
+                          Run(5, 4, far, 10, "h", "")], marks=[Mark(4, 30, 3, 0)])
+        rows: list[tuple[list[Clocked], Place]] = [
+            ([], Place(30, far, 3, mark=4)),
+            ([Clocked(30, far, 99_000, 9, 9000, 9, "broken")], Place(30, far, 3, 0, 90_000, 4)),
+            ([Clocked(30, far, 299_000, 9, 9000, 9, "broken")], Place(30, far, 3, mark=4)),
+            ([Clocked(30, far, 99_000, 9, 9000, 9, "whole")], Place(30, far, 3, mark=4)),
+            ([Clocked(far + 10, far + 30, 99_000, 9, 9000, 9, "whole")],
+             Place(30, far, 3, mark=4))]
+        for clocked, wanted in rows:
+            one.clocked = clocked
+            self.assertEqual(places_of(one), [wanted], clocked)
+        self.assertEqual(what_of(Place(1, 2, 3, 4, 9000)), "TS packets of 0.10 s are missing, by "
+                         "the PCR; their counter tells 3 of them, 4 TS packets scrambled")
+
+
+# Headers that keep the page: what is told of them, by which table; and pairs with such repeats.
+
+NUMBERS = bytes([8, 8, 0, 8, 0, 8, 1, 0])  # of HEADER
+KEEPS = bytes([8, 8, 0, 0, 0, 8, 1, 0])
+KEEPING_HEADER = packet(0, 0, KEEPS, b" " * 32)
+FIRST, SECOND = row(20, b"One"), row(22, b"Two")
+CLEAR = "C4 (erase page) is clear"
+
+
+def of_subcode(header: bytes, digit: int) -> bytes:
+    """The header with another first digit of its subcode."""
+    return header[:2] + bytes([digit]) + header[3:]
+
+
+def numbers(**places: int) -> bytes:
+    """A header that keeps the page, with other numbers at some places, `p5` for the fifth."""
+    made = bytearray(KEEPS)
+    for name, value in places.items():
+        made[int(name[1:])] = value
+    return bytes(made)
+
+
+class Headers(Case):
+    """What is told of one header."""
+
+    def test_headed(self) -> None:
+        """The headers of a PES packet, each with the one before it, and whether the page is open:
+        behind nothing, behind a page, and one behind another."""
+        one, other = "88000810", "88100810"
+        heard = TUNED._replace(is_heard=True, is_open=True, header=NUMBERS)
+        first, second = KEEPS, of_subcode(KEEPS, 1)
+        for does, control, state, wanted in (
+                ("-", "", TUNED, []), ("h", one, TUNED, [(first, None, False)]),
+                ("hec", "88080810", heard, [(NUMBERS, NUMBERS, True)]),
+                ("cho", one, heard, [(first, NUMBERS, False)]),
+                ("hh", f"{one}+{other}", TUNED, [(first, None, False), (second, first, True)]),
+                ("hchc", f"{other}+{one}", heard,
+                 [(second, NUMBERS, True), (first, second, False)])):
+            run = Run(0, 1, 0, 0, does, control)
+            found = [tuple(header) for header in headed(run, state)]
+            self.must(f"{does} {control}", found == wanted, found)
+
+    def test_why_it_has_to_erase(self) -> None:
+        """By what is asked, the header before, and whether the page is open."""
+        other = of_subcode(KEEPS, 1)
+        subcode = f"{CLEAR}, and the sub-code is another one than before: 0000 after 0001"
+        is_open = f"{CLEAR}, and the page was still open: no header had ended it"
+        for header, words, wanted in (
+                (Headed(NUMBERS, other, True), "", ""), (Headed(KEEPS), "", REPEATS),
+                (Headed(KEEPS, KEEPS), "", REPEATS), (Headed(KEEPS), "--keeping", ""),
+                (Headed(NUMBERS, other, True), "--keeping", ""),
+                (Headed(KEEPS, NUMBERS), "--keeping", ""),
+                (Headed(KEEPS, other), "--keeping", subcode),
+                (Headed(KEEPS, other, True), "--keeping", subcode),
+                (Headed(KEEPS, KEEPS, True), "--keeping", is_open),
+                (Headed(KEEPS, KEEPS, True), "--keeping --no-complete", ""),
+                (Headed(KEEPS, None, True), "--keeping", is_open)):
+            found = unerased_words(header, asked_for("one.stl", "one.pes", *words.split()))
+            self.must(f"{header} {words}", found == wanted, found)
+
+    def test_other_bits(self) -> None:
+        """C4 is told first, and nothing of it where it may be clear."""
+        self.must("may be", control_words(KEEPS, "english") == [])
+        found = control_words(numbers(p5=0), "english", REPEATS)
+        self.must("both", found == [REPEATS, "C6 (subtitle) is clear"], found)
+
+
+class Counted(Case):
+    """What is told of all headers of a part."""
+
+    def test_counts(self) -> None:
+        """None that keeps, one, all; one with another wrong bit, of any that is there."""
+        rows: list[tuple[dict[bytes, int], str, tuple[int, int] | None]] = [
+                ({}, "english", None), ({NUMBERS: 7}, "english", None),
+                ({KEEPS: 1}, "english", (1, 1)), ({NUMBERS: 7, KEEPS: 3}, "english", (10, 3)),
+                ({NUMBERS: 7, KEEPS: 3, of_subcode(KEEPS, 1): 2}, "english", (12, 5)),
+                ({NUMBERS: 7, KEEPS: 3}, "german", None),
+                ({KEEPS: 3, numbers(p5=0): 1}, "english", None),
+                ({KEEPS: 3, numbers(p3=8, p6=0): 1}, "english", None)]
+        for headers, option, wanted in rows:
+            found = kept_in(headers, option)
+            self.must(f"{headers} {option}", (found and found[:2]) == wanted, found)
+
+    def test_words(self) -> None:
+        for kept, count in ((Kept(10, 3), "3 of 10 headers"), (Kept(1, 1), "1 of 1 header")):
+            self.assertEqual(kept.words(), f"{CLEAR} in {count}: see --keeping in the profile")
+
+    def test_rows(self) -> None:
+        """No row came, one is told, one is not; and how many more are left out."""
+        cases: list[tuple[list[int], int | None, int, str]] = [
+                ([], 22, 0, ""), ([22], 22, 0, "row 22"), ([22], None, 0, "row 22"),
+                ([20, 22], 20, 0, "rows 20 and 22"), ([1, 2, 24], 1, 0, "rows 1, 2 and 24"),
+                ([20, 22], 22, 1, "row 22"), ([20, 22], None, 1, "a row"),
+                ([20, 22], 20, 5, "row 20"), ([18, 20, 22], 20, 1, "row 20 and 1 more"),
+                ([18, 20, 22], 20, -1, "rows 18, 20 and 22")]
+        for rows, told, came, wanted in cases:
+            found = left_rows_words(rows, told, came)
+            self.must(f"{rows} {told} {came}", found == wanted, found)
+
+
+def at(frames: Sequence[tuple[int, list[bytes]]]) -> bytes:
+    """The PES packets of some frames."""
+    return b"".join(pes_packet(TICKS * frame, some) for frame, some in frames)
+
+
+WHOLE, AGAIN = [HEADER, FIRST, SECOND, CLOSING], [KEEPING_HEADER, FIRST, SECOND, CLOSING]
+ONE_LESS, BARE = [KEEPING_HEADER, FIRST, CLOSING], [KEEPING_HEADER, CLOSING]
+
+
+def frame_words(frame: int) -> str:
+    """The place of a frame, as it is told."""
+    return f"frame {time_of(frame)}"
+
+
+class RowsLeftOut(Case):
+    """Rows that are left out behind a header that keeps the page."""
+
+    def held(self, *frames: tuple[int, list[bytes]], within: int = 0) -> tuple[Timeline, Rows]:
+        """What is held, and the page that is sent first."""
+        found = timeline_of(self, at(frames), within=within)
+        return found, found.page_at(frames[0][0])
+
+    def told_at(self, frame: int, *before: str) -> Answer:
+        """What `check --all` tells where the content of row 22 is refused at a frame."""
+        lines = [*before, f"refused 72 Content {frame_words(frame)} row 22 column 0"]
+        return answer([*lines, f"{len(lines)} faults"], path=self.path("told"))
+
+    def test_at_a_frame(self) -> None:
+        """By the last header, and what came behind it; where another page is held, nothing."""
+        held, due = self.held((0, WHOLE), (25, AGAIN), (50, ONE_LESS), (75, BARE), (100, WHOLE))
+        for frame, wanted in (
+                (0, ""), (24, ""), (50, "row 22"), (60, "row 22"), (75, "rows 20 and 22"),
+                (99, "rows 20 and 22"), (100, "")):
+            found = left_at(held, due, frame, self.told_at(frame))
+            self.must(f"{frame}", found == wanted, found)
+        self.must("nothing told", left_at(held, due, 50, None) == "a row")
+        self.must("another page is due", left_at(held, BLANK_PAGE, 50, None) == "")
+        nothing = timeline_of(self, at([(5, [CLOSING])]))
+        self.must("no header", left_at(nothing, BLANK_PAGE, 5, None) == "")
+
+    def test_changed_rows(self) -> None:
+        """A row that came otherwise since the page was erased: the first one counts, which is not
+        held; of one before that, and of one after the frame, nothing is known."""
+        held, due = self.held((0, WHOLE), (20, WHOLE), (25, ONE_LESS), (50, ONE_LESS))
+        for frame, wanted in ((0, "row 22"), (19, "row 22"), (20, ""), (25, ""), (26, "row 22")):
+            told = self.told_at(25, f"refused 69 RowChanged {frame_words(frame)} packet 1")
+            found = left_at(held, due, 25, told)
+            self.must(f"{frame}", found == wanted, found)
+        held, due = self.held((0, AGAIN), (25, ONE_LESS))
+        told = self.told_at(25, f"refused 69 RowChanged {frame_words(0)} packet 1")
+        self.must("none erases", left_at(held, due, 25, told) == "")
+
+    def test_in_parts(self) -> None:
+        """Within frames all that comes up to then counts."""
+        frames = (0, WHOLE), (25, [KEEPING_HEADER]), (26, [FIRST]), (50, WHOLE)
+        held, due = self.held(*frames, within=2)
+        self.must("both frames", left_at(held, due, 27, self.told_at(27)) == "row 22")
+        held, due = self.held(*frames)
+        self.must("one frame", left_at(held, due, 25, self.told_at(25)) == "rows 20 and 22")
+
+    def test_causes(self) -> None:
+        """Why a page is not as it is due at a frame at whose end it is held."""
+        held, due = self.held((0, WHOLE), (25, BARE), (50, ONE_LESS))
+        one = Subtitle(1, 1, 0, 100, 20, 2, b"1")
+        namer = Namer(DuePages([one], [due]), held, self.told_at(50))
+        for frame, wanted in ((0, ""), (25, "rows 20 and 22"), (50, "row 22")):
+            self.must(f"{frame}", namer.rows_left(frame) == wanted, namer.rows_left(frame))
+        namer.held.lost = [Span(50, 50)]
+        self.must("not received", namer.rows_left(50) == "" and namer.rows_left(25) != "")
+        several = (25, [KEEPING_HEADER]), (25, [FIRST, CLOSING])
+        for within, wanted in ((0, ""), (1, "row 22")):
+            held, due = self.held((0, WHOLE), *several, within=within)
+            namer = Namer(DuePages([one], [due]), held, self.told_at(25))
+            self.must(f"in two, {within}", namer.rows_left(25) == wanted, namer.rows_left(25))
+
+
+    def test_not_erased(self) -> None:
+        """A header without rows before its TCI erases no subtitle that is due; one behind it does.
+        """
+        one, faulty = Subtitle(1, 1, 25, 100, 20, 2, b"1"), Faulty()
+        for frame, name, words in ((0, "unknown", f"it has not come at {time_of(25)}"),
+                                   (30, "erased", "by a header without rows, at 00:00:01:05")):
+            bare, whole = (frame, [HEADER, CLOSING]), (26 if not frame else 25, WHOLE)
+            held, _ = self.held(*sorted([bare, whole, (50, WHOLE)]), within=1)
+            due = held.page_at(50)
+            faulty.within = Span(25 if not frame else 30, 35)
+            cause = Namer(DuePages([one], [due]), held, self.told_at(25)).cause(0, faulty)
+            self.must(name, (cause.name, cause.words) == (name, words), cause)
+
+
+def as_houses(sent: Sent, way: str = "", frames: int = 0) -> Sent:
+    """The page transmissions, with headers that keep the page where they are the one before once
+    more: whole; the third of these with no row, or with another subcode; or with the rows so many
+    frames later."""
+    made: Sent = []
+    before: list[bytes] = []
+    count = 0
+    for pts, some in sent:
+        is_repeat, before = some == before, some
+        if is_repeat:
+            count += 1
+            some = [KEEPING_HEADER, *some[1:]]
+        if is_repeat and way == "left out" and count == 1:
+            some = [KEEPING_HEADER, CLOSING]
+        if is_repeat and way == "subcode" and count == 1:
+            some = [packet(0, 0, of_subcode(KEEPS, 1), b" " * 32), *some[1:]]
+        if is_repeat and frames:
+            made += [(pts, some[:1]), (pts + TICKS * frames, some[1:])]
+        else:
+            made.append((pts, some))
+    return made
+
+
+class Pairs(Case):
+    """Three subtitles of two seconds and more, with a page transmission a second."""
+
+    def setUp(self) -> None:
+        super().setUp()
+        self.stl = programme(self, times(3))
+        self.sent = sendings(self, self.stl)
+
+    def judged(self, way: str, *words: str, frames: int = 0) -> Judged:
+        path = self.write("one.pes", joined(as_houses(self.sent, way, frames)))
+        return judged(self, self.stl, path, "--origin", "0", *words)
+
+    def test_whole(self) -> None:
+        """Accepted where repeats may keep the page, which is typed and stands in the result; else
+        that is said."""
+        found = self.judged("", "--keeping")
+        self.must("accepted", found.word == "accepted" and found.result["asked"]["keeping"] is True
+                  and any(" --keeping " in line for line in found.lines("+ ")), found.said)
+        found = self.judged("")
+        keeping = sum(one != other for (_, one), (_, other) in zip(
+            as_houses(self.sent), self.sent))
+        words = f"{CLEAR} in {keeping} of {len(self.sent)} headers: see --keeping in the profile"
+        self.must("refused", found.word == "refused" and found.result["hints"] == [f"67: {words}"]
+                  and words in found.verdict.sentence and found.result["asked"]["keeping"] is False
+                  and all(one["means"] == REPEATS for one in found.result["faults"]), found.said)
+
+    def test_left_out(self) -> None:
+        """No row comes with one of them: by --keeping that is the cause."""
+        found = self.judged("left out", "--keeping")
+        self.must("a cause", found.word == "refused" and {one["number"] for one in found.result[
+            "faults"]} == {CONTENT} and [one["words"] for one in found.result["causes"]] ==
+            [f"not repeated whole: row 22 {REPEATED}"] and
+            "(row 22 left out behind a header" in found.verdict.sentence, found.said)
+
+    def test_subcode(self) -> None:
+        """Another subcode is refused all the same."""
+        found = self.judged("subcode", "--keeping")
+        self.must("by it", found.word == "refused" and found.result["hints"] == [
+            f"67: {CLEAR}, and the sub-code is another one than before: 0001 after 0000"],
+            found.said)
+
+    def test_later(self) -> None:
+        """Rows that come a frame later are of a page that is late, and within one it is right."""
+        found = self.judged("", "--keeping", "--no-complete", frames=1)
+        self.must("late", found.word == "refused", found.said)
+        found = self.judged("", "--keeping", "--within", "1", frames=1)
+        self.must("within", found.word == "accepted", found.said)

@@ -1,0 +1,407 @@
+"""What is said of a verdict in one sentence, and what a viewer sees of it."""
+from __future__ import annotations
+
+import ctypes
+import itertools
+import json
+import os
+import re
+import unittest
+from typing import Callable
+
+from developing.pes import packet
+from subtitles.common.times import CLOCK
+from subtitles.formats.listing import fault_of_line, meanings
+from subtitles.formats.teletext import OPTIONS
+from subtitles.judging.causes import Cause, IN_PAUSE, NAMES
+from subtitles.judging.check import Answer, check
+from subtitles.judging.pages import Sight, hidden_words, letters_in, sight_of
+from subtitles.judging.sentence import Facts, SAID, WORDS, of_causes, sentence_of
+from subtitles.judging.status import ACCEPTED, LOST, NOT_JUDGED, REFUSALS, REFUSED, WAIVED, WARNED
+from subtitles.judging.transmissions import control_words
+from subtitles.request.request import Unclear
+from .bench import Case
+from .judged import Sent, joined, judged, programme, sendings
+from .parts import CLOSING, HEADER, row, script
+from .test_formats_letters import ANY_SUBCODE, CHARACTER, LEVEL_1, Receiver, TEXT_AT
+from .test_tables_of_faults import cause, causes_of
+
+
+# What is said of a verdict in words: its sentence, and its first header that is refused (67).
+
+OF_PACKETS = {3, 4}  # refusals of `normal`, which `check` does not have
+VERB = re.compile(r"\b(is|are|has|have|was|were|does|ends|comes|begin|differs|fall|shows|stands?|"
+                  r"cannot)\b")
+
+
+def header(erase: int = 8, subtitle: int = 8, suppress: int = 1, national: int = 0) -> bytes:
+    """The eight numbers of a header of page 888, as some control bits have them."""
+    return bytes([8, 8, 0, erase, 0, subtitle, suppress, national << 1])
+
+
+class Words(unittest.TestCase):
+    """In words, of a header that is refused."""
+
+    def test_control_bits(self) -> None:
+        cases: list[tuple[str, bytes, str, list[str]]] = [
+            ("C11, serial mode", header()[:7] + b"\x01", "english", []),
+            ("C8 and C9", header(suppress=1 | 2 | 4), "english", []),
+            ("back", header(), "french", ["the header is English, and french is asked for"]),
+            ("reserved", header(national=7), "czech",
+             ["C12, C13 and C14 are set, which is reserved"]),
+            ("two", header(subtitle=0, national=4), "english",
+             ["C6 (subtitle) is clear", "the header is German, and english is asked for"]),
+        ]
+        for name, numbers, option, words in cases:
+            with self.subTest(name):
+                self.assertEqual(control_words(numbers, option), words)
+
+    def test_each_option_in_each_other(self) -> None:
+        for sent in OPTIONS:
+            for asked in OPTIONS:
+                words = f"the header is {sent.name}, and {asked.word} is asked for"
+                with self.subTest(sent=sent.word, asked=asked.word):
+                    self.assertEqual(control_words(header(national=sent.bits), asked.word),
+                                     [words] * (sent != asked))
+
+
+class Sentences(unittest.TestCase):
+    """Each verdict in a sentence."""
+
+    def test_words(self) -> None:
+        """Each verdict, whatever is known."""
+        fault = fault_of_line("refused 73 Gap frame 10:00:00:00")
+        packet = fault_of_line("refused 34 Pts pes 7")
+        block = fault_of_line("refused 24 Unfinished block 12")
+        for seen, wanted in (
+                (Facts(NOT_JUDGED, 0, reason="no\nmore"), "Not judged: no."),
+                (Facts(NOT_JUDGED, 0), "Not judged: check was not answered."),
+                (Facts(ACCEPTED, 1), "Accepted: 1 subtitle, as it is due from the first frame on."),
+                (Facts(ACCEPTED, 1, within=1),
+                 "Accepted: 1 subtitle, as it is due within 1 frame."),
+                (Facts(LOST, 2, lost=["a", "b", "c"]),
+                 "Not accepted: a, and in 2 more places; what was seen is as it is due."),
+                (Facts(LOST, 2, first=fault, faults=1, lost=["a"]),
+                 "Not accepted: a; all faults that were seen are named warnings."),
+                (Facts(WARNED, 2, warnings=["page", "page", "fitted"]), "Not accepted: there are "
+                 "warnings, which count (page, fitted); what was seen is as it is due."),
+                (Facts(REFUSED, 2, first=fault, faults=1, hint="no header"),
+                 "Refused: from 10:00:00:00 on no header."),
+                (Facts(REFUSED, 2, first=fault, faults=3, hint="no header"),
+                 "Refused: from 10:00:00:00 on no header; in all 3 faults.")):
+            found = sentence_of(seen)
+            self.assertEqual(found, wanted)
+        for told, begin in ((packet, "Refused: in PES packet 7 "), (block, "Refused: in block 12 "),
+                            (fault, "Refused: at 10:00:00:00 ")):
+            found = sentence_of(Facts(WAIVED if told is None else REFUSED, 1, first=told, faults=1))
+            self.assertTrue(found.startswith(begin) and found.endswith(".") and
+                            found.count(".") == 1 and "`" not in found, found)
+
+    def test_each_number(self) -> None:
+        """The sentence of each number that `check` has, at each kind of place: one clause, with its
+        verb, and none of the letters that stand for a place in the manual."""
+        self.assertEqual(set(WORDS), REFUSALS - OF_PACKETS)
+        known = {number for number, one in meanings().items() if number in REFUSALS}
+        self.assertLessEqual(known - OF_PACKETS, set(WORDS))
+        for number, words in WORDS.items():
+            for place, begin in (("frame 10:00:00:00", "at 10:00:00:00"),
+                                 ("pes 7", "in PES packet 7"), ("block 12", "in block 12"),
+                                 ("", "")):
+                told = fault_of_line(f"refused {number} Name {place}".rstrip())
+                found = sentence_of(Facts(REFUSED, 1, first=told, faults=1))
+                with self.subTest(number=number, place=place):
+                    self.assertEqual(found, " ".join(["Refused:", *begin.split(), words]) + ".")
+                    self.assertRegex(words, VERB)
+                    self.assertNotRegex(words, r"TIME|\bN frames|\bK\b|`|[;.] |--complete")
+
+    def test_another_text_in_a_pause(self) -> None:
+        """It is no fault of a subtitle, and none is named."""
+        several = [Cause(at, IN_PAUSE, None, None, None, f"at 10:00:0{at}:00", 0) for at in (2, 4)]
+        for count, wanted in ((1, "another text was sent in a pause, at 10:00:02:00"),
+                              (2, "another text was sent in 2 pauses, the first at 10:00:02:00")):
+            self.assertEqual(of_causes(causes_of(*several[:count]), "english"), wanted)
+
+    def test_each_cause(self) -> None:
+        """The sentence of each cause, of one subtitle and of two: what is wrong, and with which."""
+        for name in [one for one in NAMES if one != IN_PAUSE]:
+            for several in ([cause(2, name, 3)], [cause(2, name, 3), cause(4, name, 5)]):
+                words = of_causes(causes_of(*several), "english")
+                said = SAID[name][len(several) > 1] if name in SAID else \
+                    f"{'are' if len(several) > 1 else 'is'} 3 "
+                with self.subTest(name, count=len(several)):
+                    self.assertIn(f" {said}", words)
+                    self.assertRegex(words, VERB)
+                    self.assertRegex(words, r"^(at|from) \d\d:\d\d:\d\d:\d\d ")
+
+
+# What is told first of a verdict: what a viewer sees, in the sentence and wherever else a pair is
+# named; and a range that has no PES packet.
+
+BEGIN = 900_000
+TIMES = [(BEGIN + 50 * at, BEGIN + 50 * at + 40) for at in range(6)]
+KEEPS = packet(0, 0, [8, 8, 0, 0, 0, 8, 1, 0], b" " * 32)  # a header that does not erase
+CONTROL, CONTENT = "67 Control frame 10:00:01:00 packet 0", \
+    "72 Content frame 10:00:04:00 row 22 column 14"
+
+
+def changed(sent: Sent) -> Sent:
+    """One repeat that keeps the page, and later a wrong text."""
+    found = list(sent)
+    found[1:2] = [(found[1][0], [KEEPS, *found[1][1][1:]])]
+    at = next(number for number, (_, some) in enumerate(sent) if b"3" in joined_rows(some))
+    found[at] = (found[at][0], [HEADER, row(22, b"Wrong"), CLOSING])
+    return found
+
+
+def joined_rows(packets: list[bytes]) -> bytes:
+    """The text bytes of some packets, without parity."""
+    return b"".join(bytes(byte & 0x7F for byte in one[2:]) for one in packets[1:2])
+
+
+class First(Case):
+    """A recording whose first fault by time nobody sees, and that has a wrong text."""
+
+    def setUp(self) -> None:
+        super().setUp()
+        sent = sendings(self, programme(self, TIMES))
+        self.write("one.pes", joined(changed(sent)))
+
+    def test_a_pair(self) -> None:
+        """The sentence names the text; report, JSON result and JUnit begin with it."""
+        told = judged(self, self.path("one.stl"), self.path("one.pes"), "--origin", "0", "-o",
+                      self.path("out"))
+        lead = told.result["lead"]
+        self.must("lead", told.result["line"].startswith("refused 67 ") and
+                  lead.startswith("refused 72 ") and "has a wrong text" in told.result["sentence"]
+                  and told.result["sentence"].endswith("; also 67 Control."), told.result)
+        page = self.read("out/one.html").decode()
+        self.must("report", f'id="verdict">{lead}<' in page and "<title>" in page)
+
+    def test_many_pairs(self) -> None:
+        """The table, the page over all and JUnit lead with it."""
+        self.write("list", f"{self.path('one.stl')} {self.path('one.pes')} --origin 0\n".encode())
+        done = self.tool("qc", "--batch", self.path("list"), "-o", self.path("many"), "--junit",
+                         self.path("many.xml"), "-p", self.bench.program)
+        known = json.loads(self.read("many/one.json"))
+        place = known["lead"].removeprefix("refused ")
+        self.must("table", done.status == 1 and place in done.out.decode(), done)
+        self.must("page", place in self.read("many/index.html").decode())
+        self.must("junit", f'message="refused {place}"' in self.read("many.xml").decode(),
+                  self.read("many.xml").decode()[:900])
+
+
+class Places(Case):
+    """What is said of headers and letters: of which subtitle, and what a viewer sees."""
+
+    def test_headers_and_letters(self) -> None:
+        """The first of them; in a pause behind which subtitle; where old text is left in which."""
+        stl = programme(self, TIMES, text=b"Number %d, Oslo")
+        sent = sendings(self, stl)
+        name = 'subtitle 3, "Number 3, Oslo"'
+
+        def header(c4: int = 8, c5: int = 8, c7: int = 1, option: int = 0) -> bytes:
+            return packet(0, 0, [8, 8, 0, c4, 0, c5, c7, option], b" " * 32)
+
+        def even(letter: bytes) -> Callable[[bytes], bytes]:
+            """Packets in which the last such letter has a wrong bit."""
+            def changed(one: bytes) -> bytes:
+                at = bytes(byte & 0x7F for byte in one).rfind(letter, 2)
+                return one if at < 0 else one[:at] + bytes([one[at] ^ 0x80]) + one[at + 1:]
+            return changed
+
+        at, end, first = "10:00:04:00", "10:00:05:15", TIMES[2]
+        rows: tuple[tuple[int, str, Callable[[list[bytes]], list[bytes]]], ...] = (
+            (first[0], f'at {at} the letter "O" of {name}, comes with even parity',
+             lambda some: [*map(even(b"O"), some)]),
+            (first[0], f"at {at} a byte, start box, of {name}, comes with even parity",
+             lambda some: [some[0], even(b"\x0b")(some[1]), *some[2:]]),
+            (first[0], f"at {at} {name}, hides the picture on some sets: C6 (subtitle) is clear",
+             lambda some: [header(c5=0), *some[1:]]),
+            (first[0], f"at {at} {name}, is not shown on some sets: C10 (inhibit display) is set",
+             lambda some: [header(c7=9), *some[1:]]),
+            (first[0], f"at {at} {name}, hides the picture on some sets: C6 (subtitle) is clear; "
+             "C7 (suppress header) is clear; the header is French",
+             lambda some: [header(c5=0, c7=0, option=2), *some[1:]]),
+            (first[0], f"at {at} {name}, comes as a newsflash on some sets: C5 (newsflash) is set",
+             lambda some: [header(c5=12), *some[1:]]),
+            (first[0], f"at {at} {name}, has other letters on some sets: the header is French",
+             lambda some: [header(option=2), *some[1:]]),
+            (first[0], f"at {at} {name}, may stand over old text on some sets: C4 (erase page) is "
+             "clear in 1 of ", lambda some: [header(c4=0), *some[1:]]),
+            (first[1], f"at {end} the page behind subtitle 3 hides the picture on some sets: C6 "
+             "(subtitle) is clear", lambda some: [header(c5=0), *some[1:]]))
+        for frame, wanted, change in rows:
+            made = [(pts, change(some) if pts == 3600 * frame % CLOCK else some)
+                    for pts, some in sent]
+            self.assertNotEqual(made, sent)
+            told = judged(self, stl, self.write("one.pes", joined(made)), "--origin", "0")
+            self.must(wanted, told.result["sentence"].startswith(f"Refused: {wanted}"),
+                      told.result["sentence"])
+        self.must("a hint", any(line.startswith("68: the letter ") for line in judged(
+            self, stl, self.write("one.pes", joined([
+                (pts, rows[0][2](some)) for pts, some in sent])), "--origin", "0").said))
+
+
+class Ranges(Case):
+    """`--pes` of a recording that has fewer."""
+
+    def test_none_of_them(self) -> None:
+        """It is said how many there are, whether an origin is given or not."""
+        sent = sendings(self, programme(self, TIMES))[:7]
+        path = self.write("one.pes", joined(sent))
+        for words in ((), ("--origin", "0")):
+            for pes, is_none in (("100-200", True), ("7-7", True), ("6-200", False)):
+                told = judged(self, self.path("one.stl"), path, "--pes", pes, *words)
+                said = f"{path} has 7 PES packets, 0-6: --pes {pes} is none of them"
+                self.must(f"{pes} {words}", (said in told.told) == is_none and
+                          (told.word == "not judged") >= is_none, told.told)
+
+
+# Rows of a subtitle file that no set shows, or only some: as a table, beside libzvbi, judged.
+
+NO_BOX = 'no set shows "Hi", outside of a box'
+ALIKE = 'no set shows "Hi", in the colour of its background'
+ONE = 'libzvbi does not show "Hi", behind one start box (0B), and ffmpeg does'
+# The cells of a row, what is seen of it, and what is said.
+ROWS: tuple[tuple[bytes, Sight, str], ...] = (
+    (b"", Sight.ALL, ""), (b"\x0b\x0b\x0a\x0a", Sight.ALL, ""),  # no letters
+    (b"\x0b\x0bHi\x0a\x0a", Sight.ALL, ""), (b"\x0b\x0bHi", Sight.ALL, ""),
+    (b"\x0b\x0b\x0aHi", Sight.ALL, ""),  # one end box closes nothing
+    (b"\x0b\x0b\x03\x1d\x04Hi", Sight.ALL, ""),  # blue on yellow
+    (b"\x0b\x0b\x1d\x1cHi", Sight.ALL, ""),  # black again
+    (b"\x0b\x0b\x1d\x01Hi", Sight.ALL, ""),  # red on white
+    (b"Hi\x0b", Sight.NONE, NO_BOX), (b"Hi\x0b\x0b", Sight.NONE, NO_BOX),
+    (b"\x0b\x0b\x0a\x0aHi", Sight.NONE, NO_BOX), (b"Hi", Sight.NONE, NO_BOX),
+    (b"\x0b\x0b\x1dHi", Sight.NONE, ALIKE), (b"\x0b\x0b\x03\x1dHi", Sight.NONE, ALIKE),
+    (b"\x0b\x0b\x03\x1d\x04\x1dHi", Sight.NONE, ALIKE), (b"\x0b\x1dHi", Sight.NONE, ALIKE),
+    (b"\x0b\x0b\x1d\x01\x07Hi", Sight.NONE, ALIKE),
+    (b"\x0bHi", Sight.SOME, ONE), (b"\x0b\x07\x0bHi", Sight.SOME, ONE),
+    (b"\x0bHi\x0a\x0a", Sight.SOME, ONE),
+    (b"\x0b\x0bH\x0a\x0ai", Sight.SOME, 'no set shows "i", outside of a box'),
+    (b"H\x0b\x0bi", Sight.SOME, 'no set shows "H", outside of a box'),
+    (b"\x0b\x0bH\x1di", Sight.SOME, 'no set shows "i", in the colour of its background'),
+    (b"H\x0bi", Sight.SOME, 'no set shows "H", outside of a box; libzvbi does not show "i", behind '
+     "one start box (0B), and ffmpeg does"))
+HIDDEN, OPACITY_AT, INK_AT, PAPER_AT = 0, 2, 3, 4  # of a character of libzvbi
+
+
+class Drawn(Receiver):
+    """libzvbi, and which letters it draws."""
+
+    def letters(self, cells: bytes) -> str:
+        """The letters of a row that can be seen."""
+        text = self.row([HEADER, packet(0, 20, (), cells.ljust(40)), CLOSING], 20)
+        page = ctypes.create_string_buffer(65536)
+        self.library.vbi_fetch_vt_page(self.decoder, page, 0x888, ANY_SUBCODE, LEVEL_1, 25, 0)
+        found = ""
+        for column, letter in enumerate(text):
+            one = page.raw[TEXT_AT + CHARACTER * (41 * 20 + column):][:CHARACTER]
+            if letter > " " and one[OPACITY_AT] != HIDDEN and one[INK_AT] != one[PAPER_AT]:
+                found += letter
+        return found
+
+
+class Rows(Case):
+    """What is seen of rows."""
+
+    def test_rows(self) -> None:
+        for cells, sight, words in ROWS:
+            self.must(cells.hex(), (sight_of(cells), hidden_words(cells, "english")) ==
+                      (sight, words), (sight_of(cells), hidden_words(cells, "english")))
+
+    def test_as_libzvbi(self) -> None:
+        """It draws just the letters that are said to be seen by it."""
+        try:
+            receiver = Drawn()
+        except OSError:
+            self.skipTest("what libzvbi draws, which is not installed")
+        for cells, _, _ in ROWS:
+            wanted = "".join(chr(one.code) for one in letters_in(cells) if one.is_seen)
+            self.must(cells.hex(), receiver.letters(cells) == wanted, receiver.letters(cells))
+
+    def test_judged(self) -> None:
+        """A row of which nobody sees a letter is refused, with its block, also where it is sent as
+        it is due; of one that some show there is a warning. `check` accepts both."""
+        times = [(900_000 + 50 * at, 900_040 + 50 * at) for at in range(3)]
+        for text, word, words in (
+                (b"\x1dHi", "refused", f"at 10:00:00:00, row 22: {ALIKE}"),
+                (b"Hi\x0b", "refused", f"at 10:00:00:00, row 22: {NO_BOX}"),
+                (b"\x0bHi", "accepted", f"at 10:00:00:00, row 22: {ONE}"), (b"Hi", "accepted", "")):
+            stl = programme(self, times, text=text)
+            sent = self.write("one.pes", joined(sendings(self, stl)))
+            for more in ((), (sent, "--origin", "0")):
+                told = judged(self, stl, *more)
+                self.must(f"{text!r} {more}", told.word == word, told.said)
+                if word == "refused":
+                    self.must(f"{text!r}: sentence", told.result["sentence"].startswith(
+                        f"Refused: subtitle 1 {words}; in all 3 faults"), told.result["sentence"])
+                    self.must(f"{text!r}: lines", told.result["lead"] == told.said[-1] ==
+                              "refused not shown block 1" and told.said[-2].endswith(
+                                  " See refusals.md#not-shown."), told.said)
+                    self.must(f"{text!r}: faults", [
+                        (one["name"], one["number"], one["block"]) for one in
+                        told.result["faults"]] == [("not shown", None, at) for at in (1, 2, 3)],
+                        told.result["faults"])
+                warned = [one["line"] for one in told.result["warnings"] if one["kind"] == "hidden"]
+                self.must(f"{text!r}: warnings", warned[:1] == [f"subtitle 1 {words}"] * (
+                    word == "accepted" and bool(words)), warned)
+        mild = self.write("mild", b"not shown warning\n")
+        told = judged(self, programme(self, times, text=b"\x1dHi"), "--severity", mild)
+        self.must("waived", told.word == "waived", told.said)
+
+
+# Programs that a tool calls, and that fail: silent, killed, or with an answer that is none.
+
+ACCEPTED_LINE = "accepted 226 frames 5 transmissions"
+FAULT = "refused 72 Content frame 20:15:05:12 row 22 column 9"
+ENDED = "ended 72 Content frame 20:15:05:20"
+TRUSTED = "trusted frames 20:15:00:00 20:15:05:11"
+
+# Lines of `check --all`, the status, and what that is; `None` is no answer.
+ANSWERS: list[tuple[list[str], int, str | None]] = [
+    ([ACCEPTED_LINE], 0, "accepted"), ([FAULT, "1 faults"], 1, "refused"),
+    ([TRUSTED, FAULT, ENDED, "1 faults"], 1, "refused"),
+    ([FAULT, FAULT, "2 faults"], 1, "refused"), ([TRUSTED, ACCEPTED_LINE], 0, "accepted"),
+    # Silent, or without the line that tells the status.
+    ([], 0, None), ([], 1, None), ([], 2, None), ([], -9, None), ([TRUSTED], 0, None),
+    (["0 faults"], 0, None), (["0 faults"], 1, None), ([""], 0, None),
+    # A status that says something else than the lines.
+    ([ACCEPTED_LINE], 1, None), ([ACCEPTED_LINE], 2, None), ([ACCEPTED_LINE], -9, None),
+    ([ACCEPTED_LINE], -15, None),
+    ([FAULT, "1 faults"], 0, None), ([FAULT, "1 faults"], 2, None),
+    ([FAULT, "1 faults"], -9, None),
+    # A list that is cut, or counts otherwise.
+    ([FAULT], 1, None), ([FAULT, ENDED], 1, None), ([FAULT, "2 faults"], 1, None),
+    ([FAULT, FAULT, "1 faults"], 1, None), ([FAULT, "1 faults", FAULT], 1, None),
+    # Both accepted and refused.
+    ([FAULT, ACCEPTED_LINE], 0, None), ([FAULT, ACCEPTED_LINE, "1 faults"], 0, None),
+    ([ACCEPTED_LINE, "0 faults"], 0, None), ([ACCEPTED_LINE, "0 faults"], 1, None),
+    # Something that the program could not do.
+    (["fault 91 Memory"], 2, None), (["usage 80 Every"], 2, None),
+    ([FAULT, "fault 41 Read pes 4"], 2, None), (["accepted of course"], 0, None)]
+
+
+class Answers(unittest.TestCase):
+    """What `check` answered."""
+
+    def test_answers(self) -> None:
+        for lines, status, wanted in ANSWERS:
+            answer, heard = Answer(os.devnull), list[str]()
+            with self.subTest(lines=lines, status=status):
+                try:
+                    check(["sh", "-c", script(lines, status)], answer, heard.append)
+                    found: str | None = answer.verdict
+                except Unclear as reason:
+                    found = None
+                    self.assertIn("check was not answered: ", reason.reason)
+                said = lines if wanted else list(itertools.takewhile(ACCEPTED_LINE.__ne__, lines))
+                self.assertEqual((found, heard), (wanted, said))
+
+    def test_first_fault_is_the_line(self) -> None:
+        """And counts, of a list with faults of several numbers."""
+        answer = Answer(os.devnull)
+        other = "refused 38 UnitLength pes 4"
+        check(["sh", "-c", script([TRUSTED, FAULT, ENDED, other, FAULT, "3 faults"], 1)], answer,
+              lambda line: None)
+        self.assertEqual((answer.line, answer.count, answer.numbers, answer.last),
+                         (FAULT, 3, {72, 38}, "3 faults"))

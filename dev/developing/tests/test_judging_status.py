@@ -1,0 +1,437 @@
+"""The verdict in one word, the worst of it, and the lines that tell faults."""
+from __future__ import annotations
+
+import itertools
+import tempfile
+import unittest
+from types import SimpleNamespace
+from typing import Any, Sequence
+
+from subtitles.common.command_line import Stop
+from subtitles.formats.listing import (
+    Accepted, FAULT_NAMES, FaultLine, NEVER_SENT, NamedFault, STL_FAULTS, Trusted, accepted_of,
+    count_of, fault_of_line, meanings, number_of, trusted_of)
+from subtitles.formats.stl import Subtitle, subtitles_shown
+from subtitles.judging.causes import Cause, NAMES
+from subtitles.judging.check import Answer
+from subtitles.judging.sentence import (
+    OF_CAUSE, OF_NAME, OF_NUMBER, Rank, lead_of, rank_of, worst_cause, worst_name)
+from subtitles.judging.status import (
+    ACCEPTED, Decision, Grounds, LOST, NOT_JUDGED, REFUSALS, REFUSED, STATUSES, Said, Severity,
+    UNREAD, UNSAID, WAIVED, WARNED, decide, is_of_call, of_all, word_of)
+from .bench import Case
+from .parts import answer, part_with
+
+
+# Status 0, 1 or 2: the whole table of what decides it; nothing but a verdict gives 0 or 1.
+
+ERROR, WARNING, NUMBER = 72, 67, 38  # of faults: the file below names the second a warning
+ENDS_READING, LOST_PACKETS, SILENT = (30, 31, 32, 44), 45, 79
+RIGHT = {
+    "accepted": Said(0, is_accepted=True),
+    "refused": Said(1, faults=3, counted=3, numbers=(WARNING, ERROR)),
+    "refused first": Said(1, faults=3, counted=3, numbers=(ERROR, WARNING)),
+    "refused between": Said(1, faults=3, counted=3, numbers=(WARNING, ERROR, WARNING)),
+    "waived": Said(1, faults=2, counted=2, numbers={WARNING}),
+    "accepted, not read": Said(0, is_accepted=True, is_read=False),
+    "waived, not read": Said(1, faults=1, counted=1, numbers={WARNING}, is_read=False),
+    "refused, not read": Said(1, faults=1, counted=1, numbers={ERROR}, is_read=False)}
+WRONG = {
+    "silent": Said(0),
+    "silent, status 1": Said(1),
+    "not ended": Said(None, is_accepted=True),
+    "not ended, refused": Said(None, faults=1, counted=1, numbers={ERROR}),
+    "killed": Said(-9, is_accepted=True),
+    "killed in its list": Said(-15, faults=2, counted=2, numbers={WARNING}),
+    "accepted, status 1": Said(1, is_accepted=True),
+    "accepted, status 2": Said(2, is_accepted=True),
+    "accepted with faults": Said(0, is_accepted=True, faults=1, counted=1, numbers={WARNING}),
+    "refused, status 0": Said(0, faults=1, counted=1, numbers={ERROR}),
+    "refused, status 2": Said(2, faults=1, counted=1, numbers={ERROR}),
+    "a list without an end": Said(1, faults=2, counted=None, numbers={ERROR}),
+    "a list that lacks a line": Said(1, faults=1, counted=2, numbers={WARNING}),
+    "no fault, counted": Said(1, faults=0, counted=0)}
+LOSSES: Sequence[Sequence[bool]] = (
+    (), (False,), (True,), (True, False, False), (False, True), (False, False, True), (True, True))
+OUTPUTS: Sequence[Sequence[str]] = ((), ("one.json: full",), ("one.csv: full", "one.xml: full"))
+
+
+def severity_of(*lines: str, is_loss_allowed: bool = False) -> Severity:
+    """The severities of a file with these lines."""
+    with tempfile.NamedTemporaryFile("w", suffix=".severity") as file:
+        file.write("".join(f"{line}\n" for line in lines))
+        file.flush()
+        return Severity(file.name, is_loss_allowed)
+
+
+NAMED = severity_of(f"{WARNING} warning")
+ALLOWING = [severity_of(f"{WARNING} warning", is_loss_allowed=True),
+            severity_of(f"{WARNING} warning", f"{LOST_PACKETS} warning")]
+
+
+class Parts(unittest.TestCase):
+    """What the program said of a part."""
+
+    def test_only_in_so_many_words(self) -> None:
+        for name, said in RIGHT.items():
+            with self.subTest(name):
+                self.assertEqual(word_of(said), ACCEPTED if "accepted" in name else REFUSED)
+        for name, said in WRONG.items():
+            with self.subTest(name):
+                self.assertEqual(word_of(said), NOT_JUDGED)
+
+
+class Decided(unittest.TestCase):
+    """The verdict on one to three parts."""
+
+    def test_parts(self) -> None:
+        """Each kind of part at each place: nothing hides behind another one."""
+        kinds = RIGHT | WRONG
+        for count in (1, 2, 3):
+            for names in itertools.product(kinds, repeat=count):
+                wanted = self.word_by_names(names)
+                found = decide(Grounds([kinds[name] for name in names], NAMED))
+                if (found.word, found.status) != (wanted, STATUSES[wanted]):
+                    self.fail(f"{names}: {found}, and not {wanted}")
+
+    @staticmethod
+    def word_by_names(names: Sequence[str]) -> str:
+        """The verdict on parts of these kinds, where nothing is lost."""
+        if set(names) & WRONG.keys():
+            return NOT_JUDGED
+        if any(name.startswith("refused") for name in names):
+            return REFUSED
+        if any(name.endswith("not read") for name in names):
+            return NOT_JUDGED
+        return WAIVED if "waived" in names else ACCEPTED
+
+    def test_losses_and_warnings(self) -> None:
+        """A loss at each place, each warning, each word that allows or forbids: of what is
+        accepted, waived, refused, and not judged."""
+        for name, losses, is_allowed, warnings, is_strict in itertools.product(
+                ("accepted", "waived", "refused", "silent"), LOSSES, (False, True),
+                ((), ("page",), ("repeat", "fitted")), (False, True)):
+            parts = [RIGHT["accepted"], (RIGHT | WRONG)[name], RIGHT["accepted"]]
+            for severity in ALLOWING if is_allowed else [NAMED]:
+                self.decides(name, Grounds(parts, severity, losses, warnings, is_strict),
+                             is_allowed)
+
+    def test_faults_without_a_number(self) -> None:
+        """Each name, an error or a warning by the file, beside each kind of part and without any:
+        an error refuses what was judged, and where nothing was; a warning never accepts that."""
+        kinds, warned = RIGHT | WRONG, severity_of(
+            f"{WARNING} warning", *(f"{name} warning" for name in FAULT_NAMES))
+        for name, is_error, count in itertools.product(FAULT_NAMES, (True, False), (0, 1, 2)):
+            severity = NAMED if is_error else warned
+            for parts in itertools.product(kinds, repeat=count):
+                word = self.word_by_names(parts) if parts else NOT_JUDGED
+                if is_error and not set(parts) & WRONG.keys():
+                    word = REFUSED
+                elif word == ACCEPTED:
+                    word = WAIVED
+                found = decide(Grounds([kinds[part] for part in parts], severity, names=[name]))
+                self.assertEqual(found.word, word, (name, is_error, parts))
+        for reasons, failed in ((["why"], ()), ((), ["full"])):
+            self.assertEqual(decide(Grounds([], NAMED, reasons=reasons, failed=failed,
+                                            names=[NEVER_SENT])).word, NOT_JUDGED)
+        self.assertEqual(decide(Grounds([], warned, names=[NEVER_SENT])),
+                         Decision(NOT_JUDGED, UNREAD))
+
+    def test_severity_of_names(self) -> None:
+        """As of numbers; a word that is no name is told."""
+        for lines, severities in (((), ("error",) * 3), (("others warning",), ("warning",) * 3),
+                                  (("never sent warning",), ("warning", "error", "error")),
+                                  (("others warning", "not shown error"),
+                                   ("warning", "warning", "error"))):
+            severity = severity_of(*lines)
+            self.assertEqual(tuple(map(severity.of, FAULT_NAMES)), severities, lines)
+            self.assertEqual(severity.of(45), "error", lines)
+        for line in ("sent error", "never error", "never sent", "never  sent wrong", "not error"):
+            with self.assertRaisesRegex(Stop, "line 1: a line is"):
+                severity_of(line)
+
+    def decides(self, name: str, seen: Grounds, is_allowed: bool) -> None:
+        """One of these: --allow-lost, and a severity file that names 45 a warning, are one rule."""
+        found, losses, warnings = decide(seen), seen.losses, seen.warnings
+        if name in ("refused", "silent"):
+            wanted = REFUSED if name == "refused" else NOT_JUDGED
+        elif True in losses and not is_allowed:
+            wanted = LOST
+        elif seen.is_strict and warnings:
+            wanted = WARNED
+        else:
+            wanted = ACCEPTED if name == "accepted" else WAIVED
+        with self.subTest(name, losses=losses, allowed=is_allowed, warnings=warnings,
+                          strict=seen.is_strict):
+            self.assertEqual((found.word, found.status), (wanted, STATUSES[wanted]))
+
+    def test_what_failed(self) -> None:
+        """A reason, or an output that failed, is not judged, whatever was said."""
+        for name, said in (RIGHT | WRONG).items():
+            for failed, reasons in itertools.product(OUTPUTS, ((), ("stopped",))):
+                found = decide(Grounds([said, said], NAMED, reasons=reasons, failed=failed))
+                is_clean = not failed and not reasons
+                with self.subTest(name, failed=failed, reasons=reasons):
+                    self.assertEqual(found.word, self.word_by_names([name]) if is_clean
+                                     else NOT_JUDGED)
+                    self.assertEqual(found.status == 2, found.word == NOT_JUDGED)
+
+    def test_reasons(self) -> None:
+        """What is not judged says why, where nobody else does."""
+        accepted, unread = RIGHT["accepted"], RIGHT["waived, not read"]
+        rows: list[tuple[list[Said], str]] = [
+            ([], UNSAID), ([accepted, WRONG["silent"]], UNSAID), ([unread], UNREAD),
+            ([accepted, accepted, unread], UNREAD)]
+        for parts, wanted in rows:
+            self.assertEqual(decide(Grounds(parts, NAMED)), Decision(NOT_JUDGED, wanted))
+        self.assertEqual(decide(Grounds([accepted], NAMED)), Decision(ACCEPTED))
+
+    def test_each_severity(self) -> None:
+        """All errors, one warning, all warnings; what ends reading is an error in each."""
+        rows: list[tuple[list[str], bool, dict[int, int]]] = [
+            ([], False, {ERROR: 1, WARNING: 1, NUMBER: 1, LOST_PACKETS: 1}),
+            ([f"{WARNING} warning"], False, {ERROR: 1, WARNING: 0, NUMBER: 1, LOST_PACKETS: 1}),
+            (["others warning"], False, {ERROR: 0, WARNING: 0, NUMBER: 0, LOST_PACKETS: 1}),
+            (["others warning", f"{ERROR} error"], False,
+             {ERROR: 1, WARNING: 0, LOST_PACKETS: 1}),
+            ([f"{LOST_PACKETS} warning"], False, {ERROR: 1, LOST_PACKETS: 0}),
+            ([], True, {ERROR: 1, WARNING: 1, LOST_PACKETS: 0, SILENT: 0}),
+            ([], False, {SILENT: 1}), ([f"{LOST_PACKETS} warning"], False, {SILENT: 0}),
+            ([f"{LOST_PACKETS} warning", f"{SILENT} error"], False, {SILENT: 1}),
+            ([f"{SILENT} error"], True, {SILENT: 1}),
+            ([f"{SILENT} warning"], False, {SILENT: 0, LOST_PACKETS: 1}),
+            (["others warning"], False, {SILENT: 0}),
+            ([f"{LOST_PACKETS} error"], True, {LOST_PACKETS: 0}),
+            ([f"{number} warning" for number in ENDS_READING], True, {WARNING: 1})]
+        for lines, is_allowed, wanted in rows:
+            severity = severity_of(*lines, is_loss_allowed=is_allowed)
+            for number, status in {**wanted, **dict.fromkeys(ENDS_READING, 1)}.items():
+                for places in ("x", ".x", "x..", ".x."):
+                    said = [Said(1, False, 1, 1, {number}) if place == "x" else RIGHT["accepted"]
+                            for place in places]
+                    with self.subTest(lines=lines, allowed=is_allowed, number=number, at=places):
+                        self.assertEqual(decide(Grounds(said, severity)).word,
+                                         REFUSED if status else WAIVED)
+
+
+class Several(unittest.TestCase):
+    """The status of several verdicts, and of the call that made one."""
+
+    def test_of_all(self) -> None:
+        rows: list[tuple[list[str], bool, int]] = [
+            ([ACCEPTED], False, 0), ([ACCEPTED, WAIVED], False, 0), ([WAIVED], False, 0),
+            ([ACCEPTED, REFUSED], False, 1), ([REFUSED, ACCEPTED], False, 1),
+            ([LOST], False, 1), ([ACCEPTED, WARNED], False, 1),
+            ([NOT_JUDGED], False, 2), ([REFUSED, NOT_JUDGED, ACCEPTED], False, 2),
+            ([NOT_JUDGED, REFUSED], False, 2), ([], False, 2), (["fine"], False, 2),
+            ([ACCEPTED], True, 2), ([], True, 2)]
+        for words, is_stopped, status in rows:
+            with self.subTest(words=words, stopped=is_stopped):
+                self.assertEqual(of_all(words, is_stopped), status)
+
+    def test_of_a_call(self) -> None:
+        """An object counts where its call ended with its status, which is that of its word."""
+        for word, status, ended in itertools.product([*STATUSES, "fine"], (0, 1, 2),
+                                                     (0, 1, 2, -9, -15)):
+            with self.subTest(word, status=status, ended=ended):
+                self.assertEqual(is_of_call(word, status, ended),
+                                 STATUSES.get(word, 2) == status and status == ended)
+
+
+class Severities(unittest.TestCase):
+    """Lines of a severity file that are none."""
+
+    def test_wrong_lines(self) -> None:
+        none = (0, 5, 9, 26, 29, 41, 43, 46, 49, 58, 59, 75, 81, 83, 90, 100)
+        for line in ("72", "72 fatal", "x error", "others", "72 warning now", "warning 72",
+                     "٧٢ error", *(f"{number} warning" for number in none)):
+            with self.subTest(line), self.assertRaises(Stop):
+                severity_of(line)
+
+
+# What is said first of what is refused: by rank, and by place among those of one rank.
+
+BEGIN, CONTENT, END = "refused 63 Begin frame 10:00:00:00", \
+    "refused 72 Content frame 10:00:01:00 row 22 column 3", "refused 74 Late frame 10:00:09:00"
+OPEN, CONTROL = "refused 77 Incomplete frame 10:00:02:00", \
+    "refused 67 Control frame 10:00:00:00 packet 0"
+GAP, LOST_LINE = "refused 73 Gap frame 10:00:03:00", "refused 45 Lost pes 7"
+PARITY = "refused 68 Parity frame 10:00:02:00 packet 1"
+SILENT_LINE = "refused 79 Silent frame 10:00:01:00"
+ORDER, START = "refused 62 Order pes 3", "refused 31 Start pes 4"
+LETTER, UNDECIDED = "refused 50 Character block 1 at 4", "refused 78 Undecided frame 10:00:00:00"
+LATER = "refused 72 Content frame 10:00:05:00 row 1 column 3"
+OF_PACKETS = {3, 4, 76, 82}  # refusals that `check` does not have
+SECOND = 25
+
+
+def told(*lines: str, path: str) -> Answer:
+    """The list of some faults."""
+    return answer([*lines, f"{len(lines)} faults"], path=path)
+
+
+class Worst(Case):
+    """What is said first."""
+
+    def test_ranks(self) -> None:
+        """Each cause and each number has one. What the manual calls `now` comes before what nobody
+        has seen, and what it calls `next` after that."""
+        self.must("causes", set(OF_CAUSE) == set(NAMES))
+        self.must("numbers", set(OF_NUMBER) == REFUSALS - OF_PACKETS,
+                  set(OF_NUMBER) ^ (REFUSALS - OF_PACKETS))
+        for number, one in meanings().items():
+            rank = rank_of(number)
+            if number in STL_FAULTS:
+                self.must(f"{number}", rank == Rank.FILE)
+            elif number in (63, 74):  # where there is no cause the recording is too short
+                self.must(f"{number}", rank == Rank.UNSEEN)
+            elif one.name.partition("</a>")[2].startswith("now"):
+                self.must(f"{number}", rank <= Rank.SOME, rank)
+            elif one.name.partition("</a>")[2].startswith("next") and number != 61:
+                self.must(f"{number}", rank == Rank.LATER, rank)
+        names = sorted(NAMES, key=lambda name: rank_of(72, name))
+        self.must("order of causes", names[0] == "never sent" and names[-4:] == [
+            "late", "early", "wrong colour or attribute", "not received"], names)
+
+    def test_without_causes(self) -> None:
+        """The first of the list among those of the worst rank."""
+        for lines, wanted in (
+                ([CONTROL], CONTROL), ([CONTENT], CONTENT), ([CONTROL, CONTENT], CONTENT),
+                ([CONTROL, CONTENT, LATER], CONTENT), ([CONTROL, GAP, LATER, CONTENT], LATER),
+                ([CONTROL, OPEN], OPEN), ([CONTROL, OPEN, CONTENT], OPEN),
+                ([CONTROL, BEGIN], CONTROL), ([GAP, BEGIN], BEGIN),
+                ([LOST_LINE, GAP, END], LOST_LINE), ([LOST_LINE, GAP], LOST_LINE),
+                ([GAP, LOST_LINE], LOST_LINE), ([GAP, SILENT_LINE, PARITY], PARITY),
+                ([GAP, CONTROL, LOST_LINE], CONTROL), ([SILENT_LINE, CONTROL], CONTROL),
+                ([GAP, ORDER], ORDER), ([GAP, START], START), ([PARITY, CONTROL], PARITY),
+                ([UNDECIDED, CONTENT], CONTENT), ([CONTROL, UNDECIDED], CONTROL),
+                ([GAP, UNDECIDED], UNDECIDED), ([LETTER, UNDECIDED, CONTENT], LETTER),
+                ([CONTENT, LETTER], LETTER)):
+            part = part_with(0, 9, 0, told(*lines, path=self.path("list")))
+            self.must(f"{lines}", part.lead == wanted and part.answer.line == lines[0]
+                      and part.leading and part.leading.line == wanted, part.lead)
+        part = part_with(0, 9, 0, answer(["accepted 10 frames 2 transmissions"]))
+        self.must("none", part.leading is None and part.lead == part.answer.line)
+
+    def test_names(self) -> None:
+        """Of faults that have a name in the place of a number too; they come first where they are
+        as bad as what else is refused."""
+        self.must("each", set(OF_NAME) == set(FAULT_NAMES))
+        never, left, hidden = (NamedFault(name, "") for name in FAULT_NAMES)
+        rows: tuple[tuple[list[NamedFault], Rank | None, NamedFault | None], ...] = (
+            ([], None, None), ([], Rank.LATER, None), ([left], None, left),
+            ([left, hidden, never], None, never), ([left, hidden], Rank.MOVED, hidden),
+            ([left], Rank.WRONG, None), ([left], Rank.MOVED, left), ([hidden], Rank.FILE, None),
+            ([never], Rank.NEVER, never))
+        for faults, rank, wanted in rows:
+            self.must(f"{[one.name for one in faults]} {rank}", worst_name(faults, rank) is wanted)
+
+    def test_beside_refused(self) -> None:
+        """Of the transmission, without what the subtitle file is refused for and what is not
+        decided for that."""
+        rows: tuple[tuple[list[str], str | None], ...] = (
+            ([LETTER, UNDECIDED, GAP, CONTROL], CONTROL), ([LETTER, UNDECIDED], None))
+        for lines, wanted in rows:
+            part = part_with(0, 9, 0, told(*lines, path=self.path("list")))
+            sent = part.worst_sent
+            self.must(f"{lines}", (sent and sent.told.line) == wanted, sent)
+
+    def test_by_causes(self) -> None:
+        """The subtitle with the worst cause, the first of several; its first fault. A fault without
+        a cause is said first where it is worse."""
+        def at(second: int) -> str:
+            return f"refused 72 Content frame 10:00:0{second}:00 row 22 column 3"
+
+        lines = [CONTROL, at(1), at(2), at(3), at(4)]
+        rows: tuple[tuple[list[str], list[str], str], ...] = (
+            (["late", "late", "never sent", "never sent"], lines, at(3)),
+            (["late", "wrong text", "wrong place", "early"], lines, at(2)),
+            (["wrong colour or attribute", "early", "early", "early"], lines, at(2)),
+            (["wrong colour or attribute"] * 4, lines, at(1)),
+            (["not received"] * 4, lines, CONTROL), (["not received"] * 4, lines[1:], at(1)),
+            (["late"] * 4, [*lines, OPEN], OPEN), (["wrong text"] * 4, [*lines, OPEN], at(1)))
+        for names, some, wanted in rows:
+            causes: Any = SimpleNamespace(
+                of_edge={}, first_frames={place: 900_000 + SECOND * (place + 1)
+                                          for place in range(4)},
+                named={place: Cause(place, name, 1, None, None, "", 0)
+                       for place, name in enumerate(names)})
+            causes.all = lambda causes=causes: [*causes.named.values()]
+            lead = lead_of(told(*some, path=self.path("list")), causes)
+            self.must(f"{names}", lead and lead.told.line == wanted, lead)
+        causes.of_edge = {63: 0}
+        lead = lead_of(told(BEGIN, *lines, path=self.path("list")), causes)
+        self.must("at the begin", lead and lead.told.line == BEGIN, lead)
+        causes.of_edge, causes.first_frames = {}, {0: 900_000 + SECOND + 9}
+        lead = lead_of(told(*lines, path=self.path("list")), causes)
+        self.must("the fault that stands then", lead and lead.told.line == at(1), lead)
+        self.must("no cause", worst_cause([]) is None)
+
+
+# The lines of the program as values: those of `check --all`, and those of `show`.
+
+FIRST = "00001 00:00:01:00 00:00:02:00 vp 20 jc 2 text 41"
+SECOND_LINE = "00002 00:00:02:00 00:00:04:00 vp 22 jc 1 text -"
+ONE, TWO = Subtitle(1, 1, 25, 50, 20, 2, b"A"), Subtitle(2, 2, 50, 100, 22, 1, b"")
+NONE = None
+
+
+class Lines(Case):
+    """Lines as values."""
+
+    def test_tell_places(self) -> None:
+        """A line with a number, for each kind of place."""
+        for line, wanted in (
+                ("refused 60 Empty",
+                 ("refused", 60, "Empty", NONE, NONE, NONE, NONE, NONE, NONE, NONE)),
+                ("refused 16 Cumulative block 1",
+                 ("refused", 16, "Cumulative", 1, NONE, NONE, NONE, NONE, NONE, NONE)),
+                ("refused 50 Text block 0 at 7",
+                 ("refused", 50, "Text", 0, 7, NONE, NONE, NONE, NONE, NONE)),
+                ("refused 33 Flags pes 0",
+                 ("refused", 33, "Flags", NONE, NONE, 0, NONE, NONE, NONE, NONE)),
+                ("refused 70 Repeat frame 00:00:01:00 packet 3",
+                 ("refused", 70, "Repeat", NONE, NONE, NONE, "00:00:01:00", 3, NONE, NONE)),
+                ("refused 72 Content frame 00:00:01:00 row 20 column 0",
+                 ("refused", 72, "Content", NONE, NONE, NONE, "00:00:01:00", NONE, 20, 0)),
+                ("ended 72 Content frame 00:00:03:00",
+                 ("ended", 72, "Content", NONE, NONE, NONE, "00:00:03:00", NONE, NONE, NONE)),
+                ("fault 91 Memory",
+                 ("fault", 91, "Memory", NONE, NONE, NONE, NONE, NONE, NONE, NONE))):
+            self.must(line, fault_of_line(line) == FaultLine(line, *wanted), fault_of_line(line))
+            is_fault = line.startswith("refused ")
+            self.must(f"number of {line}", number_of(line) == (wanted[1] if is_fault else None))
+        for line in ("", "refused", "refused 72", "refused x Content", "refused 72 Content frame",
+                     "refused 72 Content row 1 column 2", "refused 72 Content pes 1 more",
+                     " refused 72 Content", "accepted 72 Content"):
+            self.must(f"no such line: {line}", fault_of_line(line) is None, fault_of_line(line))
+
+    def test_tell_ends(self) -> None:
+        """What is accepted, trusted and counted; no other line is."""
+        self.must("accepted", accepted_of("accepted 226 frames 5 transmissions") ==
+                  Accepted(226, 5))
+        self.must("trusted", trusted_of("trusted frames 00:00:01:00 00:00:02:00") ==
+                  Trusted("00:00:01:00", "00:00:02:00"))
+        self.must("counted", count_of("12 faults") == 12)
+        for line in ("accepted", "accepted 1 frames", "accepted 1 frames 2 transmissions more",
+                     "refused 60 Empty", "12 faults more", "faults", ""):
+            found = [accepted_of(line), trusted_of(line), count_of(line)]
+            self.must(f"none of {line}", found == [None] * 3, found)
+
+    def test_show_subtitles(self) -> None:
+        """Subtitles with their count; those before a refusal; lines that are none."""
+        for lines, wanted in (([FIRST, SECOND_LINE, "2 subtitles"], [ONE, TWO]),
+                              (["0 subtitles"], []),
+                              ([FIRST, "refused 16 Cumulative block 2"], [ONE]),
+                              (["refused 10 Format block 0"], [])):
+            self.must(str(lines), subtitles_shown(lines) == wanted, subtitles_shown(lines))
+        unread: list[list[str]] = [
+            [], [FIRST], [FIRST, SECOND_LINE], [FIRST, "2 subtitles"], [FIRST, "fault 91 Memory"],
+            [FIRST + " ", "1 subtitles"], [FIRST.replace("vp", "row"), "1 subtitles"],
+            [FIRST.replace("00:00:01:00", "00:00:01:25"), "1 subtitles"], ["", "1 subtitles"]]
+        for lines in unread:
+            try:
+                found: object = subtitles_shown(lines)
+            except Stop as reason:
+                found = str(reason)
+            self.must(f"not read: {lines}", str(found).startswith("show was not answered: "), found)

@@ -1,0 +1,454 @@
+"""What is decided about a pair and its parts, by tables."""
+from __future__ import annotations
+
+import itertools
+import os
+import random
+import re
+import unittest
+from types import SimpleNamespace
+from typing import Any, Iterable, Sequence
+from unittest import mock
+
+from developing.pes import pes_packet
+from developing.stl import gsi_block, subtitle_blocks, tti_block
+from subtitles.clock.origin import OfPart, Origin
+from subtitles.clock.start import Clock, Found, GIVEN, RECORDING, most_off, off_words, start_frame
+from subtitles.common.command_line import HIDDEN
+from subtitles.common.times import CLOCK, TICKS
+from subtitles.formats.stl import SubtitleFile
+from subtitles.judging import timing
+from subtitles.judging.pages import (
+    ATTRIBUTES, attribute_words, code_words, is_moved, is_part, moved_words, page_text, words_on)
+from subtitles.judging.subtitles import OptionAdvice
+from subtitles.judging.timing import PartSearch, found_in, run_of
+from subtitles.judging.transmissions import control_words
+from subtitles.recording.notices import (
+    Notice, count_notices, length_words, of_character_sets, of_jumps, of_pauses, of_repeat,
+    of_tables, there_are)
+from subtitles.recording.recording import is_recording
+from subtitles.request.commands import (
+    CommandWords, Names, NamesOfList, again, files_in, pair_name, part_name, shell_line)
+from subtitles.request.request import Selection, Unclear
+from subtitles.stream import gaps
+from subtitles.stream.gaps import ClockJump, FEWEST, longest_gap, repeat_distance
+from subtitles.stream.packets import Packets
+from subtitles.stream.ranges import Cut
+from subtitles.stream.receiver import BLANK_PAGE
+from subtitles.stream.survey import Announced
+from .bench import Case
+from .parts import CLOSING, HEADER, PAGE, asked_for, packets_told
+from .test_formats_letters import naming
+
+
+# What is decided about a pair, by tables: what is strange of a recording, how PTS lie, when the
+# first picture was.
+
+
+def said(warned: Iterable[Notice]) -> list[tuple[str, str, str | None]]:
+    return [(one.kind, one.line, one.time) for one in warned]
+
+
+class Clocks(unittest.TestCase):
+    """The parts with the clocks that are found."""
+
+    def test_found(self) -> None:
+        """None where that is not clear; else with what agrees."""
+        whole = Found(3, 9, Clock(7, GIVEN))
+        self.assertEqual(found_in(Origin(1, [OfPart(5)]), whole), [])
+        told = Selection("origin", "5", "origin: 3 of 4", 3, 4)
+        self.assertEqual(found_in(Origin(0, [OfPart(5, (1, 2), None, 3, 4, "3 of 4")]), whole),
+                         [Found(3, 9, Clock(5, RECORDING, evidence=told), (1, 2))])
+
+
+    def test_run(self) -> None:
+        """The one in which all is that comes at the origin that was given, else the first."""
+        recording: Any = SimpleNamespace()
+        whole = Found(3, 9, Clock(7, GIVEN))
+        programme = PartSearch(asked_for("a.stl", "a.pes"), whole, None)
+        runs = [(0, 9), (20, 29), (40, 49)]
+        for own, wanted in ((None, 0), ((0, 9), 0), ((21, 25), 1), ((20, 29), 1), ((40, 41), 2),
+                            ((20, 30), 0), ((19, 25), 0), ((60, 70), 0)):
+            with mock.patch.object(timing, "cut_within", return_value=Cut(own, 50)):
+                self.assertEqual(run_of(programme, recording, whole.clock, runs), runs[wanted])
+        self.assertEqual(run_of(programme, recording, None, runs), runs[0])
+
+
+class Warnings(Case):
+    """What is strange of a recording."""
+
+    def test_jumps(self) -> None:
+        """Those of the frames that are judged, the first and the last too, each in its direction.
+        """
+        for origin in (0, CLOCK - 5 * TICKS):
+            jumps = [ClockJump(None, 90_000), *(ClockJump((origin + TICKS * frame) % CLOCK, ticks)
+                                           for frame, ticks in (
+                (9, 1), (10, 90_000), (15, -90_000), (20, 8_640_000), (21, 5)))]
+            with mock.patch("subtitles.recording.notices.jumps_of", lambda packets: jumps):
+                found = [(one.kind, one.time, one.line.partition(" at ")[0])
+                         for one in of_jumps(Packets(1), origin, 10, 20)]
+            self.assertEqual(found, [
+                ("clock_jump", "00:00:00:10", "the clock jumps by 1.00 s"),
+                ("clock_jump", "00:00:00:15", "the clock jumps back by 1.00 s"),
+                ("clock_jump", "00:00:00:20", "the clock jumps by 0:01:36")])
+        for ticks, words in ((0, "0.00 s"), (45_000, "0.50 s"), (59 * 90_000, "59.00 s"),
+                             (60 * 90_000, "0:01:00"), (3599 * 90_000, "0:59:59"),
+                             (8641 * 90_000, "2:24:01")):
+            self.assertEqual(length_words(ticks), words)
+
+    def test_tables(self) -> None:
+        """What the PMT announces: nothing, others, the page among others; in the second programme
+        too."""
+        own, other = Announced(PAGE, "eng", 2), Announced((1, 0x50), "ger", 5)
+        stl = self.write("one.stl", gsi_block(b"", 0, 0))
+        asked = asked_for(stl, "one.ts")
+        of_pages: list[tuple[list[list[Announced]], str]] = [
+            ([], ""), ([[own]], ""), ([[other, own]], ""), ([[], [own]], ""),
+            ([[other], [own]], ""),
+            ([[]], "announces no page of PID 0x101: receivers do not find page 888"),
+            ([[], []], "announces no page of PID 0x101: receivers do not find page 888"),
+            ([[other]], "announces 150 ger subtitles for the hard of hearing, and not page 888"),
+            ([[other], [other]], "150 ger subtitles for the hard of hearing, and not page 888"),
+            ([[Announced((0, 0x89), "eng", 2)]], "announces 889 eng subtitles, and not page 888")]
+        for pages, words in of_pages:
+            listing: Any = SimpleNamespace(programmes_of=lambda pid: [
+                SimpleNamespace(pages={0x101: some, 0x102: [other]}) for some in pages])
+            found = said(of_tables(listing, 0x101, asked))
+            self.assertEqual([kind for kind, *_ in found], ["page"] * bool(words), pages)
+            self.assertTrue(not found or found[0][1].endswith(words), found)
+
+    def test_character_sets(self) -> None:
+        """Of two packets the first, the second, or each names another set."""
+        for sets, count in (((0,), 0), ((8,), 1), ((0, 8), 1), ((8, 0), 1), ((8, 9), 2)):
+            packets = packets_told(self, pes_packet(0, [HEADER, *(
+                naming(number, one) for number, one in zip((29, 28), sets)), CLOSING]))
+            found = said(of_character_sets(packets, asked_for("one.stl", "one.ts")))
+            self.assertEqual([one[0] for one in found], ["character_set"] * count, (sets, found))
+
+    def test_counts(self) -> None:
+        """The counts of a GSI block beside what is there: each one less, right, and one more."""
+        blocks = [subtitle_blocks(at, 25 * at, 25 * at + 20, 20, 2, b"a") for at in (1, 2)]
+        for told_blocks, told_subtitles in itertools.product((1, 2, 3), repeat=2):
+            data = gsi_block(b"", told_blocks, told_subtitles) + b"".join(blocks)
+            found = said(count_notices(SubtitleFile(self.write("one.stl", data))))
+            kinds = ["blocks"] * (told_blocks != 2) + ["subtitles"] * (told_subtitles != 2)
+            self.assertEqual([one[0] for one in found], kinds)
+            for _, line, _ in found:
+                self.assertTrue("there are 2" in line, line)
+        data = gsi_block(b"", 1, 1)[:238] + b"  x  00000" + gsi_block(b"", 1, 1)[248:]
+        self.assertEqual([one[:2] for one in said(count_notices(SubtitleFile(self.write(
+            "one.stl", data + blocks[0]))))], [
+                ("subtitles", "the GSI block counts 0 subtitles (TNS), and there is 1: is the "
+                 "subtitle file whole?")])
+        self.assertEqual([there_are(one) for one in (0, 1, 2, 1234)],
+                         ["there are 0", "there is 1", "there are 2", "there are 1,234"])
+        comment = tti_block(2, 30, 40, 20, 2, b"", comment=1)
+        for count in (1, 2):
+            data = gsi_block(b"", 2, count) + blocks[0] + comment
+            self.assertEqual(said(count_notices(SubtitleFile(self.write("one.stl", data)))), [])
+
+    def test_pauses(self) -> None:
+        """Frames without a PES packet, of what sends one in each but few: one in twenty."""
+        def pauses(frames: Sequence[int], origin: int = 0) -> list[tuple[str, str | None]]:
+            pts = [(origin + TICKS * frame) % CLOCK for frame in frames]
+            warned = of_pauses(pts, asked_for("one.stl", "one.pes"), origin)
+            return [(one.line.partition(" from ")[0], one.time) for one in warned
+                    if one.kind == "pause"]
+
+        three = [("no PES packet for 3 frames", "00:00:00:20")]
+        for origin in (0, CLOCK - 10 * TICKS):
+            for frames, wanted in (
+                    (list(range(40)), []), ([*range(20), *range(22, 40)], []),
+                    ([*range(20), *range(23, 40)], three), ([*range(20), *range(22, 40)], []),
+                    ([*range(20), 23], three), ([*range(18), 21], []),
+                    ([*range(19), 22], [(three[0][0], "00:00:00:19")]),
+                    ([*range(20), *range(23, 40), *range(45, 60)],
+                     [*three, ("no PES packet for 5 frames", "00:00:01:15")]), ([], []), ([5], [])):
+                self.assertEqual(pauses(frames, origin), wanted, frames)
+
+    def test_repeats(self) -> None:
+        """A page that comes so often that a repeat that is missing would not be seen."""
+        def warned(step: int, every: int) -> list[str]:
+            headers = [TICKS * frame for frame in range(0, 600, step)]
+            asked = asked_for("one.stl", "one.pes", "--every", str(every))
+            return [one.line for one in of_repeat(headers, asked, 0, [(0, 599)])]
+
+        for step, every, words in ((25, 51, "25 frames; --every 25"), (25, 50, ""), (25, 25, ""),
+                                   (1, 3, "frame; --every 1"), (1, 2, ""), (2, 5, "2 frames")):
+            found = warned(step, every)
+            self.assertEqual((len(found), words in "".join(found)), (bool(words), True),
+                             (step, every))
+
+class Grids(Case):
+    """How PTS lie beside frames."""
+
+    def test_off(self) -> None:
+        """By how many ticks at most, before and after; over half a frame it is the other one's."""
+        for origin in (0, CLOCK - 3 * TICKS):
+            of_offs: list[tuple[list[int], int]] = [
+                ([0, 0], 0), ([1, 0], 1), ([0, -1], 1), ([1799, 0], 1799), ([1800, 5], 1800),
+                ([1801], 1799), ([-1799, 3], 1799), ([], 0), ([7, -9, 8], 9)]
+            for offs, most in of_offs:
+                several = [(origin + TICKS * (5 + at) + off) % CLOCK for at, off in enumerate(offs)]
+                self.assertEqual(most_off(several, origin), most, offs)
+        for most, words in ((0, ""), (9, "PTS are up to 0.1 ms off the frame"),
+                            (900, "PTS are up to 10.0 ms off the frame")):
+            self.assertEqual(off_words(most), words)
+
+    def test_start_frames(self) -> None:
+        """As it is given, and as the GSI block has it; what is none there."""
+        for code, frame in ((b"00000000", 0), (b"10000001", 900_001), (b"23595924", 2_159_999),
+                            (b"24000000", None), (b"        ", None), (b"1000000 ", None),
+                            (b"100000\xb90", None), (b"00000025", None)):
+            data = gsi_block(b"", 0, 0)
+            stl = self.write("one.stl", data[:256] + code + data[264:])
+            asked = asked_for(stl, "one.ts", "--start", "tcp")
+            try:
+                found: int | None = start_frame(asked)
+            except Unclear:
+                found = None
+            self.assertEqual(found, frame, code)
+        asked = asked_for(stl, "one.ts", "--start", "10:00:00:01")
+        self.assertEqual(start_frame(asked), 900_001)
+        short = asked_for(self.write("two.stl", data[:260]), "one.ts", "--start", "tcp")
+        with self.assertRaises(Unclear):
+            start_frame(short)
+
+
+# What a call names, hears and follows, and what differs on pages: row by row.
+
+
+def page_with(*rows: tuple[int, bytes]) -> tuple[bytes, ...]:
+    """A page with codes in some rows, from column 0 on."""
+    page = list(BLANK_PAGE)
+    for number, text in rows:
+        page[number - 1] = text.ljust(40)
+    return tuple(page)
+
+
+class Named(Case):
+    """Files, and calls as they are typed."""
+
+    def test_files(self) -> None:
+        """Of a pair and of a part: as they are typed, and where they stand."""
+        for out in (None, "out"):
+            names = Names("one", self.folder, out)
+            for one, name in ((names, "one"), (names.of_part(2), "one.2")):
+                typed = os.path.join(out or "", name)
+                self.must(f"{out} {name}: typed", one.report == f"{typed}.html")
+                self.must(f"{out} {name}: here", (one.whole_path, one.list_path) == (
+                    os.path.join(self.folder, f"{name}.recording"),
+                    os.path.join(self.folder, f"{name}.txt")))
+                self.must(f"{out} {name}: object", one.machine == (f"{typed}.json" if out else
+                                                                   None))
+
+    def test_names(self) -> None:
+        """No two have the same, of pairs, of their parts and of lines; none is that of the page
+        over all, begins with a point, or has what a terminal would obey."""
+        of_names = {"film": "film", "film.1": "film%2E1", "film.v2": "film.v2", "index": "%69ndex",
+                    "index.1": "index%2E1", ".film": "%2Efilm", "film~2": "film%7E2",
+                    "50%": "50%25",
+                    "caf\udce9": "caf%E9", "caf%E9": "caf%25E9", "caf\\xe9": "caf\\xe9",
+                    "a\x1b\n": "a%1B%0A", "line 5": "line%205", "line 5 ": "line 5 ", "-a": "-a",
+                    "a\u202eb": "a%E2%80%AEb", "": "%", "%": "%25", "Index": "Index"}
+        for stem, name in of_names.items():
+            self.must(f"{stem!r}", pair_name(f"a/{stem}.stl" if stem else "") == name,
+                      pair_name(f"a/{stem}.stl"))
+        chance, seen = random.Random(94), dict[str, object]()
+        for _ in range(20_000):
+            stem = "".join(chance.choice(["a", "1", ".", "~", "%", "2", "index", "line ", "\udce9",
+                                          "\n", "é" * 50]) for _ in range(chance.randrange(1, 7)))
+            copies, part, names = chance.randrange(1, 4), chance.randrange(3), NamesOfList()
+            name = [names.pair(f"{stem}.stl") for _ in range(copies)][-1]
+            name = part_name(name, part) if part else name
+            self.assertEqual(seen.setdefault(name, (stem, copies, part)), (stem, copies, part))
+            self.assertFalse(name == "index" or HIDDEN.search(name)
+                             or re.fullmatch("line [0-9]+(~[0-9]+)?", name)
+                             or name[0] == "." or len(os.fsencode(f".{name}.recording.pes")) > 255,
+                             name)
+        names = NamesOfList()
+        self.must("of a list", [names.pair(one) for one in (
+            "a.stl", "b/a.stl", "a~2.stl", "b.stl", "a.STL")] == ["a", "a~2", "a%7E2", "b", "a~3"])
+        self.must("of lines", [names.line(one) for one in (2, 3, 2)] ==
+                  ["line 2", "line 3", "line 2~2"])
+
+    def test_what_an_earlier_call_left(self) -> None:
+        """Files of the pair and of its parts, and of no other pair."""
+        out = self.path("out")
+        os.mkdir(out)
+        own = ["one.1.txt", "one.12.cut.pes", "one.3.txt", "one.9.html", "one.5.html"]
+        others = ["one.0.txt", "one.x.txt", "one.1x.txt", "two.1.txt", "one.1.a.txt", "one.01.txt",
+                  "one.txt.1", "one.1.stl", "one.5.json", "one.x.recording.pes"]
+        for name in [*own, *others]:
+            with open(os.path.join(out, name), "wb"):
+                pass
+        found = [os.path.basename(path) for path in files_in(out, "one")]
+        self.must("own", sorted(found) == sorted([*own, "one.cut.pes", "one.recording.pes",
+                                                  "one.recording.ts",
+                                                  "one.txt", "one.html", "one.json"]), found)
+        for name in ("a[1]", "a*", "a?"):
+            path = self.write(f"out/{name}.1.txt", b"")
+            kept = files_in(out, name)
+            self.must(name, path in kept and os.path.join(out, "one.1.txt") not in kept, kept)
+        self.must("no folder", len(files_in(self.path("none"), "one")) == 6)
+
+    def test_again(self) -> None:
+        """The same call with more words: an option that is said anew stands once."""
+        typed = CommandWords("tools/qc", self.bench.program)
+        asked = asked_for("one.stl", "one.ts", "--page", "150", "--every", "50", "--no-complete",
+                          "--pid", "0x101", "--origin", "7", "--within", "2", "--breaks", "1",
+                          "--pes", "2-9", "--option", "german")
+        whole = "tools/qc one.stl one.ts --page 150 --every 50 --option german --origin 7 " \
+            "--no-complete --pid 0x101 --breaks 1 --pes 2-9 --within 2"  # in the table's order
+        for more, wanted in (((), whole), (("--page", "P"), whole.replace(" --page 150", "")
+                                           + " --page P"),
+                             (("--origin", "T"), whole.replace(" --origin 7", "") + " --origin T"),
+                             (("--breaks", "0"), whole.replace(" --breaks 1", "") + " --breaks 0"),
+                             (("--within", "5"), whole.replace(" --within 2", "") + " --within 5"),
+                             (("--pes", "1-2"), whole.replace(" --pes 2-9", "") + " --pes 1-2")):
+            self.must(f"{more}", again(asked, typed, *more) == wanted, again(asked, typed, *more))
+        start = asked_for("one.stl", None, "--start", "tcp")
+        self.must("start", again(start, typed) == "tools/qc one.stl --start tcp")
+        self.must("an origin instead", again(start, typed, "--origin", "T") ==
+                  "tools/qc one.stl --origin T")
+        self.must("words", shell_line("cat", "a b", ">", "c", "|", "d'e") ==
+                  "cat 'a b' >c | 'd'\"'\"'e'")
+        for called, tool, program in (("tools/qc", "tools/ts2pes", "subttx"), ("./qc", "./ts2pes",
+                                                                           "../subttx"),
+                                      ("qc", "./ts2pes", "../subttx"),
+                                      ("/a/tools/qc", "/a/tools/ts2pes", "/a/subttx")):
+            made = CommandWords(called, self.bench.program)
+            self.must(called, made.tool("ts2pes") == tool and made.program_words ==
+                      ["-p", self.bench.program], made.tool("ts2pes"))
+            self.must(f"{called}: beside", os.path.normpath(made.beside()) ==
+                      os.path.normpath(program), made.beside())
+
+
+class Kinds(Case):
+    """What a file is, by its first bytes."""
+
+    def test_kinds(self) -> None:
+        """Whether it begins as a recording does."""
+        for data, is_one in (
+                (pes_packet(0, []), True), (pes_packet(0, [])[:4], True), (b"G" * 400, True),
+                (gsi_block(b"", 0, 0), False), (b"\0\0\1\xbdG" + b"\0" * 300, True),
+                (b"\0\0\1\xe0" + b"\0" * 99, False), (b"\0\0\1", False), (b"abcd" * 99, False),
+                (b"", False), (b"G" + b"\0" * 187 + b"G" + b"\0" * 99, True),
+                (b"G" + b"\0" * 203 + b"G" + b"\0" * 99, True),
+                (b"timeG" + b"\0" * 191 + b"G" + b"\0" * 99, True),
+                (b"G" + b"\0" * 188 + b"G" + b"\0" * 99, False)):
+            self.must(f"{data[:6]!r}", is_recording(self.write("one", data)) == is_one)
+
+
+class Pages(Case):
+    """In what two pages differ, and what a letter of a file is."""
+
+    ONE, TWO = b"\x0b\x0bHello", b"\x03\x0b\x0bHello"
+
+    def test_words(self) -> None:
+        """The first that differs: a row, a column, a cell, the ends of a row."""
+        own = page_with((20, self.ONE), (22, b"  two"))
+        for other, place in (
+                (page_with((18, self.ONE), (22, b"  two")), "row 18 instead of 20"),
+                (page_with((20, self.ONE), (23, b"  two")), "row 23 instead of 22"),
+                (page_with((20, b" " + self.ONE), (22, b"  two")),
+                 "row 20 from column 3 instead of 2"),
+                (page_with((20, self.ONE), (22, b" two")), "row 22 from column 1 instead of 2"),
+                (page_with((20, self.ONE)), "1 rows instead of 2")):
+            self.assertEqual(moved_words(own, other), place)
+        for other, words in (
+                (own, ""), (page_with((20, b"\x0b\x0bHallo"), (22, b"  two")),
+                            "row 20 column 3: 61 instead of 65"),
+                (page_with((20, b"\x0b Hello"), (22, b"  two")),
+                 "row 20 column 1: a space instead of start box"),
+                (page_with((20, self.ONE), (22, b"  twos")),
+                 "row 22 column 5: 73 instead of a space, ends a column late"),
+                (page_with((20, self.ONE), (22, b"\x02 tw")),
+                 "row 22 column 0: alpha green instead of a space, begins 2 columns early, ends a "
+                 "column early")):
+            self.assertEqual(attribute_words(own, other), words)
+        for sent, due, moved in (
+                (own, own, False), (page_with((20, b" " + self.ONE), (22, b"  two")), own, True),
+                (page_with((21, self.ONE), (22, b"  two")), own, True),
+                (page_with((20, self.TWO), (22, b"  two")), own, False),
+                (page_with((20, self.ONE), (22, b" two")), own, True)):
+            self.assertEqual(is_moved(due, sent), moved)
+        for sent, part in ((own, True), (page_with((20, self.ONE)), True), (BLANK_PAGE, True),
+                           (page_with((20, self.TWO)), False), (page_with((22, b"  two")), True),
+                           (page_with((21, b"x")), False)):
+            self.assertEqual(is_part(sent, own), part)
+        self.assertEqual((words_on(own), page_text(own, 0),
+                          page_text(page_with((1, b"\x5b[#")), 4)),
+                         ("Hello two", "Hello / two", "ÄÄ#"))
+        self.assertEqual([code_words(code) for code in (0, 7, 0x1F, 0x20, 0x21, 0x7F)],
+                         ["alpha black", "alpha white", "release mosaics", "a space", "21", "7F"])
+        self.assertEqual((len(ATTRIBUTES), ATTRIBUTES[0x0D]), (32, "double height"))
+
+    def test_control_bits(self) -> None:
+        """Each bit of a header of subtitles wrong by itself."""
+        good = [8, 8, 0, 8, 0, 8, 1, 0]
+        of_bits: list[tuple[int, int, list[str]]] = [
+            (0, 8, []), (3, 0, []), (5, 0, ["C6"]), (6, 0, ["C7"]), (5, 12, ["C5"]),
+            (6, 9, ["C10"]), (5, 4, ["C6", "C5"]), (7, 8, ["the header is German"]),
+            (7, 14, ["C12, C13 and C14"])]
+        for place, value, words in of_bits:
+            header = bytes(value if at == place else one for at, one in enumerate(good))
+            found = control_words(header, "english")
+            self.assertEqual(len(found), len(words), (place, value, found))
+            self.assertTrue(all(one.startswith(word) for one, word in zip(found, words)), found)
+        self.assertEqual(control_words(bytes([*good[:7], 8]), "german"), [])
+        self.assertEqual(control_words(bytes(good), "german"),
+                         ["the header is English, and german is asked for"])
+
+    def test_letters_of_a_file(self) -> None:
+        """A subtitle of two blocks among comments and user data: its text, its bytes, advice."""
+        first = tti_block(7, 25, 50, 20, 2, b"a\xc2e\x80", 0)
+        last = tti_block(7, 25, 50, 20, 2, b"\xf9\xff")
+        comment = tti_block(7, 25, 50, 20, 2, b"no", comment=1)
+        user = tti_block(7, 25, 50, 20, 2, b"no", 0xFE)
+        other = tti_block(300, 75, 99, 20, 2, b"$")
+        data = gsi_block(b"", 6, 2) + b"".join([comment, first, user, comment, last, other])
+        file = SubtitleFile(self.write("one.stl", data + b"x" * 127))
+        self.assertEqual((file.count(), file.ended(), list(file.lasts())), (6, (2, 4), [5, 6]))
+        self.assertEqual((file.text(5), file.text(6)), (b"a\xc2e\x80\xf9\xff", b"$"))
+        self.assertEqual([file.letter(5, at) for at in range(7)], [
+            ("61", "a"), ("C2", "é"), ("65", "e"), ("80", None), ("F9", "ø"), ("FF", "\ufffd"),
+            (None, None)])
+        self.assertEqual([file.letter(at, 0) for at in (0, 7)], [(None, None)] * 2)
+        self.assertEqual([file.first_before(at) for at in (2, 5, 6)], [None, None, 2])
+        found = [file.at_block(at) for at in range(8)]
+        self.assertEqual([one and (one.position, one.number, one.begin) for one in found], [
+            None, (0, 7, "00:00:01:00"), (1, 7, "00:00:01:00"), (1, 7, "00:00:01:00"),
+            (1, 7, "00:00:01:00"), (1, 7, "00:00:01:00"), (2, 300, "00:00:03:00"), None])
+        advice = OptionAdvice(file, "english")
+        self.assertTrue(advice.of(5, 4).startswith("ø is in no option"))
+        self.assertEqual((advice.of(5, 6), advice.drawing), ("", []))
+        german = SubtitleFile(self.write("two.stl", gsi_block(b"", 1, 1) + tti_block(
+            1, 25, 50, 20, 2, b"\xc8a")))
+        self.assertEqual(OptionAdvice(german, "english").of(1, 0),
+                         "the whole file draws in --option german, swedish")
+
+
+class Repeats(unittest.TestCase):
+    """How often a page comes."""
+
+    def test_measured(self) -> None:
+        """Between edges, and not up to five frames before one; of few there is no measure."""
+        steady = list(range(0, 200, 10))
+        of_frames: list[tuple[list[int], list[int], int | None]] = [
+                (steady, [], 10), (steady[:5], [], 10), (steady[:4], [], None),
+                (steady, [15, 25, 35, 45, 55, 65, 75, 85, 95, 105, 115, 125, 135, 145, 155, 165],
+                 None), (steady[:8], [45], 10), (steady[:8], [36, 45], 10),
+                (steady[:8], [35, 45], None), (steady[:5], [46], 10), (steady[:5], [45], None),
+                (steady[:5] * 2, [46], 10),
+                ([0, 1, 25, 26, 50, 51, 75, 76], [], 24), ([], [], None),
+                ([0, 10, 20, 30, 50, 90], [], 20)]
+        for frames, edges, every in of_frames:
+            self.assertEqual(repeat_distance(frames, edges), every, (frames, edges))
+        with mock.patch.object(gaps, "sum", side_effect=sum, create=True) as summed:
+            self.assertEqual(repeat_distance(range(1000), []), 1)
+        self.assertLess(summed.call_count, 3)  # not once for each sending
+        self.assertEqual(FEWEST, 3)
+        of_gaps: list[tuple[list[int], int]] = [([], 0), ([5], 0), ([5, 5], 0), ([9, 5, 30], 21)]
+        for frames, gap in of_gaps:
+            self.assertEqual(longest_gap(frames), gap)

@@ -1,0 +1,371 @@
+"""Which mode a call has, and words that are wrong."""
+from __future__ import annotations
+
+import argparse
+import csv
+import json
+import os
+import unittest
+import xml.etree.ElementTree as tree
+from types import ModuleType
+from unittest import mock
+
+from subtitles.cli import batch, collection, main, measure, single
+from subtitles.cli.channel import channel, recorder
+from subtitles.cli.channel.schedule import Planned
+from subtitles.cli.main import (
+    TAKEN_BY, file_in, jobs_word, line_word, minutes_word, mode_of, name_in, parser_of,
+    refuse_options, seconds_word)
+from subtitles.common.command_line import Stop
+from subtitles.common.program import TOP
+from subtitles.request.commands import CommandWords
+from subtitles.request.lines import request_of_line
+from subtitles.request.request import (
+    ALONE, BATCH, CHANNEL, CHANNEL_LINE, COLLECT, LINE, MEASURE, MODES, Mode, PAIR, RECORDER, WATCH)
+from subtitles.results.files import FORMULA
+from .bench import Case, example, tool_path
+from .channels import defaults
+
+
+# Which option of tools/qc goes with what: the parser and the refusals say the same.
+
+CALLS: dict[Mode, list[str]] = {
+    PAIR: ["a.stl", "a.ts"], ALONE: ["a.stl"], BATCH: ["--batch", "in"], WATCH: ["--watch", "in"],
+    CHANNEL: ["--channel", "list", "-"], RECORDER: ["-", "--spool", "feed"],
+    COLLECT: ["--collect", "in"], MEASURE: ["--measure", "a.stl", "a.ts"]}
+# A value of each option that has one.
+VALUES = {"--page": "801", "--every": "25", "--within": "1", "--option": "german", "--origin": "7",
+          "--start": "tcp", "--breaks": "1", "--pes": "2-9", "--pid": "0x101", "--severity": "file",
+          "-o": "out", "--json": "x", "--csv": "x", "--junit": "x", "--stall": "5", "-p": "none",
+          "--line": "2", "--jobs": "2", "--limit": "9", "--settled": "1", "--patience": "9",
+          "--from": "00:00:01:00",
+          "--to": "00:00:02:00", "--layout": "fit", "--pace": "9", "--spool": "feed",
+          "--on-result": "true", "--on-alarm": "true", "--late": "0:9/0:9"}
+MANUAL = os.path.join(TOP, "docs", "manual", "qc.md")
+ASKING = {"--batch", "--watch", "--channel", "--collect", "--measure", "--help", "-h", "--version"}
+
+
+def words_of(name: str, folder: str) -> list[str]:
+    """An option with its value; a profile, which is read, stands in a folder."""
+    if name == "--profile":
+        return [name, os.path.join(folder, "house")]
+    return [name, VALUES[name]] if name in VALUES else [name]
+
+
+def refusal(mode: Mode, name: str, folder: str) -> str | None:
+    """What is said of an option that is given with a mode; `None` where it is taken."""
+    try:
+        if mode is LINE:
+            request_of_line(["a.stl", "a.ts", *words_of(name, folder)], defaults())
+        elif mode is CHANNEL_LINE:
+            planned = Planned(os.path.join(folder, "list"), defaults())
+            planned.asked_of(["a.stl", *words_of(name, folder)])
+        else:
+            line = [*CALLS[mode], *words_of(name, folder)]
+            refuse_options(parser_of(""), line, mode_of(parser_of("").parse_args(line)))
+    except Stop as reason:
+        return str(reason)
+    return None
+
+
+class Modes(Case):
+    """The table."""
+
+    def test_options_and_refusals(self) -> None:
+        """Each option with each of what can be asked for: taken, or refused by its name."""
+        self.write("house", b"--every 25\n")
+        for name, taken_by in TAKEN_BY.items():
+            for mode in MODES:
+                said = refusal(mode, name, self.folder)
+                is_taken = mode in taken_by or (mode, name) == (ALONE, "--spool")  # a recorder
+                is_right = said is None if is_taken else said is not None and name in said
+                self.must(f"{name} and {mode.words}", is_right, said)
+
+    def test_options_that_come_twice(self) -> None:
+        """The last one counts; each is refused where it does not go with what is asked for."""
+        for words, name, value in (
+                ("--every 25 --every 50", "every", 50), ("--json a --json b", "json", "b"),
+                ("--no-complete --complete", "is_complete", True),
+                ("--complete --no-complete", "is_complete", False), ("-o a -o b", "out", "b"),
+                ("--page 801 --page 8A2", "page", (0, 0xA2))):
+            found = vars(parser_of("").parse_args(["a.stl", "a.ts", *words.split()]))
+            self.must(words, found[name] == value, found)
+        for words, mode, said in (
+                ("--every 25 --every 50", COLLECT, "--every goes with"),
+                ("--complete --no-complete", ALONE, "--complete goes with"),
+                ("--no-complete --complete", COLLECT, "--complete goes with"),
+                ("--jobs 2 --settled 3", BATCH,
+                 "--settled goes with --watch, and not with --batch"),
+                ("--resume --patience 5 --breaks 1", CHANNEL, "--breaks goes with")):
+            with self.assertRaises(Stop) as refused:
+                refuse_options(parser_of(""), [*CALLS[mode], *words.split()], mode)
+            self.must(words, str(refused.exception).startswith(said), refused.exception)
+        for words in ("--batch a --collect b", "--watch a --channel b -", "--channel a",
+                      "--channel a b c", "--batch a b.stl"):
+            with self.assertRaises(Stop):
+                mode_of(parser_of("").parse_args(words.split()))
+
+    def test_what_is_called(self) -> None:
+        """Each call by its own function, with what is taken where nothing is said, and 0 as it is.
+        """
+        rows: list[tuple[list[str], ModuleType, str, dict[str, object]]] = [
+            (CALLS[PAIR], single, "judge_call", {"recording": "a.ts", "out": None}),
+            (CALLS[ALONE], single, "judge_call", {"stl": "a.stl", "recording": None}),
+            ([*CALLS[PAIR], "-o", "x", "--keep"], single, "judge_call",
+             {"out": "x", "is_kept": True}),
+            ([*CALLS[PAIR], "-o@x"], single, "judge_call", {"out": "./@x"}),
+            (CALLS[BATCH], batch, "judge_batch", {"batch": "in"}),
+            (CALLS[COLLECT], collection, "collect", {"collect": "in"}),
+            ([*CALLS[MEASURE], "--page", "801"], measure, "measure",
+             {"measure": ["a.stl", "a.ts"], "stl": None}),
+            (CALLS[WATCH], batch, "watch", {"settled": 5}),
+            ([*CALLS[WATCH], "--settled", "0"], batch, "watch", {"settled": 0}),
+            (CALLS[CHANNEL], channel, "judge_channel", {"patience": 60, "stall": 10}),
+            ([*CALLS[CHANNEL], "--patience", "1"], channel, "judge_channel", {"patience": 1}),
+            ([*CALLS[CHANNEL], "--spool", "x"], channel, "judge_channel", {"spool": "x"})]
+        for line, module, name, wanted in rows:
+            with mock.patch.object(module, name, return_value=7) as called:
+                self.must(f"{line}", main.answer("", "tools/qc", line) == 7)
+            words, *others = called.call_args.args
+            self.must(f"{line}: words", {one: vars(words)[one] for one in wanted} == wanted and
+                      others == ["tools/qc"] * (module is not collection), words)
+        with mock.patch.object(recorder, "record_alone", return_value=7) as called:
+            self.must("a recorder", main.answer("", "tools/qc", CALLS[RECORDER]) == 7 and
+                      called.call_args.args == ("-", "feed"), called.call_args)
+        nothing: list[str] = []
+        for line in (nothing, [*CALLS[PAIR], "--keep"]):
+            with self.assertRaises(Stop):
+                main.answer("", "tools/qc", line)
+
+    def test_names_all_options(self) -> None:
+        """The table has each option that the parser has."""
+        names = {name for action in parser_of("")._actions for name in action.option_strings}
+        self.must("all", names - ASKING == set(TAKEN_BY), names ^ set(TAKEN_BY))
+
+    def test_modes_of_words(self) -> None:
+        """What is asked for, by the words; two at once are refused."""
+        for mode, line in CALLS.items():
+            found = mode_of(parser_of("").parse_args(line))
+            self.must(mode.words, found is mode, found)
+        for line in (["--batch", "a", "--collect", "b"], ["--watch", "a", "--channel", "b", "-"],
+                     ["--channel", "a"], ["--channel", "a", "b", "c"], ["--batch", "a", "b.stl"]):
+            with self.assertRaises(Stop):
+                mode_of(parser_of("").parse_args(line))
+
+    def test_values_that_are_those_left_out(self) -> None:
+        """An option counts as given also where its value is the one that is taken without."""
+        for words in (["--pes=1-2"], ["--breaks", "0"], ["--start", "tcp"], ["--breaks=0"]):
+            line = [*CALLS[CHANNEL], *words]
+            with self.assertRaises(Stop) as raised:
+                refuse_options(parser_of(""), line, CHANNEL)
+            self.must(words[0], words[0].partition("=")[0] in str(raised.exception),
+                      raised.exception)
+
+    def test_ends_a_call(self) -> None:
+        """Nothing is done: one line, and status 2."""
+        self.write("list", b"one.stl\n")
+        for words in (["--channel", "list", "-", "--pes", "1-2"], ["a.stl", "--pid", "5"],
+                      ["--collect", ".", "-o", "out"], ["--batch", "list", "--patience", "5"]):
+            done = self.tool("qc", *words)
+            self.must(" ".join(words), done.status == 2 and len(done.told) == 1
+                      and words[2] in done.told[0] + words[2] and " goes with " in done.told[0],
+                      done)
+
+    def test_names_as_typed(self) -> None:
+        """Of a tool and of the program beside it, in a repository and where they are installed."""
+        self.write("subttx-qc", b"#!/bin/sh\n")
+        os.chmod(self.path("subttx-qc"), 0o755)
+        program = self.bench.program
+        with mock.patch.dict(os.environ, {"PATH": self.folder}):
+            for called, tool, beside in (
+                    ("tools/qc", "tools/ts2pes", "./subttx"), ("qc", "./ts2pes", "../subttx"),
+                    ("/some/tools/qc", "/some/tools/ts2pes", "/some/subttx"),
+                    ("/some/subttx-qc", "/some/subttx-ts2pes", "/some/subttx"),
+                    (self.path("subttx-qc"), "subttx-ts2pes", "subttx")):
+                typed = CommandWords(called, program)
+                self.must(called, (typed.tool("ts2pes"), typed.beside()) == (tool, beside), (
+                    typed.tool("ts2pes"), typed.beside()))
+
+
+class Words(unittest.TestCase):
+    """Words of a command line, whatever else is wrong with it."""
+
+    def test_json(self) -> None:
+        paths: list[tuple[list[str], str | None]] = [
+                           (["--json", "x"], "x"), (["--json=x"], "x"), (["--json", "-"], "-"),
+                           (["--json", "--page"], None), (["--json"], None), (["--json="], None),
+                           (["--", "--json", "x"], None), (["a", "--json", "x", "--", "b"], "x"),
+                           (["--json", "a", "--json", "b"], "b"), (["--jsonx", "a"], None),
+                           (["--json=a", "--json", "b"], "b"), ([], None)]
+        for line, path in paths:
+            self.assertEqual(file_in(line, "--json"), path, line)
+            others = [word.replace("json", "junit") for word in line]
+            self.assertEqual(file_in(others, "--junit"), path, others)
+        names: list[tuple[list[str], str]] = [
+            (["a.STL", "b.ts"], "a"), (["--x", "dir/one.stl"], "one"), ([], ""), (["b.ts"], ""),
+            (["one.stl", "two.stl"], "one")]
+        for line, name in names:
+            self.assertEqual(name_in(line), name, line)
+
+    def test_numbers(self) -> None:
+        for read, good, bad in (
+                (line_word, ("1", "9999999"), ("0", "10000000", "-1", "", "x", "\u00b2")),
+                (jobs_word, ("1", "9999"), ("0", "10000", "-1", "", "x", "\u00b2")),
+                (seconds_word, ("0", "99999"), ("100000", "-1", "", "1.5", "\u0663")),
+                (minutes_word, ("1", "1440"), ("0", "1441", "", "10000", "00001", "-1"))):
+            self.assertEqual([read(word) for word in good], list(map(int, good)))
+            for word in bad:
+                self.assertRaises(argparse.ArgumentTypeError, read, word)
+
+
+# Words and files that are wrong: one line on standard error, status 2, nothing written.
+
+STL, PES = example("hello.stl"), example("hello.pes")
+WRONG: dict[str, list[list[str]]] = {
+    "poke": [[], ["none.stl"], [STL, "x"], [STL, "1=0"], [STL, "1=@3"], [STL, "1152=00"],
+             [STL, "0=@1150+3"], [STL, "-c", "-1"], [STL, "-c", "x"], [STL, "1=00", "--colour"],
+             [STL, "9" * 5000 + "=00"], [TOP]],
+    "qc": [[], ["none.stl"], [STL, "none.pes"], [STL, PES, PES], [STL, "--page", "8FF"],
+           [STL, "--every", "0"], [STL, "--every", "1501"], [STL, "--option", "latin"],
+           [STL, "--origin", "x"], [STL, PES, "--pid", "8191"], [STL, "--severity", "none"],
+           [STL, "-p", "none"], ["--batch"], ["--batch", "none"], [STL, "--jobs", "2"],
+           [STL, PES, "--json", "no/folder.json"], [STL, PES, "--csv", TOP],
+           [STL, PES, "--every", "9" * 5000], ["--batch", TOP, "--junit", "no/folder.xml"],
+           ["--batch", TOP, "--jobs", "9" * 5000]],
+    "ts2pes": [[], ["none.ts"], [PES, "9" * 5000], ["/dev/null"], [PES],
+               [PES, "0x101"], [PES, "8191"], [PES, "x"],
+               [PES, "1", "2"]],
+    "pes2ts": [[], [PES], ["none.pes", "0x101"], [PES, "0x100"], [PES, "7"], [PES, "0x1fff"],
+               [PES, "0x101", "english"], [PES, "0x101", "--page", "8FF"]],
+    "install": [[], ["-x"], ["--", "-x"], ["--prefix"], [""], [PES], ["-p", "none", "to"],
+                ["to", "from"]],
+    "dist": [[PES], ["--colour"], ["--deb", PES]],
+    "release": [["none"], ["--note", "none"], ["--keep", "--compare"], ["--colour"]],
+    "reading-list": [[], ["none"], ["Good", "Robust"], ["Good", "--colour"]],
+    "slow-proofs": [[], ["none"]], "make-examples": [[], ["a", "b"]],
+    "check-manual": [["-p", "none"]], "check-preview": [["-p", "none"]],
+    "check-every-place": [["--count", "x"], ["--recordings", "x"]], "faults": [["-v", "none"]],
+}
+
+
+def names() -> list[str]:
+    """All tools, of tools/ and of dev/."""
+    listed = {name for folder in ("tools", "dev") for name in os.listdir(os.path.join(TOP, folder))}
+    return [name for name in sorted(listed)
+            if os.access(tool_path(name), os.X_OK) and os.path.isfile(tool_path(name))]
+
+
+class WrongWords(Case):
+    """Calls that are wrong."""
+
+    def test_refuses_wrong_words(self) -> None:
+        for name in names():
+            for words in [*WRONG.get(name, []), ["--colour"], ["---"]]:
+                before = sorted(os.listdir(self.folder))
+                done = self.tool(name, *words)
+                self.must(f"{name} {' '.join(words)}", done.status == 2 and not done.out
+                          and len(done.told) == 1 and done.told[0].startswith(name + ": ")
+                          and sorted(os.listdir(self.folder)) == before, done)
+
+    def test_leaves_what_is_asked_for(self) -> None:
+        """A call of qc that is wrong, or whose files are, leaves one entry that is not judged in
+        each file that is asked for, once more too; and nothing in the place of another file."""
+        names = {"--json": "one.json", "--csv": "one.csv", "--junit": "one.xml"}
+        files = [f"{option}={self.path(name)}" for option, name in names.items()]
+        for words in ([STL, PES, "--page", "8FF"], [STL, PES, "--colour"],
+                      [STL, PES, "--jobs", "2"], ["none.stl", PES], [STL, PES, PES]) * 2:
+            done = self.tool("qc", *words, *files)
+            there = [os.path.exists(self.path(name)) for name in names.values()]
+            if not self.must(f"{words}: files", all(there), there):
+                return
+            known = json.loads(self.read("one.json"))
+            head, row, *more = csv.reader(self.read("one.csv").decode().splitlines())
+            suite = tree.fromstring(self.read("one.xml"))
+            told = done.told[0].partition(": ")[2]
+            self.must(f"{words}", done.status == 2 and known["verdict"] == "not judged" and
+                      known["reason"] == told, known)
+            one = dict(zip(head, row))
+            cell = "'" * told.startswith(FORMULA) + told
+            self.must(f"{words}: table", not more and (one["verdict"], one["status"],
+                                                       one["reason"]) == ("not judged", "2", cell),
+                      row)
+            cases = list(suite.iter("testcase"))
+            self.must(f"{words}: case", len(cases) == 1 and suite.get("errors") == "1" and
+                      [one.get("message") for one in cases[0].iter("error")] == [told],
+                      self.read("one.xml"))
+        for option, name in names.items():
+            path = self.write(name, b"something else")
+            self.tool("qc", STL, PES, "--page", "8FF", option, path)
+            self.must(f"{option}: something else", self.read(name) == b"something else")
+
+    def test_helps(self) -> None:
+        """--help, and what it says first is what the script says first; --version."""
+        with open(os.path.join(TOP, "VERSION"), encoding="utf-8") as file:
+            version = file.read().strip()
+        for name in names():
+            done = self.tool(name, "--version")
+            self.must(f"{name} --version", (done.status, done.out.decode()) ==
+                      (0, f"{name} {version}\n"), done)
+            done = self.tool(name, "--help")
+            with open(tool_path(name), encoding="utf-8") as file:
+                first = file.read().splitlines()[1].lstrip('"# ')
+            self.must(name, done.status == 0 and done.out.decode().startswith(first), done)
+
+    def test_tells_a_full_device(self) -> None:
+        if not os.path.exists("/dev/full"):
+            self.skipTest("a full device, since there is no /dev/full")
+        for name, *words in (["qc", STL, PES, "-p", self.bench.program],
+                             ["pes2ts", PES, "0x101"], ["poke", STL], ["ts2pes", "--help"]):
+            done = self.call(["sh", "-c", 'exec "$@" >/dev/full', "sh",
+                              tool_path(name), *words])
+            self.must(name, done.status == 2 and done.told and "No space" in done.told[-1], done)
+
+    def test_refuses_devices_that_do_not_end(self) -> None:
+        """Where all of a file is read: by name, and as standard input, also through a link."""
+        os.symlink("/dev/zero", self.path("link"))
+        for device in ("/dev/zero", "/dev/full", "/dev/urandom", self.path("link")):
+            if not os.path.exists(device):
+                self.bench.over.append(f"a device that does not end, since there is no {device}")
+                continue
+            for words in (["poke", device], ["poke", device, "-c", "4"],
+                          ["qc", STL, "--severity", device], ["qc", "--batch", device]):
+                done = self.tool(*words)
+                wanted = "a file" if "--severity" in words else "a file or a pipe"
+                self.must(" ".join(words), done ==
+                          (2, b"", [f"{words[0]}: {device} is a device: give {wanted}"]), done)
+            for words in ["poke", "-"], ["poke", "/dev/stdin"]:
+                done = self.call(["sh", "-c", 'exec "$0" "$@" <' + device,
+                                  tool_path(words[0]), *words[1:]])
+                self.must(f"{' '.join(words)} <{device}", done.status == 2 and not done.out
+                          and done.told == [f"{words[0]}: {words[1]} is a device: give a file or a "
+                                            "pipe"], done)
+
+    def test_reads_pipes_and_no_device(self) -> None:
+        done = self.tool("poke", "/dev/stdin", data=b"abc")
+        self.must("a pipe by its name", done == (0, b"abc", []), done)
+        done = self.tool("poke", "/dev/null")
+        self.must("/dev/null", done ==
+                  (2, b"", ["poke: /dev/null is a device: give a file or a pipe"]), done)
+
+    def test_pokes(self) -> None:
+        """One change after another, up to the last byte and no farther; so many bytes of that."""
+        for words, wanted in (
+                (["0=41", "5=5A"], b"AbcdeZ"), (["0=4142", "1=5A"], b"AZcdef"),
+                (["0=@3+3"], b"defdef"), (["3=@0+3", "0=5A"], b"Zbcabc"),
+                (["0=5A", "3=@0+3"], b"ZbcZbc"), (["1=@0+5"], b"aabcde"), (["0=@6+0"], b"abcdef"),
+                (["1=41", "-c", "2"], b"aA"), (["-c", "0"], b""), (["-c", "9"], b"abcdef"),
+                (["6=41"], None), (["5=4142"], None), (["0=@4+3"], None), (["4=@0+3"], None)):
+            done = self.tool("poke", "-", *words, data=b"abcdef")
+            refused = 2, b"", ["poke: - has only 6 bytes"]
+            self.must(f"{words}", done == (refused if wanted is None else (0, wanted, [])), done)
+
+    def test_names_files_as_they_were_typed(self) -> None:
+        """No part of a name, no number and no name that was made on the way."""
+        for words, named in ((["qc", STL, "no/folder.pes"], "no/folder.pes"),
+                             (["qc", "-"], "qc: - is"), (["qc", ""], "an empty name"),
+                             (["qc", "--", "-x.stl"], "qc: -x.stl"),
+                             (["qc", STL, self.write("cut.pes", b"\0\0\1"), "-p",
+                               self.bench.program], self.path("cut.pes"))):
+            done = self.tool(*words)
+            self.must(" ".join(words), done.status in (1, 2) and named in done.told[-1]
+                      and "subttx-" not in done.told[-1], done)

@@ -1,0 +1,400 @@
+"""Options, profiles, and how they go on."""
+from __future__ import annotations
+
+import argparse
+import hashlib
+import json
+import os
+import sys
+from typing import Any
+
+from subtitles.cli.channel.schedule import Planned
+from subtitles.common.command_line import Lateness, Stop, Words, late_text, late_word
+from subtitles.common.shapes import Flag, Text
+from subtitles.request.commands import CommandWords, again, profile_line
+from subtitles.request.lines import pairs_at, profile_at, request_of_line
+from subtitles.request.request import (
+    ALONE, CHANNEL_LINE, JUDGED, LINE, MEASURE, OPTIONS, Option, Request, add_options, option_words
+    as options_of, plain, request_with)
+from subtitles.results.schema import ASKED
+from .. import DEV
+from .bench import Case, example
+from .channels import defaults
+from .judged import judged
+from .parts import asked_for, call_words
+
+
+# The table of options: a row that is added is found wherever an option stands, and what each row
+# of the table comes to.
+
+# Adds two options to the table before anything is made of it, and prints what then is made.
+ADDED = """
+import dataclasses, json, sys, developing
+from subtitles.common.shapes import Flag, Maybe, Text
+from subtitles.request import request as options
+options.OPTIONS = (*options.OPTIONS, options.Option(
+    "--new-one", "K", "a [new](x.md) `one`", options.JUDGED, "`none`", "new_one", of_check=None,
+    of_pages=True, shape=Maybe(Text()), said="What is new."), options.Option(
+    "--newer", None, "it is newer", options.PAIRS, "", "newer", default=False, of_check=False,
+    shape=Flag()))
+options.Request = dataclasses.make_dataclass("Request", [
+    ("new_one", object, None), ("newer", bool, False)], bases=(options.Request,))
+from developing import pages
+from developing.tests.channels import defaults
+from developing.tests.parts import call_words
+from subtitles.cli.channel.schedule import Planned
+from subtitles.cli.main import parser_of
+from subtitles.results.schema import ASKED
+from subtitles.cli.main import mode_of, refuse_options
+from subtitles.results.schema import schema
+from subtitles.common.command_line import Stop
+from subtitles.request.lines import request_of_line
+from subtitles.request.request import request_of
+from subtitles.request.commands import again
+from subtitles.request.commands import CommandWords
+
+def said(does):
+    try:
+        does()
+    except Stop as reason:
+        return str(reason)
+
+def taken(*line):
+    mode = mode_of(parser_of("").parse_args(line))
+    return said(lambda: refuse_options(parser_of(""), line, mode))
+
+program, folder = sys.argv[1:]
+pair, given = ["a.stl", "a.ts"], ["--new-one", "5", "--newer"]
+asked = request_of(parser_of("").parse_args([*pair, *given]))
+none = request_of(parser_of("").parse_args(pair))
+help = parser_of("").format_help()
+planned = Planned(folder + "/list", defaults())
+print(json.dumps({
+    "help": help, "man page": pages.of_qc(help)["options"],
+    "chapter": pages.of_chapter()["options"],
+    "completion": pages.completed("  check STL PES  does\\n", "", [help])["values"],
+    "asked": ASKED.made(asked), "left out": ASKED.made(none), "call": call_words(asked),
+    "again": again(asked, CommandWords("tools/qc", program)), "check": asked.check_words(),
+    "file": asked.check_words(True), "pages": asked.words_of_pages(),
+    "schema": schema()["definitions"]["asked"]["properties"],
+    "same": request_of(parser_of("").parse_args(call_words(asked))) == asked,
+    "not with": [taken("a.stl", *given), taken(*pair, *given),
+                 taken("--collect", "x", "--new-one", "5"),
+                 taken("--channel", "x", "-", "--new-one", "5"),
+                 taken("--channel", "x", "-", "--newer")],
+    "line": ASKED.made(request_of_line([*pair, *given], defaults())),
+    "channel": [said(lambda: planned.asked_of(["a.stl", *words]))
+                for words in (given[:2], given[2:])]}))
+"""
+# An option with its words, and its member of a result.
+ROWS: list[tuple[str, str, Any]] = [
+    ("--page", "8A1", "8A1"), ("--every", "7", 7), ("--option", "german", "german"),
+    ("--origin", "0", 0), ("--pid", "0x101", 257), ("--severity", "a file", "a file"),
+    ("--breaks", "2", 2), ("--pes", "3-9", [3, 9]), ("--start", "tcp", "tcp"), ("--within", "5", 5),
+    ("--from", "00:00:01:00", "00:00:01:00"), ("--to", "00:00:02:00", "00:00:02:00"),
+    ("--layout", "fit,up", "fit,up"), ("--pace", "none", "none"), ("--no-complete", "", False),
+    ("--allow-lost", "", True), ("--strict", "", True), ("--open", "", True),
+    ("--keeping", "", True), ("--late", "0:31,5:69/0:100", "0:31,5:69/0:100")]
+BACK = {"--complete", "--no-allow-lost", "--no-keeping"}  # what they say holds without them too
+
+
+class Added(Case):
+    """An option that is added to the table."""
+
+    def test_is_found_everywhere(self) -> None:
+        done = self.call([sys.executable, "-c", ADDED, self.bench.program, self.folder], env={
+            **os.environ, "COLUMNS": "2000", "PYTHONPATH": os.pathsep.join(
+                [DEV, *os.environ.get("PYTHONPATH", "").split(":")])})
+        self.must("made", done.status == 0, done.told)
+        made = json.loads(done.out)
+        given = ["--new-one", "5", "--newer"]
+        for name, line in (
+                ("help", "  --new-one K           a new one; without it: none\n"),
+                ("help", "  --newer               it is newer\n"),
+                ("man page",
+                 ".TP\n\\fB\\-\\-new\\-one\\fP \\fIK\\fP\nA new one; without it: none.\n"),
+                ("man page", ".TP\n\\fB\\-\\-newer\\fP\nIt is newer.\n"),
+                ("chapter", "| `--new-one K` | a [new](x.md) `one` |\n"),
+                ("chapter", "| `--newer` | it is newer |\n"),
+                ("completion", " --new-one ")):
+            self.must(name, line in made[name], made[name])
+        self.must("a flag has no value", "--newer" not in made["completion"])
+        for name, members in (("asked", ("5", True)), ("left out", (None, False)),
+                              ("line", ("5", True))):
+            found = made[name]["new_one"], made[name]["newer"]
+            self.must(name, found == members, found)
+        self.must("call", made["call"] == [*given, "--", "a.stl", "a.ts"] and made["same"], made)
+        self.must("again", made["again"] == "tools/qc a.stl a.ts " + " ".join(given), made["again"])
+        self.must("check", made["check"] == ["--complete", *given] and made["file"] == given[:2] ==
+                  made["pages"], made)
+        self.must("schema", made["schema"]["new_one"]["description"] == "What is new." and
+                  made["schema"]["newer"] == {"type": "boolean"}, made["schema"])
+        alone, pair, collect, channel, newer = made["not with"]
+        self.must("modes", pair is None and channel is None and "--newer goes with" in alone and
+                  "--new-one goes with" in collect and "--newer goes with" in newer,
+                  made["not with"])
+        self.must("lines of a channel", made["channel"][0] is None and
+                  "--newer goes with" in made["channel"][1], made["channel"])
+
+
+class Rows(Case):
+    """What each row comes to."""
+
+    def test_all_rows(self) -> None:
+        """Of each option by itself, and of all: the words of a call and the call to type give the
+        same, and it is in the result; a line of a list has it too."""
+        names = [one.name for one in OPTIONS]
+        self.must("all", {*names} == {*BACK, "--profile", *(name for name, _, _ in ROWS)})
+        parser = Words("")
+        add_options(parser)
+        plain_words = parser.parse_args([])
+        without = ASKED.made(asked_for("one.stl", "one.pes"))
+        for name, value, member in ROWS:
+            words = [name, value] if value else [name]
+            words += ["--within", "5"] if name == "--late" else []
+            asked = asked_for("one.stl", "one.pes", *words)
+            self.must(f"{name}: a call",
+                      sorted(call_words(asked)) == sorted([*words, "--", "one.stl", "one.pes"]))
+            once_more = request_with("one.stl", "one.pes", parser.parse_args(words))
+            self.must(f"{name}: again", once_more == asked)
+            known = ASKED.made(asked)
+            key = name.replace("--no-", "--").strip("-").replace("-", "_")
+            self.must(f"{name}: result", known == {
+                **without, **({"within": 5} if name == "--late" else {}), key: member}, known)
+            line = request_of_line(["one.stl", "one.pes", *words], plain_words)
+            self.must(f"{name}: line", line == asked, line)
+        every = [word for name, value, _ in ROWS if name != "--start"
+                 for word in ([name, value] if value else [name])]
+        asked = asked_for("one.stl", "one.pes", *every)
+        typed = again(asked, CommandWords("tools/qc", self.bench.program))
+        for name, _, _ in ROWS:
+            self.must(f"{name}: typed", (f" {name}" in typed) == (name != "--start"), typed)
+        self.must("complete", options_of(asked_for("a", "b", "--complete")) == [[]] * len(OPTIONS))
+
+    def test_what_stands_in_a_row(self) -> None:
+        """Each says what it is and what holds without it, and each but those that take another one
+        back has a member."""
+        for one in OPTIONS:
+            self.must(one.name, bool(one.means and one.without and one.modes) and
+                      {*one.modes} <= {*JUDGED, MEASURE} and one.help == plain(one.help), one)
+            self.must(f"{one.name}: member", (one.member is None) == one.name.startswith("--no-"))
+            has_line = {mode for mode in (LINE, CHANNEL_LINE) if mode in one.modes}
+            self.must(f"{one.name}: lines", bool(has_line), one.modes)
+        self.must("of a file", [one.name for one in OPTIONS if ALONE in one.modes] == [
+            "--option", "--severity", "--strict", "--from", "--to", "--layout", "--open",
+            "--profile"])
+
+    def test_words_of_a_value(self) -> None:
+        """None where it is what is taken without them."""
+        number = Option("--n", "N", "", JUDGED, field="n", default=5, shape=Text())
+        flag = Option("--f", None, "", JUDGED, field="f", default=False, shape=Flag())
+        other = Option("--no-f", None, "", JUDGED, field="f", default=True, sets=False)
+        for one, value, words in ((number, 5, []), (number, None, []), (number, 0, ["--n", "0"]),
+                                  (flag, False, []), (flag, True, ["--f"]), (other, True, []),
+                                  (other, False, ["--no-f"])):
+            self.must(f"{one.name} {value}", one.words(value, one.default) == words)
+        for text, wanted in (("a [b c](d.md#e) `f` [g](h)", "a b c f g"), ("none", "none"),
+                             ("[a](b)", "a"), ("`[x]`", "[x]")):
+            self.must(text, plain(text) == wanted, plain(text))
+
+
+# Profiles: what a file of options says, what is typed beside it, and where it is found.
+
+STORY, RECORDING = example("story.stl"), example("recording.ts")
+MAY = ("--page, --every, --option, --complete, --no-complete, --pid, --allow-lost, --severity, "
+       "--within, --late, --layout, --keeping, --pace")
+
+
+class Files(Case):
+    """What stands in a profile."""
+
+    def test_lines(self) -> None:
+        """An option a line, as in a line of a list; a comment and an empty line say nothing."""
+        rows: list[tuple[str, dict[str, object]]] = [
+            ("", {}), ("# nothing\n\n  # here\n", {}), ("--every 25", {"every": 25}),
+            ("--every=25  # each second\r\n--keeping\r\n", {"every": 25, "may_keep": True}),
+            ("--no-complete\n--pid 0x1A1\n--page 801", {
+                "is_complete": False, "pid": 0x1A1, "page": (0, 1)}),
+            ("--layout 'fit,up'\n--pace none\n--option auto", {
+                "layout": "fit,up", "pace_word": "none", "option": "auto"}),
+            ("--severity one\n--allow-lost", {
+                "severity": self.path("one"), "is_loss_allowed": True}),
+            ("--severity /one", {"severity": "/one"}),
+            ("--within 2\n--late 0:31,2:69/0:1", {
+                "within": 2, "late": Lateness({0: 31, 2: 69}, {0: 1})})]
+        for text, wanted in rows:
+            profile = profile_at(self.write("house", text.encode()))
+            found = {field: setting.value for field, setting in profile.settings.items()}
+            self.must(text, found == wanted, found)
+            self.must(f"{text}: sum", (profile.name, profile.sha256) == (
+                self.path("house"), hashlib.sha256(text.encode()).hexdigest()))
+
+    def test_wrong_lines(self) -> None:
+        """Named by number: what is of one recording, what is no option, a wrong value."""
+        not_there = f"does not stand in a profile, which may have {MAY}"
+        for text, number, said in (
+                ("--every 25\n\n--breaks 1", 3, f"--breaks {not_there}"),
+                *((f"{name}=1", 1, f"{name}=1 {not_there}") for name in (
+                    "--from", "--to", "--origin", "--start", "--pes", "--profile", "--json",
+                    "--new", "keeping")),
+                *((name, 1, f"{name} {not_there}") for name in (
+                    "--no-keeping", "--no-allow-lost", "--strict", "--open", "one.stl")),
+                ("--every 0", 1, "argument --every: 0 is no repeat bound: 1 to 2160000 frames"),
+                ("#\n--within", 2, "argument --within: expected one argument"),
+                ("--keeping --every 25", 1, "unrecognized arguments: --every 25"),
+                ("--every 25 50", 1, "unrecognized arguments: 50"),
+                ("--every '25", 1, "a quote does not end"),
+                ("--every 25\n--every 25", 2, "--every is said in line 1"),
+                ("--complete\n#\n--no-complete", 3, "--no-complete is said in line 1"),
+                ("--late 0:1", 1, "argument --late: 0:1 are no shares of delays: as "
+                 "0:31,1:40,2:29/0:100, begins before the slash and ends behind it")):
+            path = self.write("house", text.encode())
+            with self.assertRaises(Stop) as refused:
+                profile_at(path)
+            self.must(text, str(refused.exception) == f"{path}, line {number}: {said}",
+                      refused.exception)
+
+    def test_may_have(self) -> None:
+        """Which options: those that a refusal names."""
+        self.assertEqual(", ".join(one.name for one in OPTIONS if one.in_profile), MAY)
+
+    def test_late(self) -> None:
+        """Shares of delays: rising, none of them empty."""
+        for text, begins, ends in (
+                ("0:1/0:1", {0: 1}, {0: 1}),
+                ("1:31,50:1000000/0:7,2:1", {1: 31, 50: 1_000_000}, {0: 7, 2: 1})):
+            late = late_word(text)
+            self.assertEqual((late, late_text(late)), (Lateness(begins, ends), text))
+            self.assertEqual(late.longest, max(*begins, *ends))
+        for text in ("", "/", "0:1", "0:1/", "/0:1", "0:1/0:1/0:1", "0:0/0:1", "51:1/0:1", "0/0:1",
+                     "1:1,0:1/0:1", "0:1,0:1/0:1", "0:1000001/0:1", "-1:1/0:1", "0:1,/0:1",
+                     "0:\u0661/0:1", "0 :1/0:1"):
+            with self.subTest(text):
+                self.assertRaises(argparse.ArgumentTypeError, late_word, text)
+
+
+class Beside(Case):
+    """What is typed beside a profile, in a call and in a line of a list."""
+
+    def asked(self, call: str, line: str | None) -> Request:
+        """What is asked of a pair of a call, or of a line of its list, in the folder."""
+        words = defaults(*call.split())
+        return asked_for("a.stl", "a.ts", *call.split()) if line is None else \
+            request_of_line(["a.stl", "a.ts", *line.split()], words, self.folder)
+
+    def test_who_wins(self) -> None:
+        """What is typed beside a profile, which comes before what is known without it. A line's own
+        comes before all that its call says, and none of the call's stands beside it."""
+        house = self.write("house", b"--every 25\n--keeping\n--within 2\n--late 0:1,2:1/0:1\n")
+        self.write("other", b"--every 50\n--no-complete\n")
+        shares = Lateness({0: 1, 2: 1}, {0: 1})
+        for call, line, wanted in (
+                (f"--profile {house}", None, (25, True, 2, shares, True)),
+                (f"--profile {house} --every 9 --no-keeping", None, (9, False, 2, shares, True)),
+                (f"--profile {house} --every 250 --within 0", None, (250, True, 0, None, True)),
+                (f"--within 3 --profile {house}", None, (25, True, 3, None, True)),
+                (f"--within 2 --late 1:1/1:1 --profile {house}", None,
+                 (25, True, 2, Lateness({1: 1}, {1: 1}), True)),
+                (f"--profile {house}", "", (25, True, 2, shares, True)),
+                (f"--profile {house}", "--every 9 --no-keeping", (9, False, 2, shares, True)),
+                (f"--profile {house}", "--within 1", (25, True, 1, None, True)),
+                (f"--profile {house} --every 9", "", (9, True, 2, shares, True)),
+                (f"--profile {house} --keeping", "--profile other", (50, True, 0, None, False)),
+                (f"--profile {house}", "--profile other", (50, False, 0, None, False)),
+                (f"--profile {house}", "--profile other --complete --every 8",
+                 (8, False, 0, None, True)),
+                ("--every 9 --keeping", "--profile other", (50, True, 0, None, False)),
+                ("--every 9", "--profile house --within 2", (25, True, 2, shares, True)),
+                ("--every 9", "--profile house --within 3", (25, True, 3, None, True)),
+                ("--within 1 --late 0:1,1:1/0:1", "--within 0", (250, False, 0, None, True))):
+            asked = self.asked(call, line)
+            found = (asked.every, asked.may_keep, asked.within, asked.late, asked.is_complete)
+            self.must(f"{call} | {line}", found == wanted, found)
+            again = asked_for("a.stl", "a.ts", *call_words(asked)[:-3])
+            self.must(f"{call} | {line}: again", again == asked, again)
+
+    def test_shares_go_with_a_bound(self) -> None:
+        for words in ("--late 0:1,1:1/0:1", "--late 0:1/0:1,3:1 --within 2"):
+            self.assertRaises(Stop, asked_for, "a.stl", "a.ts", *words.split())
+
+    def test_lists(self) -> None:
+        """The path of a line's profile begins at the list; a wrong line of it is that of the line.
+        """
+        os.mkdir(self.path("in"))
+        for name, data in (("in/house", b"--every 25\n"), ("in/bad", b"#\n--breaks 1\n"),
+                           ("a.stl", b""), ("a.ts", b"")):
+            self.write(name, data)
+        pair = f"{self.path('a.stl')} {self.path('a.ts')} --profile"
+        path = self.write("in/list", f"{pair} house\n{pair} bad\n{pair} none\n".encode())
+        good, bad, none = pairs_at(path, defaults())
+        self.must("good", good.asked and good.asked.every == 25 and self.path("in/house") in
+                  good.files, good)
+        said = f"{path}, line 2: {self.path('in/bad')}, line 2: --breaks does not stand in a "
+        self.must("bad", bad.asked is None and str(bad.reason).startswith(said), bad.reason)
+        self.must("none", none.asked is None and f"{self.path('in/none')}" in str(none.reason),
+                  none.reason)
+
+    def test_lines_of_a_channel(self) -> None:
+        """The same; a PID is the feed's, so no profile of a line has one."""
+        house = self.write("house", b"--every 25\n")
+        self.write("pid", b"--pid 0x101\n")
+        path = self.write("list", b"")
+        planned = Planned(path, defaults("--every", "9"))
+        self.must("a line", planned.asked_of(["a.stl", "--profile", "house"]).every == 25)
+        self.must("the call", Planned(path, defaults("--profile", house)).asked_of(
+            ["a.stl"]).every == 25)
+        self.must("a PID of the call", Planned(path, defaults(
+            "--profile", self.path("pid"))).asked_of(["a.stl"]).pid == 0x101)
+        with self.assertRaises(Stop) as refused:
+            planned.asked_of(["a.stl", "--profile", "pid"])
+        self.must("a PID", "--pid goes with" in str(refused.exception), refused.exception)
+
+
+class Verdicts(Case):
+    """What is said of a profile, and of what it lets pass."""
+
+    def test_last_line(self) -> None:
+        """What lets faults pass has a word there, unless it is typed."""
+        some = self.write("some", b"--every 250\n")
+        waive = self.write("waive", b"--allow-lost\n--severity levels\n")
+        levels = self.write("levels", b"73 warning\n")
+        accepted = "accepted 226 frames 5 transmissions"
+        waived = "waived: refused 73 Gap frame 20:15:01:00"
+        for words, last in (
+                (["--profile", some], accepted),
+                (["--profile", waive], f"{accepted}; the profile has --allow-lost and --severity"),
+                (["--profile", waive, "--no-allow-lost"],
+                 f"{accepted}; the profile has --severity"),
+                (["--profile", waive, "--severity", levels + "x", "--no-allow-lost"], accepted),
+                (["--profile", waive, "--every", "25"],
+                 f"{waived}; the profile has --allow-lost and --severity"),
+                (["--severity", levels, "--every", "25"], waived)):
+            self.write("levelsx", b"")
+            found = judged(self, STORY, RECORDING, *words)
+            self.must(f"{words}", found.said[-1] == last == found.result["line"], found.said[-1])
+
+    def test_said(self) -> None:
+        """All that it says, in a line and in the result, with its sum."""
+        data = b"--every 25  # each second\n--no-complete\n--layout 'fit,up'\n"
+        path = self.write("house", data)
+        asked = asked_for("a.stl", "a.ts", "--profile", path, "--every", "50")
+        self.must("line", asked.profile and profile_line(asked.profile) ==
+                  f"profile {path}: --every 25 --no-complete --layout fit,up")
+        found = judged(self, STORY, RECORDING, "--profile", path, "--layout", "up", "--every", "50")
+        known = found.result["asked"]
+        self.must("result", known["profile"] == {
+            "name": path, "sha256": hashlib.sha256(data).hexdigest()} and
+            (known["every"], known["complete"], known["layout"]) == (50, False, "up"), known)
+
+    def test_is_no_output(self) -> None:
+        """It is an input: nothing is written over it. A wrong one ends the call."""
+        path = self.write("house", b"--every 25\n")
+        bad = self.write("bad", b"\n--every")
+        for words, said in (
+                (["--profile", path, "--json", path], f"{path} is an input too"),
+                (["--profile", bad, "--json", "x.json"],
+                 f"{bad}, line 2: argument --every: expected one argument")):
+            done = self.tool("qc", STORY, RECORDING, *words)
+            self.must(said, done.status == 2 and done.told == [f"qc: {said}"], done)
+        self.must("as it was", self.read("house") == b"--every 25\n" and
+                  b"line 2" in self.read("x.json"))

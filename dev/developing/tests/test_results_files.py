@@ -1,0 +1,382 @@
+"""JSON results, written, read back and collected."""
+from __future__ import annotations
+
+import argparse
+import contextlib
+import copy
+import io
+import json
+import os
+import random
+import sys
+from typing import Any, Iterator, Sequence
+from unittest import mock
+
+from subtitles.cli import collection
+from subtitles.cli.batch import Calls, kept_rows
+from subtitles.common.command_line import Stop
+from subtitles.common.program import MadeWith, TOP, read
+from subtitles.common.shapes import Integer, Listed
+from subtitles.formats.listing import SILENT, UNDECIDED
+from subtitles.request.commands import CommandWords
+from subtitles.request.lines import Item
+from subtitles.results import files
+from subtitles.results.files import object_at, object_of, unjudged
+from subtitles.results.schema import FAULT as ROWS_OF_FAULT, FORMAT, LISTS, VERDICT, misfit, schema
+from .. import DEV
+from ..pages import SCHEMA, laid_out
+from .bench import Case, example_bytes
+from .channels import defaults
+from .judged import judged
+from .listings import results_in
+from .parts import asked_for
+from .results import FAULT, result, row, schema as read_schema, second_reader, wrong_in
+
+
+# JSON results: the schema is made of their table, all that is written fits it, and whatever stands
+# in a file that is read back is a result, or a pair that was not judged.
+
+SEED, CHANGES = 20261128, 900
+RANDOM_CALLS = 5_000, 5_016  # numbers of calls that no table has
+STRANGE: list[Any] = [
+    None, True, False, -1, 0, 1, 80, 5.5, 1 << 53, 1 << 62, "", "x", "refused 72 X", "\x1b[31m",
+    "\ud800", "\udce9", "<script>alert(1)</script>", "=1+1", "99:99:99:99", "x" * 70_000, "\n", [],
+    {}, [[]], [{}], {"a": 1}, "accepted", "refused", "not judged", "2026-99-99T99:99:99Z"]
+# Texts of files, and why each is no result.
+TEXTS = {
+    b"[" * 100_000: "it is too deep", b'{"a":' * 100_000: "it is too deep",
+    b'{"verdict": ' + b"9" * 5_000 + b"}": "is no number", b'{"verdict": NaN}': "is no number",
+    b'{"verdict": -Infinity}': "is no number", b"": "Expecting value",
+    b"\xff": "codec can't decode",
+    b"\xef\xbb\xbf{}": "Unexpected UTF-8 BOM", b'{"verdict"': "Expecting"}
+
+
+def changed(known: Any, chance: random.Random) -> Any:
+    """A result of which one value is another one, is gone, or stands beside another one."""
+    made = copy.deepcopy(known)
+    places = [*places_in(made)]
+    holder, key = chance.choice(places)
+    how = chance.randrange(8)
+    if how == 0:
+        del holder[key]
+    elif how == 1 and isinstance(holder, dict):
+        holder[f"{key}x"] = holder[key]
+    elif how == 2:
+        other, place = chance.choice(places)
+        with contextlib.suppress(KeyError, IndexError):
+            holder[key] = copy.deepcopy(other[place])
+    else:
+        holder[key] = chance.choice(STRANGE)
+    return made
+
+
+def places_in(value: Any) -> Iterator[tuple[Any, Any]]:
+    """Each list or object with each place in it."""
+    keys: Sequence[Any] = list(value) if isinstance(value, dict) else \
+        range(len(value)) if isinstance(value, list) else ()
+    for key in keys:
+        yield value, key
+        yield from places_in(value[key])
+
+
+class Written(Case):
+    """The schema, and what is written."""
+
+    def test_schema_is_made(self) -> None:
+        """It is what dev/make-pages makes of the table, and is a schema."""
+        self.must("made", read(os.path.join(TOP, SCHEMA)) == laid_out(schema()) + "\n",
+                  "dev/make-pages")
+        self.must("read", second_reader() is None or second_reader().schema == read_schema())
+
+    def test_new_member(self) -> None:
+        """A row of the table is a member of what is written, of the schema, and of what is read."""
+        row = ROWS_OF_FAULT.members[0]._replace(name="new", shape=Integer(3, 3), of=lambda _: 3)
+        with mock.patch.multiple(ROWS_OF_FAULT, members=(*ROWS_OF_FAULT.members, row),
+                                 shapes={**ROWS_OF_FAULT.shapes, "new": row.shape},
+                                 needed={*ROWS_OF_FAULT.needed, "new"}):
+            found = self.judge()
+            self.must("written", [one["new"] for one in found["faults"]] == [3] * 4, found)
+            known = schema()["definitions"]["fault"]
+            self.must("schema", known["properties"]["new"] == {
+                "description": row.meaning, "type": "integer", "minimum": 3, "maximum": 3} or
+                known["properties"]["new"]["maximum"] == 3, known["properties"]["new"])
+            self.must("read", misfit(result(faults=[FAULT])) == ".faults[0].new" and
+                      misfit(found) is None)
+        self.must("no more", misfit(found) == ".faults[0].new")
+
+    def judge(self) -> dict[str, Any]:
+        """The result of a recording with four faults."""
+        stl = self.write("story.stl", example_bytes("story.stl"))
+        return judged(self, stl, self.write("x.pes", example_bytes("five-faults.pes"))).result
+
+    def test_numbers_of_faults(self) -> None:
+        """All that `check` refuses."""
+        for number, fits in ((9, False), (10, True), (UNDECIDED, True), (SILENT, True),
+                             (80, False)):
+            known = result(faults=[{**FAULT, "number": number}])
+            self.must(f"{number}", (misfit(known) is None) == fits != any(
+                wrong_in(known, read_schema())))
+
+    def test_bounds(self) -> None:
+        """What is left out is counted, of each list; what fits no more is not begun."""
+        whole = self.judge()
+        self.must("all", not any(whole["left_out"].values()), whole["left_out"])
+        faults = next(one for one in LISTS if one.name == "faults").shape
+        for most in (0, 1, 3, 4):
+            with mock.patch.object(faults, "most", most):
+                known = self.judge()
+            self.must(f"{most}", known["faults"] == whole["faults"][:most] and
+                      known["left_out"] == {**whole["left_out"], "faults": 4 - most}, known)
+        with mock.patch.object(files, "MOST_BYTES", 0):
+            known = self.judge()
+        counts = {one.name: len(whole[one.name]) for one in LISTS}
+        self.must("none", known["left_out"] == counts and known["fault_count"] == 4, known)
+        size = sum(len(json.dumps(one, ensure_ascii=False)) for name in counts
+                   for one in whole[name])
+        for room, left in ((size, 0), (size - 1, 1)):
+            with mock.patch.object(files, "MOST_BYTES", room):
+                self.must(f"{room}", self.judge()["left_out"]["subtitles"] == left)
+
+    def test_longest(self) -> None:
+        """A text that is too long is cut; what can't be cut is no result."""
+        self.must("cut", len(unjudged("x", "y" * 70_000)["reason"]) == 65_536 and
+                  misfit(unjudged("x", "y" * 70_000)) is None)
+        found = judged(self, self.write("story.stl", example_bytes("story.stl")))
+        program = MadeWith("1", "0" * 64, None)
+        found.verdict.reason = "why"
+        known = json.loads("".join(object_of(found.verdict, program)))
+        self.must("not judged", known["verdict"] == "not judged" and misfit(known) is None)
+        for name, value in (("seconds", -1.0), ("date", "today")):
+            vars(found.verdict)[name] = value
+            with self.assertRaises(ValueError):
+                list(object_of(found.verdict, program))
+
+    def test_random_calls(self) -> None:
+        """Results of calls that no table has."""
+        done = self.call([sys.executable, "-m", "developing.tests.at_random", self.bench.program,
+                          *map(str, RANDOM_CALLS)], env={
+                              **os.environ, "PYTHONPATH": os.pathsep.join(
+                              [DEV, *os.environ.get("PYTHONPATH", "").split(":")])})
+        self.must("all fit", done.status == 0 and len(done.out.splitlines()) ==
+                  RANDOM_CALLS[1] - RANDOM_CALLS[0], done.told)
+
+
+class ReadBack(Case):
+    """Results that strangers wrote."""
+
+    def test_table_and_schema_agree(self) -> None:
+        """Of changed results both say the same; so does a second reader, where there is one."""
+        chance, fitting = random.Random(SEED), 0
+        known = [self.known(), unjudged("one", "why", True)]
+        for number in range(CHANGES):
+            made = changed(known[number % 9 == 8], chance)
+            wrong = [*wrong_in(made, read_schema())]
+            is_pair = isinstance(made, dict) and "pairs" not in made
+            self.must(f"{number}", not is_pair or (misfit(made) is None) == (not wrong),
+                      (wrong, misfit(made)))
+            if second_reader() and number % 9 == 0:
+                self.must(f"{number}: second reader",
+                          second_reader().is_valid(made) == (not wrong), wrong)
+            fitting += not wrong
+        self.must("some of each", CHANGES // 20 < fitting < CHANGES // 2, fitting)
+
+    def known(self) -> dict[str, Any]:
+        """A result with something of each kind."""
+        stl = self.write("story.stl", example_bytes("story.stl"))
+        ts = self.write("x.pes", example_bytes("five-faults.pes"))
+        return judged(self, stl, ts, "--every", "25").result
+
+    def words(self, **more: Any) -> argparse.Namespace:
+        """The words of a call over a folder of results."""
+        for name in ("in", "out"):
+            os.makedirs(self.path(name), exist_ok=True)
+        words = argparse.Namespace(**vars(defaults()))
+        vars(words).update({
+            "watch": self.path("in"), "out": self.path("out"), "collect": self.path("out"),
+            "settled": 0, "is_kept": False, "csv": self.path("x.csv"), "junit": self.path("x.xml"),
+            "json": self.path("x.json"), **more})
+        return words
+
+    def all_read(self) -> list[dict[str, Any]]:
+        """What each mode that reads results says of those in a folder; the names of all."""
+        words, typed = self.words(), CommandWords("tools/qc", self.bench.program)
+        with contextlib.redirect_stdout(io.StringIO()), contextlib.redirect_stderr(io.StringIO()):
+            status = collection.collect(words)
+            rows = collection.Results(self.path("out")).rows
+        collection.write_index(self.path("out"), [*rows.values()])
+        names = sorted(name.removesuffix(".json") for name in os.listdir(self.path("out"))
+                       if name.endswith(".json"))
+        self.must("names", sorted(rows) == names, rows)
+        calls = Calls(typed, self.folder, self.path("out"), False)
+        asked = asked_for(self.path("story.stl"), self.path("x.pes"))
+        kept_rows(calls, [Item(name, asked, None) for name in names])
+        os.makedirs(self.path("kept"), exist_ok=True)
+        channel = results_in(self, self.path("kept"), self.path("out"))
+        for name in names:
+            record = channel.adopt(name, asked.stl)
+            self.must(f"channel: {name}", record is None or record.row and
+                      record.is_of(asked.stl) in (True, False), record)
+        pairs: list[dict[str, Any]] = json.loads(self.read("x.json"))["pairs"]
+        self.must("all pairs", len(pairs) == len(names) and status == 2, (len(pairs), names))
+        self.must("all fit", all(misfit(one) is None for one in pairs))
+        return pairs
+
+    def test_changed_results(self) -> None:
+        """No changed result ends a call, and each is a pair by its name."""
+        chance, known = random.Random(SEED + 1), self.known()
+        self.words()
+        for number in range(CHANGES // 6):
+            made = changed(known, chance)
+            if isinstance(made, dict) and "verdict" in made:
+                self.write(f"out/{number:03}.json", json.dumps(made).encode())
+        self.write("out/none.json", b"{")
+        pairs = self.all_read()
+        self.must("some fit", sum("asked" in one for one in pairs) > 5)
+        self.must("by name", all("asked" in one or one["name"] in {"none", *(
+            f"{number:03}" for number in range(CHANGES))} for one in pairs))
+
+    def test_no_results(self) -> None:
+        """What is too deep, too large, or no JSON at all."""
+        self.known()
+        self.words()
+        for number, (text, told) in enumerate(TEXTS.items()):
+            path = self.write(f"out/{number}.json", text)
+            found = object_at(path)
+            self.must(told, found is not None and found["verdict"] == "not judged" and
+                      found["name"] == f"{number}" and told in found["reason"], found)
+        self.write("out/whole.json", json.dumps(result("accepted")).encode())
+        self.all_read()
+        size = os.path.getsize(self.path("out/whole.json"))
+        for most, is_read in ((size, True), (size - 1, False)):
+            with mock.patch.object(files, "MOST_READ", most):
+                found = object_at(self.path("out/whole.json"))
+            self.must(f"{most}", found is not None and (found["verdict"] == "accepted") == is_read,
+                      found)
+        os.mkdir(self.path("empty"))
+        self.assertRaises(Stop, collection.collect, self.words(collect=self.path("empty")))
+
+    def test_written_is_read(self) -> None:
+        """The greatest number of items is less than half of what is read back."""
+        known = self.known()
+        self.must("it fits", misfit(known) is None and known["format"] == FORMAT)
+        self.must("all lists", {one.name for one in VERDICT.members
+                                if isinstance(one.shape, Listed)} == {one.name for one in LISTS})
+        self.must("room", files.MOST_READ == 2 * files.MOST_BYTES)
+
+
+# What is printed and written of many pairs, by their JSON results.
+
+
+class Collected(Case):
+    """What is printed and written of many pairs."""
+
+    ROWS = [row("one", "accepted", "accepted 5 frames"), row("second", "refused", "refused 72 "
+            "Content frame 1; more", "a hint", 12), row("c", "not judged", "why\nmore"),
+            row("d", "waived", "waived: refused 5 X", "", 3)]
+
+    def test_table(self) -> None:
+        """Columns as wide as their widest, and how many there are of which verdict."""
+        self.must("table", list(collection.table_of(self.ROWS)) == [
+            "pair    verdict     faults  first fault", "one     accepted         0",
+            "second  refused         12  72 Content frame 1: a hint",
+            "c       not judged          why", "d       waived           3  waived: refused 5 X",
+            "4 pairs: 1 accepted, 1 refused, 1 not judged, 1 waived"],
+                  list(collection.table_of(self.ROWS)))
+        self.must("one", list(collection.table_of(self.ROWS[:1]))[-1] == "1 pair: 1 accepted")
+
+    def end(self, **outputs: str) -> tuple[int, str, str]:
+        """The status of all rows, what is printed, and what is told."""
+        words = argparse.Namespace(csv=None, junit=None, json=None)
+        vars(words).update(outputs)
+        paths = [self.path(f"{one.name}.json") for one in self.ROWS]
+        for one, path in zip(self.ROWS, paths):
+            have = unjudged("c", "why\nmore") if one.name == "c" else \
+                result(one.verdict, line=one.line)
+            self.write(os.path.basename(path), json.dumps(have).encode())
+        out, told = io.StringIO(), io.StringIO()
+        with contextlib.redirect_stdout(out), contextlib.redirect_stderr(told):
+            status = collection.write_collection(words, self.ROWS, paths)
+        return status, out.getvalue(), told.getvalue()
+
+    def test_outputs(self) -> None:
+        """The table goes to standard output unless a file does, and what failed is told."""
+        table = "".join(f"{line}\n" for line in collection.table_of(self.ROWS))
+        self.must("none", self.end() == (2, table, ""), self.end())
+        for name in ("csv", "junit", "json"):
+            with mock.patch.object(collection, "put_file"):
+                self.must(f"{name} to -", self.end(**{name: "-"}) == (2, "", table))
+        status, out, told = self.end(csv=self.path("no/x"), junit=self.path("no/y"))
+        self.must("failed", status == 2 and
+                  out == f"{table.rstrip()}; not all was written\n" and
+                  len(told.splitlines()) == 2 and
+                  "no/x" in told.splitlines()[0] and "no/y" in told.splitlines()[1], told)
+        self.end(json=self.path("all"), csv=self.path("lines"), junit=self.path("cases"))
+        have = json.loads(self.read("all"))
+        self.must("as it is written", self.read("all").startswith(
+            b'{\n "format": 6,\n "status": 2,\n "date": "'))
+        self.must("objects", [one["verdict"] for one in have["pairs"]] ==
+                  ["accepted", "refused", "not judged", "waived"] and have["status"] == 2, have)
+        self.must("lines", len(self.read("lines").splitlines()) == 6)
+        self.must("cases", self.read("cases").count(b"<testcase") == 4)
+
+    def test_reader_that_leaves(self) -> None:
+        """Who reads the table may want no more: all is written, with its status."""
+        class Gone(io.StringIO):
+            """A pipe that nobody reads any more."""
+
+            def write(self, text: str) -> int:
+                raise BrokenPipeError
+
+        words = argparse.Namespace(csv=self.path("lines"), junit=None, json=None)
+        with mock.patch.object(collection, "silence") as silenced, \
+                contextlib.redirect_stdout(Gone()) as out:
+            status = collection.write_collection(words, self.ROWS[:2],
+                                                 [self.path("a"), self.path("b")])
+        self.must("status", status == 1 and os.path.exists(self.path("lines")) and
+                  silenced.call_args == mock.call(out), silenced)
+
+    def test_collects(self) -> None:
+        """The objects of a folder, whatever else is in it; the status is the worst."""
+        words = argparse.Namespace(csv=None, junit=None, json=None, collect=self.path("in"))
+
+        def collect() -> tuple[int, str, str]:
+            out, told = io.StringIO(), io.StringIO()
+            with contextlib.redirect_stdout(out), contextlib.redirect_stderr(told):
+                return collection.collect(words), out.getvalue(), told.getvalue()
+
+        self.assertRaises(Stop, collect)
+        os.mkdir(self.path("in"))
+        self.assertRaises(Stop, collect)
+        self.write("in/a.json", b"[]")
+        self.write("in/x.json", b"[]")
+        self.write("in/one.json", json.dumps(result("accepted")).encode())
+        status, out, told = collect()
+        self.must("accepted", status == 0 and "1 pair: 1 accepted" in out and
+                  told.count(".json is no JSON result of a pair, and is skipped") == 2, told)
+        with self.assertRaises(Stop):
+            collection.refuse_names(argparse.Namespace(json=None, csv=self.path("in"), junit=None))
+        self.write("in/two.json", json.dumps(result()).encode())
+        self.must("refused", collect()[0] == 1)
+        self.write("in/three.json", b"{")
+        self.must("not judged", collect()[0] == 2)
+        self.must("index", b"three" in self.read("in/index.html"))
+
+    def test_objects_that_went(self) -> None:
+        """One that can't be read by then is not judged, in the object of all and in the lines; of
+        one that can be what fits is written."""
+        path = self.path("gone.json")
+        for data in (None, b"[]", b"{"):
+            if data is not None:
+                self.write("gone.json", data)
+            have = json.loads(collection.fitting_text(path))
+            self.must("gone", have["verdict"] == "not judged" and have["name"] == "gone", have)
+        known = result(faults=[FAULT])
+        self.write("gone.json", b'{"status": 0, ' + json.dumps(known, indent=3).encode()[1:])
+        self.must("as it was read", json.loads(collection.fitting_text(path)) == known)
+        self.must("lines", len(b"".join(collection.csv_lines([path, path])).splitlines()) == 5)
+        known["left_out"]["faults"] = 7
+        self.write("gone.json", json.dumps(known).encode())
+        with contextlib.redirect_stderr(io.StringIO()) as told:
+            self.must("lines of some", len(list(collection.csv_lines([path]))) == 3)
+        self.must("told", told.getvalue().endswith(
+            f": {path} leaves out 7 faults, and so do the lines\n"), told.getvalue())

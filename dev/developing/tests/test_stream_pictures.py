@@ -1,0 +1,330 @@
+"""Whether the pictures leave the Teletext; what the PMT announces."""
+from __future__ import annotations
+
+import io
+import os
+import random
+import unittest
+from typing import Callable, Optional, Sequence
+from unittest import mock
+
+from developing.multiplex import ADAPTATION_ALONE, BEGINS, PACKET, PAYLOAD, head
+from developing.pes import pes_packet
+from subtitles.clock.start import Clock, Found, GIVEN, RECORDING, START
+from subtitles.common.times import CLOCK, TICKS
+from subtitles.formats.listing import PICTURES_LEFT
+from subtitles.judging.timing import NOT_CHECKED, departures_in, left_by_pictures
+from subtitles.stream.packets import Packets, Run, announced_in, jumps_at, jumps_told, packets_in
+from subtitles.stream.survey import Departure, Distance, FEW, Line, Step, Survey, departures_of
+from .bench import Case, example_bytes
+from .judged import judged
+from .muxed import programme as stream_with
+from .test_clocks import BEGIN, FIRST_PTS, STORY
+
+
+# Whether the pictures leave the Teletext: by the lines of `survey`, as tables.
+
+PID, VIDEO = 0x101, 0x200
+
+
+def distances(count: int, frames: float = 6, pts: int = 0, pid: int = PID, jitter: float = 0,
+              every: int = 1, chance: random.Random | None = None) -> list[Line]:
+    """PES packets of Teletext, each so many frames ahead of the pictures, but for some jitter."""
+    chance = chance or random.Random(1)
+    return [Distance(pid, (pts + TICKS * every * at) % CLOCK,
+                     round(TICKS * (frames - chance.uniform(0, jitter)))) for at in range(count)]
+
+
+def step(frames: float, before: int = 0) -> Step:
+    """By so many frames more than usual."""
+    return Step(before, (before + round(TICKS * (1 + frames))) % CLOCK, TICKS)
+
+
+class Departures(unittest.TestCase):
+    """What leaves, what stays, and what is not clear."""
+
+    def test_steps(self) -> None:
+        """On by some frames the Teletext is early, back it is late; where it goes along nothing
+        leaves; over the wrap too."""
+        for by in (1, 2, 12, 250, -1, -2, -250, 0.5, -0.5):
+            for begin in (0, CLOCK - TICKS * 20):
+                for name, after, wanted in (
+                        ("leaves", 6 - by, [Departure(TICKS * 90, round(TICKS * by))]),
+                        ("goes along", 6.0, []), ("the multiplexer", 6 + by, [])):
+                    lines = [*distances(40), step(by, begin), *distances(40, after, TICKS * 90)]
+                    self.assertEqual(departures_of(lines, PID), wanted, (by, begin, name))
+
+    def test_half_a_frame(self) -> None:
+        """It moves by as much, to half a frame."""
+        for moved, is_told in ((5.0, True), (5.49, True), (5.5, False), (4.51, True), (4.5, False),
+                               (10.0, False), (0.0, False)):
+            lines = [*distances(9, 8), step(5), *distances(9, 8 - moved)]
+            self.assertEqual(bool(departures_of(lines, PID)), is_told, moved)
+
+    def test_what_is_not_clear(self) -> None:
+        """Too few on a side, or a multiplexer that puts them anywhere; without any nothing is."""
+        rows: list[tuple[list[Line], list[Line], list[Departure]]] = [
+            (distances(FEW), distances(FEW, 4, TICKS), [Departure(TICKS, 2 * TICKS)]),
+            (distances(FEW - 1), distances(FEW, 4, TICKS), [Departure(TICKS, None)]),
+            (distances(FEW), distances(FEW - 1, 4, TICKS), [Departure(TICKS, None)]),
+            (distances(FEW), [], []), ([], [], []),
+            ([], distances(FEW, 4, TICKS), [Departure(TICKS, None, True)]),
+            (distances(50, jitter=8), distances(50, 4, TICKS), [Departure(TICKS, None)]),
+            (distances(50), distances(50, 4, TICKS, jitter=8), [Departure(TICKS, None)]),
+            (distances(50, jitter=1), distances(50, 4, TICKS, jitter=1),
+             [Departure(TICKS, 2 * TICKS)]),
+            (distances(50), distances(50, 4, TICKS, pid=7), []),
+            (distances(50, pid=7), distances(50, 4, TICKS), [Departure(TICKS, None, True)])]
+        for before, after, wanted in rows:
+            self.assertEqual(departures_of([*before, step(2), *after], PID), wanted)
+
+    def test_several(self) -> None:
+        """Each step by what lies between it and its neighbours; and there and back."""
+        lines = [*distances(60), step(3), *distances(60, 3, TICKS * 100), step(-3),
+                 *distances(60, 6, TICKS * 200), step(9), *distances(60, 6, TICKS * 300)]
+        self.assertEqual(departures_of(lines, PID), [
+            Departure(TICKS * 100, 3 * TICKS), Departure(TICKS * 200, -3 * TICKS)])
+        self.assertEqual(departures_of(lines, 7), [])
+        self.assertEqual(departures_of([], PID), [])
+
+    def test_at_random(self) -> None:
+        """Multiplexes with a jitter of up to a frame: none is told that does not leave, and each
+        that leaves is."""
+        kinds: dict[str, Callable[[int], tuple[list[int], float]]] = {
+            "nothing": lambda by: ([], 0), "pictures lost": lambda by: ([by], 0),
+            "both jump": lambda by: ([by], 0), "the multiplexer": lambda by: ([], by),
+            "leaves": lambda by: ([by], -by)}
+        for seed in range(60):
+            chance = random.Random(seed)
+            by, jitter = chance.choice([1, 2, 3, 5, 12, 250]), chance.choice([0, 0.5, 1])
+            count = chance.choice([10, 25, 50])
+            for kind, made in kinds.items():
+                steps, moved = made(by)
+                lines = [*distances(count, jitter=jitter, chance=chance), *map(step, steps),
+                         *distances(count, 6 + moved, TICKS * 100, jitter=jitter, chance=chance)]
+                wanted = [Departure(TICKS * 100, by * TICKS)] * (kind == "leaves")
+                self.assertEqual(departures_of(lines, PID), wanted, (kind, seed))
+
+    def surveyed(self, lines: Sequence[str]) -> Survey:
+        survey = Survey()
+        for line in lines:
+            survey.take(line)
+        return survey
+
+    def test_lines(self) -> None:
+        """Those of `survey`; a program that tells none, and fields of a later one."""
+        lines = [*(f"apart {PID} {TICKS * at} {TICKS * 6} {VIDEO}" for at in range(9)),
+                 f"step {VIDEO} 0 {TICKS * 3} {TICKS} more",
+                 *(f"apart {PID} {TICKS * at} {TICKS * 4} {VIDEO}" for at in range(9, 18)),
+                 f"steps {VIDEO} 1 {TICKS}"]
+        survey = self.surveyed(lines)
+        self.assertEqual(departures_of(survey.picture_clocks[VIDEO].lines, PID),
+                         [Departure(TICKS * 9, 2 * TICKS)])
+        self.assertEqual(survey.picture_clocks[VIDEO].untold, 0)
+        self.assertEqual(self.surveyed([]).picture_clocks, {})
+        for line, has_step, untold in ((f"steps {VIDEO} 0 -", False, 0),
+                                       (f"steps {VIDEO} 0 {TICKS}", True, 0),
+                                       (f"steps {VIDEO} 3 {TICKS}", True, 3)):
+            clock = self.surveyed([line]).picture_clocks[VIDEO]
+            self.assertEqual((clock.has_step, clock.untold), (has_step, untold), line)
+
+
+# Pictures that leave the subtitles, judged: what is early or late for viewers, by tables, and a
+# pair of which `survey` tells it.
+
+
+def lines_of_step(frames: float, at: int, count: int = 10, before: float = 0) -> list[str]:
+    """What is told of pictures that go on by so many frames more at a frame of the Teletext, and
+    did by others before."""
+    ahead = [6.0 - before] * count + [6.0 - before - frames] * count
+    lines = [f"apart {PID} {(TICKS * (at - count + place)) % CLOCK} {round(TICKS * one)} {VIDEO}"
+             for place, one in enumerate(ahead)]
+    return [*lines[:count], f"step {VIDEO} 0 {round(TICKS * (1 + frames)) % CLOCK} {TICKS}",
+            *lines[count:]]
+
+
+def surveyed(*steps: Sequence[str], end: str = f"steps {VIDEO} {{}} {TICKS}") -> Survey:
+    survey = Survey()
+    for line in [f"programme 1 {VIDEO}", f"stream {PID} 6", f"stream {VIDEO} 2",
+                 *(line for step in steps for line in step), end.format(len(steps))]:
+        survey.take(line)
+    return survey
+
+
+class Left(unittest.TestCase):
+    """What is wrong of a part from frame 1000 to 2000."""
+
+    def told(self, survey: Survey, within: int = 0, source: str = GIVEN) \
+            -> tuple[list[tuple[str | None, str | None, str]], list[str]]:
+        found = Found(1000, 2000, Clock(0, source))
+        faults, notes = left_by_pictures(survey, PID, found, within, 1)
+        self.assertTrue(all(one.name == PICTURES_LEFT and one.part == 1 for one in faults))
+        return [(one.time, one.until, one.words.partition(" on subtitles come ")[2].partition(
+            " for viewers")[0]) for one in faults], notes
+
+    def test_faults(self) -> None:
+        """On: early; back: late, but for what is allowed of that; there and back; outside."""
+        middle, end = "00:01:00:00", "00:01:19:24"
+        rows: list[tuple[list[tuple[float, int]], int, list[tuple[str, str, str]]]] = [
+            ([], 0, []), ([(2, 1500)], 0, [(middle, end, "2 frames early")]),
+            ([(2, 1500)], 5, [(middle, end, "2 frames early")]),
+            ([(-2, 1500)], 0, [(middle, end, "2 frames late")]),
+            ([(-2, 1500)], 1, [(middle, end, "2 frames late")]), ([(-2, 1500)], 2, []),
+            ([(0.5, 1500)], 0, [(middle, end, "0.5 frames early")]),
+            ([(250, 1500)], 0, [(middle, end, "250 frames early")]),
+            ([(2, 1500), (-2, 1600)], 0, [(middle, "00:01:03:24", "2 frames early")]),
+            ([(-1, 1500), (-1, 1600)], 1, [("00:01:04:00", end, "2 frames late")]),
+            ([(2, 1000)], 0, [("00:00:40:00", end, "2 frames early")]),
+            ([(2, 999)], 0, []), ([(2, 2000)], 0, []),
+            ([(2, 1999)], 0, [(end, end, "2 frames early")])]
+        for steps, within, wanted in rows:
+            survey = surveyed(*(lines_of_step(by, at, before=sum(by for by, _ in steps[:place]))
+                                for place, (by, at) in enumerate(steps)))
+            self.assertEqual(self.told(survey, within)[0], wanted, steps)
+
+    def test_first_picture(self) -> None:
+        """By that clock what steps before the first subtitle counts too."""
+        survey = surveyed(lines_of_step(2, 900))
+        self.assertEqual(self.told(survey, source=RECORDING), ([], []))
+        self.assertEqual(self.told(survey, source=START)[0],
+                         [("00:00:40:00", "00:01:19:24", "2 frames early")])
+        several = [*(Departure(TICKS * at, 9) for at in (900, 1000, 1999, 2000)),
+                   Departure(TICKS * 1000, None, True)]
+        for source, count in ((GIVEN, 2), (START, 4)):
+            found = Found(1000, 2000, Clock(0, source))
+            self.assertEqual(len(departures_in(several, found)), count)
+
+    def test_notes(self) -> None:
+        """What is allowed, and what is not checked."""
+        times = f"{NOT_CHECKED}: their decoding times"
+        for survey, within, begin in (
+                (surveyed(lines_of_step(-2, 1500)), 2, "from 00:01:00:00 on subtitles come 2 "
+                 "frames late for viewers: the pictures go on elsewhere, as --within 2 allows"),
+                (surveyed(lines_of_step(2, 1500, 4)), 0, f"{NOT_CHECKED} at 1 place where"),
+                (surveyed(end=f"steps {VIDEO} 0 -"), 0, f"{times} have"),
+                (surveyed(end=f"steps {VIDEO} 7 {TICKS}"), 0, f"{times} step more often")):
+            faults, notes = self.told(survey, within)
+            self.assertEqual((faults, [one[:len(begin)] for one in notes]), ([], [begin]))
+        self.assertEqual(self.told(Survey()), ([], []))
+
+
+class Pairs(Case):
+    """A pair of which the program tells it."""
+
+    def test_refused(self) -> None:
+        """By a name of its own, with the time; another programme's video says nothing."""
+        data = stream_with(example_bytes("story.pes"), FIRST_PTS).data
+        path, end = self.write("one.ts", data), Survey.take_over
+        rows: list[tuple[int, list[str], str]] = [
+            (12, [], "refused"), (-3, [], "refused"), (-3, ["--within", "3"], "accepted"),
+            (0, [], "accepted")]
+        for frames, words, word in rows:
+            def take_over(survey: Survey, *more: str) -> None:
+                for line in lines_of_step(frames, BEGIN + 100) if frames else []:
+                    survey.take(line)
+                end(survey, *more)
+
+            with mock.patch.object(Survey, "take_over", take_over):
+                found = judged(self, STORY, path, "--origin", "0", *words)
+            self.must(f"{frames} {words}", found.word == word, found.said)
+            line = "refused pictures left frame 20:15:04:00"
+            self.must(f"{frames} {words}: line", (line == found.result["line"]) ==
+                      (word == "refused"), found.result["line"])
+            way = "12 frames early" if frames > 0 else "3 frames late"
+            self.must(f"{frames}: sentence", word != "refused" or f"from 20:15:04:00 on subtitles "
+                      f"come {way} for viewers" in found.verdict.sentence, found.verdict.sentence)
+
+
+# Jumps of a counter that a stream announces: the TS packets of a PID, and where they say so.
+
+SIZES = (188, 192, 204)
+
+
+def ts_packet(pid: int = PID, begin: Optional[int] = None, field: Optional[int] = None,
+              has_payload: bool = True) -> bytes:
+    """A TS packet: one in which a PES packet with a PTS begins; the flags of its adaptation field,
+    or an empty field where these are 0."""
+    made = b"" if field is None else b"\0" if not field and has_payload else \
+        bytes([30, field]).ljust(31, b"\xff")
+    if not has_payload:
+        made = bytes([PACKET - 5]) + made[1:].ljust(PACKET - 5, b"\xff")
+    data = b"\x55" * PACKET if begin is None else pes_packet(begin, [])
+    control = PAYLOAD * has_payload | ADAPTATION_ALONE * (field is not None)
+    return (head(pid, BEGINS * (begin is not None), control) + made + data)[:PACKET]
+
+
+class Announced(Case):
+    """Functions that decide."""
+
+    def test_announced(self) -> None:
+        """The packet in which a PES packet begins, one before it, one without a payload; the last
+        of several counts once, and each of several."""
+        plain, first, second = ts_packet(), ts_packet(begin=5), ts_packet(begin=CLOCK - 7)
+        says, alone = ts_packet(field=0x80), ts_packet(field=0x80, has_payload=False)
+        both = ts_packet(begin=9, field=0x80)
+        rows: list[tuple[str, list[bytes], list[int]]] = [
+                ("none", [], []), ("no jump", [first, plain, second], []),
+                ("before", [first, says, plain, second], [CLOCK - 7]),
+                ("without a payload", [first, plain, alone, second, first], [CLOCK - 7]),
+                ("in it", [first, plain, both, first], [9]), ("first", [both, second], [9]),
+                ("last", [first, says, plain], []), ("two", [says, alone, first], [5]),
+                ("each", [both, second, says, first], [9, 5]),
+                ("another flag", [ts_packet(field=0x40), first], []),
+                ("an empty field", [ts_packet(begin=9, field=0), first], [])]
+        for name, packets, wanted in rows:
+            told = [*announced_in(iter(packets))]
+            self.must(name, told == wanted, told)
+
+    def test_packets(self) -> None:
+        """The TS packets of a PID, of each size, behind bytes of none and where some stand between,
+        once and often; the last is whole."""
+        own = [ts_packet(begin=at) for at in range(40)]
+        others = [ts_packet(pid) for pid in (0x001, 0x201, 0x102, 0x1FFF)]
+        for size in SIZES:
+            spaced = [b"\0" * (4 * (size == 192)) + one + b"\0" * (16 * (size == 204))
+                      for some in own for one in (some, *others)]
+            cut = [b"".join(spaced[:70]), b"".join(spaced[70:])]
+            often = [b"".join(spaced[at:at + 20]) for at in range(0, len(spaced), 20)]
+            for name, data in (("whole", b"".join(cut)), ("junk", b"\x47junk" + b"".join(cut)),
+                               ("between", b"junk ".join(cut)),
+                               ("at the end", b"".join(cut) + b"G"),
+                               ("often", b"junk ".join(often))):
+                told = [*packets_in(io.BytesIO(data), size, PID)]
+                self.must(f"{size} {name}", told == own, len(told))
+        self.must("no packet", not [*packets_in(io.BytesIO(b""), 188, PID)]
+                  and not [*packets_in(io.BytesIO(b"G" * 100), 188, PID)])
+
+    def test_jumps(self) -> None:
+        """Of those after which more frames pass than usual, each once; over the wrap too."""
+        path = self.path("one.ts")
+        for origin in (0, CLOCK - 5 * TICKS):
+            frames = [0, 1, 2, 5, 6, 8, 9, 12]
+            pts = [(origin + frame * TICKS) % CLOCK for frame in frames]
+            packets = Packets(PID, [Run(at, 1, one, 0, "-", "") for at, one in enumerate(pts)])
+            with open(path, "wb") as file:
+                file.write(b"".join(ts_packet(begin=one, field=0x80 * (frame in (2, 5, 8)) or None)
+                                    for one, frame in zip(pts, frames)))
+            rows: list[tuple[int, tuple[int, int], list[tuple[int, int]]]] = [
+                (1, (0, 7), [(2, 5), (6, 8)]), (2, (0, 7), [(2, 5)]), (3, (0, 7), []),
+                (1, (0, 2), []), (1, (3, 7), [(6, 8)]), (1, (2, 3), [(2, 5)])]
+            for usual, inside, wanted in rows:
+                told = jumps_at(packets, inside, usual, path, 188)
+                pairs = [(pts[frames.index(one)], pts[frames.index(other)])
+                         for one, other in wanted]
+                self.must(f"{origin} {usual} {inside}", told == pairs, told)
+                packets.seams = [frames.index(frame) for frame in (2, 5, 8)]
+                told = jumps_told(packets, inside, usual)
+                self.must(f"{origin} {usual} {inside}: as survey tells", told == pairs, told)
+        self.must("before the first", jumps_told(Packets(PID, packets.runs, seams=[0, 99]), (0, 7),
+                                                 1) == [])
+        os.remove(path)
+        self.must("nothing is read", jumps_at(packets, (0, 7), 9, path, 188) == [])
+
+    def test_lines(self) -> None:
+        """Those of a program that tells jumps; of another one the stream is looked at."""
+        for line, is_told in ((f"seam {PID} 7", True), (f"seam {PID} 7 more", True),
+                              ("steps 512 0 -", True), (f"teletext {PID}", False)):
+            survey = Survey()
+            survey.take(line)
+            self.must(line, survey.tells_seams == is_told and (
+                "seam" not in line or survey.by_pid[PID].seams == [7]))

@@ -1,0 +1,378 @@
+"""Where something is missing of a stream, in words and in multiplexes."""
+from __future__ import annotations
+
+import argparse
+import os
+from typing import Tuple
+
+from developing.multiplex import PACKET
+from developing.pes import pts_in
+from developing.stl import boxed, gsi_block, subtitle_blocks
+from subtitles.cli.main import parser_of
+from subtitles.common.command_line import Stop
+from subtitles.common.program import MadeWith
+from subtitles.common.times import CLOCK, TICKS
+from subtitles.request.lines import pairs_at
+from subtitles.request.request import request_of
+from subtitles.results.files import found, is_current
+from subtitles.results.schema import ASKED
+from subtitles.stream.gaps import (
+    ClockJump, MOST_LATE, Place, SECOND, jumps_of, late_of, places_of, reach_of, what_of,
+    why_refused)
+from subtitles.stream.packets import Clocked, Mark, Packets, Run
+from subtitles.stream.survey import ProgramMap, Survey, survey
+from ..cited import too_long
+from ..definitions import Library, counts
+from ..promises import clauses_in, unknown_clauses
+from .bench import Case, packets
+from .judged import judged
+from .muxed import Sent, Shape, TELETEXT_PID, announced, in_frames, multiplexed, without
+from .parts import asked_for, call_words
+
+
+# Why nothing of a PID is given, or nothing more; where something is missing, and how late PTS are.
+
+Jump = Tuple[int, int]  # the PTS around one
+ONE = [Run(0, 1, 0, 0, "-", "")]
+
+
+class Refused(Case):
+    """The whole table, with one of several TS packets that is scrambled."""
+
+    def test_why(self) -> None:
+        for packets, wanted in (
+                (Packets(5), "PID 0x5 carries nothing"),
+                (Packets(5, packets=1, scrambled=1),
+                 "PID 0x5 is scrambled: all 1 TS packet of it"),
+                (Packets(5, packets=9, scrambled=9),
+                 "PID 0x5 is scrambled: all 9 TS packets of it"),
+                *((Packets(5, packets=9, scrambled=count),
+                   "PID 0x5 has no whole PES packet in 9 TS packets") for count in (0, 1, 8)),
+                (Packets(5, ONE, packets=9, scrambled=9), None),
+                (Packets(5, ONE, packets=9), None)):
+            told = why_refused(packets)
+            self.must(f"{packets.packets} {packets.scrambled}", told == wanted, told)
+
+
+class Places(Case):
+    """Where something is missing: marks, the PCR, jumps that are announced."""
+
+    def test_places(self) -> None:
+        """Each once; what is announced is left out where it is known already."""
+        runs = [Run(at, 1, at * TICKS, 0, "-", "") for at in range(9)]
+        jump = 3 * TICKS, 5 * TICKS
+        clocked = Clocked(3 * TICKS, 5 * TICKS, 9 * TICKS, 9, TICKS, 9, "broken")
+        rows: list[tuple[list[Mark], list[Clocked], list[Jump], list[tuple[Jump, bool]]]] = [
+                ([], [], [], []), ([], [], [jump], [(jump, True)]),
+                ([], [], [jump, (7 * TICKS, 8 * TICKS)],
+                 [(jump, True), ((7 * TICKS, 8 * TICKS), True)]),
+                ([], [clocked], [jump], [(jump, False)]),
+                ([Mark(4, 3 * TICKS, 2, 0)], [], [jump], [(jump, False)])]
+        for marks, clocks, jumps, wanted in rows:
+            own = [run._replace(pts=None, fault=45) if run.first in {mark.number for mark in marks}
+                   else run for run in runs]
+            packets = Packets(5, own, marks=marks, clocked=clocks)
+            told = [((one.before, one.after), one.is_announced)
+                    for one in places_of(packets, jumps)]
+            self.must(f"{marks} {clocks} {jumps}", told == wanted, told)
+        self.must("said", what_of(Place(1, 2, is_announced=True)) == "more time passes than usual, "
+                  "and a jump of the counter is announced")
+
+    def test_the_longest_hole(self) -> None:
+        """Of two holes that the PCR tells at one mark the longer one counts, whichever comes first.
+        """
+        runs = [Run(at, 1, None if at == 4 else at * TICKS, 0, "-", "") for at in range(9)]
+        for ticks in ((2, 3), (3, 2), (3, 3)):
+            clocks = [Clocked(3 * TICKS, 5 * TICKS, one * TICKS, 9, TICKS, 9, "broken")
+                      for one in ticks]
+            packets = Packets(5, runs, marks=[Mark(4, 3 * TICKS, 2, 0)], clocked=clocks)
+            told = [one.missing for one in places_of(packets)]
+            self.must(f"{ticks}", told == [2 * TICKS], told)
+
+
+class Late(Case):
+    """How late PTS were, and up to where all is in a recording."""
+
+    def test_table(self) -> None:
+        """By the last samples how late PTS are, by the first ones how far they are ahead."""
+        rows: list[tuple[list[int], int, int]] = [
+            ([], 0, 0), ([9], 0, 9), ([-9], 9, 0), ([-9, -30, 5, 7, 6], 30, 7),
+            ([-30, *[5] * MOST_LATE], 0, 5), ([*[5] * MOST_LATE, -30], 30, 5),
+            ([-30, *[5] * (MOST_LATE - 1)], 30, 5), ([*[5] * MOST_LATE, 7], 0, 5),
+            ([*[5] * (MOST_LATE - 1), 7], 0, 7)]
+        for samples, late, ahead in rows:
+            packets = Packets(5, samples=[(at * SECOND, one) for at, one in enumerate(samples)])
+            known = Survey()
+            self.must(f"{samples}: no PCR", reach_of(known, packets) is None)
+            known.programmes = [ProgramMap(1, 0x200, {5: 6})]
+            known.clocks[0x200] = 1000, 90_000
+            self.must(f"{samples}", late_of(packets) == late)
+            reach = 1000 + ahead, 90_000 - late
+            self.must(f"{samples}: reach", reach_of(known, packets) == reach)
+
+
+# Holes of a recording that the counters of its PID do not tell, and clocks that jump.
+
+BEGIN, COUNT = 900_000, 8  # the first frame, and how many subtitles there are
+PAGE = 0, 0x88
+
+
+class Holes(Case):
+    """Holes, pauses and jumps."""
+
+    def programme(self, every: int = 1) -> list[bytes]:
+        """PES packets of a programme of eight seconds."""
+        blocks = [subtitle_blocks(number, begin, begin + 20, 20, 2, boxed(b"Number %d" % number))
+                  for number, begin in enumerate(range(BEGIN, BEGIN + 25 * COUNT, 25))]
+        stl = self.write("story.stl", gsi_block(b"Holes", COUNT, COUNT) + b"".join(blocks))
+        self.schedule(stl, "story.pes", "--every", str(every))
+        return packets(self.read("story.pes"))
+
+    def heard(self, made: list[Sent]) -> tuple[list[Place], list[ClockJump]]:
+        """The places at which something is missing of a multiplex, and the jumps of its clock."""
+        path = self.write("heard.ts", b"".join(one.data for one in made))
+        found = survey(self.bench.program, path, PAGE).by_pid[TELETEXT_PID]
+        return places_of(found), list(jumps_of(found))
+
+    def test_of_whole_streams(self) -> None:
+        """No loss and no jump: rates, PCR each 20 to 100 ms, with null packets, a pause of the
+        PCR, and a jump that is announced; at 40 Mbit/s a hole of 16 packets is seen."""
+        pes = self.programme()
+        for shape in (Shape(), Shape(4000, 1800), Shape(700, 9000, True), Shape(pause=(60, 100)),
+                      Shape(jump=(60, 500_000), is_announced=True)):
+            places, jumps = self.heard(multiplexed(pes, shape))
+            self.must(f"{shape}", not places and not jumps, (places, jumps))
+        made = b"".join(in_frames(pes, pts_in(pes[0]), 80))
+        own = [at for at in range(0, len(made), PACKET)
+               if made[at + 1] & 0x1F == TELETEXT_PID >> 8 and made[at + 2] == TELETEXT_PID & 255]
+        torn = made[:own[40]] + made[own[56] - 5 * PACKET:]
+        for name, data, count in (("whole", made, 0), ("torn", torn, 1)):
+            places, jumps = self.heard([Sent(0, data)])
+            self.must(name, (len(places), len(jumps)) == (count, 0), (places, jumps))
+
+    def test_of_holes(self) -> None:
+        """16 packets of the PID and more lost: between which PTS; jumps are told too, and a loss
+        where the clock jumps forward is a hole."""
+        pes = self.programme()
+        for shape in (Shape(4000, 1800), Shape(2000, 3600, True)):
+            made = multiplexed(pes, shape)
+            for count in (16, 64):
+                places, _ = self.heard(without(made, 70, count))
+                known = [(one.before, one.after) for one in places]
+                first, last = known[0] if known else (None, None)
+                self.must(f"{shape} {count}", len(known) == 1 and first is not None
+                          and last is not None and pts_in(pes[66]) <= first <= pts_in(pes[69])
+                          and pts_in(pes[70 + count]) <= last <= pts_in(pes[74 + count]), known)
+        places, _ = self.heard(without(made, 70, 17))
+        self.must("by its counter", [one.lost for one in places] == [1], places)
+        for ticks in (8641 * SECOND, -SECOND, CLOCK // 2 - 10 * SECOND):
+            made = multiplexed(pes, Shape(jump=(60, ticks)))
+            places, jumps = self.heard(made)
+            self.must(f"{ticks}", len(jumps) == 1 and abs(jumps[0].ticks - ticks) < 400
+                      and not places, (jumps, places))
+            number = [at for at, one in enumerate(made) if one.pid == TELETEXT_PID][60]
+            places, jumps = self.heard(made[:number - 40] + made[number + 5:])
+            missing = [one for one in places if one.missing]
+            self.must(f"{ticks}: a loss", len(missing) <= (ticks > 0) and not jumps, places)
+
+    def test_is_judged(self) -> None:
+        """A hole of 0.64 s is told, and a jump; a PID without a PCR is, where holes may be, since
+        no pace is asked for."""
+        pes = self.programme()
+        made = multiplexed(pes, Shape())
+        words = [self.path("story.stl"), self.path("one.ts"), "--origin", "0"]
+        own = [one for one in made if one.pid == TELETEXT_PID]
+        jumped = multiplexed(pes, Shape(jump=(60, 8641 * SECOND)))
+        hole = "s are missing, by the PCR and the counters of other PIDs"
+        for name, sent, word, more, line in (
+                ("whole", made, "accepted", "--pid=0x101", ""),
+                ("a hole", without(made, 27, 16), "lost", "--pace=none", hole),
+                ("and the pace", without(made, 27, 16), "refused", "--page=888", hole),
+                ("allowed", without(made, 27, 16), "waived", "--allow-lost", hole),
+                ("a jump", jumped, "accepted", "--page=888", "the clock jumps by 2:24:01 at "
+                 "10:00:02:08: an encoder that was started anew?"),
+                ("alone", own, "accepted", "--pid=0x101", ""),
+                ("not asked", own, "accepted", "--pace=none",
+                 "there is no PCR of the programme of ")):
+            self.write("one.ts", b"".join(one.data for one in sent))
+            found = judged(self, *words, more)
+            told = [one for one in found.told if one.startswith("warning: the clock") or
+                    one.startswith("there is no PCR") or hole in one]
+            self.must(name, found.word == word and len(told) == bool(line) and
+                      line in "".join(told), found.said)
+            if word == "lost":
+                judged(self, *words, more, "-o", self.path("out"))
+                self.must("in the report", told[0] in self.read("out/one.html").decode(), told)
+
+
+# The words of --pace: of a call, of a line of a list, and of a result that is judged again.
+
+
+class Words(Case):
+    """Words of calls: of one pair, of a line of a list, of a batch that goes on."""
+
+    def setUp(self) -> None:
+        super().setUp()
+        for name in ("one.stl", "one.ts", "two.stl"):
+            self.write(name, b"")
+
+    def options(self, *words: str) -> argparse.Namespace:
+        return parser_of("").parse_args(words)
+
+    def test_words(self) -> None:
+        """What is taken, what `check` gets, and what is asked once more."""
+        for word, pace in (("none", None), ("1", 1), ("0025", 25), ("2160000", 2160000)):
+            asked = asked_for("one.stl", "one.ts", "--pace", word)
+            given = ["--pace", str(pace)] if pace else []
+            self.must(word, asked.check_words() == ["--complete", *given] and asked.pace == pace
+                      and request_of(self.options(*call_words(asked))) == asked)
+            self.must(f"{word}: result", ASKED.made(asked)["pace"] == str(pace or "none"))
+        self.must("left out", ASKED.made(asked_for("one.stl", "one.ts"))["pace"] is None)
+        for word in ("0", "", "-1", "x", "None", "2160001", "9" * 5000, "1.5", "\u0661"):
+            with self.assertRaises(Stop, msg=word):
+                asked_for("one.stl", "one.ts", "--pace", word)
+
+    def test_lines(self) -> None:
+        """Of a list: the pace of the call, one of its own, none, and one that is wrong."""
+        line = f"{self.path('one.stl')} {self.path('one.ts')}"
+        items = pairs_at(self.write("list", f"{line}\n{line} --pace 9\n{line} --pace none\n"
+                                            f"{line} --pace 0\n".encode()),
+                         self.options("--batch", "list", "--pace", "7"))
+        self.must("lines", [item.asked and item.asked.pace for item in items] == [7, 9, None, None]
+                  and str(items[3].reason).endswith(
+                      "line 4: argument --pace: 0 is no pace: 1 to 2160000 frames"),
+                  items)
+
+    def test_goes_on(self) -> None:
+        """What was judged by another pace, or by one that was measured, is judged again."""
+        program = MadeWith("1", "0" * 64, None)
+        asked = [asked_for(self.path("one.stl"), self.path("one.ts"), *words)
+                 for words in ((), ("--pace", "none"), ("--pace", "16"))]
+        for one in asked:
+            words = ASKED.made(one)
+            known = {"asked": words, "found": found(one), "program": program._asdict()}
+            self.must(f"{one.pace}", [is_current(known, other, program) for other in asked] ==
+                      [other == one for other in asked])
+            del words["pace"]
+            self.must(f"{one.pace}: of an earlier tool", not is_current(known, one, program))
+
+
+# tools/reading-list: what a definition or a clause rests on, in a repository of two crates.
+
+FILES = {
+    "crates.txt": "# name: what it stands on\nlow:\nhigh: low\n",
+    "crates/low/specs/Words.antt": """-- Words.
+use Rattle.std.specs.Prelude.{ℕ, ◌+◌, ◌-◌}
+
+-- Two of the size.
+abbrev pub pair : ℕ
+pair = size + size
+
+-- The size.
+abbrev pub size : ℕ
+-- One.
+size = 1
+""",
+    "crates/high/specs/Things.antt": """-- Things.
+use Rattle.std.specs.Prelude.{ℕ, ◌+◌, ◌≡◌}
+use Rattle.low.specs.Words.{pair}
+use Rattle.low.specs.Words as words
+
+-- Another size.
+abbrev pub size : ℕ → ℕ
+size n = n
+
+-- A size that is bound here, beside what is none.
+abbrev pub total : ℕ → ℕ
+total size = pair + size
+
+-- The other crate's.
+pub record IsSize (n : ℕ) : Type 0 where
+  pub size : n ≡ words.size
+""",
+    "crates/high/src/lib.rt": """ghost use Rattle.std.specs.Prelude.{◌≡◌};
+ghost use Rattle.high.specs.Things.{IsSize, size};
+ghost use Rattle.high.specs.Things.{total};
+
+/// A law, with nothing to do.
+pub fn law()
+    ensures { IsSize (size 1) }
+{}
+
+/// Counts.
+pub fn count(n: u64) -> u64
+    requires { n < u64.MAX }
+    ensures exact { result ≡ record {
+        number = total n;
+    } }
+    ensures other { IsSize (size n) }
+{
+    n
+}
+""",
+}
+
+
+def library(case: Case) -> Library:
+    for name, text in FILES.items():
+        os.makedirs(os.path.dirname(case.path(name)), exist_ok=True)
+        case.write(name, text.encode())
+    return Library(case.folder)
+
+
+class ReadingLists(Case):
+    """Reading lists of two crates."""
+
+    def test_finds_what_is_meant(self) -> None:
+        """Names by their files, what is needed first, and nothing that is only bound."""
+        them = library(self)
+        for name, want in {
+                "total": "low.size low.pair high.total",
+                "high/Things.size": "high.size",
+                "IsSize": "low.size high.IsSize",
+                "count.exact": "low.size low.pair high.total",
+                "high/count.other": "low.size high.size high.IsSize",
+                "law": "low.size high.size high.IsSize",
+                "count": "low.size low.pair high.size high.total high.IsSize"}.items():
+            found = " ".join(f"{one.file.crate}.{one.name}" for one in them.reading(name)[0])
+            self.must(name, found == want, found)
+        self.must("counts, with no comment", counts(*them.reading("total")) == (3, 6, 2),
+                  counts(*them.reading("total")))
+
+    def test_reads_from_the_top(self) -> None:
+        """What names something comes before it, in the order of the text: the higher crate
+        first."""
+        them = library(self)
+        for name, want in {
+                "total": "high.total low.pair low.size", "law": "high.IsSize high.size low.size",
+                "count": "high.total high.IsSize high.size low.pair low.size"}.items():
+            found = " ".join(f"{one.file.crate}.{one.name}" for one in them.from_the_top(name))
+            self.must(name, found == want, found)
+
+    def test_holds_how_much_is_to_be_read(self) -> None:
+        """As many lines as there may be, and one more."""
+        library(self)
+        told = list(too_long(self.folder, {"total": 6, "high/count.other": 2}))
+        self.must("lines", told == [None, "high/count.other has 6 lines to be read, 2 at most"],
+                  told)
+
+    def test_refuses_what_is_unclear(self) -> None:
+        """A name of two files, and names of none."""
+        them = library(self)
+        for name, why in (("size", "high/Things.size"), ("none", "no definition"),
+                          ("count.none", "clause")):
+            try:
+                told = str(them.reading(name))
+            except Stop as reason:
+                told = str(reason)
+            self.must(name, why in told, told)
+
+    def test_reads_an_index(self) -> None:
+        """The clauses of a row's last cell, each once; one that is not there is told."""
+        them = library(self)
+        text = "| one | two |\n| a | `high/count.other`, `high/law` |\n| b | `high/law` |\n"
+        self.must("clauses", clauses_in(text) == ["high/count.other", "high/law"],
+                  clauses_in(text))
+        self.must("all there", unknown_clauses(text, them) == [])
+        told = unknown_clauses(text.replace("count.other", "count.gone"), them)
+        self.must("one gone", len(told) == 1 and "high/count.gone is no" in told[0], told)
