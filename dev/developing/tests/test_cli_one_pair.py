@@ -27,7 +27,7 @@ from subtitles.stream.gaps import Place
 from .bench import Case, example
 from .judged import Heard
 from .parts import answer, asked_for, in_page, part_with
-from .test_tables_of_files import refused
+from .test_formats_files import refused
 
 REFUSED = ["refused 72 Content frame 00:00:01:00 row 1 column 2", "refused 68 Parity frame "
            "00:00:02:00 packet 1", "2 faults"]

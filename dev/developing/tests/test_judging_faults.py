@@ -28,7 +28,7 @@ from .bench import Case
 from .judged import Heard, ORIGIN
 from .parts import (
     CLOSING, HEADER, answer, asked_for, packets_told, part_with, row, script, timeline_of)
-from .test_parts_of_verdicts import verdict_of
+from .test_judging_verdicts import verdict_of
 
 BEFORE = CLOCK - 60 * TICKS  # an origin whose frames go on over the wrap
 NO_C4 = packet(0, 0, [8, 8, 0, 0, 0, 8, 1, 0], b" " * 32)
