@@ -263,7 +263,7 @@ class Watched(Case):
         for name in ("old", "older"):
             self.write(f"out/{name}.json", json.dumps(result("accepted")).encode())
         self.write("out/x.json", b"[]")
-        results = collection.Results(self.path("out"))
+        results = collection.FolderRows(self.path("out"))
         self.must("rows", list(results.rows) == ["old", "older"])
         out = io.StringIO()
         with contextlib.redirect_stdout(out):

@@ -7,7 +7,6 @@ from types import SimpleNamespace
 from typing import Any, cast
 from unittest import mock
 
-from developing.pes import packet
 from subtitles.clock.start import Clock, GIVEN, RECORDING, START, TCP
 from subtitles.common.files import SummedFile
 from subtitles.common.markup import markup

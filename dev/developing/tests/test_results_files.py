@@ -202,7 +202,7 @@ class ReadBack(Case):
         words, typed = self.words(), CommandWords("tools/qc", self.bench.program)
         with contextlib.redirect_stdout(io.StringIO()), contextlib.redirect_stderr(io.StringIO()):
             status = collection.collect(words)
-            rows = collection.Results(self.path("out")).rows
+            rows = collection.FolderRows(self.path("out")).rows
         collection.write_index(self.path("out"), [*rows.values()])
         names = sorted(name.removesuffix(".json") for name in os.listdir(self.path("out"))
                        if name.endswith(".json"))

@@ -160,7 +160,7 @@ def write_collection(words: argparse.Namespace, rows: Sequence[Row], places: Seq
     return status()
 
 
-class Results:
+class FolderRows:
     """The rows of a folder of results, each of which is read once, with what tells whether it is
     still that of its pair."""
 
