@@ -18,6 +18,7 @@ from subtitles.common.command_line import Stop
 from subtitles.common.program import MadeWith, TOP, read
 from subtitles.common.shapes import Integer, Listed
 from subtitles.formats.listing import SILENT, UNDECIDED
+from subtitles.judging.verdict import Unjudged
 from subtitles.request.commands import CommandWords
 from subtitles.request.lines import Item
 from subtitles.results import files
@@ -143,7 +144,7 @@ class Written(Case):
                   misfit(unjudged("x", "y" * 70_000)) is None)
         found = judged(self, self.write("story.stl", example_bytes("story.stl")))
         program = MadeWith("1", "0" * 64, None)
-        found.verdict.reason = "why"
+        found.verdict.unjudged = Unjudged("why")
         known = json.loads("".join(object_of(found.verdict, program)))
         self.must("not judged", known["verdict"] == "not judged" and misfit(known) is None)
         for name, value in (("seconds", -1.0), ("date", "today")):

@@ -17,14 +17,15 @@ from subtitles.judging.part import found_on, moves_told
 from subtitles.recording.recording import silent_in
 from subtitles.stream.gaps import SECOND, marks_told, why_refused
 from subtitles.stream.packets import Change, Mark, Packets, Run
-from subtitles.stream.ranges import Stage, joined_stages, part_inside, stages_of, up_to
+from subtitles.stream.ranges import (
+    MOST_STAGES, Stage, joined_stages, part_inside, stages_of, up_to)
 from subtitles.stream.survey import Survey, names_of, survey
 from .bench import Case, SECONDS, moved, packets
 from .judged import in_pipe, judged, programme, times
 from .muxed import (
     MPEG_2, Maker, PRIVATE, Sent as Packet, Shape, TELETEXT_PID, VIDEO_PID, multiplexed,
     teletext_descriptor)
-from .parts import CLOSING, HEADER, row
+from .parts import CLOSING, HEADER, PAGE, row
 
 
 # A page that moves to another PID while it is recorded: judged on both, each for its time.
@@ -72,6 +73,18 @@ class Moves(Case):
     def stages(self, data: bytes) -> list[tuple[int, tuple[int, int]]]:
         found = survey(self.bench.program, self.write("one.ts", data), (0, 0x88))
         return [(one.pid, one.inside) for one in stages_of(found, (0, 0x88))]
+
+    def test_many(self) -> None:
+        """A page moves 64 times at most: each costs a look at all that came."""
+        for count, wanted in ((MOST_STAGES, MOST_STAGES), (MOST_STAGES + 1, 0)):
+            heard = Survey()
+            for number in range(count):
+                pid, pts = (OLD, NEW)[number % 2], 90_000 * 20 * number
+                for line in (f"pcr 100 {pts}", "programme 1 100", f"stream {pid} 6",
+                             f"announce {pid} 888 656e67 2",
+                             f"pes {pid} {number // 2} 1 {pts + 90_000 * 5} 0 heo/80080810 3 0"):
+                    heard.take(line)
+            self.must(f"{count}", len(stages_of(heard, PAGE)) == wanted)
 
     def test_stages(self) -> None:
         """By what the PMT names when, with what may have come in that time."""
