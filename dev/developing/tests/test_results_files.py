@@ -278,7 +278,7 @@ class Collected(Case):
     def test_table(self) -> None:
         """Columns as wide as their widest, and how many there are of which verdict."""
         self.must("table", list(collection.table_of(self.ROWS)) == [
-            "pair    verdict     faults  first fault", "one     accepted         0",
+            "pair    verdict     faults  worst fault", "one     accepted         0",
             "second  refused         12  72 Content frame 1: a hint",
             "c       not judged          why", "d       waived           3  waived: refused 5 X",
             "4 pairs: 1 accepted, 1 refused, 1 not judged, 1 waived"],
