@@ -1,16 +1,24 @@
-"""The time of a channel's feed, and programmes that are waited for: by the changes of a page, or by
-their origin."""
+"""What is heard of a feed, and how long a programme is listened to."""
 from __future__ import annotations
 
 from unittest import mock
 
+from developing.pes import pes_packet
 from developing.stl import gsi_block, subtitle_blocks
 from subtitles.cli.channel.feed import (
-    ANEW, BACK, BEFORE, NEAR, SECOND, Awaited, Changes, FeedClock, Timed)
+    ANEW, Awaited, BACK, BEFORE, Changes, FeedClock, NEAR, SECOND, Timed)
+from subtitles.cli.channel.schedule import OnAir, Programme
 from subtitles.common.command_line import Stop
 from subtitles.common.times import CLOCK, EARLY, TICKS, ticks_between
+from subtitles.request.lines import Line
+from subtitles.stream.survey import Survey
 from .bench import Case
 from .channels import EACH, FIRST, SHOWN, make_subtitles
+from .parts import CLOSING, HEADER, asked_for, packets_told
+
+
+# The time of a channel's feed, and programmes that are waited for: by the changes of a page, or by
+# their origin.
 
 FOUR = ["Alpha", "Beta", "Gamma", "Delta"]
 AGES = 10 ** 15  # ticks
@@ -210,3 +218,26 @@ class FeedClocks(Case):
                     None if wanted is None else wanted - TICKS * FIRST), found)
                 if found is not None:
                     self.must("its PTS", ticks_between(clock.pts_at(found), origin) == 0, found)
+
+
+# When a programme of a feed has all that is judged.
+
+
+def sent(*words: str, midnight: int = 0, first: int = 0, last: int = 50) -> OnAir:
+    """A programme whose subtitles are due in some frames of the day."""
+    asked = asked_for("a.stl", "feed", "--every", "25", *words)
+    return OnAir(Programme("a", Line(1, ("a.stl",)), asked, None), asked, midnight, first, last)
+
+
+class Ended(Case):
+    """When a programme has all that is judged."""
+
+    def test_what_comes_before_the_day(self) -> None:
+        """A PTS before the origin is no late frame."""
+        origin = 1000 * TICKS
+        for frame, is_over in ((-1, False), (49, False), (50, True), (76, True)):
+            packets = packets_told(self, b"".join(
+                pes_packet((origin + TICKS * at) % CLOCK, [HEADER, CLOSING])
+                for at in sorted({min(frame, 0) - 3, min(frame, 0), frame})))
+            ending = sent("--origin", str(origin))
+            self.must(f"{frame}", ending.is_over(Survey(), packets, True) == is_over)

@@ -24,8 +24,8 @@ from subtitles.stream.packets import Change
 from .bench import Case, example
 from .judged import Judged, joined, judged, late, programme, sendings
 from .parts import part_with
-from .test_clocks import FIRST, evenly
-from .test_reading_laws import found, packets_of, programme as random_programme, sent
+from .test_clock_clocks import FIRST, evenly
+from .test_clock_laws import found, packets_of, programme as random_programme, sent
 
 
 # The edges of what is due; and pages that come again soon after they were erased: no change.

@@ -17,7 +17,7 @@ from ..looks import browser
 from ..promises import clauses_in, unknown_clauses
 from ..questions import Question, ask, count, link, page
 from ..sizes import KINDS, counted, total
-from .bench import Case
+from .bench import Case, script
 
 
 # The documents: links lead to files and headings that are there, and quoted sources are sources.
@@ -294,6 +294,13 @@ class Lists(Case):
         self.must("docs/CLAUSES.md", not unknown, unknown)
         self.must("rows", "sub_check/check_files.accepted" in clauses_in(text)
                   and len(clauses_in(text)) > 80, len(clauses_in(text)))
+
+    def test_say_what_a_crate_is(self) -> None:
+        """A reading list has a sentence of each crate: of its library, else of its program."""
+        about = script("reading-list").about
+        for crate in Library(TOP).crates:
+            self.must(crate, about(crate).endswith("."), about(crate))
+        self.must("none", about("nowhere") == "")
 
     def test_are_those_of_the_sizes(self) -> None:
         """The sizes that ASSURANCE tells are right to a tenth: dev/sizes counts them."""

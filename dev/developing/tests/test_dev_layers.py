@@ -25,7 +25,8 @@ ORDER = ["common", "formats", "request", "stream", "clock", "recording", "judgin
 LONGEST_LINE = 100
 # The page's parts name the page itself, for type hints alone.
 FOR_HINTS = {("subtitles.report.faults", "subtitles.report.report"),
-             ("subtitles.report.transmission", "subtitles.report.report")}
+             ("subtitles.report.transmission", "subtitles.report.report"),
+             ("subtitles.report.transmission", "subtitles.report.faults")}
 MAIN = "subtitles.cli.main"  # imports what a call needs when it needs it
 IN_ROWS = os.path.join("developing", "signs.py")  # a table: each of its rows is a line
 # The second implementation shares with the tools codes, times, layouts and the blocks of files.

@@ -29,9 +29,9 @@ from .bench import Case, example, example_bytes
 from .judged import in_pipe, judged, programme
 from .muxed import TELETEXT_PID
 from .parts import CLOSING, HEADER, PAGE, answer, asked_for, in_page, packets_told, part_with, row
-from .test_decisions import defaults
-from .test_listening import sent
-from .test_recordings_judged import in_stream
+from .test_channel_feed import sent
+from .test_judging_decisions import defaults
+from .test_judging_recordings import in_stream
 
 
 # What `check --all` answered, line by line; what is advised of times that fall at midnight; what a

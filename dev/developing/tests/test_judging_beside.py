@@ -25,7 +25,7 @@ from subtitles.stream.packets import Packets, Run
 from .bench import Case, example_bytes, packets
 from .judged import Judged, joined, judged, late, sendings, times
 from .parts import answer, part_with
-from .test_pairs_judged import UNREAD, broken
+from .test_judging_pairs import UNREAD, broken
 
 
 # Beside refused subtitles the others are judged, where the program does so: by one that stands in

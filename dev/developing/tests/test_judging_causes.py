@@ -22,7 +22,7 @@ from .bench import Case
 from .judged import Judged, Sent, joined, judged, programme, sendings
 from .muxed import Shape, multiplexed
 from .parts import CLOSING, HEADER, PAGE, row
-from .test_paced import of_pid
+from .test_judging_paced import of_pid
 
 
 # Causes of what nobody is to blame for but who sent it: a text of others in a pause, a header

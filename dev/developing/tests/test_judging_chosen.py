@@ -21,7 +21,7 @@ from .judged import Judged, ORIGIN, Sent, apart, in_pipe, joined, judged, progra
 from .muxed import AHEAD, Maker, Shape, TELETEXT_PID, components, multiplexed
 from .results import wrong_choices
 from .test_judging_reasons import KEEPING_HEADER
-from .test_moves import NEW, OLD, in_turn
+from .test_stream_moves import NEW, OLD, in_turn
 
 
 # What `qc` chooses by itself stands in the JSON result, by the evidence that was printed; what was

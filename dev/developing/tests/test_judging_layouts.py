@@ -20,7 +20,7 @@ from .bench import BENCH, Case, packets
 from .judged import Judged, Sent, joined, judged
 from .muxed import Sent as Packet, Shape, TELETEXT_PID, multiplexed
 from .parts import CLOSING, HEADER, row, timeline_of
-from .test_layouts import HOUSES, line
+from .test_stream_layouts import HOUSES, line
 
 
 # Recordings of houses that draw otherwise: what is told of them; and files of open subtitles.

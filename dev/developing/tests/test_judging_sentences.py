@@ -24,7 +24,7 @@ from .bench import Case
 from .judged import Sent, joined, judged, programme, sendings
 from .parts import CLOSING, HEADER, row, script
 from .test_formats_letters import ANY_SUBCODE, CHARACTER, LEVEL_1, Receiver, TEXT_AT
-from .test_tables_of_faults import cause, causes_of
+from .test_judging_faults import cause, causes_of
 
 
 # What is said of a verdict in words: its sentence, and its first header that is refused (67).

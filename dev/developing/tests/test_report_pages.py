@@ -2,27 +2,25 @@
 from __future__ import annotations
 
 import collections
-import random
 import unittest
 from types import SimpleNamespace
 from typing import Any, cast
 from unittest import mock
 
-from developing.pes import packet
 from subtitles.clock.start import Clock, GIVEN, RECORDING, START, TCP
 from subtitles.common.files import SummedFile
 from subtitles.common.markup import markup
 from subtitles.common.program import MadeWith
 from subtitles.common.times import CLOCK, FRAMES_OF_A_DAY, Spans, TICKS
-from subtitles.formats.teletext import CODE_WORDS, ENGLISH
-from subtitles.report import page as report_page, report as report_report, transmission
+from subtitles.formats.teletext import ENGLISH
+from subtitles.report import page as report_page, report as report_report
 from subtitles.report.faults import Entry
 from subtitles.report.page import lost_places, pages_table, subtitles_words
 from subtitles.report.pictures import (
     CellStyle, LOW_ROWS, cut_of, differences, frames_of, is_boxed, picture, row_drawing, spans_of,
     text_of_code)
 from subtitles.report.report import BETWEEN, DELAY, ROW_0, Report, Scope, Subject
-from subtitles.report.transmission import marked_bytes, packet_lines, place_of_pts
+from subtitles.report.transmission import place_of_pts
 from subtitles.stream.receiver import BLANK_PAGE, HIT, OLD, Rows
 from .bench import Case, example
 from .parts import asked_for, fault_of, in_page, part_with
@@ -263,8 +261,7 @@ class Bounds(unittest.TestCase):
             asked = asked_for("a.stl", "a.pes", *words)
             part = part_with(0, 9, origin, asked=asked)
             judged: Any = SimpleNamespace(asked=asked)
-            program: Any = None
-            self.assertEqual(Subject(judged, part, 1, program).options(), wanted)
+            self.assertEqual(Subject(judged, part, 1).options(), wanted)
 
     def test_scope_of_a_part(self) -> None:
         """From the first TCI to the last TCO; which part it is where there are several; the clock
@@ -350,50 +347,3 @@ class Reports(Case):
         self.must("no text stands for markup", "\n&lt;b&gt;\n" in in_page(wrong))
         self.must("document", "<title>a &lt;line&gt; &#8211; b &amp; c</title>" in text and
                   text.endswith("<h1>Report on b &amp; c</h1>\none\ntwo\n</body></html>\n"), text)
-
-    def test_units_of_a_program(self) -> None:
-        """The Teletext packets of PES packets from the first number on to the last."""
-        program = self.write_program("said", f"#!/bin/sh\necho $* >'{self.path('words')}'\n"
-                                             "echo unit 0 0 3 7 first FF00\necho 1 pes\n")
-        found = transmission.Program("subttx", program, "a.pes").units([3, 4, 9])
-        self.must("words", self.read("words") == b"packets --pes 3-9 -- a.pes\n",
-                  self.read("words"))
-        self.must("units", found == [transmission.Unit("7 first", b"\xff\0")], found)
-
-
-class Packets(Case):
-    """What is said of Teletext packets."""
-
-    def test_packet(self) -> None:
-        """What the bytes of a packet say is what `packet` prints: of each packet number, of headers
-        with all control bits, of one wrong bit and of two in each byte."""
-        chance, bits = random.Random(5), [1 << bit for bit in range(8)]
-        coded = [[CODE_WORDS[chance.randrange(16)] for _ in range(10)] for _ in range(4)]
-        heads = [[CODE_WORDS[number << 3 & 15 | number % 8], CODE_WORDS[number >> 1], *coded[0][2:]]
-                 for number in range(32)]
-        header = [CODE_WORDS[0]] * 2
-        heads += [[*header, *some[2:]] for some in coded]
-        heads += [[*header, *[CODE_WORDS[15]] * 8]]
-        for at in range(10):
-            for wrong in (chance.choice(bits), sum(chance.sample(bits, 2))):
-                heads.append([*header, *coded[1][2:]])
-                heads[-1][at] ^= wrong
-        for head in heads:
-            data = bytes(head) + chance.randbytes(32)
-            lines = self.program("packet", data.hex())[1]
-            self.must(data.hex(), packet_lines(data) == lines, (packet_lines(data), lines))
-
-    def test_marked_bytes(self) -> None:
-        """Of a header ten bytes by Hamming 8/4 and its text by parity, of rows two and their text,
-        of other packets the address alone."""
-        for number, coded, has_text in ((0, 10, True), (1, 2, True), (24, 2, True),
-                                        (25, 2, False), (26, 2, False), (31, 2, False)):
-            data = packet(0, number, [0] * 8 if number == 0 else (), b"A" * (32 + 8 * (number > 0)))
-            for at in range(2, 42):
-                wrong = data[:at] + bytes([data[at] ^ 0x80]) + data[at + 1:]
-                marks = in_page(marked_bytes(wrong)).replace("<wbr/>", "")
-                is_marked = at < coded or has_text
-                with self.subTest(number=number, at=at):
-                    self.assertEqual("<u>" in marks, is_marked)
-                    self.assertEqual(marks.count("<u>"), int(is_marked))
-            self.assertNotIn("<u>", in_page(marked_bytes(data)))

@@ -9,16 +9,14 @@ from typing import Any, NamedTuple, Sequence
 from developing.stl import gsi_block, tti_block
 from subtitles.common.markup import Markup
 from subtitles.formats.stl import Subtitle, SubtitleFile
-from subtitles.report.faults import Entry
+from subtitles.report.faults import Entry, Looked, looked_at
 from subtitles.report.pictures import (
     DIFFERENT, Figures, NOTHING, NOT_KNOWN, NOT_READ, SAME, marks_words)
-from subtitles.report.report import (
-    Blocks, byte_table, line_table, marked_text, marked_times, printed, readable, refused_blocks,
-    two_times)
-from subtitles.report.strip import Looked, Strip, looked_at, runs_of
+from subtitles.report.report import Blocks, marked_text, marked_times, readable, refused_blocks
+from subtitles.report.transmission import Strip, runs_of
 from subtitles.stream.receiver import BLANK_PAGE, Rows, State, TUNED
 from .bench import Case
-from .parts import fault_of, in_page, part_with
+from .parts import fault_of, in_page
 from .test_report_faults import SUBTITLES, at, faults
 
 
@@ -260,12 +258,6 @@ class BlocksOfFile(Case):
                  "<mark>a <mark>b</mark></mark><br/>c"), (("refused 21 X block 2",), "a b<br/>c")):
             self.must(f"{lines}", marked(*lines) == f'<span class="text">{words}</span>',
                       marked(*lines))
-        table = in_page(byte_table(bytes(range(0x41, 0x53)), 17))
-        self.must("bytes", table.count("<tr>") == 2 and table.count(' class="named"') == 1 and
-                  '<td class="named">52<br/>R</td>' in table and '"row">16<' in table, table)
-        lined = in_page(line_table(b"ab\x8a\x8ac", 18, 1))
-        self.must("lines", '<tr class="named"><th scope="row">line 1</th><td>row 19</td><td>0 bytes'
-                  "</td><td>empty</td>" in lined and "<td>1 byte</td>" in lined, lined)
         letters = [in_page(readable(byte)) for byte in (0x20, 0x41, 0x7E, 0x7F, 0x1F)]
         self.must("letters", letters == ["\u2423", "A", "~", "<i>7F</i>", "<i>1F</i>"])
 
@@ -283,12 +275,6 @@ class BlocksOfFile(Case):
         wrong = one._replace(begin="99:00:00:00")
         told = [*map(in_page, marked_times(wrong, [fault_of("refused 20 X block 6")]))]
         self.must("no time", told == ["<mark>99:00:00:00</mark>", end])
-        first, last = "00:00:03:00", "00:00:03:24"
-        for line, words in (("refused 56 X block 6", f"<mark>{first}</mark></td><td>{last}"),
-                            ("refused 57 X block 6", f"{first}</td><td><mark>{last}")):
-            table = in_page(two_times(made, one, fault_of(line)))
-            own = f"<mark>{begin}</mark></td><td>{end}"
-            self.must(line, words in table and own in table, table)
 
     def test_list(self) -> None:
         """An item for each block; what is left out; where reading ended."""
@@ -311,17 +297,3 @@ class BlocksOfFile(Case):
             beside = in_page(refused_blocks(report, self.blocks()))
             self.must("beside", ("No PES file is read" in said, "No PES file is read" in beside) ==
                       (True, False), beside)
-
-    def test_printed(self) -> None:
-        """What show prints, without its middle where it is long."""
-        for count, left in ((3, 0), (200, 0), (220, 0), (221, 1), (500, 280)):
-            lines = [f"line {at}" for at in range(count)]
-            report: Any = SimpleNamespace(
-                part=part_with(1, 2, 0), asked=SimpleNamespace(is_open=False),
-                program=SimpleNamespace(show=lambda path, lines=lines: lines))
-            said = in_page(printed(report))
-            words = f"Lines 201 to {200 + left}, {left} of them" if left else ""
-            self.must(f"{count}", words in said and ("left out" in said) == (left > 0) and
-                      said.count("line ") == count - left, said[-200:])
-        report.asked.is_open = True
-        self.must("of open subtitles, which it shows not", in_page(printed(report)) == "")

@@ -18,6 +18,7 @@ from subtitles.common.command_line import Stop
 from subtitles.common.program import MadeWith, TOP, read
 from subtitles.common.shapes import Integer, Listed
 from subtitles.formats.listing import SILENT, UNDECIDED
+from subtitles.judging.verdict import Unjudged
 from subtitles.request.commands import CommandWords
 from subtitles.request.lines import Item
 from subtitles.results import files
@@ -143,7 +144,7 @@ class Written(Case):
                   misfit(unjudged("x", "y" * 70_000)) is None)
         found = judged(self, self.write("story.stl", example_bytes("story.stl")))
         program = MadeWith("1", "0" * 64, None)
-        found.verdict.reason = "why"
+        found.verdict.unjudged = Unjudged("why")
         known = json.loads("".join(object_of(found.verdict, program)))
         self.must("not judged", known["verdict"] == "not judged" and misfit(known) is None)
         for name, value in (("seconds", -1.0), ("date", "today")):
@@ -202,7 +203,7 @@ class ReadBack(Case):
         words, typed = self.words(), CommandWords("tools/qc", self.bench.program)
         with contextlib.redirect_stdout(io.StringIO()), contextlib.redirect_stderr(io.StringIO()):
             status = collection.collect(words)
-            rows = collection.Results(self.path("out")).rows
+            rows = collection.FolderRows(self.path("out")).rows
         collection.write_index(self.path("out"), [*rows.values()])
         names = sorted(name.removesuffix(".json") for name in os.listdir(self.path("out"))
                        if name.endswith(".json"))
@@ -277,7 +278,7 @@ class Collected(Case):
     def test_table(self) -> None:
         """Columns as wide as their widest, and how many there are of which verdict."""
         self.must("table", list(collection.table_of(self.ROWS)) == [
-            "pair    verdict     faults  first fault", "one     accepted         0",
+            "pair    verdict     faults  worst fault", "one     accepted         0",
             "second  refused         12  72 Content frame 1: a hint",
             "c       not judged          why", "d       waived           3  waived: refused 5 X",
             "4 pairs: 1 accepted, 1 refused, 1 not judged, 1 waived"],

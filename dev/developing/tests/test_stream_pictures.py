@@ -19,7 +19,7 @@ from subtitles.stream.survey import Departure, Distance, FEW, Line, Step, Survey
 from .bench import Case, example_bytes
 from .judged import judged
 from .muxed import programme as stream_with
-from .test_clocks import BEGIN, FIRST_PTS, STORY
+from .test_clock_clocks import BEGIN, FIRST_PTS, STORY
 
 
 # Whether the pictures leave the Teletext: by the lines of `survey`, as tables.

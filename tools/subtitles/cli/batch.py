@@ -477,7 +477,7 @@ def watch(words: argparse.Namespace, called: str) -> int:
     calls = Calls(typed, words.out, words.out, words.is_kept, words.limit)
     program = about_program(typed.program_path)
     watching = Watch(words.watch, words.settled)
-    results = collection.Results(words.out)
+    results = collection.FolderRows(words.out)
 
     def take(row: Row) -> None:
         if row.name in calls.in_use:  # it is judged again at the next look, and told once

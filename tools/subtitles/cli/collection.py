@@ -49,7 +49,7 @@ small { color: var(--soft); }
   td { display: block; border: 0; padding: 2px 8px; }
   td:empty { display: none; } }
 </style>""")
-PAGE_HEADS = ("Verdict", "Pair", "Faults", "First fault, or why it was not judged", "More")
+PAGE_HEADS = ("Verdict", "Pair", "Faults", "Worst fault, or why it was not judged", "More")
 MOST_CAUSES = 6
 
 
@@ -105,7 +105,7 @@ def links(folder: str, name: str) -> Markup:
 # Objects of many pairs in one table, one page, and one file for each kind of machine.
 
 Place = Union[str, dict[str, Any]]  # of an object: its file, or itself where it has none
-LINE_HEADS = ("pair", "verdict", "faults", "first fault")
+LINE_HEADS = ("pair", "verdict", "faults", "worst fault")
 
 
 def collect(words: argparse.Namespace) -> int:
@@ -160,7 +160,7 @@ def write_collection(words: argparse.Namespace, rows: Sequence[Row], places: Seq
     return status()
 
 
-class Results:
+class FolderRows:
     """The rows of a folder of results, each of which is read once, with what tells whether it is
     still that of its pair."""
 
@@ -177,7 +177,7 @@ class Results:
     def take(self, row: Row) -> None:
         """Tells a verdict, and writes the page over all pairs."""
         self.rows[row.name] = row
-        line = first_fault(row)
+        line = worst_fault(row)
         when = time.strftime("%Y-%m-%d %H:%M:%S")
         say(f"{when}  {row.name}  {row.verdict}{': ' if line else ''}{line}")
         try:
@@ -210,7 +210,7 @@ def table_of(rows: Sequence[Row], why: str = "") -> Iterator[str]:
     """The table, and a line of how many there are of which verdict; where more than these decides
     the status, it says so."""
     lines = [LINE_HEADS, *((row.name, row.verdict, str(row.faults) if row.is_judged else "",
-                            first_fault(row)) for row in rows)]
+                            worst_fault(row)) for row in rows)]
     widths = [max(len(line[column]) for line in lines) for column in range(3)]
     for name, verdict, faults, first in lines:
         yield (f"{name:{widths[0]}}  {verdict:{widths[1]}}  {faults:>{widths[2]}}  "
@@ -234,8 +234,8 @@ def progress_line(rows: dict[str, Row], count: int, kept: int, began: float) -> 
     return f"{line}; {counted(round(left), 'second')} left"
 
 
-def first_fault(row: Row) -> str:
-    """The place of the first fault, with what to know of it, or why the pair was not judged, as far
+def worst_fault(row: Row) -> str:
+    """The place of the worst fault, with what to know of it, or why the pair was not judged, as far
     as one line has it."""
     if row.verdict == ACCEPTED or not row.line:
         return ""

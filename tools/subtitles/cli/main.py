@@ -105,23 +105,19 @@ def mode_of(words: argparse.Namespace) -> Mode:
     return given[0] if given else ALONE if words.recording is None else PAIR
 
 
-def options_in(parser: argparse.ArgumentParser, line: Sequence[str]) -> list[str]:
-    """The options that a command line gives, as `TAKEN_BY` names them and in its order, by a parser
-    that is used for nothing else."""
-    names = {}
-    parser._defaults.clear()
-    for action in parser._actions:
-        action.default = argparse.SUPPRESS
-        for name in action.option_strings:
-            names[name] = action.dest
-    given = vars(parser.parse_args(list(line)))
+def options_in(parser: Words, line: Sequence[str]) -> list[str]:
+    """The options that a command line gives, as `TAKEN_BY` names them and in its order."""
+    names, left_out = parser.fields, object()
+    values = parser.parse_args([*line], argparse.Namespace(**dict.fromkeys(
+        names.values(), left_out)))
+    given = {field for field, value in vars(values).items() if value is not left_out}
     # One that has two words is the one that stands there.
     words = {word.partition("=")[0] for word in line}
     return [name for name in TAKEN_BY if names.get(name) in given and (
         name in words or not words & {other for other in names if names[other] == names[name]})]
 
 
-def refuse_options(parser: argparse.ArgumentParser, line: Sequence[str], mode: Mode) -> None:
+def refuse_options(parser: Words, line: Sequence[str], mode: Mode) -> None:
     """`Stop` with the first option that does not go with what is asked for."""
     for name in options_in(parser, line):
         if mode not in TAKEN_BY[name]:
@@ -190,20 +186,19 @@ BEGINS = {"--json": b"{", "--csv": b"stl,recording,", "--junit": b"<?xml version
 
 
 def file_in(line: Sequence[str], option: str) -> str | None:
-    """The file of an option in the words of a command line, whatever else is wrong with them."""
-    words = list(line[:line.index("--")] if "--" in line else line)
-    found = None
-    for word, following in zip(words, [*words[1:], ""]):
-        if word.startswith(f"{option}="):
-            found = word.removeprefix(f"{option}=")
-        elif word == option and (following == "-" or not following.startswith("-")):
-            found = following
-    return found or None
+    """The file of an option in the words of a command line, whatever else is wrong with them: a
+    parser that knows that option alone finds it."""
+    parser = Words(None)
+    parser.add_argument(option, dest="file")
+    try:
+        return parser.parse_known_args([*line])[0].file or None
+    except Stop:
+        return None
 
 
 def name_in(line: Sequence[str]) -> str:
-    """The name of the pair of a command line, by its subtitle file; none where there is no such
-    word."""
+    """The name of the pair of a command line, by its subtitle file, which its ending tells, as the
+    other words may be wrong; none where there is no such word."""
     stl = next((word for word in line if word.lower().endswith(".stl")), "")
     return os.path.splitext(os.path.basename(stl))[0]
 

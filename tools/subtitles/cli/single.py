@@ -23,7 +23,7 @@ from ..judging.causes import count_line
 from ..judging.faults import faults_of, hints_of
 from ..judging.pair import Pair
 from ..judging.status import ACCEPTED, NOT_JUDGED, Severity
-from ..judging.verdict import Verdict
+from ..judging.verdict import Unjudged, Verdict
 from ..recording.recording import Recording
 from ..request.commands import (
     CommandWords, LOCK, Listener, Names, Progress, Speech, files_in, index_in, lock_of, pair_name,
@@ -261,15 +261,13 @@ def judge_pair(pair: Pair, files: Files) -> None:
         pair.judge()
         verdict.hints = [*dict.fromkeys(hints_of(verdict))]  # parts may have the same
     except Unclear as unclear:
-        verdict.reason, verdict.to_type = unclear.reason, unclear.to_type
-        verdict.is_passing = isinstance(unclear, Unsaid)
+        verdict.unjudged = Unjudged(unclear.reason, unclear.to_type, isinstance(unclear, Unsaid))
     except Exception as reason:  # whatever it is, nothing is judged
-        verdict.reason = error_line(reason)
-        verdict.is_passing = isinstance(reason, (Unanswered, OSError, MemoryError))
+        verdict.unjudged = Unjudged(error_line(reason), is_passing=isinstance(
+            reason, (Unanswered, OSError, MemoryError)))
     except KeyboardInterrupt:
         ignore_signals()  # what is known is written now
-        verdict.is_stopped = True
-        verdict.reason = f"stopped at {pair.stop(now())}"
+        verdict.unjudged = Unjudged(f"stopped at {pair.stop(now())}", is_stopped=True)
     verdict.seconds = round(time.monotonic() - began, 3)
     try:
         files.write(pair.recording)

@@ -8,7 +8,7 @@ import re
 import shlex
 import sys
 import traceback
-from typing import Callable, IO, Mapping, NamedTuple, NoReturn, Sequence, TextIO
+from typing import Any, Callable, IO, Mapping, NamedTuple, NoReturn, Sequence, TextIO
 
 from .times import CLOCK, frame_of
 
@@ -49,11 +49,18 @@ class Words(argparse.ArgumentParser):
     text it reads a line of a list, which asks for no help."""
 
     def __init__(self, text: str | None) -> None:
+        self.fields: dict[str, str] = {}  # by the options that have them
         super().__init__(description=text, usage=argparse.SUPPRESS, allow_abbrev=False,
                          formatter_class=argparse.RawDescriptionHelpFormatter, add_help=bool(text))
         if text:
             self.add_argument("--version", action="version", version=f"{self.prog} {version()}",
                               help="show the version and exit")
+
+    def add_argument(self, *names: Any, **known: Any) -> argparse.Action:
+        """Adds an option or another word."""
+        action = super().add_argument(*names, **known)
+        self.fields.update(dict.fromkeys(action.option_strings, action.dest))
+        return action
 
     def format_help(self) -> str:
         """The help; where the tools are installed, it calls them by the names that they have, and

@@ -290,8 +290,7 @@ class Namer(Sendings):
 
     def unseen_words(self, first: int, last: int) -> str:
         """Why not all is known that was sent in some frames."""
-        is_lost = any(one.first <= last and first <= one.last for one in self.held.lost)
-        return NOT_RECEIVED if is_lost else UNSEEN
+        return NOT_RECEIVED if self.held.is_lost(first, last) else UNSEEN
 
     def unknown(self, place: int, frame: int, known: int, words: str) -> Cause:
         sent = self.held.page_at(frame)

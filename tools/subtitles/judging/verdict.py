@@ -130,6 +130,16 @@ class Gap:
             f"{self.words}"
 
 
+class Unjudged(NamedTuple):
+    """Why a pair is not judged, in lines, and what a person may type then. `is_passing`: that is a
+    failure of the machine, and another time it may be judged; `is_stopped`: by a signal."""
+
+    reason: str
+    to_type: tuple[str, ...] = ()
+    is_passing: bool = False
+    is_stopped: bool = False
+
+
 @dataclasses.dataclass
 class Verdict:
     """All there is to say of a pair; `notes` are what else was seen, a line each, `hints` what to
@@ -150,11 +160,8 @@ class Verdict:
     stl: SummedFile | None = None
     recording: SummedFile | None = None
     is_kept: bool = False  # what was judged stays in the folder
-    is_stopped: bool = False  # by a signal
-    reason: str | None = None  # why it is not judged
-    is_passing: bool = False  # that is a failure of the machine: another time it may be judged
+    unjudged: Unjudged | None = None  # where it is not judged
     failed: list[str] = dataclasses.field(default_factory=list)  # why outputs are not written
-    to_type: tuple[str, ...] = ()
     found: dict[str, object] = dataclasses.field(default_factory=dict)
     seconds: float = 0.0
     was_fitted: bool = False
@@ -188,7 +195,7 @@ class Verdict:
         kinds = [*(warned.kind for warned in self.warnings), *[FITTED_KIND] * bool(self.fitted)]
         return Grounds([part.said() for part in self.parts], self.severity,
                     [gap.is_judged and gap.place.mark is None for gap in self.gaps], kinds,
-                    self.asked.is_strict, [] if self.reason is None else [self.reason],
+                    self.asked.is_strict, [self.unjudged.reason] if self.unjudged else [],
                     self.failed, [fault.name for fault in self.named])
 
     @property
@@ -199,7 +206,18 @@ class Verdict:
     @property
     def is_final(self) -> bool:
         """Whether it would be the same another time: the machine did what was asked of it."""
-        return not (self.is_passing or self.is_stopped or self.failed)
+        known = self.unjudged
+        return not (known and (known.is_passing or known.is_stopped) or self.failed)
+
+    @property
+    def is_stopped(self) -> bool:
+        """Whether a signal ended it."""
+        return bool(self.unjudged and self.unjudged.is_stopped)
+
+    @property
+    def to_type(self) -> tuple[str, ...]:
+        """What a person may type where it is not judged."""
+        return self.unjudged.to_type if self.unjudged else ()
 
     @property
     def word(self) -> str:
@@ -209,7 +227,7 @@ class Verdict:
     @property
     def why_not(self) -> str | None:
         """Why it is not judged, in lines; `None` where it is."""
-        reasons = [one for one in (self.reason, *self.failed) if one is not None]
+        reasons = [*([self.unjudged.reason] if self.unjudged else []), *self.failed]
         return "\n".join(reasons) if reasons else self.decision.reason
 
     @property

@@ -216,10 +216,14 @@ class Announcement(NamedTuple):
 
 def announcements_of(records: Sequence[ProgramMap], page: Page) -> Iterator[Announcement]:
     """Those of a page in the PMT of all programmes, one after another."""
-    for at, one in enumerate(records):
-        if pids := announced_in(one, page):
-            later = (other.after for other in records[at + 1:] if other.number == one.number)
-            yield Announcement(one.number, frozenset(pids), one.after, next(later, None))
+    ends: dict[int, int | None] = {}  # the PCR before the next PMT of a programme, by its number
+    several: list[Announcement] = []
+    for record in reversed(records):
+        if pids := announced_in(record, page):
+            several.append(Announcement(record.number, frozenset(pids), record.after,
+                                        ends.get(record.number)))
+        ends[record.number] = record.after
+    return reversed(several)
 
 
 def unsent_by(announced: Sequence[Announcement], carriers: Collection[int], begin: int,

@@ -1,18 +1,22 @@
-"""The list of faults of a report, and how many there are of each number."""
+"""The faults of a report, how many there are of each number, and subtitles with pictures."""
 from __future__ import annotations
 
-from typing import Iterable, TYPE_CHECKING
+import bisect
+import collections
+import itertools
+from typing import Iterable, NamedTuple, TYPE_CHECKING
 
+from ..common.command_line import counted
 from ..common.markup import BREAK, Markup, NO_MARKUP, Value, joined, markup
 from ..common.times import Spans, frame_of, joined_spans, time_of
 from ..formats.listing import (
     CONTENT, ENDS_READING, FaultLine, UNDECIDED, WITH_CAUSE, fault_of_line, marked_up, number_link)
-from ..formats.stl import SubtitleList
+from ..formats.stl import Subtitle, SubtitleList
 from ..judging.check import Answer, End
 from ..judging.subtitles import midnight_words
 from ..stream.receiver import national_option
-from .pictures import NOT_READ, text_of_code
-from .transmission import Seen, around, between_words, frames_words, pes_words, units_table
+from .pictures import DIFFERENT, Figures, KINDS, NOTHING, NOT_READ, SAME, text_of_code
+from .transmission import Seen, around, between_words, frames_words, pes_words
 
 if TYPE_CHECKING:
     from .report import Looks, Report
@@ -158,6 +162,97 @@ def numbers_table(report: Report) -> Markup:
                   heads("Number", *COLUMNS), joined(rows))
 
 
+# The subtitles that are held otherwise than due, with two pictures of each.
+
+MOST_DRAWN = 500  # subtitles with pictures, the first that are not as due
+
+
+class Looked(NamedTuple):
+    """After how many frames a subtitle was whole, `None` where it was not seen whole while it is
+    due; and the frame of its pictures."""
+
+    whole_after: int | None
+    frame: int
+
+    def words(self) -> str:
+        """After how many frames it was whole."""
+        return "not seen whole while it is due" if self.whole_after is None else \
+            f"whole after {counted(self.whole_after, 'frame')}"
+
+
+def looked_at(subtitle: Subtitle, frames: int | None, within: int) -> Looked:
+    """A subtitle that was whole after some frames: its pictures are of that frame, if it is not
+    late, else of the first one at which it is."""
+    if frames is None or frames > within:
+        return Looked(frames, min(subtitle.begin + within, subtitle.end - 1))
+    return Looked(frames, subtitle.begin + frames)
+
+
+class Entries:
+    """The entries of subtitles that are not held as they are due, with their pictures."""
+
+    def __init__(self, figures: Figures, held: Seen, subtitles: list[Subtitle],
+                 looked: list[Looked], faults: Faults) -> None:
+        self.figures, self.held, self.faults = figures, held, faults
+        self.subtitles = subtitles
+        self.looked = {one.index: look for one, look in zip(subtitles, looked)}
+        self.kinds = {one.index: figures.kind_at(look.frame)
+                      for one, look in zip(subtitles, looked)}
+        self.odd = {index for index, kind in self.kinds.items() if kind in (DIFFERENT, NOTHING)}
+        self.unknown = {index for index, kind in self.kinds.items()
+                        if kind not in (SAME, DIFFERENT, NOTHING)}
+        listed = [(frame, entry) for entry in faults.entries
+                  if (frame := self.frame_of(entry)) is not None]
+        self.entry_frames = sorted(frame for frame, _ in listed)
+        self.entry_at = dict(reversed(listed))
+        odd = (one for one in subtitles if one.index in self.odd)
+        self.drawn = {one.index: self.entry(one) for one in itertools.islice(odd, MOST_DRAWN)}
+
+    def frame_of(self, entry: Entry) -> int | None:
+        """The frame whose pictures belong to an entry, `None` where there is none."""
+        pes = entry.first.pes
+        return entry.first.frame if pes is None else self.held.last_before(pes)
+
+    def faults_in(self, subtitle: Subtitle) -> Markup:
+        """Words for the faults while it is due, with a link to the first that is listed."""
+        if not any(True for _ in self.faults.spans.between(subtitle.begin, subtitle.end)):
+            return NO_MARKUP
+        entry = self.entry_in(subtitle.begin, subtitle.end)
+        if not entry:
+            return markup(' <b class="bad">faults while it is due</b>')
+        return markup(' <a class="bad" href="#e{}"><b>fault {}</b></a>', entry.index, entry.index)
+
+    def entry_in(self, begin: int, end: int) -> Entry | None:
+        """The first listed fault that is told from `begin` to the frame before `end`."""
+        at = bisect.bisect_left(self.entry_frames, begin)
+        is_one = at < len(self.entry_frames) and self.entry_frames[at] < end
+        return self.entry_at[self.entry_frames[at]] if is_one else None
+
+    def entry(self, subtitle: Subtitle) -> Markup:
+        """A subtitle with its pictures."""
+        looked = self.looked[subtitle.index]
+        first, end = time_of(subtitle.begin), time_of(subtitle.end)
+        sent = self.held.sendings_between(subtitle.begin, subtitle.end)
+        words = f"sent {counted(sent, 'time')} while it is due, {looked.words()}"
+        name = subtitle.name.replace("s", "S", 1)
+        return markup('<section class="entry" id="s{}"><h3>{} <code>{}</code> to <code>{}</code>'
+                      "</h3><p>row {}, justification {}; {}{}</p>{}</section>", subtitle.index,
+                      name, first, end, subtitle.row, subtitle.justify, words,
+                      self.faults_in(subtitle), self.figures.at(looked.frame))
+
+    def all(self) -> Markup:
+        """Those with pictures, in order."""
+        return joined(self.drawn.get(one.index, NO_MARKUP) for one in self.subtitles)
+
+    def counted(self, group: Iterable[Subtitle]) -> str:
+        """How many subtitles of a group are of which kind."""
+        counts = collections.Counter(self.kinds[one.index] for one in group)
+        if len(counts) == 1:
+            return KINDS[next(iter(counts))]
+        return ", ".join(f"{counts[kind]:,} {words}" for kind, words in KINDS.items()
+                         if counts[kind])
+
+
 # The list of faults, and for the first of them pictures of what is due and what is held.
 
 MOST_PICTURED = 100  # entries with pictures
@@ -169,7 +264,7 @@ class FaultList:
     """The entries of the list, and the sections that they lead to."""
 
     def __init__(self, report: Report, looks: Looks, seen: Seen) -> None:
-        self.report, self.looks, self.program = report, looks, report.program
+        self.report, self.looks = report, looks
         self.entries, self.figures, self.held = report.faults.entries, looks.figures, seen
         self.leading = report.faults.leading
         self.pictured: dict[int, Entry] = {}  # the entry that has the pictures of a frame
@@ -270,7 +365,7 @@ class FaultList:
     # The sections
 
     def section(self, entry: Entry) -> Markup:
-        """The pictures of an entry, and its Teletext packets: all for the first, else the named."""
+        """The pictures of an entry."""
         fault, frame = entry.first, self.looks.entries.frame_of(entry)
         title: Value = "The broken place" if self.is_place(entry) else \
             markup("Fault {}: <code>{}</code>", entry.index, number_link(fault.line))
@@ -311,17 +406,7 @@ class FaultList:
         else:
             parts.append(markup('<p>Pictures of that frame: <a href="#{}">fault {}</a>.</p>',
                                 self.name_of(other), other.index))
-        parts.append(self.packets(entry, frame))
         return joined(parts)
-
-    def packets(self, entry: Entry, frame: int) -> Markup:
-        known = [one.first for one in self.held.held.members(frame)]
-        is_first = entry is self.leading
-        if not known:
-            return markup("<p>No PES packet has frame {}.</p>", time_of(frame)) * is_first
-        if not is_first and entry.first.packet is None:
-            return NO_MARKUP
-        return units_table(self.program, known, frame, entry.first.packet, is_first)
 
     def steps(self, entry: Entry) -> Markup:
         """Links to the entries before and after, and to the list."""

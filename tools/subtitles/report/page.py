@@ -20,8 +20,8 @@ from ..request.commands import CommandWords
 from ..request.request import Request
 from .faults import heads, meaning_of_verdict, numbers_table, table_row
 from .report import (
-    Blocks, Looks, Report, Scope, Subject, block_place, names_block, printed, refused_blocks)
-from .transmission import Program, Seen, place_of_pts
+    Blocks, Looks, Report, Scope, Subject, block_place, names_block, refused_blocks)
+from .transmission import Seen, place_of_pts
 
 
 # The whole report: one XHTML page, with all that it needs in it.
@@ -138,10 +138,7 @@ class Made:
         verdict, count = self.verdict, len(self.verdict.parts)
         gaps = [gap for gap in verdict.gaps
                 if gap.is_judged and (count == 1 or is_in(gap.place, part))]
-        recording = part.recording
-        program = Program(self.typed.program_word, self.typed.program_path,
-                          recording.path if recording else None, part.stream, part.names.folder)
-        return Report(Subject(verdict.of_part(part, gaps), part, count, program))
+        return Report(Subject(verdict.of_part(part, gaps), part, count))
 
     def files(self) -> list[tuple[str, SummedFile]]:
         """The files, each with what it is."""
@@ -188,7 +185,7 @@ def refused_file_parts(report: Report) -> list[Markup]:
     """What is said of a subtitle file that is refused."""
     known = Blocks(report.part.subtitle_file(), report.faults.of_blocks)
     return [block_place(report, known), faults_head(report),
-            refused_blocks(report, known), printed(report)]
+            refused_blocks(report, known)]
 
 
 def beside_parts(report: Report) -> list[Markup]:

@@ -19,10 +19,10 @@ from ..judging.part import Part
 from ..judging.verdict import Verdict
 from ..stream.gaps import first_lines
 from ..stream.receiver import Timeline
-from .faults import FaultList, Faults, fault_place_words, heads, table_row
+from .faults import (
+    Entries, FaultList, Faults, fault_place_words, heads, looked_at, table_row)
 from .pictures import Figures
-from .strip import Entries, Strip, looked_at
-from .transmission import Program, Seen
+from .transmission import Seen, Strip
 
 
 # What a report speaks of: programme, recording, from when to when; what nobody looked at.
@@ -143,7 +143,6 @@ class Subject(NamedTuple):
     judged: Verdict
     part: Part
     parts: int
-    program: Program
 
     def options(self) -> str:
         """All options as they hold."""
@@ -161,7 +160,7 @@ class Report:
 
     def __init__(self, subject: Subject) -> None:
         self.subject, self.asked = subject, subject.judged.asked
-        self.part, self.program = subject.part, subject.program
+        self.part = subject.part
         answer = self.part.answer
         self.stl, self.page = self.part.asked.stl, page_name(*self.asked.page)
         self.origin = self.part.origin or 0
@@ -257,7 +256,6 @@ def end_of_knowledge(seen: Seen, report: Report) -> int | None:
 
 # A refused subtitle file: its broken place, and all its refused subtitles as text.
 
-NAMED = markup(' class="named"')
 ORDER_FAULTS = 56, 57
 BYTE_FAULTS, ROW_FAULTS = (50, 51), range(50, 56)
 OF_FIRST_BLOCK = (16, 18, 19, 20, 21)  # after these the list goes on, as if it were not there
@@ -267,7 +265,6 @@ FIELDS = {11: ("DFC", slice(3, 11)), 12: ("DFC", slice(3, 11)), 13: ("DSC", slic
           14: ("CCT", slice(12, 14)), 15: ("EBN", slice(3, 4)), 16: ("CS", slice(4, 5)),
           17: ("CF", slice(15, 16)), 18: ("JC", slice(14, 15)), 19: ("VP", slice(13, 14)),
           22: ("SGN and SN", slice(0, 3))}
-FIRST_LINES, LAST_LINES = 200, 20  # of what `show` prints
 DRAWN_BESIDE = "It is drawn as undecided: what was sent from the subtitle before it that can be " \
     "relied on to the next one is not judged."
 
@@ -331,30 +328,8 @@ def block_place(report: Report, blocks: Blocks) -> Markup:
     why = DRAWN_BESIDE if report.is_beside else \
         "No page is drawn: what is due is known from a whole subtitle file alone."
     parts = [markup('<section id="place"><h2>The broken place</h2><p>{} {}</p>', named, why)]
-    subtitle = blocks.subtitle(first.block)
-    if subtitle:
-        parts.append(refused_subtitle(blocks, subtitle, first))
-    elif blocks.field(first):
-        parts.append(markup('<p class="text">{}</p>', blocks.field(first)))
-    return joined([*parts, markup("</section>")])
-
-
-def refused_subtitle(blocks: Blocks, subtitle: NamedSubtitle, fault: FaultLine) -> Markup:
-    """The first refused subtitle, in tables."""
-    assert fault.block is not None
-    text = blocks.text(fault.block)
-    parts = [markup("<h3>{}</h3>", block_name(subtitle, fault.block))]
-    if fault.number in ORDER_FAULTS:
-        parts.append(two_times(blocks, subtitle, fault))
-    else:
-        parts.append(markup("<p>{}</p>", joined(marked_times(subtitle, [fault]), " to ")))
-    if fault.number in BYTE_FAULTS:
-        return joined([*parts, byte_table(text, fault.at)])
-    if fault.number in ROW_FAULTS:
-        return joined([*parts, line_table(text, blocks.row(fault.block), fault.at)])
-    if blocks.field(fault):
-        parts.append(markup('<p class="text">{}</p>', blocks.field(fault)))
-    return joined([*parts, markup("<p>{}</p>", marked_text(text, []))])
+    return joined([*parts, markup("<p>{}</p></section>", block_words(
+        blocks, first.block, [first]))])
 
 
 def block_name(subtitle: NamedSubtitle, block: int) -> str:
@@ -381,7 +356,8 @@ def refused_blocks(report: Report, blocks: Blocks) -> Markup:
     items = []
     by_block = itertools.groupby(faults.of_blocks, lambda one: one.block)
     for index, (block, several) in enumerate(by_block, 1):
-        items.append(refused_item(blocks, index, block, list(several)))
+        items.append(markup('<li id="e{}">{}</li>', index, block_words(
+            blocks, block, list(several))))
     count = sum(count for number, count in faults.counts.items() if number in STL_FAULTS)
     more = count - len(faults.of_blocks)
     left = markup("<p><b>{:,} more fault{}</b> from <code>check --all</code> {} left out here."
@@ -400,20 +376,19 @@ def end_of_reading(report: Report, blocks: Blocks) -> Value:
                   "after it.", last.block or 0, last.number, last.name)
 
 
-def refused_item(blocks: Blocks, index: int, block: int | None, faults: list[FaultLine]) -> Markup:
+def block_words(blocks: Blocks, block: int | None, faults: list[FaultLine]) -> Markup:
     """A block with what is told of it, and its subtitle with its text."""
-    lines = [markup("<code>{}</code> {}", number_link(one.line), blocks.field(one))
-             for one in faults]
+    lines = [markup("<code>{}</code> {}", number_link(fault.line), blocks.field(fault))
+             for fault in faults]
     subtitle = blocks.subtitle(block)
     if not subtitle or block is None:
-        return markup('<li id="e{}">{}</li>', index, joined(lines, BREAK))
+        return joined(lines, BREAK)
     words = markup("<b>{}</b> {}", block_name(subtitle, block),
                    joined(marked_times(subtitle, faults), " to "))
     before = blocks.before(block)
-    if before and any(one.number in ORDER_FAULTS for one in faults):
+    if before and any(fault.number in ORDER_FAULTS for fault in faults):
         words += markup(" after {} to {}, SN {}", before.begin, before.end, before.number)
-    text = marked_text(blocks.text(block), faults)
-    return markup('<li id="e{}">{}</li>', index, joined([words, *lines, text], BREAK))
+    return joined([words, *lines, marked_text(blocks.text(block), faults)], BREAK)
 
 
 def marked_text(text: bytes, faults: list[FaultLine]) -> Markup:
@@ -429,67 +404,8 @@ def marked_text(text: bytes, faults: list[FaultLine]) -> Markup:
     return markup('<span class="text">{}</span>', joined(lines, BREAK))
 
 
-def printed(report: Report) -> Markup:
-    """What `show` prints, the middle of it left out where it is long."""
-    if report.asked.is_open:
-        return NO_MARKUP  # it shows no open subtitles
-    lines = report.program.show(report.part.names.given)
-    last = lines[FIRST_LINES:][-LAST_LINES:]
-    left = len(lines[FIRST_LINES:]) - len(last)
-    parts = [markup("<details><summary>What <code>show</code> prints</summary>"),
-             lines_block(lines[:FIRST_LINES])]
-    if left:
-        parts.append(markup("<p>Lines {} to {}, {} of them, are left out here.</p>",
-                            FIRST_LINES + 1, FIRST_LINES + left, left))
-    if last:
-        parts.append(lines_block(last))
-    return joined([*parts, markup("</details>")])
-
-
-def lines_block(lines: list[str]) -> Markup:
-    return markup('<pre class="lines">{}</pre>', chr(10).join(lines))
-
-
-def two_times(blocks: Blocks, subtitle: NamedSubtitle, fault: FaultLine) -> Markup:
-    """The times of a subtitle and the one before; those that the refusal is about are marked."""
-    rows = [(subtitle.number, *marked_times(subtitle, [fault]))]
-    before = blocks.before(fault.block or 0)
-    if before:
-        is_begin = fault.number == 56
-        rows.insert(0, (before.number, mark(before.begin) if is_begin else before.begin,
-                        before.end if is_begin else mark(before.end)))
-    told = joined(markup("<tr><td>{}</td><td>{}</td><td>{}</td></tr>", number, begin, end)
-                  for number, begin, end in rows)
-    return markup("<table><tr>{}</tr>{}</table>", heads("SN", "TCI", "TCO"), told)
-
-
 def readable(byte: int) -> Value:
     """A text byte for people: its ASCII character, else its code."""
     if byte == 0x20:
         return "\u2423"
     return chr(byte) if 0x20 < byte <= 0x7E else markup("<i>{:02X}</i>", byte)
-
-
-def byte_table(text: bytes, place: int | None) -> Markup:
-    """The text in rows of sixteen bytes with the byte at the place marked."""
-    rows = []
-    for begin in range(0, len(text), 16):
-        cells = joined(
-            markup("<td{}>{:02x}<br/>{}</td>", NAMED * (at == place), byte, readable(byte))
-            for at, byte in enumerate(text[begin:begin + 16], begin))
-        rows.append(markup('<tr><th scope="row">{}</th>{}</tr>', begin, cells))
-    return markup("<p>The bytes of its text; <b>byte {}</b>, counted from 0, is framed.</p>"
-                  '<table class="bytes">{}</table>', str(place), joined(rows))
-
-
-def line_table(text: bytes, row: int, place: int | None) -> Markup:
-    """The lines of the text, the first in its row, with the one at the place marked."""
-    rows = []
-    for number, line in enumerate(text.split(b"\x8a")):
-        words = joined(map(readable, line)) or markup("empty")
-        named = NAMED * (number == place)
-        rows.append(markup('<tr{}><th scope="row">line {}</th><td>row {}</td><td>{}</td><td>{}'
-                           "</td></tr>", named, number, row + number, counted(len(line), "byte"),
-                           words))
-    return markup("<p>The lines of its text; <b>line {}</b>, counted from 0, is framed.</p>"
-                  '<table class="textlines">{}</table>', str(place), joined(rows))

@@ -227,6 +227,7 @@ def is_page_over(own: Sequence[SentPacket], first: int) -> bool:
 # A page that moves to another PID, as the PMT says: which PES packets of which PID are of it when.
 
 MOST_OVERLAP, MOST_PAUSE = 10 * SECOND, 3600 * SECOND  # ticks between two of them
+MOST_STAGES = 64  # of a page that moves
 
 
 class Stage(NamedTuple):
@@ -267,16 +268,16 @@ def up_to(stage: Stage, other: Stage) -> Stage:
 
 def stages_of(survey: Survey, page: Page) -> list[Stage]:
     """The PIDs that carry a page one after another; none where it stays on one, where a PID carries
-    it that the PMT of the others does not name, or where the time does not go on from one to the
-    next. The times of a PMT are those of the PCR before it, which is told once a second: so stages
-    may overlap by what came in that time."""
+    it that the PMT of the others does not name, where there are too many, or where the time does
+    not go on from one to the next. The times of a PMT are those of the PCR before it, which is told
+    once a second: so stages may overlap by what came in that time."""
     carriers = {pid for pid, one in survey.by_pid.items() if one.has_page}
     by_number: dict[int, list[ProgramMap]] = {}
     for record in survey.programmes:
         by_number.setdefault(record.number, []).append(record)
     for records in by_number.values():
         named = [*named_in_turn(records, page, carriers)]
-        if len(named) > 1 and {pid for pid, _ in named} == carriers:
+        if 1 < len(named) <= MOST_STAGES and {pid for pid, _ in named} == carriers:
             begins = [at for _, at in named]
             stages = [stage_of(survey.by_pid[pid], begin if place else None, end)
                       for place, ((pid, begin), end) in enumerate(zip(named, [*begins[1:], None]))]

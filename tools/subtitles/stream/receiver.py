@@ -4,6 +4,7 @@ from __future__ import annotations
 import array
 import bisect
 import functools
+import itertools
 from typing import Iterable, Iterator, NamedTuple, Sequence
 
 from ..common.times import FRAMES_OF_A_DAY, NO_FRAME, Span, frames_at, wrapped
@@ -167,6 +168,24 @@ class HeardRun(NamedTuple):
     frames: Sequence[int]
 
 
+class Meeting:
+    """Spans, of which some may meet: whether one of them has a frame of some. They are sorted once
+    for all questions, and again where there are more."""
+
+    def __init__(self) -> None:
+        self.begins, self.reach = list[int](), list[int]()  # of each, and of those before it
+
+    def has(self, spans: Sequence[Span], first: int, last: int) -> bool:
+        """Whether one of these has a frame from one to another."""
+        if len(spans) != len(self.begins):
+            rising = sorted(spans)
+            self.begins = [span.first for span in rising]
+            lasts: list[int] = [span.last for span in rising]
+            self.reach = list(itertools.accumulate(lasts, lambda one, other: max(one, other)))
+        at = bisect.bisect_right(self.begins, last)
+        return at > 0 and self.reach[at - 1] >= first
+
+
 class Order:
     """The PES packets that are heard; `first` and `last` are the frames of the first and the last.
 
@@ -179,6 +198,7 @@ class Order:
     def __init__(self, least: int = 0, lost: Iterable[Span] = ()) -> None:
         self.least = least
         self.lost = [*lost]  # frames of which something is lost, whoever knows it
+        self.of_lost, self.of_doubts = Meeting(), Meeting()
         self.forget()
 
     def forget(self) -> None:
@@ -223,8 +243,12 @@ class Order:
     def is_seen(self, first: int, last: int) -> bool:
         """Whether all is known that was sent in some frames."""
         is_known = self.halt is None or last <= self.last
-        return is_known and not any(one.first <= last and first <= one.last
-                                    for one in [*self.doubts, *self.lost])
+        return is_known and not self.of_doubts.has(self.doubts, first, last) and \
+            not self.is_lost(first, last)
+
+    def is_lost(self, first: int, last: int) -> bool:
+        """Whether something of some frames is lost."""
+        return self.of_lost.has(self.lost, first, last)
 
     def members(self, frame: int) -> list[Run]:
         """The PES packets of a frame, each as a run of its own."""

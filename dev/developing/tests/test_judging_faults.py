@@ -6,6 +6,7 @@ from __future__ import annotations
 import contextlib
 import io
 import os
+import random
 from types import SimpleNamespace
 from typing import Any
 from unittest import mock
@@ -23,12 +24,12 @@ from subtitles.judging.sentence import Count, Facts, of_causes, what_is_wrong
 from subtitles.judging.transmissions import DuePages, program_answer
 from subtitles.request.commands import CLEAR, Listener, Progress, Speech
 from subtitles.request.request import Unclear
-from subtitles.stream.receiver import BLANK_PAGE, OLD
+from subtitles.stream.receiver import BLANK_PAGE, Meeting, OLD
 from .bench import Case
 from .judged import Heard, ORIGIN
 from .parts import (
     CLOSING, HEADER, answer, asked_for, packets_told, part_with, row, script, timeline_of)
-from .test_parts_of_verdicts import verdict_of
+from .test_judging_verdicts import verdict_of
 
 BEFORE = CLOCK - 60 * TICKS  # an origin whose frames go on over the wrap
 NO_C4 = packet(0, 0, [8, 8, 0, 0, 0, 8, 1, 0], b" " * 32)
@@ -172,6 +173,18 @@ class Words(Case):
             numbers = [namer.strange(0, None), namer.strange(0, 112), namer.strange(1, None)]
             found = [None if one is None else text_in(held.pages[one]) for one in numbers]
             self.must(f"{sent}", found == wanted, found)
+
+    def test_what_meets(self) -> None:
+        """Spans at random, of which some meet, against each of them; and where more come."""
+        chance, spans, meeting = random.Random(7), list[Span](), Meeting()
+        for count in range(30):
+            for _ in range(20):
+                first = chance.randrange(100)
+                last = first + chance.randrange(20)
+                wanted = any(one.first <= last and first <= one.last for one in spans)
+                self.must(f"{count}", meeting.has(spans, first, last) == wanted, (spans, first))
+            first = chance.randrange(100)
+            spans.append(Span(first, first + chance.choice((0, 0, 3, 40))))
 
     def test_what_is_seen(self) -> None:
         """Nothing of frames of which something is lost, by whoever knows it, nor behind the end of

@@ -239,6 +239,23 @@ class Watched(Case):
         self.must("made", os.path.isdir(self.path("out")))
         self.assertRaises(Stop, refuse_folders, self.words(out=self.path("in")))
 
+    def test_whole(self) -> None:
+        """A pair is due once when its files have stayed for so long; what changes meanwhile, or
+        afterwards, begins anew; who says that both are whole waits for nothing."""
+        os.mkdir(self.path("in"))
+        watching = Watch(self.path("in"), 5)
+        for at, size, is_due in ((0, 1, False), (4, 1, False), (5, 1, True), (9, 1, False),
+                                 (10, 2, False), (14, 3, False), (18, 3, False), (19, 3, True),
+                                 (20, 3, False), (30, 1, False), (35, 1, True)):
+            paths = [self.write(f"in/a.{ending}", b"x" * size) for ending in ("stl", "ts")]
+            for path in paths:
+                os.utime(path, (size, size))
+            due = watching.due([Item("a", asked_for(*paths), None)], lambda: float(at))
+            self.must(f"{at}", bool(due) == is_due, due)
+        self.write("in/a.done", b"")
+        paths = [self.write(f"in/a.{ending}", b"other") for ending in ("stl", "ts")]
+        self.must("said", watching.due([Item("a", asked_for(*paths), None)], lambda: 36.0))
+
     def test_verdicts(self) -> None:
         """A line for each, and the page over all, also of what an earlier call left."""
         for name in ("in", "out"):
@@ -246,7 +263,7 @@ class Watched(Case):
         for name in ("old", "older"):
             self.write(f"out/{name}.json", json.dumps(result("accepted")).encode())
         self.write("out/x.json", b"[]")
-        results = collection.Results(self.path("out"))
+        results = collection.FolderRows(self.path("out"))
         self.must("rows", list(results.rows) == ["old", "older"])
         out = io.StringIO()
         with contextlib.redirect_stdout(out):

@@ -17,7 +17,7 @@ from subtitles.common.markup import HEAD
 from subtitles.judging.check import Answer
 from subtitles.judging.part import Explanation, Part
 from subtitles.judging.status import Severity
-from subtitles.judging.verdict import Gap, Verdict
+from subtitles.judging.verdict import Gap, Unjudged, Verdict
 from subtitles.recording.notices import Notice
 from subtitles.report import page as report_page
 from subtitles.request.commands import CommandWords, Names
@@ -27,7 +27,7 @@ from subtitles.stream.gaps import Place
 from .bench import Case, example
 from .judged import Heard
 from .parts import answer, asked_for, in_page, part_with
-from .test_tables_of_files import refused
+from .test_formats_files import refused
 
 REFUSED = ["refused 72 Content frame 00:00:01:00 row 1 column 2", "refused 68 Parity frame "
            "00:00:02:00 packet 1", "2 faults"]
@@ -114,14 +114,16 @@ class Ends(Case):
 
     def test_not_judged(self) -> None:
         """Why, in lines, and what to type; how far it came where a signal ended it."""
-        said = self.said(self.verdict([], reason="one\ntwo", to_type=("first", "second", "third")))
+        said = self.said(self.verdict([], unjudged=Unjudged(
+            "one\ntwo", ("first", "second", "third"))))
         self.must("why", said == ["! one", "! two", "! type first", "! or second", "! or third"],
                   said)
         rows: list[tuple[list[Part], str]] = [
             ([], "nothing was judged so far"),
             ([part_with(0, 9, 0, answer(REFUSED))], "2 faults so far")]
         for parts, words in rows:
-            said = self.said(self.verdict(parts, reason="stopped at x", is_stopped=True))
+            said = self.said(self.verdict(parts, unjudged=Unjudged(
+                "stopped at x", is_stopped=True)))
             self.must(words, said[-2:] == [words, "! not judged: stopped at x"], said)
 
     def test_last_line(self) -> None:
@@ -132,7 +134,7 @@ class Ends(Case):
         for last, wanted in rows:
             heard = Heard()
             heard.last = last
-            say_verdict(self.verdict([], reason="why"), heard)
+            say_verdict(self.verdict([], unjudged=Unjudged("why")), heard)
             self.must(last, heard.lines == [*wanted, "! why"], heard.lines)
 
 
@@ -382,7 +384,7 @@ class Overview(Case):
     def test_not_judged(self) -> None:
         """Why, what to type, and what it is made from, whatever was judged before."""
         verdict = self.several()
-        verdict.reason, verdict.to_type = "no clock <\nnone", ("tools/qc a b --origin T",)
+        verdict.unjudged = Unjudged("no clock <\nnone", ("tools/qc a b --origin T",))
         verdict.notes, verdict.warnings = ["a note"], [Notice("kind", "strange")]
         page = in_page(report_page.report_page(verdict, CommandWords(
             "tools/qc", self.bench.program)))

@@ -13,7 +13,7 @@ from subtitles.stream.gaps import SECOND
 from subtitles.stream.survey import Survey
 from .bench import Case, packets
 from .judged import Judged, judged, programme, times
-from .test_moves import NEW, OLD, Sent, in_turn
+from .test_stream_moves import NEW, OLD, Sent, in_turn
 
 PAGE = (0, 0x88)
 ONE, TWO, THREE = 257, 258, 259

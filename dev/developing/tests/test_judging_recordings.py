@@ -14,7 +14,7 @@ from .judged import ORIGIN, apart, in_pipe, joined, judged, programme, sendings,
 from .muxed import (
     MPEG_2, Maker, PRIVATE, TELETEXT_PID, VIDEO_PID, put_teletext, spaced, teletext_descriptor)
 from .parts import HEADER
-from .test_pairs_judged import ACCENT, EVERY, HELLO, STORY, broken
+from .test_judging_pairs import ACCENT, EVERY, HELLO, STORY, broken
 
 
 def in_stream(*of_pids: tuple[int, bytes]) -> bytes:

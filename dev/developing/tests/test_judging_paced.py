@@ -9,7 +9,7 @@ from .bench import Case
 from .judged import Judged, Sent, joined, judged, programme, sendings
 from .muxed import Sent as Packet, Shape, TELETEXT_PID, multiplexed
 from .parts import CLOSING, HEADER, row
-from .test_pace import BEGIN, TIMES, filled
+from .test_stream_pace import BEGIN, TIMES, filled
 
 WRONG = [HEADER, row(22, b"Wrong"), CLOSING]
 AT = BEGIN + 300  # the frame of the wrong page: a subtitle is due, and repeated 25 frames later

@@ -1,22 +1,34 @@
-"""A page that moves to another PID while it is recorded: judged on both, each for its time."""
+"""A page that moves to another PID; what of a recording is told of its places."""
 from __future__ import annotations
 
+import os
+import random
+import select
+import subprocess
+import time
 from typing import Callable, Sequence
 
+from developing.multiplex import Multiplex
 from developing.pes import packet, pes_packet, pts_in
 from subtitles.clock.start import Clock, Found, RECORDING
-from subtitles.common.times import Between, TICKS
+from subtitles.common.times import Between, CLOCK, TICKS
 from subtitles.formats.stl import Subtitle
 from subtitles.judging.part import found_on, moves_told
+from subtitles.recording.recording import silent_in
+from subtitles.stream.gaps import SECOND, marks_told, why_refused
 from subtitles.stream.packets import Change, Mark, Packets, Run
-from subtitles.stream.ranges import Stage, joined_stages, part_inside, stages_of, up_to
-from subtitles.stream.survey import survey
-from .bench import Case, moved, packets
+from subtitles.stream.ranges import (
+    MOST_STAGES, Stage, joined_stages, part_inside, stages_of, up_to)
+from subtitles.stream.survey import Survey, names_of, survey
+from .bench import Case, SECONDS, moved, packets
 from .judged import in_pipe, judged, programme, times
 from .muxed import (
     MPEG_2, Maker, PRIVATE, Sent as Packet, Shape, TELETEXT_PID, VIDEO_PID, multiplexed,
     teletext_descriptor)
-from .parts import CLOSING, HEADER, row
+from .parts import CLOSING, HEADER, PAGE, row
+
+
+# A page that moves to another PID while it is recorded: judged on both, each for its time.
 
 OLD, NEW, THIRD = 0x101, 0x111, 0x121
 WORDS = "--every", "100"
@@ -61,6 +73,18 @@ class Moves(Case):
     def stages(self, data: bytes) -> list[tuple[int, tuple[int, int]]]:
         found = survey(self.bench.program, self.write("one.ts", data), (0, 0x88))
         return [(one.pid, one.inside) for one in stages_of(found, (0, 0x88))]
+
+    def test_many(self) -> None:
+        """A page moves 64 times at most: each costs a look at all that came."""
+        for count, wanted in ((MOST_STAGES, MOST_STAGES), (MOST_STAGES + 1, 0)):
+            heard = Survey()
+            for number in range(count):
+                pid, pts = (OLD, NEW)[number % 2], 90_000 * 20 * number
+                for line in (f"pcr 100 {pts}", "programme 1 100", f"stream {pid} 6",
+                             f"announce {pid} 888 656e67 2",
+                             f"pes {pid} {number // 2} 1 {pts + 90_000 * 5} 0 heo/80080810 3 0"):
+                    heard.take(line)
+            self.must(f"{count}", len(stages_of(heard, PAGE)) == wanted)
 
     def test_stages(self) -> None:
         """By what the PMT names when, with what may have come in that time."""
@@ -345,3 +369,121 @@ class Pieces(Case):
                                ((3, 6), [(5, 7), (1, 1)]), ((0, 2), [(2, 4), (1, -3)])):
             made = [part_inside(stages, place, inside) for place in range(2)]
             self.must(f"{inside}", made == wanted, made)
+
+
+# Transport streams that are written, read again, and told as a feed; languages of subtitle files.
+
+PID = 0x101
+
+
+class Written(Case):
+    """Streams that are written."""
+
+    def test_are_read_again(self) -> None:
+        """Each PES packet of any length comes back, with the tables before it, over 2^33, whatever
+        was taken between."""
+        for seed in range(6):
+            chance = random.Random(seed)
+            multiplex, pes, data = Multiplex(PID, b"ger", (1, 0x50)), list[bytes](), b""
+            for number in range(40):
+                pes.append(pes_packet((CLOCK + TICKS * (number - 20)) % CLOCK,
+                                      [HEADER, *[row(20, b"x")] * chance.randrange(14)]))
+                multiplex.put(pes[-1], (CLOCK + TICKS * (number - 20)) % CLOCK)
+                if chance.random() < 0.5:
+                    data += multiplex.taken()
+                    self.must("all is taken", multiplex.size == 0 and not multiplex.taken())
+            data += multiplex.taken()
+            self.write("one.ts", data)
+            status, _ = self.program("extract", "--pid", str(PID), self.path("one.ts"),
+                                     self.path("one.pes"))
+            self.must("PES packets", status == 0 and packets(self.read("one.pes")) == pes, status)
+            found = survey(self.bench.program, self.path("one.ts"), (0, 0x88))
+            self.must("listed", found.lines() == [
+                "PID 0x101: announced 150 ger subtitles in programme 1; subtitle pages sent: 888"],
+                found.lines())
+            [one] = found.programmes
+            self.must("its PCR", (one.number, one.pcr_pid, one.kinds) == (1, 0x1FF0, {PID: 6}), one)
+
+    def test_places(self) -> None:
+        """Where something is missing: twenty lines at most, the last of which counts the others."""
+        for count in (1, 20, 21, 25):
+            made = Packets(PID)
+            for number in range(0, 2 * count, 2):
+                made.runs += [Run(number, 1, SECOND * number, 0, "h", ""),
+                              Run(number + 1, 1, None, 0, "m", "")]
+                made.marks.append(Mark(number + 1, SECOND * number, 1, 0))
+            lines = marks_told(made)
+            more = [f"and at {count - 19} more places"] * (count > 20)
+            self.must(f"{count}", len(lines) == min(count, 20) and [
+                line for line in lines if not line.endswith("1 TS packet lost")] == more, lines)
+
+    def test_why_nothing(self) -> None:
+        """Why nothing is given of a PID, or nothing more; those of which nothing is are told in
+        the order of the PIDs."""
+        known = Survey()
+        for pid, packets, scrambled, refusal, count, words in (
+                (6, 3, 2, 0, 0, "PID 0x6 has no whole PES packet in 3 TS packets"),
+                (5, 3, 3, 0, 0, "PID 0x5 is scrambled: all 3 TS packets of it"),
+                (4, 9, 0, 31, 1, "PID 0x4 has other than PES packets of private_stream_1 from PES "
+                                 "packet 1 on: refused 31 Start pes 1"),
+                (7, 9, 1, 32, 2, "PID 0x7 has other than PES packets of 184 to 1656 bytes from PES "
+                                 "packet 2 on: refused 32 Length pes 2"),
+                (3, 0, 0, 0, 0, "PID 0x3 carries nothing"), (8, 9, 0, 0, 1, None),
+                (2, 7, 0, 31, 0, "PID 0x2 has no PES packets of private_stream_1, as Teletext has"),
+                (1, 1, 0, 0, 0, "PID 0x1 has no whole PES packet in 1 TS packet")):
+            one = Packets(pid, packets=packets, scrambled=scrambled, refusal=refusal)
+            one.runs += [Run(0, count, 0, 0, "", "")] * bool(count)
+            known.by_pid[pid] = one
+            self.must(f"{pid:#x}", why_refused(one) == words, why_refused(one))
+        silent = [one.pid for one in silent_in(known)]
+        self.must("silent", silent == [1, 2, 5, 6], silent)
+
+    def test_languages(self) -> None:
+        """EBU Tech 3264, appendix 3: those that national options are for, and others."""
+        for code, wanted in (
+                ("09", "eng"), ("08", "deu ger"), ("0A", "spa"), ("0a", "spa"), ("28", "swe"),
+                ("27", "fin"), ("15", "ita"), ("0F", "fra fre"), ("06", "ces cze"), ("1B", "hun"),
+                ("21", "por"), ("25", "slk slo"), ("07", "dan"), ("1D", "nld dut"), ("20", "pol"),
+                ("1E", "nor nob nno"), ("22", "ron rum"), ("26", "slv"), ("29", "tur"),
+                ("7f", ""), ("00", ""), ("x", ""), ("", "")):
+            self.must(code, names_of(code) == wanted.split(), names_of(code))
+
+
+class Fed(Case):
+    """A stream that comes through a pipe, block by block."""
+
+    def sent(self) -> bytes:
+        """Of one PES packet a frame, in each second another row."""
+        multiplex = Multiplex(PID, b"ger", (1, 0x50))
+        for number in range(300):
+            pts = (CLOCK + TICKS * (number - 20)) % CLOCK
+            multiplex.put(pes_packet(pts, [HEADER, row(20, b"%d" % (number // 25))]), pts)
+        return multiplex.taken()
+
+    def packets_in(self, data: bytes) -> int:
+        """The PES packets that a file of these bytes has."""
+        _, lines = self.program("survey", self.write("front.ts", data))
+        [count] = [int(line.split()[2]) for line in lines if line.startswith("end ")]
+        return count
+
+    def test_is_told_at_once(self) -> None:
+        """After each block the lines tell each PES packet that has come, also where a block is half
+        as long as what is asked for at once."""
+        data = self.sent()
+        for size in (1000, 16_384, 32_768, 60_000):
+            with subprocess.Popen([self.bench.program, "survey", "/dev/stdin"],
+                                  stdin=subprocess.PIPE, stdout=subprocess.PIPE) as process:
+                assert process.stdin and process.stdout
+                out, told = b"", -1
+                for end in range(size, 3 * size + 1, size):
+                    process.stdin.write(data[end - size:end])
+                    process.stdin.flush()
+                    wanted, last = self.packets_in(data[:end]), time.monotonic() + SECONDS
+                    while told != wanted and (left := last - time.monotonic()) > 0:
+                        if select.select([process.stdout], [], [], left)[0]:
+                            out += os.read(process.stdout.fileno(), 1 << 16)
+                        runs = [line.split() for line in out[:out.rfind(b"\n") + 1].splitlines()
+                                if line.startswith(b"pes ")]
+                        told = int(runs[-1][2]) + int(runs[-1][3]) if runs else 0
+                    self.must(f"{end} in blocks of {size}", told == wanted, (told, wanted))
+                process.stdin.close()

@@ -26,7 +26,7 @@ from subtitles.formats import listing
 from subtitles.request.lines import MOST_BYTES, MOST_OF_LINE, lines_in, list_at, split
 from .bench import Case
 from .test_dev_layers import TOOLS, modules
-from .test_tables_of_files import refused
+from .test_formats_files import refused
 
 
 class Words(Case):
