@@ -284,14 +284,6 @@ def rows_from(first: int) -> Callable[[Reports], None]:
 for FIRST in range(BESIDE, COUNT, EACH):
     setattr(Reports, f"test_from_{FIRST:03}", rows_from(FIRST))
 
-if __name__ == "__main__":
-    if sys.argv[1:]:
-        print(page_of(int(sys.argv[1])))
-    else:
-        for NUMBER in range(COUNT):
-            print(row_of(NUMBER, page_of(NUMBER)))
-
-
 # Reports at random beside what the program prints: `check --all` each entry of the list and each
 # count, `listen` the rows of each picture, of the PES file and of the program's own schedule.
 
@@ -431,3 +423,11 @@ def pages_from(first: int) -> Callable[[ReportsBeside], None]:
 
 for FIRST in range(0, BESIDE, EACH_BESIDE):
     setattr(ReportsBeside, f"test_from_{FIRST:03}", pages_from(FIRST))
+
+
+if __name__ == "__main__":
+    if sys.argv[1:]:
+        print(page_of(int(sys.argv[1])))
+    else:
+        for NUMBER in range(COUNT):
+            print(row_of(NUMBER, page_of(NUMBER)))

@@ -12,6 +12,7 @@ from typing import Any, Sequence
 from subtitles.clock.alignment import MOST_BASES, Shown, bases_of
 from subtitles.clock.start import Clock, Found, RECORDING
 from subtitles.clock.stretches import LACKED, LEAST_BREAK, Stretch, by_breaks, find_row
+from subtitles.common.command_line import Unanswered
 from subtitles.common.times import CLOCK, Spans, TICKS, joined_spans
 from subtitles.judging.timing import last_time
 from subtitles.stream.gaps import (
@@ -125,6 +126,21 @@ class Times(unittest.TestCase):
             row: Any = [Stretch(SimpleNamespace(base=base, start=start),  # type: ignore[arg-type]
                                 9 * at, 9 * at + 9) for at, (base, start) in enumerate(tracks)]
             self.assertEqual([one.end for one in by_breaks(row)], ends, tracks)
+
+    def test_what_is_no_survey(self) -> None:
+        """A program that fails, knows no such words or refuses has its line told; one that ends
+        early, or fails behind its last line, is no answer either."""
+        for lines, status, said in (
+                (["fault 41 Read pes 3"], 2, "fault 41 Read pes 3, status 2"),
+                (["usage 0 Words"], 2, "usage 0 Words, status 2"),
+                (["refused 31 Start pes 0"], 1, "refused 31 Start pes 0, status 1"),
+                (["pcr 513 7"], 0, "it did not end, status 0")):
+            survey = Survey()
+            for line in lines:
+                survey.take(line)
+            with self.assertRaises(Unanswered) as told:
+                survey.refuse(status)
+            self.assertEqual(str(told.exception), f"survey was not answered: {said}")
 
     def test_clock_of_the_last_map(self) -> None:
         """Of several programmes with a PID the last one that was told."""
