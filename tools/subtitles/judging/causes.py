@@ -91,9 +91,9 @@ class Namer(Sendings):
 
     def cause_of_sendings(self, place: int, faulty: Faulty) -> Cause:
         """The cause of a subtitle, by what was sent when."""
-        one, came = self.subtitles[place], self.sending(place)
-        if self.held.page_at(one.begin) == self.pages[place]:
-            if came is not None and came < one.begin:
+        subtitle, came = self.subtitles[place], self.sending(place)
+        if self.held.page_at(subtitle.begin) == self.pages[place]:
+            if came is not None and came < subtitle.begin:
                 return self.moved(place, came)
             return self.later(place, faulty)
         if came is not None and self.is_in_time(place, came):
@@ -101,7 +101,7 @@ class Namer(Sendings):
         strange = self.strange(place, came)
         if strange is not None:
             return self.differs(place, strange)
-        other = self.other_at(one.begin, place)
+        other = self.other_at(subtitle.begin, place)
         if other is not None:
             return self.of_other(place, other, self.window(place).last)
         return self.never(place) if came is None else self.moved(place, came)
@@ -141,22 +141,22 @@ class Namer(Sendings):
 
     def never(self, place: int) -> Cause:
         """Its page came nowhere near."""
-        one, window = self.subtitles[place], self.window(place)
+        subtitle, window = self.subtitles[place], self.window(place)
         other = self.others_in(place)
         if other is not None:
             return self.of_other(place, other, window.last)
-        if not self.held.is_seen(one.begin, one.end - 1):
-            return self.unknown(place, one.begin, window.last,
-                                self.unseen_words(one.begin, one.end - 1))
+        if not self.held.is_seen(subtitle.begin, subtitle.end - 1):
+            return self.unknown(place, subtitle.begin, window.last,
+                                self.unseen_words(subtitle.begin, subtitle.end - 1))
         if self.came_closed(place):
-            return self.unknown(place, one.begin, window.last, self.closed_words())
-        for number in self.held.numbers(one.begin, one.end):
+            return self.unknown(place, subtitle.begin, window.last, self.closed_words())
+        for number in self.held.numbers(subtitle.begin, subtitle.end):
             page = self.held.pages[number]
             if page != BLANK_PAGE and self.is_of_its_time(number, place) and \
                     is_part(page, self.pages[place]):
                 return Cause(place, TEXT, None, page, None, "rows are missing", window.last)
-        sent = self.held.page_at(one.begin)
-        is_all = self.held.last >= min(window.last, one.begin + LEAST)
+        sent = self.held.page_at(subtitle.begin)
+        is_all = self.held.last >= min(window.last, subtitle.begin + LEAST)
         words = self.subcode_words if is_all else \
             f"the recording was read up to {time_of(self.held.last)}"
         return Cause(place, NEVER, None, None if sent == BLANK_PAGE else sent, None, words,
@@ -164,8 +164,8 @@ class Namer(Sendings):
 
     def came_closed(self, place: int) -> bool:
         """Whether rows of a subtitle came in its time when the page was not open."""
-        one, page = self.subtitles[place], self.pages[place]
-        return any(span.first < one.end and one.begin <= span.last and any(
+        subtitle, page = self.subtitles[place], self.pages[place]
+        return any(span.first < subtitle.end and subtitle.begin <= span.last and any(
             content == page[row - 1] for row, content in texts)
             for span, texts in self.held.strays)
 
@@ -175,18 +175,18 @@ class Namer(Sendings):
 
     def differs(self, place: int, number: int) -> Cause:
         """Another page was sent at its time, which is that of no subtitle."""
-        one, due, sent = self.subtitles[place], self.pages[place], self.held.pages[number]
+        subtitle, due, sent = self.subtitles[place], self.pages[place], self.held.pages[number]
         words = words_on(sent)
         if words != words_on(due):
             places = self.programme.by_words.get(words)
             if places and words:
-                other = self.programme.nearest(places, one.begin)
-                return self.of_other(place, other, one.end)._replace(sent=sent)
+                other = self.programme.nearest(places, subtitle.begin)
+                return self.of_other(place, other, subtitle.end)._replace(sent=sent)
             return Cause(place, TEXT, None, sent, None,
-                         beside_words(due, sent) or self.subcode_words, one.end)
+                         beside_words(due, sent) or self.subcode_words, subtitle.end)
         if is_moved(due, sent):
-            return Cause(place, PLACE, None, sent, None, moved_words(due, sent), one.end)
-        return Cause(place, ATTRIBUTE, None, sent, None, attribute_words(due, sent), one.end)
+            return Cause(place, PLACE, None, sent, None, moved_words(due, sent), subtitle.end)
+        return Cause(place, ATTRIBUTE, None, sent, None, attribute_words(due, sent), subtitle.end)
 
     def of_other(self, place: int, other: int, known: int) -> Cause:
         return Cause(place, OTHER, None, self.pages[other], other, "", known)
@@ -237,15 +237,15 @@ class Namer(Sendings):
     def after(self, place: int, number: int, frame: int) -> Cause:
         """A page is held after its TCO, and came not before that. One of no subtitle is another
         text in the pause; but just at the last TCO it is no text of ours that stays."""
-        one, page = self.subtitles[place], self.held.pages[number]
+        subtitle, page = self.subtitles[place], self.held.pages[number]
         is_other = page not in self.programme.by_page and page != BLANK_PAGE
         is_ours = words_on(page) in self.programme.by_words
         is_last = place == len(self.subtitles) - 1
-        if is_other and is_last and self.held.frames[number] - one.end <= self.held.within:
-            return self.unknown(place, frame, one.end, NEXT)
-        if is_other and not is_ours and self.held.is_seen(one.end, frame):
-            return Cause(place, IN_PAUSE, None, page, None, f"at {time_of(frame)}", one.end)
-        return self.unknown(place, frame, one.end, f"sent after its TCO, at {time_of(frame)}")
+        if is_other and is_last and self.held.frames[number] - subtitle.end <= self.held.within:
+            return self.unknown(place, frame, subtitle.end, NEXT)
+        if is_other and not is_ours and self.held.is_seen(subtitle.end, frame):
+            return Cause(place, IN_PAUSE, None, page, None, f"at {time_of(frame)}", subtitle.end)
+        return self.unknown(place, frame, subtitle.end, f"sent after its TCO, at {time_of(frame)}")
 
     def gone_words(self, place: int, number: int) -> str:
         """How long after the TCO of a subtitle another page comes than the one that is held there;
@@ -262,23 +262,23 @@ class Namer(Sendings):
 
     def broken(self, place: int, span: Span) -> Cause:
         """Its page was there, and another one came before its TCO."""
-        one, number = self.subtitles[place], self.held.number_at(span.first)
+        subtitle, number = self.subtitles[place], self.held.number_at(span.first)
         page = self.held.pages[number]
         other = self.programme.of_page(page, span.first)
         if not self.held.is_seen(span.first, span.last):
-            return self.unknown(place, span.first, one.end,
+            return self.unknown(place, span.first, subtitle.end,
                                 self.unseen_words(span.first, span.last))
         if other is not None and other != place:
-            return self.of_other(place, other, one.end)
+            return self.of_other(place, other, subtitle.end)
         if page == BLANK_PAGE:
             erased = self.held.frames[number]
-            if erased < one.begin:  # when it was not due yet
-                return self.unknown(place, span.first, one.end,
+            if erased < subtitle.begin:  # when it was not due yet
+                return self.unknown(place, span.first, subtitle.end,
                                     f"it has not come at {time_of(span.first)}")
             if self.is_erased(number):
                 return Cause(place, ERASED, None, None, None,
-                             f"by a header without rows, at {time_of(erased)}", one.end)
-            return self.unknown(place, span.first, one.end, "it is gone at "
+                             f"by a header without rows, at {time_of(erased)}", subtitle.end)
+            return self.unknown(place, span.first, subtitle.end, "it is gone at "
                                 f"{time_of(self.broken_since(span.first))}")
         return self.differs(place, number)
 
@@ -433,11 +433,11 @@ class Wording:
 
     def values(self, cause: Cause) -> Members:
         """A cause for machines."""
-        one = self.subtitles[cause.place]
+        subtitle = self.subtitles[cause.place]
         other = None if cause.other is None else self.subtitles[cause.other]
         return {
-            "subtitle": {"position": one.index, "number": one.number,
-                         "begin": time_of(one.begin), "end": time_of(one.end)},
+            "subtitle": {"position": subtitle.index, "number": subtitle.number,
+                         "begin": time_of(subtitle.begin), "end": time_of(subtitle.end)},
             "cause": cause.name, "frames": cause.frames, "text": self.due_text(cause),
             "sent": None if cause.sent is None else page_text(cause.sent, self.option),
             "other": None if other is None else other.number,
@@ -451,20 +451,20 @@ class Wording:
 
     def line(self, cause: Cause) -> str:
         """The line of a cause."""
-        one = self.subtitles[cause.place]
+        subtitle = self.subtitles[cause.place]
         if cause.name == IN_PAUSE:  # no fault of the subtitle before it
             return f"{LINE}{self.said(cause)}"
-        return (f'{LINE}{one.name} at {time_of(one.begin)}, '
+        return (f'{LINE}{subtitle.name} at {time_of(subtitle.begin)}, '
                 f'"{self.due_text(cause)}": {self.said(cause)}')
 
     def said(self, cause: Cause, has_text: bool = True) -> str:
         """What a cause is, in words, with the text that is sent where that is another one."""
-        one = self.subtitles[cause.place]
+        subtitle = self.subtitles[cause.place]
         words = cause.name
         if cause.name in (LATE, EARLY):
             words += f" by {counted(cause.frames or 0, 'frame')}"
         elif cause.name == NOT_ERASED:
-            words += f" at {time_of(one.end)}"
+            words += f" at {time_of(subtitle.end)}"
         elif cause.name == OTHER:
             words += " at its time"
         if cause.name == IN_PAUSE:

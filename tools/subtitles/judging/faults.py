@@ -108,48 +108,48 @@ def hints_of_part(part: Part, verdict: Verdict) -> Iterator[str]:
             yield f"{number}: {words}"
 
 
-def hint_words(told: FaultLine, part: Part, verdict: Verdict) -> str:
+def hint_words(fault: FaultLine, part: Part, verdict: Verdict) -> str:
     """What is to be said of such a fault; nothing where it is not known."""
     asked = verdict.asked
-    if told.number == CHARACTER:
-        if not told.block or told.at is None:
+    if fault.number == CHARACTER:
+        if not fault.block or fault.at is None:
             return ""
-        return OptionAdvice(part.subtitle_file(), asked.option).of(told.block, told.at)
-    if told.number == DISPLAY:
+        return OptionAdvice(part.subtitle_file(), asked.option).of(fault.block, fault.at)
+    if fault.number == DISPLAY:
         return open_words(part.subtitle_file())
-    if told.number in OF_HEADERS:
+    if fault.number in OF_HEADERS:
         return part.explanation.of_header
-    if told.number in OF_ENDS:
-        return end_words(told.number, part, asked.page_name)
-    if told.number == CONTENT:
+    if fault.number in OF_ENDS:
+        return end_words(fault.number, part, asked.page_name)
+    if fault.number == CONTENT:
         return part.explanation.otherwise
-    if told.number in (EMPTY_TIME, OUT_OF_ORDER):
-        return midnight_words(told, part.subtitle_file())
+    if fault.number in (EMPTY_TIME, OUT_OF_ORDER):
+        return midnight_words(fault, part.subtitle_file())
     if part.pes is None or part.origin is None:
         return ""
-    if told.number == OFF_FRAME:
+    if fault.number == OFF_FRAME:
         return off_words(most_off(part.pts(), part.origin))
-    if told.number == SILENT:
-        return silent_words(told, part)
-    if told.number == GAP:
+    if fault.number == SILENT:
+        return silent_words(fault, part)
+    if fault.number == GAP:
         times = [(one.begin, one.end) for one in part.due().subtitles]
         return gap_words((part.pts(HEADER), part.pts()[-1:]), part.origin, asked,
                          part.answer.numbers, times)
-    if told.number == PARITY:
-        return letter_words(told, part)
+    if fault.number == PARITY:
+        return letter_words(fault, part)
     if part.explanation.kept:
         return part.explanation.kept.words()
-    return header_words(fault_place(told, part.packets, part.held).headers, asked)
+    return header_words(fault_place(fault, part.packets, part.held).headers, asked)
 
 
-def lead_words(told: FaultLine, part: Part, verdict: Verdict) -> str:
+def lead_words(fault: FaultLine, part: Part, verdict: Verdict) -> str:
     """What is said of the fault that is said first: of a header of the page also of which subtitle
     it is, and what it does there."""
-    words = hint_words(told, part, verdict)
-    if told.number != CONTROL or not words or told.frame is None:
+    words = hint_words(fault, part, verdict)
+    if fault.number != CONTROL or not words or fault.frame is None:
         return words
-    effect = effect_of(fault_place(told, part.packets, part.held).headers, verdict.asked)
-    return f"{whose_words(told.frame, part)} {effect} on some sets: {words}"
+    effect = effect_of(fault_place(fault, part.packets, part.held).headers, verdict.asked)
+    return f"{whose_words(fault.frame, part)} {effect} on some sets: {words}"
 
 
 def whose_words(frame: int, part: Part) -> str:
@@ -163,12 +163,12 @@ def whose_words(frame: int, part: Part) -> str:
     return f'{due.subtitles[count - 1].name}, "{text}",'
 
 
-def letter_words(told: FaultLine, part: Part) -> str:
+def letter_words(fault: FaultLine, part: Part) -> str:
     """Which letter of which subtitle comes with even parity; nothing where that is not known."""
-    rows = fault_place(told, part.packets, part.held).rows
-    if told.frame is None or rows is None:
+    rows = fault_place(fault, part.packets, part.held).rows
+    if fault.frame is None or rows is None:
         return ""
-    due = part.due().page_at(told.frame)
+    due = part.due().page_at(fault.frame)
     found = [code for cells, wanted in zip(rows, due) for cell, code in zip(cells, wanted)
              if cell == HIT]
     code = next((code for code in found if code > SPACE), found[0] if found else None)
@@ -178,7 +178,7 @@ def letter_words(told: FaultLine, part: Part) -> str:
         what = f'the letter "{letters(BY_WORD[part.asked.option].bits)[code]}"'
     else:
         what = f"a byte, {code_words(code)},"
-    return f"{what} of {whose_words(told.frame, part)} comes with even parity"
+    return f"{what} of {whose_words(fault.frame, part)} comes with even parity"
 
 
 def end_words(number: int, part: Part, page: str) -> str:
@@ -200,12 +200,12 @@ def open_words(subtitles: SubtitleFile) -> str:
     return f"its DSC is {kind}: --open takes it" if kind else ""
 
 
-def silent_words(told: FaultLine, part: Part) -> str:
+def silent_words(fault: FaultLine, part: Part) -> str:
     """From when on, and for how long, no PES packet came."""
     asked, pes, origin = part.asked, part.pes, part.origin
-    if asked is None or asked.pace is None or pes is None or origin is None or told.frame is None:
+    if asked is None or asked.pace is None or pes is None or origin is None or fault.frame is None:
         return ""
-    before = told.frame - asked.pace
+    before = fault.frame - asked.pace
     after = next((frame for row in frame_rows(part.packets, pes, origin, asked.within)
                   for frame in row if frame > before), None)
     return "" if after is None else \
@@ -245,50 +245,50 @@ class PartFaults:
     def __iter__(self) -> Iterator[Members]:
         return itertools.starmap(self.fault, self.part.answer.told())
 
-    def fault(self, told: FaultLine, end: End) -> Members:
+    def fault(self, fault: FaultLine, end: End) -> Members:
         """All that is known of a fault."""
-        is_stl = told.number in STL_FAULTS
-        due = self.part.due().page_at(told.frame) if told.number == CONTENT and \
-            told.frame is not None else None
-        place = NOWHERE if is_stl else fault_place(told, self.part.packets, self.part.held, due)
-        byte, character = self.subtitles.letter(told.block, told.at) \
-            if told.number in LETTERS and told.block and told.at is not None else (None, None)
-        subtitle = self.subtitle_of(told)
-        means, do = self.meanings.get(told.number, ("", ""))
-        if told.number == CHARACTER and told.block and told.at is not None:
-            do = self.of_letters.of(told.block, told.at) or do
-        if told.number == DISPLAY:
+        is_stl = fault.number in STL_FAULTS
+        due = self.part.due().page_at(fault.frame) if fault.number == CONTENT and \
+            fault.frame is not None else None
+        place = NOWHERE if is_stl else fault_place(fault, self.part.packets, self.part.held, due)
+        byte, character = self.subtitles.letter(fault.block, fault.at) \
+            if fault.number in LETTERS and fault.block and fault.at is not None else (None, None)
+        subtitle = self.subtitle_of(fault)
+        means, do = self.meanings.get(fault.number, ("", ""))
+        if fault.number == CHARACTER and fault.block and fault.at is not None:
+            do = self.of_letters.of(fault.block, fault.at) or do
+        if fault.number == DISPLAY:
             do = open_words(self.subtitles) or do
-        if told.number == CONTENT:
+        if fault.number == CONTENT:
             do = self.part.explanation.otherwise or do
-        do = midnight_words(told, self.subtitles) or do
+        do = midnight_words(fault, self.subtitles) or do
         means = header_words(place.headers, self.asked) or means
         return {
-            "part": self.part.number, "line": told.line, "number": told.number,
-            "name": told.name, "severity": self.verdict.severity.of(told.number),
-            "file": "stl" if is_stl else "pes", "block": told.block,
+            "part": self.part.number, "line": fault.line, "number": fault.number,
+            "name": fault.name, "severity": self.verdict.severity.of(fault.number),
+            "file": "stl" if is_stl else "pes", "block": fault.block,
             "subtitle": subtitle and words_of_subtitle(subtitle),
-            "byte": byte, "character": character, "text_at": told.at,
-            "pes": place.pes if told.pes is None else told.pes,
-            "pes_pts": place.pts, "pes_time": self.time_at(place.pts), "packet": told.packet,
-            "frame": told.frame, "time": told.time, "row": told.row, "column": told.column,
-            "due": self.cell(due, told), "held": self.held_cell(told, place),
+            "byte": byte, "character": character, "text_at": fault.at,
+            "pes": place.pes if fault.pes is None else fault.pes,
+            "pes_pts": place.pts, "pes_time": self.time_at(place.pts), "packet": fault.packet,
+            "frame": fault.frame, "time": fault.time, "row": fault.row, "column": fault.column,
+            "due": self.cell(due, fault), "held": self.held_cell(fault, place),
             "until": end.time, "until_pes": end.pes, "means": means, "do": do,
-            "cause": self.cause_of(told),
+            "cause": self.cause_of(fault),
         }
 
-    def cause_of(self, told: FaultLine) -> Members | None:
+    def cause_of(self, fault: FaultLine) -> Members | None:
         """The cause of the subtitle whose fault a 63, 72 or 74 is."""
-        if self.wording is None or told.number not in WITH_CAUSE or told.frame is None:
+        if self.wording is None or fault.number not in WITH_CAUSE or fault.frame is None:
             return None
-        cause = self.wording.causes.of(told.number, told.frame)
+        cause = self.wording.causes.of(fault.number, fault.frame)
         return self.wording.values(cause) if cause else None
 
-    def subtitle_of(self, told: FaultLine) -> NamedSubtitle | None:
+    def subtitle_of(self, fault: FaultLine) -> NamedSubtitle | None:
         """The subtitle of a block, or the one that is due at a frame."""
-        if told.block is not None:
-            return self.subtitles.at_block(told.block)
-        return self.subtitles.at_frame(told.frame) if told.frame is not None else None
+        if fault.block is not None:
+            return self.subtitles.at_block(fault.block)
+        return self.subtitles.at_frame(fault.frame) if fault.frame is not None else None
 
     def time_at(self, pts: int | None) -> str | None:
         """The time of a PTS that is one of a frame of the day."""
@@ -297,15 +297,15 @@ class PartFaults:
         frame = frame_at(pts, self.part.origin, self.asked.within)
         return None if frame is None else time_of(frame)
 
-    def held_cell(self, told: FaultLine, place: FaultPlace) -> Members | None:
+    def held_cell(self, fault: FaultLine, place: FaultPlace) -> Members | None:
         """The cell of a 72 as it is held."""
-        return self.cell(place.rows, told) if told.number == CONTENT else None
+        return self.cell(place.rows, fault) if fault.number == CONTENT else None
 
-    def cell(self, rows: Rows | None, told: FaultLine) -> Members | None:
+    def cell(self, rows: Rows | None, fault: FaultLine) -> Members | None:
         """The cell that a fault names."""
-        if told.row is None or told.column is None:
+        if fault.row is None or fault.column is None:
             return None
-        code = code_at(rows, told.row, told.column)
+        code = code_at(rows, fault.row, fault.column)
         if code is None:
             return None
         return {"code": f"{code:02X}", "character": self.letters[code] if code >= 0x20 else None}

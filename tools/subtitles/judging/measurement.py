@@ -269,9 +269,9 @@ def against_lines(choice: Choice, sendings: Sequence[Sending], option: NationalO
         yield f"against it: {len(others) - NAMED} more"
 
 
-def page_text(choice: Choice, one: Sent, option: NationalOption) -> str:
+def page_text(choice: Choice, sent: Sent, option: NationalOption) -> str:
     """What a layout draws of a subtitle."""
-    lines = drawn(one.text, one.row, one.justify, choice.layout, option)
+    lines = drawn(sent.text, sent.row, sent.justify, choice.layout, option)
     return f"nothing: refused {lines.number}" if isinstance(lines, Refused) else \
         cells_text(page_rows(lines))
 
@@ -290,9 +290,9 @@ def no_layout(nearest: Choice, sendings: Sequence[Sending], option: NationalOpti
     yield from against_lines(nearest, sendings, option)
 
 
-def is_spaced(one: Sent, _: Choice, option: NationalOption) -> bool:
+def is_spaced(sent: Sent, _: Choice, option: NationalOption) -> bool:
     """Whether spaces stand in a box at an end of a line, where its letters have none."""
-    return any(SPACE_IN_BOX.search(row.strip(b" ")) for row in one.rows)
+    return any(SPACE_IN_BOX.search(row.strip(b" ")) for row in sent.rows)
 
 
 def is_block(one: Sent, nearest: Choice, option: NationalOption) -> bool:

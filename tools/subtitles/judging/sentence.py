@@ -356,7 +356,7 @@ def of_causes(causes: Causes, option: str) -> str:
 
 def of_one(cause: Cause, causes: Causes, option: str) -> str:
     """The cause of a subtitle."""
-    one = causes.programme.subtitles[cause.place]
+    subtitle = causes.programme.subtitles[cause.place]
     if cause.name == IN_PAUSE:
         return f"another text was sent in a pause, {cause.words}" + (
             f', "{page_text(cause.sent, BY_WORD[option].bits)}"' if cause.sent else "")
@@ -367,7 +367,7 @@ def of_one(cause: Cause, causes: Causes, option: str) -> str:
     sent = page_text(cause.sent, BY_WORD[option].bits) if cause.sent and cause.name in (
         TEXT, OTHER) else ""
     more += f', sent: "{sent}"' if sent and sent != text else ""
-    return f"at {time_of(one.begin)} {one.name}, \"{text}\", {said}{more}"
+    return f"at {time_of(subtitle.begin)} {subtitle.name}, \"{text}\", {said}{more}"
 
 
 def due_text(causes: Causes, place: int, option: str) -> str:

@@ -28,17 +28,17 @@ TCI, TCO = slice(5, 9), slice(9, 13)  # of a TTI block
 AT_MIDNIGHT = "midnight: cut the file there"
 
 
-def midnight_words(told: FaultLine, subtitles: SubtitleFile) -> str:
+def midnight_words(fault: FaultLine, subtitles: SubtitleFile) -> str:
     """What to do about times that fall from over 23:00 to under 01:00; nothing where others do."""
-    if told.block is None or told.number not in (EMPTY_TIME, OUT_OF_ORDER):
+    if fault.block is None or fault.number not in (EMPTY_TIME, OUT_OF_ORDER):
         return ""
-    if told.number == EMPTY_TIME:
-        block = subtitles.block(told.block)
+    if fault.number == EMPTY_TIME:
+        block = subtitles.block(fault.block)
         is_night = falls_at_midnight(block[TCI], block[TCO])
     else:
-        before = subtitles.first_before(told.block)
+        before = subtitles.first_before(fault.block)
         is_night = before is not None and falls_at_midnight(
-            subtitles.block(before)[TCI], subtitles.block(told.block)[TCI])
+            subtitles.block(before)[TCI], subtitles.block(fault.block)[TCI])
     return AT_MIDNIGHT if is_night else ""
 
 
@@ -208,19 +208,19 @@ def positions_in(file: SubtitleFile) -> Iterator[int]:
             yield place
 
 
-def refused_of(file: SubtitleFile, told: FaultLine, advice: OptionAdvice,
+def refused_of(file: SubtitleFile, fault: FaultLine, advice: OptionAdvice,
                known: dict[int, Meaning]) -> RefusedSubtitle:
     """A subtitle by the first line that names it."""
-    assert told.block is not None
-    subtitle = file.at_block(told.block)
+    assert fault.block is not None
+    subtitle = file.at_block(fault.block)
     assert subtitle
-    byte, character = file.letter(told.block, told.at) \
-        if told.number in LETTERS and told.at is not None else (None, None)
-    of_letter = advice.of(told.block, told.at) \
-        if told.number == CHARACTER and told.at is not None else ""
-    of_manual = plain(known[told.number].do) if told.number in known else ""
-    do = of_letter or midnight_words(told, file) or of_manual
-    return RefusedSubtitle(subtitle, told, character or (f"byte {byte}" if byte else ""), do)
+    byte, character = file.letter(fault.block, fault.at) \
+        if fault.number in LETTERS and fault.at is not None else (None, None)
+    of_letter = advice.of(fault.block, fault.at) \
+        if fault.number == CHARACTER and fault.at is not None else ""
+    of_manual = plain(known[fault.number].do) if fault.number in known else ""
+    do = of_letter or midnight_words(fault, file) or of_manual
+    return RefusedSubtitle(subtitle, fault, character or (f"byte {byte}" if byte else ""), do)
 
 
 def due_beside(subtitles: Sequence[Subtitle], page: Page, option: str, layout: Layout = PLAIN) \
@@ -237,9 +237,9 @@ def due_beside(subtitles: Sequence[Subtitle], page: Page, option: str, layout: L
     return DuePages([*subtitles], pages, Timeline(packets, page, 0))
 
 
-def page_drawn(one: Subtitle, option: str, layout: Layout) -> Rows:
+def page_drawn(subtitle: Subtitle, option: str, layout: Layout) -> Rows:
     """The page of a subtitle."""
-    lines = drawn(one.text, one.row, one.justify, layout, BY_WORD[option])
+    lines = drawn(subtitle.text, subtitle.row, subtitle.justify, layout, BY_WORD[option])
     assert not isinstance(lines, Refused)
     return page_rows(lines)
 

@@ -350,13 +350,13 @@ class Sendings:
     def strange(self, place: int, came: int | None) -> int | None:
         """The number of the page, of no subtitle, that is held for longest of the time of one,
         or of that up to where its own page came: before the first one that is an older one."""
-        one = self.subtitles[place]
-        end = one.end if came is None or came <= one.begin else min(came, one.end)
-        least = one.begin if place == 0 and came is not None else 0
-        found = [number for number in self.held.numbers(one.begin, end)
+        subtitle = self.subtitles[place]
+        end = subtitle.end if came is None or came <= subtitle.begin else min(came, subtitle.end)
+        least = subtitle.begin if place == 0 and came is not None else 0
+        found = [number for number in self.held.numbers(subtitle.begin, end)
                  if self.is_of_its_time(number, place) and self.is_strange(number, place)
                  and self.held.frames[number] >= least]
-        lengths = [self.length(number, one.begin, end) for number in found]
+        lengths = [self.length(number, subtitle.begin, end) for number in found]
         return found[lengths.index(max(lengths))] if found else None
 
     def is_of_its_time(self, number: int, place: int) -> bool:
@@ -386,11 +386,11 @@ class Sendings:
 
     def others_in(self, place: int) -> int | None:
         """Another subtitle whose page came in the time of one, but not for its own."""
-        one = self.subtitles[place]
-        for number in self.held.numbers(one.begin, one.end):
+        subtitle = self.subtitles[place]
+        for number in self.held.numbers(subtitle.begin, subtitle.end):
             frame = self.held.frames[number]
             other = self.programme.of_page(self.held.pages[number], frame)
-            if frame >= one.begin and other not in (None, place) and \
+            if frame >= subtitle.begin and other not in (None, place) and \
                     self.sending(other or 0) != frame:
                 return other
         return None

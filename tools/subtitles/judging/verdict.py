@@ -61,18 +61,18 @@ def frames_of(programme: DuePages, held: Timeline, is_complete: bool) -> list[in
             for one, page in zip(programme.subtitles, programme.pages)]
 
 
-def frames_until(one: Subtitle, page: Rows, held: Timeline, is_complete: bool) -> int | None:
+def frames_until(subtitle: Subtitle, page: Rows, held: Timeline, is_complete: bool) -> int | None:
     """The same of one; where nothing of the page was heard before its TCI nobody knows."""
-    if held.first > one.begin:
+    if held.first > subtitle.begin:
         return None
-    for number in held.numbers(one.begin, one.end):
+    for number in held.numbers(subtitle.begin, subtitle.end):
         if held.pages[number] != page:
             continue
         stretch = held.stretch(number)
-        first = max(stretch.first, one.begin)
+        first = max(stretch.first, subtitle.begin)
         frame = held.closed_from(first) if is_complete else first
-        if frame is not None and frame <= min(stretch.last, one.end - 1):
-            return frame - one.begin
+        if frame is not None and frame <= min(stretch.last, subtitle.end - 1):
+            return frame - subtitle.begin
     return None
 
 
@@ -368,14 +368,14 @@ def gaps_in(recording: Recording, parts: Sequence[Part]) -> list[Gap]:
             for place in places_on(one, other) if is_in(place, one) or is_in_move(place, one)]
 
 
-def places_on(one: Part, other: Part | None) -> Iterator[Place]:
+def places_on(part: Part, other: Part | None) -> Iterator[Place]:
     """Where something is missing on a PID; what is where the page goes to the one of another part
     is told here, and not there."""
-    for place in one.places():
-        if other and is_in_move(place, one):
+    for place in part.places():
+        if other and is_in_move(place, part):
             _, found = other.recorded
             yield dataclasses.replace(place, after=pts_of(found.begin, found.origin))
-        elif place.mark is not None or place.before is not None or one.recorded[1].came is None:
+        elif place.mark is not None or place.before is not None or part.recorded[1].came is None:
             yield place
 
 
@@ -388,9 +388,9 @@ def gaps_of(places: Sequence[Place], parts: Sequence[Part]) -> list[Gap]:
     return found
 
 
-def is_in_move(place: Place, one: Part) -> bool:
+def is_in_move(place: Place, part: Part) -> bool:
     """Whether something is missing where the page goes to another PID."""
-    found = one.found
+    found = part.found
     return bool(found and found.stage and found.goes is not None and place.mark is None
                 and place.before == found.stage.last())
 

@@ -52,10 +52,10 @@ class SentLine(NamedTuple):
     sent: bytes
 
 
-def is_found(one: Sent, option: NationalOption) -> bool:
+def is_found(sent: Sent, option: NationalOption) -> bool:
     """Whether the letters of a subtitle were sent, and it has some."""
-    letters = letters_of_text(one.text, option)
-    return bool(letters) and letters_on(one.rows) == letters
+    letters = letters_of_text(sent.text, option)
+    return bool(letters) and letters_on(sent.rows) == letters
 
 
 def pairs_of(place: int, lines: Sequence[bytes], rows: Sequence[bytes]) -> list[SentLine]:
@@ -209,10 +209,10 @@ def justified(layout: Layout, pairs: Sequence[SentLine], found: Sequence[Sent]
                 yield one, as_bits(wrong | others)
 
 
-def draws(layout: Layout, one: Sent, option: NationalOption) -> bool:
+def draws(layout: Layout, sent: Sent, option: NationalOption) -> bool:
     """Whether a layout draws a subtitle as it was sent."""
-    lines = drawn(one.text, one.row, one.justify, layout, option)
-    return not isinstance(lines, Refused) and page_rows(lines) == one.rows
+    lines = drawn(sent.text, sent.row, sent.justify, layout, option)
+    return not isinstance(lines, Refused) and page_rows(lines) == sent.rows
 
 
 def missed(layout: Layout, found: Sequence[Sent], option: NationalOption, most: int) -> int:
@@ -386,9 +386,9 @@ class Evidence:
         self.found, self.option = found, option
         self.known: dict[Layout, list[Page]] = {}  # of layouts that are looked at as a whole
 
-    def page(self, one: Sent, layout: Layout) -> Page:
+    def page(self, sent: Sent, layout: Layout) -> Page:
         """What a layout draws of a subtitle; None where it can't."""
-        lines = drawn(one.text, one.row, one.justify, layout, self.option)
+        lines = drawn(sent.text, sent.row, sent.justify, layout, self.option)
         return None if isinstance(lines, Refused) else page_rows(lines)
 
     def pages(self, layout: Layout) -> list[Page]:
@@ -492,7 +492,7 @@ def sent_in(subtitles: Iterable[Subtitle], held: Timeline, option: NationalOptio
     return found
 
 
-def held_for(held: Timeline, number: int, one: Subtitle) -> int:
+def held_for(held: Timeline, number: int, subtitle: Subtitle) -> int:
     """For how many frames of a subtitle a page is held."""
     span = held.stretch(number)
-    return min(span.last + 1, one.end) - max(span.first, one.begin)
+    return min(span.last + 1, subtitle.end) - max(span.first, subtitle.begin)
