@@ -12,7 +12,8 @@ from subtitles.formats.listing import ENDS_READING
 from subtitles.judging.check import Answer, NO_END
 from subtitles.judging.part import Explanation, Part
 from subtitles.judging.status import ERROR, OTHERS, REFUSALS, Severity, WARNING
-from subtitles.judging.verdict import Gap, MOVED, Spread, Verdict, gap_of, gaps_of, lacks, spread_of
+from subtitles.judging.verdict import (
+    Gap, MOVED, Spread, Unjudged, Verdict, gap_of, gaps_of, lacks, spread_of)
 from subtitles.stream.gaps import Place
 from .bench import Case
 from .parts import CLOSING, HEADER, answer, asked_for, packets_told, part_with
@@ -37,14 +38,15 @@ class Verdicts(Case):
     def test_reasons(self) -> None:
         """Whatever is said of the parts, a reason and an output that failed are not judged."""
         places: list[tuple[int, ...]] = [(), (0,), (2,)]
-        values: list[tuple[str, Any]] = [("reason", "why"), ("failed", ["full", "broken"])]
+        values: list[tuple[str, Any]] = [
+            ("unjudged", Unjudged("why")), ("failed", ["full", "broken"])]
         for refused in places:
             for name, value in values:
                 verdict = verdict_of(self.three(*refused))
                 setattr(verdict, name, value)
                 self.must(f"{refused} {name}", (verdict.word, verdict.status, verdict.line) ==
                           ("not judged", 2, None) and verdict.why_not ==
-                          ("why" if name == "reason" else "full\nbroken"), verdict.why_not)
+                          ("why" if name == "unjudged" else "full\nbroken"), verdict.why_not)
 
     def test_sentence_of_losses(self) -> None:
         """The first place that is judged, and how many more there are."""
