@@ -3,17 +3,18 @@
 from __future__ import annotations
 
 import dataclasses
+from types import SimpleNamespace
 from typing import Any, Sequence
 
 from developing.pes import pes_packet
 from subtitles.clock.start import FITTED, FITTED_LATER, GIVEN, RECORDING
-from subtitles.common.times import CLOCK, TICKS
+from subtitles.common.times import CLOCK, TICKS, time_of
 from subtitles.formats.listing import ENDS_READING
 from subtitles.judging.check import Answer, NO_END
 from subtitles.judging.part import Explanation, Part
 from subtitles.judging.status import ERROR, OTHERS, REFUSALS, Severity, WARNING
 from subtitles.judging.verdict import (
-    Gap, MOVED, Spread, Unjudged, Verdict, gap_of, gaps_of, lacks, spread_of)
+    Gap, MOVED, Spread, Unjudged, Verdict, gap_of, gaps_in, gaps_of, lacks, spread_of)
 from subtitles.stream.gaps import Place
 from .bench import Case
 from .parts import CLOSING, HEADER, answer, asked_for, packets_told, part_with
@@ -91,6 +92,17 @@ class Verdicts(Case):
                 self.must(f"{shift} {places}", found == judged and verdict.is_lost == any(judged),
                           found)
                 self.must("what decides", verdict.seen().losses == judged, verdict.seen().losses)
+
+    def test_announced_jumps(self) -> None:
+        """Those of each part, whichever has some."""
+        recording: Any = SimpleNamespace(stages=[], places=lambda jumps: [
+            Place(*jump, is_announced=True) for jump in jumps])
+        for own in ((0,), (1,), (2,), (0, 2), (0, 1, 2), ()):
+            parts = [part_with(100 * at, 100 * at + 99, 0, number=at + 1, jumps=[
+                (TICKS * (100 * at + 50), TICKS * (100 * at + 60))] * (at in own))
+                for at in range(3)]
+            found = [(gap.after, gap.is_judged) for gap in gaps_in(recording, parts)]
+            self.must(f"{own}", found == [(time_of(100 * at + 50), True) for at in own], found)
 
     def test_clocks_of_losses(self) -> None:
         """A loss has the times of its part; one that is in none those of the first."""
