@@ -39,6 +39,8 @@ form_of_unit window =
     else if nat_le 32 (window / 2 % 0x40) then None
     else Some (form_of_slice (window / 2 % 0x40))
 
+-- What the last eight bytes tell of a picture, by stream_type: 24 is HEVC (ISO/IEC 13818-1,
+-- table 2-34).
 abbrev pub form_at : ℕ → ℕ → Option Form
 form_at kind window = if kind == 0x24 then form_of_unit window else form_of_group window
 
@@ -46,7 +48,7 @@ form_at kind window = if kind == 0x24 then form_of_unit window else form_of_grou
 abbrev pub shifted : ℕ → ℕ → ℕ
 shifted window byte = window % 0x100_0000_0000_0000 * 0x100 + byte
 
--- Before the first byte, and after one more: nothing more is read once the form is found.
+-- Before the first byte of a picture of that stream_type: FF begins no start code.
 abbrev pub first_reader : ℕ → FormReader
 first_reader kind = record {
   kind = kind;
@@ -54,6 +56,7 @@ first_reader kind = record {
   form = known_form kind;
 }
 
+-- After one more byte, by the form that was found.
 abbrev pub after_byte : Option Form → FormReader → ℕ → FormReader
 after_byte (Some form) reader byte = reader
 after_byte None reader byte = record {
@@ -62,9 +65,11 @@ after_byte None reader byte = record {
   form = form_at reader.kind (shifted reader.window byte);
 }
 
+-- After one more byte: nothing more is read once the form is found.
 unfoldable pub reader_after : FormReader → ℕ → FormReader
 reader_after reader byte = after_byte reader.form reader byte
 
+-- After bytes, one after another.
 abbrev pub read_on : FormReader → List ℕ → FormReader
 read_on reader bytes = fold reader_after reader bytes
 
