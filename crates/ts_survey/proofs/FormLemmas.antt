@@ -38,60 +38,60 @@ module _ (at : List ℕ → Option Form) (n : ℕ)
     (short : (bytes : List ℕ) → length bytes < n → at bytes ≡ None)
     (stays : (bytes more : List ℕ) → n ≤ length bytes → at (bytes ++ more) ≡ at bytes)
   where
-  -- Fewer bytes tell nothing.
-  none_in_short : (bytes : List ℕ) → length bytes < n → first_form at bytes ≡ None
-  none_in_short [] h = refl
-  none_in_short (x ∷ xs) h =
-      ap (λ o. form_or o (first_form at xs)) (short (x ∷ xs) h) ∙ none_in_short xs (omega arith)
+    -- Fewer bytes tell nothing.
+    none_in_short : (bytes : List ℕ) → length bytes < n → first_form at bytes ≡ None
+    none_in_short [] h = refl
+    none_in_short (x ∷ xs) h =
+        ap (λ o. form_or o (first_form at xs)) (short (x ∷ xs) h) ∙ none_in_short xs (omega arith)
 
-  -- So many tell what stands at their front.
-  one_place : (bytes : List ℕ) → length bytes ≡ n → first_form at bytes ≡ at bytes
-  one_place [] h = sym (short [] some)
-  one_place (x ∷ xs) h =
-      ap (form_or (at (x ∷ xs))) (none_in_short xs (omega arith)) ∙ or_right (at (x ∷ xs))
+    -- So many tell what stands at their front.
+    one_place : (bytes : List ℕ) → length bytes ≡ n → first_form at bytes ≡ at bytes
+    one_place [] h = sym (short [] some)
+    one_place (x ∷ xs) h =
+        ap (form_or (at (x ∷ xs))) (none_in_short xs (omega arith)) ∙ or_right (at (x ∷ xs))
 
-  -- Nothing was told so far: one byte more tells what its last bytes tell.
-  next_form : (before : List ℕ) (x : ℕ) (rest : List ℕ) (byte : ℕ)
-      → length (x ∷ rest) ≡ n
-      → first_form at (before ++ x ∷ rest) ≡ None
-      → first_form at (before ++ (x ∷ rest ++ byte ∷ [])) ≡ at (rest ++ byte ∷ [])
-  next_form [] x rest byte long none =
-      ap (λ o. form_or o (first_form at (rest ++ byte ∷ [])))
-      (stays (x ∷ rest) (byte ∷ []) (omega arith)
-      ∙ (or_none (at (x ∷ rest)) (first_form at rest) none).0)
-      ∙ one_place (rest ++ byte ∷ [])
-      (let e = length-append rest (byte ∷ []) in omega arith)
-  next_form (y ∷ ys) x rest byte long none =
-      let w = x ∷ rest in
-      let both = or_none (at (y ∷ ys ++ w)) (first_form at (ys ++ w)) none in
-      let e = length-append ys w in
-      ap (λ o. form_or o (first_form at (ys ++ (w ++ byte ∷ []))))
-      (ap (λ l. at (y ∷ l)) (sym (append_assoc ys w (byte ∷ [])))
-      ∙ stays (y ∷ ys ++ w) (byte ∷ []) (omega arith)
-      ∙ both.0)
-      ∙ next_form ys x rest byte long both.1
+    -- Nothing was told so far: one byte more tells what its last bytes tell.
+    next_form : (before : List ℕ) (x : ℕ) (rest : List ℕ) (byte : ℕ)
+        → length (x ∷ rest) ≡ n
+        → first_form at (before ++ x ∷ rest) ≡ None
+        → first_form at (before ++ (x ∷ rest ++ byte ∷ [])) ≡ at (rest ++ byte ∷ [])
+    next_form [] x rest byte long none =
+        ap (λ o. form_or o (first_form at (rest ++ byte ∷ [])))
+        (stays (x ∷ rest) (byte ∷ []) (omega arith)
+        ∙ (or_none (at (x ∷ rest)) (first_form at rest) none).0)
+        ∙ one_place (rest ++ byte ∷ [])
+        (let e = length-append rest (byte ∷ []) in omega arith)
+    next_form (y ∷ ys) x rest byte long none =
+        let w = x ∷ rest in
+        let both = or_none (at (y ∷ ys ++ w)) (first_form at (ys ++ w)) none in
+        let e = length-append ys w in
+        ap (λ o. form_or o (first_form at (ys ++ (w ++ byte ∷ []))))
+        (ap (λ l. at (y ∷ l)) (sym (append_assoc ys w (byte ∷ [])))
+        ∙ stays (y ∷ ys ++ w) (byte ∷ []) (omega arith)
+        ∙ both.0)
+        ∙ next_form ys x rest byte long both.1
 
-  -- What was told is told still.
-  found_stays : (bytes more : List ℕ) (form : Form)
-      → first_form at bytes ≡ Some form
-      → first_form at (bytes ++ more) ≡ Some form
-  found_stays [] more form e = absurd (none-some form e)
-  found_stays (x ∷ xs) more form e =
-      if_long (found_stays xs more form) (nat_lt (length (x ∷ xs)) n) refl
-    where
-      if_long :
-          (first_form at xs ≡ Some form → first_form at (xs ++ more) ≡ Some form)
-          → (b : Bool)
-          → nat_lt (length (x ∷ xs)) n ≡ b
-          → first_form at (x ∷ xs ++ more) ≡ Some form
-      if_long inner true h =
-          absurd (none-some form
-          (sym (none_in_short (x ∷ xs) (grind (arith, nat_tests))) ∙ e))
-      if_long inner false h =
-          ap (λ o. form_or o (first_form at (xs ++ more)))
-          (stays (x ∷ xs) more (grind (arith, nat_tests)))
-          ∙ or_stays (at (x ∷ xs)) (first_form at xs) (first_form at (xs ++ more)) form
-          inner e
+    -- What was told is told still.
+    found_stays : (bytes more : List ℕ) (form : Form)
+        → first_form at bytes ≡ Some form
+        → first_form at (bytes ++ more) ≡ Some form
+    found_stays [] more form e = absurd (none-some form e)
+    found_stays (x ∷ xs) more form e =
+        if_long (found_stays xs more form) (nat_lt (length (x ∷ xs)) n) refl
+      where
+        if_long :
+            (first_form at xs ≡ Some form → first_form at (xs ++ more) ≡ Some form)
+            → (b : Bool)
+            → nat_lt (length (x ∷ xs)) n ≡ b
+            → first_form at (x ∷ xs ++ more) ≡ Some form
+        if_long inner true h =
+            absurd (none-some form
+            (sym (none_in_short (x ∷ xs) (grind (arith, nat_tests))) ∙ e))
+        if_long inner false h =
+            ap (λ o. form_or o (first_form at (xs ++ more)))
+            (stays (x ∷ xs) more (grind (arith, nat_tests)))
+            ∙ or_stays (at (x ∷ xs)) (first_form at xs) (first_form at (xs ++ more)) form
+            inner e
 
 -- ---- the two headers
 
