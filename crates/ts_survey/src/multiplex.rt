@@ -197,10 +197,22 @@ impl Multiplex {
     // A packet of a PID with pictures came.
     #[inline(always)]
     fn show(&mut self, state: &PidState, packet: &[u8; PACKET], text: &mut Text) {
-        let Some(pictures) = self.videos.get_mut(state.video as usize) else {
+        let Some(pictures) = self.videos.get(state.video as usize) else {
             return;
         };
-        pictures.take(packet, state.kind, text);
+        if begins(packet) || !pictures.is_over() {
+            self.show_on(state.video, state.kind, packet, text);
+        }
+    }
+
+    // So of a packet that is of interest: few are, and what is done for them out of line takes no
+    // registers of the walk over all packets.
+    #[inline(never)]
+    fn show_on(&mut self, place: u8, kind: u8, packet: &[u8; PACKET], text: &mut Text) {
+        let Some(pictures) = self.videos.get_mut(place as usize) else {
+            return;
+        };
+        pictures.take(packet, kind, text);
         if !begins(packet) {
             return;
         }
