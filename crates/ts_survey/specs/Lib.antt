@@ -1,5 +1,6 @@
 pub mod Adaptation
 pub mod Aparts
+pub mod Asked
 pub mod Clocks
 pub mod Counters
 pub mod Endings
