@@ -15,6 +15,7 @@ pub mod Lines
 pub mod Missing
 pub mod Payload
 pub mod Room
+pub mod Rows
 pub mod Seams
 pub mod Section
 pub mod Steps
