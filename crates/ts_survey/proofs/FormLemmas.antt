@@ -8,7 +8,7 @@ use Rattle.std.proofs.lemmas.Option.{none-some}
 use Rattle.std.specs.Prelude.{slice_index, ◌&&◌, ◌||◌, not, nat_le, nat_lt, if◌then◌else◌, is_some}
 use Rattle.mpeg_ts.proofs.StreamLemmas.{index-append}
 use Rattle.ts_survey.specs.Forms.{HasRead, IsWindow, first_form, form_at, form_in, form_or}
-use Rattle.ts_survey.specs.Forms.{group_at, has_prefix, known_form, no_bytes, unit_at}
+use Rattle.ts_survey.specs.Forms.{group_at, has_prefix, known_form, no_bytes, nal_at}
 use Rattle.ts_survey.specs.declared.forms.Form.{Form}
 use Rattle.ts_survey.specs.declared.forms.FormReader.{FormReader}
 
@@ -101,10 +101,10 @@ group_short bytes h = grind (arith, nat_tests)
 group_stays : (bytes more : List ℕ) → 8 ≤ length bytes → group_at (bytes ++ more) ≡ group_at bytes
 group_stays bytes more h = grind (arith, nat_tests, index-append, length-append)
 
-unit_short : (bytes : List ℕ) → length bytes < 4 → unit_at bytes ≡ None
+unit_short : (bytes : List ℕ) → length bytes < 4 → nal_at bytes ≡ None
 unit_short bytes h = grind (arith, nat_tests)
 
-unit_stays : (bytes more : List ℕ) → 4 ≤ length bytes → unit_at (bytes ++ more) ≡ unit_at bytes
+unit_stays : (bytes more : List ℕ) → 4 ≤ length bytes → nal_at (bytes ++ more) ≡ nal_at bytes
 unit_stays bytes more h = grind (arith, nat_tests, index-append, length-append)
 
 -- Of bytes of no header nothing is told.
@@ -112,10 +112,11 @@ none_if : (b : Bool) (o : Option Form) → (if b || true then None else o) ≡ N
 none_if true o = refl
 none_if false o = refl
 
-group_behind : (bytes : List ℕ) → first_form group_at (no_bytes ++ bytes) ≡ first_form group_at bytes
+group_behind : (bytes : List ℕ)
+    → first_form group_at (no_bytes ++ bytes) ≡ first_form group_at bytes
 group_behind bytes = grind (arith, nat_tests, none_if)
 
-unit_behind : (bytes : List ℕ) → first_form unit_at (no_bytes ++ bytes) ≡ first_form unit_at bytes
+unit_behind : (bytes : List ℕ) → first_form nal_at (no_bytes ++ bytes) ≡ first_form nal_at bytes
 unit_behind bytes = grind (arith, nat_tests, none_if)
 
 -- ---- the reader
@@ -175,46 +176,46 @@ next_group window bytes byte is none =
 -- HEVC: it takes four bytes.
 next_unit : (window bytes : List ℕ) (byte : ℕ)
     → IsWindow window bytes
-    → first_form unit_at bytes ≡ None
-    → first_form unit_at (bytes ++ byte ∷ [])
-    ≡ unit_at (slice_index window 5 ∷ slice_index window 6 ∷ slice_index window 7 ∷ byte ∷ [])
+    → first_form nal_at bytes ≡ None
+    → first_form nal_at (bytes ++ byte ∷ [])
+    ≡ nal_at (slice_index window 5 ∷ slice_index window 6 ∷ slice_index window 7 ∷ byte ∷ [])
 next_unit window bytes byte is none =
     let w = window in
     let four = slice_index w 0 ∷ slice_index w 1 ∷ slice_index w 2 ∷ slice_index w 3 ∷ [] in
     let three = slice_index w 5 ∷ slice_index w 6 ∷ slice_index w 7 ∷ [] in
     sym (unit_behind (bytes ++ byte ∷ []))
-    ∙ ap (first_form unit_at) (behind window bytes byte is)
-    ∙ ap (first_form unit_at)
+    ∙ ap (first_form nal_at) (behind window bytes byte is)
+    ∙ ap (first_form nal_at)
     (sym (append_assoc is.before four (slice_index w 4 ∷ three ++ byte ∷ [])))
-    ∙ next_form unit_at 4 (omega arith) unit_short unit_stays (is.before ++ four)
+    ∙ next_form nal_at 4 (omega arith) unit_short unit_stays (is.before ++ four)
     (slice_index w 4) three byte refl
-    (ap (first_form unit_at) (append_assoc is.before four (slice_index w 4 ∷ three))
-    ∙ ap (λ l. first_form unit_at (is.before ++ l)) (sym (eight window is.size))
-    ∙ ap (first_form unit_at) (sym is.ends)
+    (ap (first_form nal_at) (append_assoc is.before four (slice_index w 4 ∷ three))
+    ∙ ap (λ l. first_form nal_at (is.before ++ l)) (sym (eight window is.size))
+    ∙ ap (first_form nal_at) (sym is.ends)
     ∙ unit_behind bytes
     ∙ none)
 
 -- By stream_type.
 next_in : (is_hevc : Bool) (window bytes : List ℕ) (byte : ℕ)
     → IsWindow window bytes
-    → (if is_hevc then first_form unit_at bytes else first_form group_at bytes) ≡ None
+    → (if is_hevc then first_form nal_at bytes else first_form group_at bytes) ≡ None
     → (if is_hevc
-    then first_form unit_at (bytes ++ byte ∷ [])
+    then first_form nal_at (bytes ++ byte ∷ [])
     else first_form group_at (bytes ++ byte ∷ []))
     ≡ (if is_hevc
-    then unit_at (slice_index window 5 ∷ slice_index window 6 ∷ slice_index window 7 ∷ byte ∷ [])
+    then nal_at (slice_index window 5 ∷ slice_index window 6 ∷ slice_index window 7 ∷ byte ∷ [])
     else group_at (window_after window byte))
 next_in true window bytes byte is none = next_unit window bytes byte is none
 next_in false window bytes byte is none = next_group window bytes byte is none
 
 stays_in : (is_hevc : Bool) (bytes more : List ℕ) (form : Form)
-    → (if is_hevc then first_form unit_at bytes else first_form group_at bytes) ≡ Some form
+    → (if is_hevc then first_form nal_at bytes else first_form group_at bytes) ≡ Some form
     → (if is_hevc
-    then first_form unit_at (bytes ++ more)
+    then first_form nal_at (bytes ++ more)
     else first_form group_at (bytes ++ more))
     ≡ Some form
 stays_in true bytes more form e =
-    found_stays unit_at 4 (omega arith) unit_short unit_stays bytes more form e
+    found_stays nal_at 4 (omega arith) unit_short unit_stays bytes more form e
 stays_in false bytes more form e =
     found_stays group_at 8 (omega arith) group_short group_stays bytes more form e
 
@@ -259,7 +260,7 @@ reads_byte kind bytes byte reader unknown is =
       form =
           ap (λ k. form_at k (window_after reader.window byte)) is.is_kind
           ∙ sym (ap (λ o. form_or o (if kind == 0x24
-          then first_form unit_at (bytes ++ byte ∷ [])
+          then first_form nal_at (bytes ++ byte ∷ [])
           else first_form group_at (bytes ++ byte ∷ []))) both.0
           ∙ next_in (kind == 0x24) reader.window bytes byte window both.1);
       window = λ _. moved reader.window bytes byte window;

@@ -95,9 +95,9 @@ reach_words p Before = pictures_line p (codes " 0\n")
 reach_words p Within = group_line p ++ pictures_line p (codes " 1\n")
 
 -- They are over.
-abbrev pub is_over : Reach → Bool
-is_over Over = true
-is_over _ = false
+abbrev pub is_group_over : Reach → Bool
+is_group_over Over = true
+is_group_over _ = false
 
 -- `steps PID COUNT USUAL`.
 abbrev pub steps_line : Pictures → List (List ℕ)

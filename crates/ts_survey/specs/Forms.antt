@@ -48,8 +48,8 @@ form_of_slice kind =
     else Unknown
 
 -- HEVC: nal_unit_type at the front, if it is that of a slice, a number below 32.
-abbrev pub unit_at : List ℕ → Option Form
-unit_at bytes =
+abbrev pub nal_at : List ℕ → Option Form
+nal_at bytes =
     if nat_lt (length bytes) 4 || not (has_prefix bytes) then None
     else if nat_le 32 (slice_index bytes 3 / 2 % 0x40) then None
     else Some (form_of_slice (slice_index bytes 3 / 2 % 0x40))
@@ -68,13 +68,13 @@ first_form at (byte ∷ more) = form_or (at (byte ∷ more)) (first_form at more
 abbrev pub form_in : ℕ → List ℕ → Option Form
 form_in kind bytes =
     form_or (known_form kind)
-    (if kind == 0x24 then first_form unit_at bytes else first_form group_at bytes)
+    (if kind == 0x24 then first_form nal_at bytes else first_form group_at bytes)
 
 -- What the last eight bytes say, of a header that ends there.
 abbrev pub form_at : ℕ → List ℕ → Option Form
 form_at kind window =
     if kind == 0x24
-    then unit_at (slice_index window 4 ∷ slice_index window 5 ∷ slice_index window 6
+    then nal_at (slice_index window 4 ∷ slice_index window 5 ∷ slice_index window 6
     ∷ slice_index window 7 ∷ [])
     else group_at window
 

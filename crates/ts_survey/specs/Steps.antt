@@ -46,15 +46,15 @@ first_steps count step = if nat_lt count 1000 then step else None
 
 -- The step to a decoding time, if it is told. The same time again is no step, since a packet may be
 -- sent twice.
-abbrev pub step_at : Option ℕ → Steps → ℕ → Option Step
-step_at None s time = None
-step_at (Some last) s time =
+abbrev pub step_from : Option ℕ → Steps → ℕ → Option Step
+step_from None s time = None
+step_from (Some last) s time =
     if last == time then None
     else first_steps s.strange (strange_step last time s.usual)
 
 -- So by the last decoding time that came: all are ticks of 90 kHz.
 abbrev pub told_step : Steps → ℕ → Option Step
-told_step s time = step_at s.last s time
+told_step s time = step_from s.last s time
 
 -- What is kept after it.
 abbrev pub steps_behind : Option ℕ → Steps → ℕ → Steps

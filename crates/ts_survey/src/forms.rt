@@ -139,7 +139,7 @@ fn form_of_group(bytes: &[u8; 8]) -> Option<Form>
 // HEVC (ISO/IEC 23008-2, 7.3.1.2): 00 00 01, forbidden_zero_bit, nal_unit_type (6 bits): of the
 // first slice, a number below 32.
 fn form_of_unit(bytes: &[u8; 4]) -> Option<Form>
-    ensures { result ≡ specs.unit_at bytes.now }
+    ensures { result ≡ specs.nal_at bytes.now }
 {
     if !has_prefix(bytes) {
         return None;
