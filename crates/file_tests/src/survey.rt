@@ -30,6 +30,20 @@ fn assert_fails<'a>(
 }
 
 #[test]
+fn tells_a_space_where_a_byte_was_hit(rt: HostRuntime) {
+    let mut hit = FIRST;
+    hit[117] ^= 1;
+    let stream: [&[u8]; 6] = [&BEGINS_0, &hit, &NULL, &FILL, &BEGINS_1, &SECOND];
+    let want = "survey 1\nhead 47410110000001bd00b284\nsize 188\nteletext 257\nsub 257 888\n\
+        pes 257 0 1 3240000000 0 hec/88080810 3 0\n\
+        rows 257 0 22:202020202020202020202020202020200d0b0ba0690a0a\
+        2020202020202020202020202020202020\n\
+        pes 257 1 1 3240180000 0 hecb/88080810 2 0\nrows 257 1 -\n\
+        subs 257 888 2\nend 257 2 0 2 0 0 0 3240180000\nover 0 3\n";
+    assert_prints(&rt, &SURVEY, &stream, want);
+}
+
+#[test]
 fn tells_the_pes_packets_of_a_pid(rt: HostRuntime) {
     let stream: [&[u8]; 6] = [&BEGINS_0, &FIRST, &NULL, &FILL, &BEGINS_1, &SECOND];
     let want = "survey 1\nhead 47410110000001bd00b284\nsize 188\nteletext 257\nsub 257 888\n\

@@ -1,8 +1,8 @@
 //! What keeps a subtitle from being drawn, found in one reading of its text.
 //!
 //! A text is read by this walk to be judged, and by another to be drawn; both mean one definition.
-//! One walk for both would draw a page for each subtitle that is loaded: 570 instructions beside the
-//! 390 of looking for faults.
+//! One walk for both would draw a page for each subtitle that is loaded: 570 instructions beside
+//! the 390 of looking for faults.
 
 ghost use Rattle.std.specs.Prelude.{◌≡◌, ◌<◌, ◌≤◌, length, IsOk, MatchOption, Err, None, false};
 ghost use Rattle.stl_rows.specs.DrawnPage.{drawn};

@@ -6,8 +6,8 @@ use Rattle.std.specs.Prelude.{Bool, false, true, if◌then◌else◌}
 use Rattle.stl_file.specs.TimeCode.{day}
 use Rattle.stl_rows.specs.Programme.{ProgrammeValue}
 use Rattle.ttx_pes.specs.DataUnit.{UnitValue}
-use Rattle.sub_rules.specs.Events.{end_events, is_missed, nothing_stands, unfinished_from, silent_for}
-use Rattle.sub_rules.specs.Events.{was_undecided}
+use Rattle.sub_rules.specs.Events.{end_events, is_missed, nothing_stands, silent_for}
+use Rattle.sub_rules.specs.Events.{unfinished_from, was_undecided}
 use Rattle.stl_rows.specs.DuePage.{TellsNextEdge, tci_of_ending}
 use Rattle.stl_rows.specs.Judged.{JudgedValue, has_refused}
 use Rattle.sub_rules.specs.FrameRules.{is_due_undecided}

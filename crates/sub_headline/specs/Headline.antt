@@ -136,6 +136,7 @@ pub record ServesOthers
   pub screens : EachScreenShows o.page subtitles transmission
   pub complete : IsTrue o.asks_complete → EachDisplayShows o.page subtitles transmission
 
+-- Where the code is 0, that is so of the same subtitles and frames.
 abbrev pub TellsRecordingToo : Result (List Text) UsageFault → MemFilesValue → ℕ → Type 0
 TellsRecordingToo given files code =
     OfRecording given files

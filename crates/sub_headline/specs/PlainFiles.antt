@@ -13,8 +13,8 @@ pub record AreFilesOf
     (scope : Scope) (origin : ℕ) (stl pes : List ℕ) (subtitles : List SubtitleValue)
     (transmission : Transmission)
     : Type 0 where
-  -- The one is a GSI block and the TTI blocks of subtitles (EBU Tech 3264). Those that are taken are
-  -- these, in order, and nothing of their texts is left out.
+  -- The one is a GSI block and the TTI blocks of subtitles (EBU Tech 3264). Those that are taken
+  -- are these, in order, and nothing of their texts is left out.
   pub gsi : List ℕ
   pub subtitle_file : IsFileFor scope stl gsi subtitles
   pub in_order : AreInOrder subtitles

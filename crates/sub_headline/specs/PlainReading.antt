@@ -104,9 +104,10 @@ abbrev pub subtitles_by_place : List ℕ → List SubtitleValue
 subtitles_by_place bytes =
     map subtitle_read (groups_read (filter is_of_subtitle (pieces_of 128 (drop 1024 bytes))))
 
--- Those of a part of it, by their TCI.
+-- Whether a subtitle begins in a part of it, by its TCI.
 abbrev pub begins_in : Scope → SubtitleValue → Bool
 begins_in scope t = nat_le scope.from t.tci && nat_lt t.tci scope.to
 
+-- The subtitles of that part.
 abbrev pub subtitles_within : Scope → List ℕ → List SubtitleValue
 subtitles_within scope bytes = filter (begins_in scope) (subtitles_by_place bytes)

@@ -15,9 +15,9 @@ is_never_stored Unsupported = true
 is_never_stored _ = false
 
 -- Nothing is lost, by what the system answered where it was asked to store a file.
-abbrev pub is_kept : {X : Type 0} → Result X Error → Bool
-is_kept (Ok done) = true
-is_kept (Err error) = is_never_stored (error_kind error)
+abbrev pub loses_nothing : {X : Type 0} → Result X Error → Bool
+loses_nothing (Ok done) = true
+loses_nothing (Err error) = is_never_stored (error_kind error)
 
 -- Any state in which something is stored, and any answer.
 abbrev pub any_store : {D : Type 0} → D → Bool → Type 0

@@ -2,7 +2,7 @@
 
 ghost use Rattle.std.specs.Prelude.{◌≡◌, Bool, OnOk, true};
 ghost use Rattle.std.specs.Io.KnownBytes.{Keeps};
-ghost use Rattle.sub_io.specs.Closing.{any_end, any_store, is_kept};
+ghost use Rattle.sub_io.specs.Closing.{any_end, any_store, loses_nothing};
 ghost use Rattle.sub_io.specs.Device.{CanFail, CountsFailure};
 
 use crate::{Failed, Flush};
@@ -32,7 +32,7 @@ impl<T: OpenFile> Store for T {
 
 // Whether nothing is lost, by what the system answered where it was asked to store a file.
 fn is_kept(answer: io::Result<()>) -> bool
-    ensures { result ≡ is_kept answer }
+    ensures { result ≡ loses_nothing answer }
 {
     match answer {
         Ok(()) => true,

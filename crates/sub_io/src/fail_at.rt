@@ -234,7 +234,8 @@ impl<K: Close> Close for FailAt<K> {
 
     /// Closes the device inside. It is no call that can fail.
     fn close(&mut self)
-        ensures call { K.is_close self.old.device self.new.device × (self.new.left ≡ self.old.left) }
+        ensures call { K.is_close self.old.device self.new.device
+            × (self.new.left ≡ self.old.left) }
         ensures closed { K.is_closed self.new.device ≡ true }
         ensures stored { K.is_stored self.new.device ≡ K.is_stored self.old.device }
         ensures count { failures_with self.new.left (K.failure_count self.new.device)

@@ -1,7 +1,7 @@
 //! A file of std that is written, stored, and closed before its value ends.
 
-ghost use Rattle.std.specs.Prelude.{◌≡◌, ◌+◌, ◌<◌, ◌≤◌, IfOk, IfSome, IsErr, None, Option, Some, [], length};
-ghost use Rattle.std.specs.Prelude.{OnOk, false, is_none, true};
+ghost use Rattle.std.specs.Prelude.{◌≡◌, ◌+◌, ◌<◌, ◌≤◌, IfOk, IfSome, IsErr, None, OnOk, Option};
+ghost use Rattle.std.specs.Prelude.{Some, [], false, is_none, length, true};
 ghost use Rattle.std.specs.Io.KnownBytes.{Keeps};
 ghost use Rattle.sub_io.specs.Closing.{LetsGo};
 ghost use Rattle.sub_io.specs.Counted.{FileValue, known_while_open};

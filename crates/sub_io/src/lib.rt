@@ -13,8 +13,8 @@
 //! ```
 //!
 //! - `Source` and `Sink` are the traits, `fill` and `put_all` what the readers and writers call;
-//!   `Flush` is a sink that may hold bytes back, `Close` one that can be stored (`Store`) and closed,
-//!   for which it lets go (`LetGo`) of what is below it.
+//!   `Flush` is a sink that may hold bytes back, `Close` one that can be stored (`Store`) and
+//!   closed, for which it lets go (`LetGo`) of what is below it.
 //! - `MemSource` and `MemSink` are devices over memory, `FromRead`, `IntoWrite` and `IntoFile` over
 //!   std.
 //! - `BufferedSource` and `BufferedSink` stand before another device, so that it is called less

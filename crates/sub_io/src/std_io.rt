@@ -72,7 +72,8 @@ impl<R: Read> Source for FromRead<R> {
 ///
 /// Each error of the writer is a failure, `Interrupted` too, and so is a write that takes no byte.
 ///
-/// Contracts see it as the writer, the bytes that this said that it took, and its count of failures.
+/// Contracts see it as the writer, the bytes that this said that it took, and its count of
+/// failures.
 #[derive(Drop)]
 pub struct IntoWrite<W> {
     inner: W,

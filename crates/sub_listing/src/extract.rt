@@ -53,8 +53,8 @@ pub enum ExtractFault {
 /// recording (ISO/IEC 13818-1; `RecordingPieces` of `mpeg_ts`), and prints how many there are, and
 /// how many of them are marks; or why what was written is no file of PES packets.
 ///
-/// Each is handed on as soon as it has come, and the line comes once the system has stored the file.
-/// Bytes that no piece begins are written too. `Fault` where a device failed.
+/// Each is handed on as soon as it has come, and the line comes once the system has stored the
+/// file. Bytes that no piece begins are written too. `Fault` where a device failed.
 pub fn extract_packets<P: Pieces, F: Close, K: Sink>(
     pieces: &mut P,
     file: &mut F,

@@ -1,7 +1,8 @@
 -- A PES file as pieces: those that are sent as frames of the day, and those that are passed over,
 -- since they are no PES packets of the grammar or their PTS is that of no frame of the day (own).
 use Rattle.std.specs.Prelude.{◌≡◌, ℕ, ◌+◌, ◌==◌, ◌&&◌, Bool, false, not, if◌then◌else◌, List, []}
-use Rattle.std.specs.Prelude.{◌∷◌, ◌++◌, length, map, Option, Some, None, Result, Ok, Err}
+use Rattle.std.specs.Prelude.{◌∷◌, ◌++◌, length, map, Option, Some, None, Result, Ok, Err, IfOk}
+use Rattle.std.specs.Prelude.{IsSome}
 use Rattle.std.specs.Io.KnownBytes.{Consumes}
 use Rattle.std.specs.List.{AllByRecursion, concat}
 use Rattle.ttx_pes.specs.declared.fault.PesFault.{PesFault}
@@ -17,6 +18,7 @@ use Rattle.sub_rules.specs.Transmission.{SentFrame, Transmission}
 use Rattle.sub_rules.specs.declared.fault.CheckFault.{CheckFault}
 use Rattle.sub_rules.specs.declared.piece.NextPiece.{NextPiece}
 use Rattle.sub_rules.specs.declared.piece.NextPiece.TheVariants as next
+use Rattle.sub_rules.specs.declared.sending.Sending.{Sending}
 
 -- A piece of a PES file: a frame is sent by it, or it is passed over.
 pub data Piece : Type 0 where
@@ -72,6 +74,14 @@ pub record ReadsPiece
   pub more : List Piece
   pub first : pieces ≡ piece ∷ more
   pub left : ReadsPieces clock (n + 1) (behind_piece bytes) more unread
+
+-- So much is so where a piece is answered.
+abbrev pub OnPiece : Result (Option NextPiece) CheckFault → Type 0 → Type 0
+OnPiece answer IsSo = IfOk answer (λ piece. IsSome piece → IsSo)
+
+-- And this of how it is sent, where it is.
+abbrev pub IfSent : Result (Option NextPiece) CheckFault → (Sending → Type 0) → Type 0
+IfSent answer IsSo = (sending : Sending) → answer ≡ Ok (Some (next.Sent sending)) → IsSo sending
 
 -- What is read of the bytes that are left after n pieces, which are read as these pieces, by an
 -- answer, with the value v of the PES packet that is sent: the first of the pieces; or that there

@@ -12,7 +12,8 @@ ghost use Rattle.stl_file.specs.TimeCode.{day};
 ghost use Rattle.sub_plan.specs.FrameTime.{clock_of};
 ghost use Rattle.sub_rules.specs.Fault.{is_pes_read, is_subtitle_fault};
 ghost use Rattle.sub_rules.specs.FrameRules.{Unread};
-ghost use Rattle.sub_rules.specs.Pieces.{Piece, ReadsPieces, TakesOnePiece, TellsPiece};
+ghost use Rattle.sub_rules.specs.Pieces.{IfSent, OnPiece, Piece, ReadsPieces, TakesOnePiece};
+ghost use Rattle.sub_rules.specs.Pieces.{TellsPiece};
 
 use crate::fault::CheckFault;
 use crate::sending::Sending;
@@ -54,25 +55,23 @@ pub fn next_piece<P: Pieces>(
         → ReadsPieces (clock_of options.now) pes bytes pieces unread
         → TellsPiece (clock_of options.now) pes bytes pieces unread reader.new.frame result) }
     // Exactly the bytes of the piece were taken.
-    ensures taken { IfOk result (λ piece. IsSome piece
-        → TakesOnePiece (P.remaining source.old) (P.remaining source.new)) }
+    ensures taken { OnPiece result (TakesOnePiece (P.remaining source.old)
+        (P.remaining source.new)) }
     // Where it is sent, they are a PES packet of the grammar.
-    ensures sent { (sending : Sending) → result ≡ Ok (Some (NextPiece.Sent sending))
-        → TakesPesPacket (P.remaining source.old) (P.remaining source.new) reader.new.frame }
-    ensures left { IfKnown (P.remaining source.old) (λ bytes. IfOk result (λ piece. IsSome piece
-        → P.remaining source.new ≡ Some (behind_piece bytes))) }
-    ensures progress { IfOk result (λ piece. IsSome piece
-        → reader.new.progress ≡ Reading (pes + 1)) }
+    ensures sent { IfSent result (λ _. TakesPesPacket (P.remaining source.old)
+        (P.remaining source.new) reader.new.frame) }
+    ensures left { IfKnown (P.remaining source.old) (λ bytes.
+        OnPiece result (P.remaining source.new ≡ Some (behind_piece bytes))) }
+    ensures progress { OnPiece result (reader.new.progress ≡ Reading (pes + 1)) }
     // More than a day has frames are refused.
-    ensures below { IfOk result (λ piece. IsSome piece → pes < most_packets) }
+    ensures below { OnPiece result (pes < most_packets) }
     // What is sent again is what was sent before.
-    ensures again { (sending : Sending) → result ≡ Ok (Some (NextPiece.Sent sending))
-        → sending.again ≡ true → reader.new.frame.units ≡ reader.old.frame.units }
+    ensures again { IfSent result (λ sending. sending.again ≡ true
+        → reader.new.frame.units ≡ reader.old.frame.units) }
     // What is not has another data field than what was sent before.
-    ensures other { (sending : Sending) → result ≡ Ok (Some (NextPiece.Sent sending))
-        → sending.again ≡ false → reader.new.data_field ≢ reader.old.data_field }
-    ensures day { (sending : Sending) → result ≡ Ok (Some (NextPiece.Sent sending))
-        → sending.frame < day }
+    ensures other { IfSent result (λ sending. sending.again ≡ false
+        → reader.new.data_field ≢ reader.old.data_field) }
+    ensures day { IfSent result (λ sending. sending.frame < day) }
     ensures own { failed is_subtitle_fault result ≡ false }
     // None is passed over where the source failed.
     ensures passed { (fault : CheckFault) → result ≡ Ok (Some (NextPiece.Passed fault))
@@ -83,8 +82,7 @@ pub fn next_piece<P: Pieces>(
     ensures within { IfErr result (λ f. is_pes_read f ≡ true
         → FailsWithin (P.remaining source.old) (P.left source.new)) }
     // Nothing behind a piece that was taken was read.
-    ensures settled { IfOk result (λ piece. IsSome piece
-        → P.left source.new ≡ P.remaining source.new) }
+    ensures settled { OnPiece result (P.left source.new ≡ P.remaining source.new) }
     // Where the source asks no device for it, it does not fail.
     ensures ready { P.ready source.old ≡ true → failed is_pes_read result ≡ false }
     ensures device { P.device source.new ≡ P.device source.old }

@@ -259,7 +259,11 @@ fn finds_packets_behind_other_bytes(rt: HostRuntime) {
         &both,
     );
     assert_gives(&rt, &[&BEGINS_0, &FIRST, &ZEROS], &[&FIRST]);
-    // Fewer, twice, with a packet between them.
+}
+
+#[test]
+fn finds_packets_where_they_begin_again(rt: HostRuntime) {
+    // Fewer bytes than hide some, twice, with a packet between them.
     assert_gives(
         &rt,
         &[
@@ -276,7 +280,7 @@ fn finds_packets_behind_other_bytes(rt: HostRuntime) {
             &BEGINS_1,
             &SECOND,
         ],
-        &both,
+        &[&FIRST, &SECOND],
     );
     // A recording begins and ends anywhere.
     assert_gives(

@@ -2,6 +2,7 @@ pub mod CarrierLemmas
 pub mod CounterLemmas
 pub mod EndingsLemmas
 pub mod FollowingLemmas
+pub mod FormLemmas
 pub mod HeardLemmas
 pub mod InStepLemmas
 pub mod PendingLemmas

@@ -44,12 +44,14 @@ pts_said pes =
     else Some (slice_index pes 9 / 2 % 8 * 0x4000_0000 + slice_index pes 10 * 0x40_0000
     + slice_index pes 11 / 2 * 0x8000 + slice_index pes 12 * 0x80 + slice_index pes 13 / 2)
 
--- decoding_time_stamp. Where there is none, it is the PTS.
+-- DTS (decoding_time_stamp, ISO/IEC 13818-1, PES_packet): 33 bits of a clock of 90 kHz.
 abbrev pub dts_said : List ℕ → ℕ
 dts_said pes =
     slice_index pes 14 / 2 % 8 * 0x4000_0000 + slice_index pes 15 * 0x40_0000
     + slice_index pes 16 / 2 * 0x8000 + slice_index pes 17 * 0x80 + slice_index pes 18 / 2
 
+-- When the first picture of a PES packet with that PTS is decoded: its DTS, or its PTS where
+-- PTS_DTS_flags tell of none (ISO/IEC 13818-1). None where its bytes end within the DTS.
 abbrev pub time_beside : List ℕ → Option ℕ → Option ℕ
 time_beside pes None = None
 time_beside pes (Some pts) =
@@ -57,5 +59,6 @@ time_beside pes (Some pts) =
     else if nat_lt (length pes) 19 then None
     else Some (dts_said pes)
 
+-- So of a PES packet: none where it says no PTS.
 abbrev pub decoding_time : List ℕ → Option ℕ
 decoding_time pes = time_beside pes (pts_said pes)

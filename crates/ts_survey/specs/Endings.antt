@@ -1,6 +1,7 @@
 -- What is told at the end of a recording, of all of which something is kept until then (own;
 -- docs/manual/survey.md).
-use Rattle.std.specs.Prelude.{ℕ, zero, suc, ◌+◌, ◌/◌, ◌%◌, ◌==◌, if◌then◌else◌, List, []}
+use Rattle.std.specs.Prelude.{ℕ, zero, suc, ◌+◌, ◌/◌, ◌%◌, ◌==◌, Bool, true, false}
+use Rattle.std.specs.Prelude.{if◌then◌else◌, List, []}
 use Rattle.std.specs.Prelude.{◌∷◌, ◌++◌, Option, Some, None, codes, is_some, map}
 use Rattle.std.specs.List.{slice_get}
 use Rattle.ts_survey.specs.Forms.{form_read, form_word}
@@ -92,6 +93,11 @@ abbrev pub reach_words : Pictures → Reach → List (List ℕ)
 reach_words p Over = []
 reach_words p Before = pictures_line p (codes " 0\n")
 reach_words p Within = group_line p ++ pictures_line p (codes " 1\n")
+
+-- They are over.
+abbrev pub is_group_over : Reach → Bool
+is_group_over Over = true
+is_group_over _ = false
 
 -- `steps PID COUNT USUAL`.
 abbrev pub steps_line : Pictures → List (List ℕ)

@@ -1,72 +1,98 @@
 -- Whether the pictures that are shown before the flagged one of a group can be decoded without the
 -- group before it: what the first bytes of the flagged one say.
-use Rattle.std.specs.Prelude.{ℕ, ◌+◌, ◌*◌, ◌/◌, ◌%◌, ◌==◌, ◌&&◌, ◌||◌, not, nat_le}
-use Rattle.std.specs.Prelude.{if◌then◌else◌, List, Option, Some, None, codes}
-use Rattle.std.specs.List.{fold}
+--
+-- A start code is start_code_prefix, 00 00 01, and a byte that says what follows it:
+--
+--   00 00 01 B8   group_start_code of a group_of_pictures_header (ISO/IEC 13818-2): time_code (25
+--                 bits), closed_gop (1 bit), broken_link (1)
+--   00 00 01 00   picture_start_code (ISO/IEC 13818-2)
+--   00 00 01      in HEVC (ISO/IEC 23008-2), and then nal_unit_header: forbidden_zero_bit (1 bit),
+--                 nal_unit_type (6), nuh_layer_id (6), nuh_temporal_id_plus1 (3)
+use Rattle.std.specs.Prelude.{◌≡◌, ℕ, ◌/◌, ◌%◌, ◌==◌, ◌&&◌, ◌||◌, not, nat_le, nat_lt, Bool}
+use Rattle.std.specs.Prelude.{if◌then◌else◌, List, [], ◌∷◌, ◌++◌, length, replicate, slice_index}
+use Rattle.std.specs.Prelude.{Option, Some, None, codes}
 use Rattle.ts_survey.specs.declared.forms.Form.{Form}
 use Rattle.ts_survey.specs.declared.forms.Form.TheVariants.{Closed, Open, Unknown}
 use Rattle.ts_survey.specs.declared.forms.FormReader.{FormReader}
 
--- What stream_type alone tells (ISO/IEC 13818-1): of MPEG-1, MPEG-2 and HEVC nothing yet; in H.264
--- no header says that a group is closed.
+-- What stream_type alone tells (ISO/IEC 13818-1, table 2-34): of MPEG-1, MPEG-2 and HEVC nothing
+-- yet; in H.264 no header says that a group is closed; of others nothing is known.
 abbrev pub known_form : ℕ → Option Form
 known_form kind =
     if (kind == 0x01) || (kind == 0x02) || (kind == 0x24) then None
     else if kind == 0x1B then Some Open
     else Some Unknown
 
--- MPEG-1 and MPEG-2 (ISO/IEC 13818-2, group_of_pictures_header): group_start_code 00 00 01 B8,
--- time_code (25 bits), closed_gop. Behind picture_start_code, 00 00 01 00, none comes.
-abbrev pub form_of_group : ℕ → Option Form
-form_of_group window =
-    if window / 0x1_0000_0000 == 0x1B8
-    then Some (if window / 0x40 % 2 == 1 then Closed else Open)
-    else if window / 0x1_0000_0000 == 0x100 then Some Unknown
+-- start_code_prefix stands at the front.
+abbrev pub has_prefix : List ℕ → Bool
+has_prefix bytes =
+    (slice_index bytes 0 == 0) && (slice_index bytes 1 == 0) && (slice_index bytes 2 == 1)
+
+-- MPEG-1 and MPEG-2: closed_gop of a group_of_pictures_header at the front, all of whose time_code
+-- and flags are there. Behind a picture_start_code none comes: that is taken so far too.
+abbrev pub group_at : List ℕ → Option Form
+group_at bytes =
+    if nat_lt (length bytes) 8 || not (has_prefix bytes) then None
+    else if slice_index bytes 3 == 0xB8
+    then Some (if slice_index bytes 7 / 0x40 % 2 == 1 then Closed else Open)
+    else if slice_index bytes 3 == 0x00 then Some Unknown
     else None
 
--- BLA_W_RADL, BLA_N_LP, IDR_W_RADL, IDR_N_LP; BLA_W_LP, CRA_NUT (ISO/IEC 23008-2, table 7-1).
+-- The form by nal_unit_type of a slice (ISO/IEC 23008-2, table 7-1). BLA_W_RADL, BLA_N_LP,
+-- IDR_W_RADL and IDR_N_LP (17 to 20) have no pictures before them that need others; BLA_W_LP (16)
+-- and CRA_NUT (21) may.
 abbrev pub form_of_slice : ℕ → Form
 form_of_slice kind =
     if nat_le 17 kind && nat_le kind 20 then Closed
     else if (kind == 16) || (kind == 21) then Open
     else Unknown
 
--- HEVC (ISO/IEC 23008-2, nal_unit_header): 00 00 01, forbidden_zero_bit, nal_unit_type (6 bits) of
--- the first slice.
-abbrev pub form_of_unit : ℕ → Option Form
-form_of_unit window =
-    if not (window / 0x100 % 0x100_0000 == 1) then None
-    else if nat_le 32 (window / 2 % 0x40) then None
-    else Some (form_of_slice (window / 2 % 0x40))
+-- HEVC: nal_unit_type at the front, if it is that of a slice, a number below 32.
+abbrev pub nal_at : List ℕ → Option Form
+nal_at bytes =
+    if nat_lt (length bytes) 4 || not (has_prefix bytes) then None
+    else if nat_le 32 (slice_index bytes 3 / 2 % 0x40) then None
+    else Some (form_of_slice (slice_index bytes 3 / 2 % 0x40))
 
-abbrev pub form_at : ℕ → ℕ → Option Form
-form_at kind window = if kind == 0x24 then form_of_unit window else form_of_group window
+-- The one, else the other.
+abbrev pub form_or : Option Form → Option Form → Option Form
+form_or (Some form) other = Some form
+form_or None other = other
 
--- The last eight bytes, as a number.
-abbrev pub shifted : ℕ → ℕ → ℕ
-shifted window byte = window % 0x100_0000_0000_0000 * 0x100 + byte
+-- Of bytes what the first place says at which something is said.
+abbrev pub first_form : (List ℕ → Option Form) → List ℕ → Option Form
+first_form at [] = None
+first_form at (byte ∷ more) = form_or (at (byte ∷ more)) (first_form at more)
 
--- Before the first byte, and after one more: nothing more is read once the form is found.
-abbrev pub first_reader : ℕ → FormReader
-first_reader kind = record {
-  kind = kind;
-  window = 0xFFFF_FFFF_FFFF_FFFF;
-  form = known_form kind;
-}
+-- Of a picture of that stream_type: stream_type, else the first of its headers that tells it.
+abbrev pub form_in : ℕ → List ℕ → Option Form
+form_in kind bytes =
+    form_or (known_form kind)
+    (if kind == 0x24 then first_form nal_at bytes else first_form group_at bytes)
 
-abbrev pub after_byte : Option Form → FormReader → ℕ → FormReader
-after_byte (Some form) reader byte = reader
-after_byte None reader byte = record {
-  kind = reader.kind;
-  window = shifted reader.window byte;
-  form = form_at reader.kind (shifted reader.window byte);
-}
+-- What the last eight bytes say, of a header that ends there.
+abbrev pub form_at : ℕ → List ℕ → Option Form
+form_at kind window =
+    if kind == 0x24
+    then nal_at (slice_index window 4 ∷ slice_index window 5 ∷ slice_index window 6
+    ∷ slice_index window 7 ∷ [])
+    else group_at window
 
-unfoldable pub reader_after : FormReader → ℕ → FormReader
-reader_after reader byte = after_byte reader.form reader byte
+-- Eight bytes that are of no header.
+abbrev pub no_bytes : List ℕ
+no_bytes = replicate 8 0xFF
 
-abbrev pub read_on : FormReader → List ℕ → FormReader
-read_on reader bytes = fold reader_after reader bytes
+-- The last eight bytes, of eight of no header and then these.
+pub record IsWindow (window bytes : List ℕ) : Type 0 where
+  pub before : List ℕ
+  pub size : length window ≡ 8
+  pub ends : no_bytes ++ bytes ≡ before ++ window
+
+-- Of a picture of that stream_type these bytes were read, and no others.
+pub record HasRead (kind : ℕ) (bytes : List ℕ) (reader : FormReader) : Type 0 where
+  pub is_kind : reader.kind ≡ kind
+  pub form : reader.form ≡ form_in kind bytes
+  pub window : reader.form ≡ None → IsWindow reader.window bytes
 
 -- What was found.
 abbrev pub form_read : Option Form → Form

@@ -18,18 +18,18 @@ use Rattle.std.specs.List.{slice_get}
 -- ---- which are strange
 
 -- The middle one of the last 100 numbers.
-abbrev pub IsKept : Numbers → ℕ → Type 0
-IsKept numbers middle = IsMiddle (take (min numbers.count 100) numbers.kept) middle
+abbrev pub IsMiddleOfLast : Numbers → ℕ → Type 0
+IsMiddleOfLast numbers middle = IsMiddle (take (min numbers.count 100) numbers.kept) middle
 
 -- How a PCR is strange: the packets of the one before and of this one, the ticks between them, and
 -- what was usual of ticks and of packets.
-pub record Tells
+pub record IsStrangeBy
     (ticks packets : Numbers) (last at pcr number : ℕ) (strange : Strange) : Type 0 where
   pub first : strange.first ≡ at
   pub second : strange.second ≡ number
   pub is : strange.ticks ≡ forward_ticks last pcr
-  pub usual : IsKept ticks strange.usual
-  pub usual_packets : IsKept packets strange.usual_packets
+  pub usual : IsMiddleOfLast ticks strange.usual
+  pub usual_packets : IsMiddleOfLast packets strange.usual_packets
 
 -- One is told exactly where the PCR is not usual.
 abbrev pub TellsIf :
@@ -37,7 +37,7 @@ abbrev pub TellsIf :
 TellsIf true ticks packets last at pcr number told = told ≡ None
 TellsIf false ticks packets last at pcr number None = ⊥
 TellsIf false ticks packets last at pcr number (Some strange) =
-    Tells ticks packets last at pcr number strange
+    IsStrangeBy ticks packets last at pcr number strange
 
 -- A PCR compared with the last one, by what was usual before it.
 pub record IsCompared
@@ -54,6 +54,7 @@ StrangeAfter (Some (last, at)) true clock pcr number told = told ≡ None
 StrangeAfter (Some (last, at)) false clock pcr number told =
     IsCompared clock.ticks clock.packets last at pcr number told
 
+-- So by what its clock knows: the number is that of its TS packet.
 abbrev pub IsStrange : Clock → ℕ → ℕ → Option Strange → Type 0
 IsStrange clock pcr number told =
     StrangeAfter clock.last clock.is_announced clock pcr number told
@@ -66,27 +67,28 @@ not_some None = true
 not_some (Some one) = false
 
 -- That at a place, if there is one.
-abbrev pub kept_at : List (Option Pending) → ℕ → Option Pending
-kept_at pending place = slice_index_or pending place None
+abbrev pub pending_at : List (Option Pending) → ℕ → Option Pending
+pending_at pending place = slice_index_or pending place None
 
 -- No place is free.
 abbrev pub is_full : List (Option Pending) → Bool
 is_full p =
-    is_some (kept_at p 0) && is_some (kept_at p 1) && is_some (kept_at p 2) && is_some (kept_at p 3)
+    is_some (pending_at p 0) && is_some (pending_at p 1) && is_some (pending_at p 2)
+    && is_some (pending_at p 3)
 
 -- One more, at the first free place; where none is, the first one makes room.
 abbrev pub kept_with : List (Option Pending) → Pending → List (Option Pending)
 kept_with p one =
-    if not_some (kept_at p 0) then Some one ∷ None ∷ None ∷ None ∷ []
-    else if not_some (kept_at p 1) then kept_at p 0 ∷ Some one ∷ None ∷ None ∷ []
-    else if not_some (kept_at p 2) then kept_at p 0 ∷ kept_at p 1 ∷ Some one ∷ None ∷ []
-    else if not_some (kept_at p 3)
-    then kept_at p 0 ∷ kept_at p 1 ∷ kept_at p 2 ∷ Some one ∷ []
-    else kept_at p 1 ∷ kept_at p 2 ∷ kept_at p 3 ∷ Some one ∷ []
+    if not_some (pending_at p 0) then Some one ∷ None ∷ None ∷ None ∷ []
+    else if not_some (pending_at p 1) then pending_at p 0 ∷ Some one ∷ None ∷ None ∷ []
+    else if not_some (pending_at p 2) then pending_at p 0 ∷ pending_at p 1 ∷ Some one ∷ None ∷ []
+    else if not_some (pending_at p 3)
+    then pending_at p 0 ∷ pending_at p 1 ∷ pending_at p 2 ∷ Some one ∷ []
+    else pending_at p 1 ∷ pending_at p 2 ∷ pending_at p 3 ∷ Some one ∷ []
 
 -- The first one is told where it makes room.
 abbrev pub told_for_room : ℕ → Pids → List (Option Pending) → List (List ℕ)
-told_for_room pid pids p = if is_full p then clock_told pid pids (kept_at p 0) else []
+told_for_room pid pids p = if is_full p then clock_told pid pids (pending_at p 0) else []
 
 -- A strange PCR behind a PTS, before the next one.
 abbrev pub pending_of : Carrier → Strange → Pending
@@ -111,6 +113,7 @@ abbrev pub known_if : Option ℕ → Pending → ℕ → Pending
 known_if None one pts = record one { after = Some pts }
 known_if (Some after) one pts = one
 
+-- So of one that is kept, if there is one.
 abbrev pub known_after : ℕ → Option Pending → Option Pending
 known_after pts None = None
 known_after pts (Some one) = Some (known_if one.after one pts)
@@ -122,6 +125,7 @@ abbrev pub clock_pid_in : Option PidState → ℕ
 clock_pid_in None = 0x1FFF
 clock_pid_in (Some state) = state.clock_pid
 
+-- So of a PID among all: 1FFF where it is of no programme.
 abbrev pub clock_pid_of : Pids → ℕ → ℕ
 clock_pid_of pids pid = clock_pid_in (slice_get pids.states.items pid)
 
@@ -130,6 +134,7 @@ abbrev pub after_pcr_of : Pids → ℕ → Option Strange → Carrier → Carrie
 after_pcr_of pids clock told c =
     if clock_pid_of pids c.pid == clock then after_pcr told c else c
 
+-- And what each of them tells.
 abbrev pub pcr_told_of : Pids → ℕ → Option Strange → Carrier → List (List ℕ)
 pcr_told_of pids clock told c =
     if clock_pid_of pids c.pid == clock then pcr_told pids told c else []

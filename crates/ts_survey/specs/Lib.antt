@@ -1,5 +1,6 @@
 pub mod Adaptation
 pub mod Aparts
+pub mod Asked
 pub mod Clocks
 pub mod Counters
 pub mod Endings
@@ -14,6 +15,7 @@ pub mod Lines
 pub mod Missing
 pub mod Payload
 pub mod Room
+pub mod Rows
 pub mod Seams
 pub mod Section
 pub mod Steps

@@ -1,5 +1,5 @@
--- Where a jump of the counter of a PID was announced (ISO/IEC 13818-1, discontinuity_indicator; own;
--- docs/manual/survey.md).
+-- Where a jump of the counter of a PID was announced (ISO/IEC 13818-1, discontinuity_indicator;
+-- own; docs/manual/survey.md).
 use Rattle.std.specs.Prelude.{ℕ, ◌&&◌, not, Bool, if◌then◌else◌, List, [], ◌∷◌, codes}
 use Rattle.mpeg_ts.specs.Joining.{JoiningValue, link_after, repeats}
 use Rattle.mpeg_ts.specs.Parts.{is_seam}

@@ -46,19 +46,20 @@ first_steps count step = if nat_lt count 1000 then step else None
 
 -- The step to a decoding time, if it is told. The same time again is no step, since a packet may be
 -- sent twice.
-abbrev pub told_after : Option ℕ → Steps → ℕ → Option Step
-told_after None s time = None
-told_after (Some last) s time =
+abbrev pub step_from : Option ℕ → Steps → ℕ → Option Step
+step_from None s time = None
+step_from (Some last) s time =
     if last == time then None
     else first_steps s.strange (strange_step last time s.usual)
 
+-- So by the last decoding time that came: all are ticks of 90 kHz.
 abbrev pub told_step : Steps → ℕ → Option Step
-told_step s time = told_after s.last s time
+told_step s time = step_from s.last s time
 
 -- What is kept after it.
-abbrev pub kept_after : Option ℕ → Steps → ℕ → Steps
-kept_after None s time = record s { last = Some time }
-kept_after (Some last) s time =
+abbrev pub steps_behind : Option ℕ → Steps → ℕ → Steps
+steps_behind None s time = record s { last = Some time }
+steps_behind (Some last) s time =
     if last == time then s
     else record {
       last = Some time;
@@ -67,14 +68,16 @@ kept_after (Some last) s time =
       strange = counted_step s.strange (strange_step last time s.usual);
     }
 
+-- So by the last decoding time that came.
 abbrev pub steps_after : Steps → ℕ → Steps
-steps_after s time = kept_after s.last s time
+steps_after s time = steps_behind s.last s time
 
 -- So with that of a PES packet, if it says one.
 abbrev pub step_to : Option ℕ → Steps → Option Step
 step_to None s = None
 step_to (Some time) s = told_step s time
 
+-- And what is kept after it: it stays where the PES packet says none.
 abbrev pub steps_to : Option ℕ → Steps → Steps
 steps_to None s = s
 steps_to (Some time) s = steps_after s time

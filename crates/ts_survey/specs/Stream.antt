@@ -1,17 +1,30 @@
 -- What is read of a recording that is a transport stream.
-use Rattle.std.specs.Prelude.{◌≡◌, ℕ, Bool, true, false}
+use Rattle.std.specs.Prelude.{◌≡◌, ℕ, Bool, true, false, List}
 use Rattle.mpeg_ts.specs.PacketSize.{bytes_of}
 use Rattle.mpeg_ts.specs.declared.survey_options.SurveyOptions.{SurveyOptions}
+use Rattle.ts_survey.specs.Asked.{keeps_asked}
+use Rattle.ts_survey.specs.InStep.{TakesAll}
 use Rattle.ts_survey.specs.declared.recording.Kind.{Kind}
 use Rattle.ts_survey.specs.declared.recording.Kind.TheVariants.{Stream, Unknown}
 
--- It is one, whose packets have that distance, and of which the PID that is asked for is followed.
+-- It is one, whose packets have that distance, and of which the PID that is asked for is followed,
+-- and that page looked for.
 abbrev pub IsAsked : SurveyOptions → ℕ → Kind → Type 0
 IsAsked options distance (Stream packets multiplex) =
-    (bytes_of packets.size ≡ distance) × (multiplex.asked ≡ options.pid)
+    (bytes_of packets.size ≡ distance)
+    × (multiplex.asked ≡ options.pid)
+    × (multiplex.page ≡ options.page)
 IsAsked options distance _ = ⊥
 
 -- What the recording is, is not known yet.
 abbrev pub is_unknown : Kind → Bool
 is_unknown Unknown = true
 is_unknown _ = false
+
+-- The packets that bytes of a stream have were taken, in order, each once, and so many bytes are
+-- not needed any more.
+abbrev pub TakesOn : Kind → List ℕ → Bool → ℕ → Kind → Type 0
+TakesOn (Stream packets multiplex) bytes is_end used (Stream after told) =
+    TakesAll keeps_asked packets multiplex bytes is_end used after told
+TakesOn (Stream packets multiplex) bytes is_end used _ = ⊥
+TakesOn _ bytes is_end used new = Unit {0}

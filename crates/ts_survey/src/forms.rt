@@ -1,6 +1,6 @@
 //! Whether the pictures that are shown before the flagged one of a group can be decoded without
 //! the group before it, by the first bytes of the flagged one.
-ghost use Rattle.std.specs.Prelude.{◌≡◌};
+ghost use Rattle.std.specs.Prelude.{◌≡◌, ◌≤◌, ℕ, List, [], ◌∷◌, ◌++◌, length};
 ghost use Rattle.ts_survey.specs.Forms as specs;
 
 /// stream_type (ISO/IEC 13818-1, table 2-34) of MPEG-1, MPEG-2, H.264 and HEVC.
@@ -28,7 +28,7 @@ pub enum Form {
 pub struct FormReader {
     kind: u8,
     // The last eight bytes.
-    window: u64,
+    window: [u8; 8],
     // What was found.
     form: Option<Form>,
 }
@@ -36,11 +36,11 @@ pub struct FormReader {
 impl FormReader {
     /// Before the first byte of a picture of that stream_type: 0 where none is known.
     pub fn new(kind: u8) -> FormReader
-        ensures { result ≡ specs.first_reader kind }
+        ensures { specs.HasRead kind [] result }
     {
         FormReader {
             kind,
-            window: u64::MAX,
+            window: [0xFF; 8],
             form: known_form(kind),
         }
     }
@@ -57,12 +57,12 @@ impl FormReader {
 
     /// Reads on.
     pub fn read(&mut self, bytes: &[u8])
-        ensures { self.new ≡ specs.read_on self.old bytes.now }
+        ensures { (kind : ℕ) (read : List ℕ) → specs.HasRead kind read self.old
+            → specs.HasRead kind (read ++ bytes.now) self.new }
     {
-        let start = *self;
-        *self = bytes
-            .iter()
-            .fold(start, |reader, byte| reader_after(reader, *byte));
+        for byte in bytes {
+            *self = reader_after(self, *byte);
+        }
     }
 }
 
@@ -77,46 +77,60 @@ fn known_form(kind: u8) -> Option<Form>
     }
 }
 
-// The reader after one more byte.
-#[tactic(auto, unfolding(crate::specs::Forms::reader_after))]
-fn reader_after(reader: FormReader, byte: u8) -> FormReader
-    ensures { result ≡ specs.reader_after reader byte }
+// The reader after one more byte: nothing more is read once the form is found.
+fn reader_after(reader: &FormReader, byte: u8) -> FormReader
+    ensures { (kind : ℕ) (read : List ℕ) → specs.HasRead kind read reader.now
+        → specs.HasRead kind (read ++ byte ∷ []) result }
 {
     if reader.form.is_some() {
-        return reader;
+        return *reader;
     }
-    let window = (reader.window % 0x100_0000_0000_0000) * 0x100 + byte as u64;
+    let last = &reader.window;
+    let window = [
+        last[1], last[2], last[3], last[4], last[5], last[6], last[7], byte,
+    ];
     FormReader {
         kind: reader.kind,
         window,
-        form: form_at(reader.kind, window),
+        form: form_at(reader.kind, &window),
     }
 }
 
 // The form that the last eight bytes tell.
-fn form_at(kind: u8, window: u64) -> Option<Form>
-    ensures { result ≡ specs.form_at kind window }
+fn form_at(kind: u8, window: &[u8; 8]) -> Option<Form>
+    ensures { result ≡ specs.form_at kind window.now }
 {
     if kind == HEVC {
-        form_of_unit(window)
+        form_of_unit(&[window[4], window[5], window[6], window[7]])
     } else {
         form_of_group(window)
     }
 }
 
+// Whether start_code_prefix stands at the front.
+fn has_prefix(bytes: &[u8]) -> bool
+    requires { 4 ≤ length bytes.now }
+    ensures { result ≡ specs.has_prefix bytes.now }
+{
+    bytes[0] == 0 && bytes[1] == 0 && bytes[2] == 1
+}
+
 // MPEG-1 and MPEG-2 (ISO/IEC 13818-2, 6.2.2.6): group_start_code 00 00 01 B8, time_code (25 bits),
 // closed_gop. A picture without it before tells nothing: picture_start_code is 00 00 01 00.
-fn form_of_group(window: u64) -> Option<Form>
-    ensures { result ≡ specs.form_of_group window }
+fn form_of_group(bytes: &[u8; 8]) -> Option<Form>
+    ensures { result ≡ specs.group_at bytes.now }
 {
-    if window / 0x1_0000_0000 == 0x1B8 {
-        return Some(if window / 0x40 % 2 == 1 {
+    if !has_prefix(bytes) {
+        return None;
+    }
+    if bytes[3] == 0xB8 {
+        return Some(if bytes[7] / 0x40 % 2 == 1 {
             Form::Closed
         } else {
             Form::Open
         });
     }
-    if window / 0x1_0000_0000 == 0x100 {
+    if bytes[3] == 0 {
         return Some(Form::Unknown);
     }
     None
@@ -124,13 +138,13 @@ fn form_of_group(window: u64) -> Option<Form>
 
 // HEVC (ISO/IEC 23008-2, 7.3.1.2): 00 00 01, forbidden_zero_bit, nal_unit_type (6 bits): of the
 // first slice, a number below 32.
-fn form_of_unit(window: u64) -> Option<Form>
-    ensures { result ≡ specs.form_of_unit window }
+fn form_of_unit(bytes: &[u8; 4]) -> Option<Form>
+    ensures { result ≡ specs.nal_at bytes.now }
 {
-    if window / 0x100 % 0x100_0000 != 1 {
+    if !has_prefix(bytes) {
         return None;
     }
-    let kind = window / 2 % 0x40;
+    let kind = bytes[3] / 2 % 0x40;
     if kind >= 32 {
         return None;
     }
@@ -139,7 +153,7 @@ fn form_of_unit(window: u64) -> Option<Form>
 
 // BLA_W_RADL, BLA_N_LP, IDR_W_RADL and IDR_N_LP (17 to 20) have no pictures before them that need
 // others; BLA_W_LP (16) and CRA_NUT (21) may.
-fn form_of_slice(kind: u64) -> Form
+fn form_of_slice(kind: u8) -> Form
     ensures { result ≡ specs.form_of_slice kind }
 {
     if kind >= 17 && kind <= 20 {

@@ -1,6 +1,7 @@
 //! All that is followed in a transport stream, one packet after another.
 ghost use Rattle.std.specs.List.{slice_get};
-ghost use Rattle.std.specs.Prelude.{◌≡◌, ◌≢◌, ◌<◌, IfSome, map};
+ghost use Rattle.std.specs.Prelude.{◌≡◌, ◌≢◌, ◌<◌, IfSome, [], map};
+ghost use Rattle.ts_survey.specs.Asked.{KeepsAsked, keeps_asked};
 ghost use Rattle.ts_survey.specs.Endings.{carrier_words, clock_words, end_words, pictures_words};
 ghost use Rattle.ts_survey.specs.Endings.{pid_words, pids_words, waiting_words, words_of};
 ghost use Rattle.ts_survey.specs.Adaptation.{pcr_base};
@@ -58,7 +59,8 @@ impl Multiplex {
         asked: Option<u16>,
         text: &mut Text,
     ) -> Option<Multiplex>
-        ensures { IfSome result (λ multiplex. multiplex.asked ≡ asked) }
+        ensures { IfSome result (λ multiplex. (multiplex.asked ≡ asked)
+            × (multiplex.page ≡ page)) }
     {
         let pids = Pids::new(alloc)?;
         let mut all = Multiplex {
@@ -88,7 +90,7 @@ impl Multiplex {
 
     // Has the sections of a PID read.
     fn add_table(&mut self, pid: u16)
-        ensures { self.new.asked ≡ self.old.asked }
+        ensures asked { KeepsAsked self.old self.new }
     {
         let mut state = self.pids.get(pid);
         if state.table != NONE {
@@ -102,7 +104,7 @@ impl Multiplex {
 
     // Follows a PID with Teletext, where it is not followed yet and another one is not asked for.
     fn follow(&mut self, pid: u16, text: &mut Text)
-        ensures asked { self.new.asked ≡ self.old.asked }
+        ensures asked { KeepsAsked self.old self.new }
         // Another PID than the one that is asked for is passed over.
         ensures other { IfSome self.old.asked (λ asked. pid ≢ asked
             → (self.new.carriers ≡ self.old.carriers) × (text.new ≡ text.old)) }
@@ -132,7 +134,9 @@ impl Multiplex {
     }
 
     // Follows the clock of a PID.
-    fn add_clock(&mut self, pid: u16) {
+    fn add_clock(&mut self, pid: u16)
+        ensures asked { KeepsAsked self.old self.new }
+    {
         let mut state = self.pids.get(pid);
         let place = self.clocks.len();
         if pid == NULL_PID || state.clock != NONE || place >= MOST {
@@ -147,7 +151,9 @@ impl Multiplex {
     }
 
     // Follows the pictures of a PID.
-    fn add_video(&mut self, pid: u16) {
+    fn add_video(&mut self, pid: u16)
+        ensures asked { KeepsAsked self.old self.new }
+    {
         let mut state = self.pids.get(pid);
         let place = self.videos.len();
         if state.video != NONE || place >= MOST {
@@ -162,7 +168,9 @@ impl Multiplex {
     }
 
     // A packet of a PID with Teletext came.
-    fn carry(&mut self, state: &PidState, packet: &[u8; PACKET], text: &mut Text) {
+    fn carry(&mut self, state: &PidState, packet: &[u8; PACKET], text: &mut Text)
+        ensures asked { KeepsAsked self.old self.new }
+    {
         let Some(carrier) = self.carriers.get_mut(state.carrier as usize) else {
             return;
         };
@@ -173,7 +181,9 @@ impl Multiplex {
     }
 
     // A PTS began in a packet of a PID with Teletext.
-    fn begin(&mut self, state: &PidState, pts: u64, text: &mut Text) {
+    fn begin(&mut self, state: &PidState, pts: u64, text: &mut Text)
+        ensures asked { KeepsAsked self.old self.new }
+    {
         let number = self.number;
         let shown = self.last_time(state.clock_pid);
         let Some(carrier) = self.carriers.get_mut(state.carrier as usize) else {
@@ -196,11 +206,27 @@ impl Multiplex {
 
     // A packet of a PID with pictures came.
     #[inline(always)]
-    fn show(&mut self, state: &PidState, packet: &[u8; PACKET], text: &mut Text) {
-        let Some(pictures) = self.videos.get_mut(state.video as usize) else {
+    fn show(&mut self, state: &PidState, packet: &[u8; PACKET], text: &mut Text)
+        ensures asked { KeepsAsked self.old self.new }
+    {
+        let Some(pictures) = self.videos.get(state.video as usize) else {
             return;
         };
-        pictures.take(packet, state.kind, text);
+        if begins(packet) || !pictures.is_over() {
+            self.show_on(state.video, state.kind, packet, text);
+        }
+    }
+
+    // So of a packet that is of interest: few are, and what is done for them out of line takes no
+    // registers of the walk over all packets.
+    #[inline(never)]
+    fn show_on(&mut self, place: u8, kind: u8, packet: &[u8; PACKET], text: &mut Text)
+        ensures asked { KeepsAsked self.old self.new }
+    {
+        let Some(pictures) = self.videos.get_mut(place as usize) else {
+            return;
+        };
+        pictures.take(packet, kind, text);
         if !begins(packet) {
             return;
         }
@@ -212,7 +238,9 @@ impl Multiplex {
 
     // Tells a step of the decoding times of a video PID, and before it how far the PES packets of
     // Teletext before it are ahead.
-    fn tell_step(&mut self, video: u16, step: &Step, text: &mut Text) {
+    fn tell_step(&mut self, video: u16, step: &Step, text: &mut Text)
+        ensures asked { KeepsAsked self.old self.new }
+    {
         for carrier in self.carriers.iter_mut() {
             carrier.note_step(video, text);
         }
@@ -236,8 +264,9 @@ impl Multiplex {
 
     // A packet of a PID with a clock came.
     fn read_clock(&mut self, place: u8, packet: &[u8; PACKET], text: &mut Text)
+        ensures asked { KeepsAsked self.old self.new }
         // A PCR that is strange is told to each PID of its programme.
-        ensures { IfSome (slice_get self.old.clocks.items place) (λ clock.
+        ensures strange { IfSome (slice_get self.old.clocks.items place) (λ clock.
             IfSome (pcr_base packet.now) (λ pcr. ReadsPcr clock packet.now pcr self.old
             self.new)) }
     {
@@ -272,7 +301,9 @@ impl Multiplex {
     }
 
     // Tells the strange PCR of which all is known at the packet with that number.
-    fn settle(&mut self, number: u64, text: &mut Text) {
+    fn settle(&mut self, number: u64, text: &mut Text)
+        ensures asked { KeepsAsked self.old self.new }
+    {
         let mut waits = false;
         for carrier in self.carriers.iter_mut() {
             carrier.settle(Some(number), &self.pids, text);
@@ -302,7 +333,9 @@ impl Multiplex {
     }
 
     // Looks at what begins in a PID of which nothing is known.
-    fn look(&mut self, pid: u16, packet: &[u8; PACKET], text: &mut Text) {
+    fn look(&mut self, pid: u16, packet: &[u8; PACKET], text: &mut Text)
+        ensures asked { KeepsAsked self.old self.new }
+    {
         let payload = payload_in(packet);
         if begins_teletext(payload) {
             self.follow(pid, text);
@@ -317,7 +350,9 @@ impl Multiplex {
     }
 
     // Reads the sections that a packet carries.
-    fn read_sections(&mut self, table: u8, packet: &[u8; PACKET], text: &mut Text) {
+    fn read_sections(&mut self, table: u8, packet: &[u8; PACKET], text: &mut Text)
+        ensures asked { KeepsAsked self.old self.new }
+    {
         let (before, behind) = parts_of(packet, payload_in(packet));
         self.tables.take(table, before, false);
         self.read_tables(table, text);
@@ -328,7 +363,9 @@ impl Multiplex {
     }
 
     // Reads the sections that are whole.
-    fn read_tables(&mut self, table: u8, text: &mut Text) {
+    fn read_tables(&mut self, table: u8, text: &mut Text)
+        ensures asked { KeepsAsked self.old self.new }
+    {
         for _ in 0..SECTION_ROOM {
             if !self.read_table(table, text) {
                 return;
@@ -337,7 +374,9 @@ impl Multiplex {
     }
 
     // Reads the next section that is whole; whether there is one.
-    fn read_table(&mut self, table: u8, text: &mut Text) -> bool {
+    fn read_table(&mut self, table: u8, text: &mut Text) -> bool
+        ensures asked { KeepsAsked self.old self.new }
+    {
         let mut section = Section::new();
         if !self.tables.next(table, &mut section) {
             return false;
@@ -349,7 +388,9 @@ impl Multiplex {
     }
 
     // Reads a section that is new: of the PAT, whose place is the first, or of a PMT.
-    fn read_section(&mut self, table: u8, section: &[u8], text: &mut Text) {
+    fn read_section(&mut self, table: u8, section: &[u8], text: &mut Text)
+        ensures asked { KeepsAsked self.old self.new }
+    {
         if section.is_empty() {
             return;
         }
@@ -361,7 +402,9 @@ impl Multiplex {
     }
 
     // Has the PMT of each programme read that a PAT names.
-    fn read_pat(&mut self, section: &[u8]) {
+    fn read_pat(&mut self, section: &[u8])
+        ensures asked { KeepsAsked self.old self.new }
+    {
         let mut place = FIRST_PMT;
         for _ in 0..1024u32 {
             let Some(pid) = pmt_pid_at(section, place.min(4095)) else {
@@ -375,7 +418,9 @@ impl Multiplex {
     }
 
     // Tells the programme of a PMT, and its streams.
-    fn read_pmt(&mut self, section: &[u8], text: &mut Text) {
+    fn read_pmt(&mut self, section: &[u8], text: &mut Text)
+        ensures asked { KeepsAsked self.old self.new }
+    {
         let Some(programme) = programme_of(section) else {
             return;
         };
@@ -395,7 +440,9 @@ impl Multiplex {
     }
 
     // Tells a stream, and the pages that it announces.
-    fn read_stream(&mut self, section: &[u8], stream: &Stream, clock_pid: u16, text: &mut Text) {
+    fn read_stream(&mut self, section: &[u8], stream: &Stream, clock_pid: u16, text: &mut Text)
+        ensures asked { KeepsAsked self.old self.new }
+    {
         text.put(b"stream");
         text.number(u64::from(stream.pid));
         text.number(u64::from(stream.kind));
@@ -410,7 +457,9 @@ impl Multiplex {
     }
 
     /// Tells what is not told yet, since nothing more is there for now.
-    pub fn flush(&mut self, text: &mut Text) {
+    pub fn flush(&mut self, text: &mut Text)
+        ensures asked { KeepsAsked self.old self.new }
+    {
         for carrier in self.carriers.iter_mut() {
             carrier.flush(text);
         }
@@ -421,6 +470,7 @@ impl Multiplex {
     pub fn end(&mut self, text: &mut Text)
         ensures none { self.new.settle_at ≡ 0xFFFF_FFFF_FFFF_FFFF }
         ensures told { AddsWords text.old (end_words self.old) text.new }
+        ensures asked { KeepsAsked self.old self.new }
     {
         self.settle_all(text);
         self.end_pictures(text);
@@ -464,8 +514,13 @@ impl Multiplex {
 }
 
 impl TakesPackets for Multiplex {
+    // What is asked for stays what is followed, and looked for.
+    ghost is_taken = { keeps_asked };
+
     /// A packet came, the one with that number.
-    fn take(&mut self, number: u64, packet: &[u8; PACKET], text: &mut Text) {
+    fn take(&mut self, number: u64, packet: &[u8; PACKET], text: &mut Text)
+        ensures { keeps_asked self.old packet.now self.new }
+    {
         self.number = number;
         let pid = pid_of(packet);
         if pid == NULL_PID {
@@ -495,7 +550,8 @@ impl TakesPackets for Multiplex {
 
     /// So many bytes were skipped that packets of any PID may be missing.
     fn note_hole(&mut self)
-        ensures { NoteHoles self.old.carriers.items self.new.carriers.items }
+        ensures taken { keeps_asked self.old [] self.new }
+        ensures holes { NoteHoles self.old.carriers.items self.new.carriers.items }
     {
         for carrier in self.carriers.iter_mut() {
             carrier.note_hole();

@@ -10,7 +10,7 @@ use crate::text::{Text, upper_digit};
 use bitflags::Flags;
 use std::alloc::Global;
 use ttx_packet::{Control, Header, Packet, unham};
-use ttx_page::{Blank, PacketKind, Receiver};
+use ttx_page::{Blank, PacketKind, Page, Receiver};
 
 /// Pages: eight magazines of 256.
 const PAGES: usize = 2048;
@@ -18,7 +18,7 @@ const PAGES: usize = 2048;
 /// What is noted.
 #[derive(Drop)]
 pub struct Notes {
-    // What the receiver holds, with its hits; and the rows that were told last.
+    // The rows that the receiver heard, with their hits; and those that were told last.
     rows: Rows,
     told: Option<Rows>,
     // Rows that came in this PES packet behind the end of the page; and those that were told last.
@@ -61,12 +61,12 @@ impl Notes {
         }
     }
 
-    /// A PES packet is over, and the page is open or not.
-    pub fn end(&self, is_open: bool, heard: &mut Heard) {
-        if is_open {
+    /// A PES packet is over: what is told of the receiver behind it.
+    pub fn end(&self, receiver: &Blank, heard: &mut Heard) {
+        if receiver.open() {
             heard.add(b'o');
         }
-        if self.rows.is_blank() {
+        if receiver.page().first_difference(&Page::blank()).is_none() {
             heard.add(b'b');
         }
         if self.has_stray {
@@ -173,10 +173,10 @@ impl Notes {
         self.has_stray && self.strays != self.told_strays
     }
 
-    /// Tells the rows.
-    pub fn tell_rows(&mut self, text: &mut Text) {
+    /// Tells the page that the receiver holds.
+    pub fn tell_rows(&mut self, receiver: &Blank, text: &mut Text) {
         self.told = Some(self.rows);
-        self.rows.tell(text);
+        self.rows.tell_held(receiver.page(), text);
     }
 
     /// Tells the strays.

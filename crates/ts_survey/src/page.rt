@@ -43,7 +43,7 @@ impl Following {
             self.hear_unit(unit.packet, pid, heard, text);
             rest = behind(rest, unit.size);
         }
-        self.notes.end(self.receiver.open(), heard);
+        self.notes.end(&self.receiver, heard);
     }
 
     // Hears the packet of a data unit, where it has one.
@@ -75,8 +75,13 @@ impl Following {
         &self.notes
     }
 
-    /// The same, to be told.
-    pub fn notes_mut(&mut self) -> &mut Notes {
-        &mut self.notes
+    /// Tells the rows of the page that the receiver holds.
+    pub fn tell_rows(&mut self, text: &mut Text) {
+        self.notes.tell_rows(&self.receiver, text);
+    }
+
+    /// Tells rows that came behind the end of the page.
+    pub fn tell_strays(&mut self, text: &mut Text) {
+        self.notes.tell_strays(text);
     }
 }

@@ -149,13 +149,13 @@ impl PesLines {
             text.put(b"rows");
             text.number(u64::from(self.pid));
             text.number(number);
-            self.page.notes_mut().tell_rows(text);
+            self.page.tell_rows(text);
         }
         if has_strays {
             text.put(b"strays");
             text.number(u64::from(self.pid));
             text.number(number);
-            self.page.notes_mut().tell_strays(text);
+            self.page.tell_strays(text);
         }
     }
 

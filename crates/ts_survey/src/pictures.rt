@@ -3,7 +3,7 @@
 ghost use Rattle.std.specs.Prelude.{◌≡◌, Some};
 ghost use Rattle.ts_survey.specs.Adaptation.{decoding_time, payload_in, pts_said};
 ghost use Rattle.ts_survey.specs.Endings.{group_line, pictures_line, pictures_words, reach_words};
-ghost use Rattle.ts_survey.specs.Endings.{steps_line, steps_words};
+ghost use Rattle.ts_survey.specs.Endings.{is_group_over, steps_line, steps_words};
 ghost use Rattle.ts_survey.specs.Forms as forms;
 ghost use Rattle.ts_survey.specs.Groups.{least_of, least_with};
 ghost use Rattle.ts_survey.specs.Steps.{step_to, steps_to};
@@ -79,6 +79,17 @@ impl Pictures {
         ensures { result ≡ self.now.steps.last }
     {
         self.steps.last()
+    }
+
+    /// Whether the first ones are over: only the steps of decoding times are followed then.
+    #[inline(always)]
+    pub fn is_over(&self) -> bool
+        ensures { result ≡ is_group_over self.now.reach }
+    {
+        match self.reach {
+            Reach::Over => true,
+            _ => false,
+        }
     }
 
     /// A packet of the PID came, which the PMT says is of that stream_type.

@@ -2,7 +2,7 @@
 ghost use Rattle.std.specs.Prelude.{◌≡◌, ◌≤◌, ◌+◌, IfSome, Some, false, length, true};
 ghost use Rattle.mpeg_ts.specs.PacketSize.{bytes_of};
 ghost use Rattle.ts_survey.specs.Room.{most_kept};
-ghost use Rattle.ts_survey.specs.Stream.{IsAsked, is_unknown};
+ghost use Rattle.ts_survey.specs.Stream.{IsAsked, TakesOn, is_unknown};
 
 use crate::multiplex::Multiplex;
 use crate::packet_sizes::find_size;
@@ -90,6 +90,18 @@ impl Recording {
                 return used;
             }
         }
+        self.hand_on(bytes, is_end, text)
+    }
+
+    // Hands on what the bytes have, and answers how many of them are not needed any more.
+    #[inline(always)]
+    fn hand_on(&mut self, bytes: &[u8], is_end: bool, text: &mut Text) -> usize
+        ensures within { result ≤ length bytes.now }
+        ensures kept { length bytes.now ≤ result + most_kept }
+        // Of a stream they are all packets that it has, in order, each once; at the end none is
+        // left.
+        ensures taken { TakesOn self.old.kind bytes.now is_end result self.new.kind }
+    {
         match &mut self.kind {
             Kind::Pes(file) => file.take(bytes, is_end, text),
             Kind::Stream(packets, multiplex) => packets.take(bytes, is_end, multiplex, text),

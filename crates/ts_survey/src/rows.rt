@@ -1,17 +1,22 @@
 //! Rows of a page with the cells that were hit.
-ghost use Rattle.std.specs.Prelude.{◌≡◌, ◌≤◌};
+ghost use Rattle.std.specs.Prelude.{◌≡◌, ◌≤◌, ◌<◌, slice_index, ℕ};
+ghost use Rattle.ttx_page.specs.Page.{AreCodes, IsCode};
+ghost use Rattle.ts_survey.specs.Rows.{as_held};
 
 use crate::text::Text;
 use ttx_packet::{Packet, is_odd};
+use ttx_page::Page;
 
 /// What stands for a space whose byte had even parity.
 pub const HIT: u8 = 0xA0;
+
+/// A row without text.
+const SPACES: [u8; 40] = [0x20; 40];
 
 /// Rows 1 to 24: each cell its code, or `HIT`.
 #[derive(Clone, Copy, PartialEq, Eq)]
 pub struct Rows {
     cells: [[u8; 40]; 24],
-    is_there: [bool; 24],
 }
 
 /// The cells of a row, as its packet has them: each code, or `HIT` where the parity is even.
@@ -28,8 +33,7 @@ impl Rows {
     /// None.
     pub fn none() -> Rows {
         Rows {
-            cells: [[0x20; 40]; 24],
-            is_there: [false; 24],
+            cells: [SPACES; 24],
         }
     }
 
@@ -38,37 +42,73 @@ impl Rows {
         requires first { 1 ≤ row }
         requires last { row ≤ 24 }
     {
-        let place = row as usize - 1;
-        self.cells[place] = cells;
-        self.is_there[place] = cells != [0x20; 40];
-    }
-
-    /// Whether there is no row.
-    pub fn is_none(&self) -> bool {
-        self.is_there.iter().all(|is_there| !*is_there)
-    }
-
-    /// Whether each cell is a space, hit or not.
-    pub fn is_blank(&self) -> bool {
-        self.cells
-            .iter()
-            .all(|row| row.iter().all(|cell| *cell == 0x20 || *cell == HIT))
+        self.cells[row as usize - 1] = cells;
     }
 
     /// Tells them.
     pub fn tell(&self, text: &mut Text) {
-        if self.is_none() {
-            text.put(b" -");
-        }
         let mut sign = b' ';
         for row in 0..24usize {
-            if self.is_there[row] {
-                text.number_behind(sign, row as u64 + 1);
-                text.put(b":");
-                text.hex(&self.cells[row]);
-                sign = b',';
-            }
+            sign = tell_row(sign, row, &self.cells[row], text);
         }
-        text.put(b"\n");
+        end_rows(sign, text);
     }
+
+    /// Tells the page that a receiver holds, which heard these rows.
+    pub fn tell_held(&self, page: &Page, text: &mut Text) {
+        let mut sign = b' ';
+        for row in 0..24usize {
+            let cells = told_cells(page.row(row as u8 + 1), &self.cells[row]);
+            sign = tell_row(sign, row, &cells, text);
+        }
+        end_rows(sign, text);
+    }
+}
+
+// What is told of a row: its codes as the receiver holds them, and which spaces are there since
+// their bytes were hit.
+fn told_cells(held: &[u8; 40], heard: &[u8; 40]) -> [u8; 40]
+    requires codes { AreCodes held.now }
+    ensures held { (column : ℕ) → column < 40
+        → as_held (slice_index result column) ≡ slice_index held.now column }
+{
+    let mut cells = *held;
+    for column in 0..40usize {
+        cells[column] = told_cell(held[column], heard[column]);
+    }
+    cells
+}
+
+// What is told of a cell: the code that the receiver holds, or `HIT` for a space of a byte that was
+// hit.
+fn told_cell(held: u8, heard: u8) -> u8
+    requires { IsCode held }
+    ensures { as_held result ≡ held }
+{
+    if held == 0x20 && heard == HIT {
+        HIT
+    } else {
+        held
+    }
+}
+
+// Tells a row, behind a sign, if it is not blank; answers the sign for the next one.
+fn tell_row(sign: u8, row: usize, cells: &[u8; 40], text: &mut Text) -> u8
+    requires { row < 24 }
+{
+    if *cells == SPACES {
+        return sign;
+    }
+    text.number_behind(sign, row as u64 + 1);
+    text.put(b":");
+    text.hex(cells);
+    b','
+}
+
+// Rows end where that sign would be next.
+fn end_rows(sign: u8, text: &mut Text) {
+    if sign == b' ' {
+        text.put(b" -");
+    }
+    text.put(b"\n");
 }

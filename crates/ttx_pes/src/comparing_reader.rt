@@ -154,7 +154,6 @@ impl ComparingReader {
         ensures taken { as_given result ≡ Ok true → TakesDataField (P.remaining pieces.old)
             (P.left pieces.new) self.new.frame self.new.data_field }
         ensures empty { as_given result ≢ Ok true → self.new.frame ≡ empty_value }
-
         // What is compared.
         ensures same { result ≡ Ok Same → self.new.data_field ≡ self.old.data_field }
         ensures units { result ≡ Ok Same → self.new.frame.units ≡ self.old.frame.units }
@@ -164,7 +163,6 @@ impl ComparingReader {
         ensures piece { IfErr result (λ fault. is_of_piece fault ≡ true
             → TakesPiece (P.remaining pieces.old) (P.left pieces.new) fault) }
         ensures behind { self.new.behind ≡ behind_after self.old.progress result }
-
         ensures progress { self.new.progress
             ≡ progress_after self.old.progress (given_frame (as_given result) self.new.frame) }
         ensures few { (given : ℕ) → self.new.progress ≡ Reading given → given ≤ most_packets }
@@ -183,20 +181,13 @@ impl ComparingReader {
         self.behind = None;
         let given = match self.progress {
             Progress::Reading(given) => given,
-            Progress::AtEnd => {
-                self.kept.clear();
-                return Ok(Compared::End);
-            }
-            Progress::Broken => {
-                self.kept.clear();
-                return Err(PesFault::Ended);
-            }
+            Progress::AtEnd => return self.give_none(Ok(Compared::End)),
+            Progress::Broken => return self.give_none(Err(PesFault::Ended)),
         };
         match read_compared(given, pieces, &mut self.kept) {
             Ok(Compared::End) => {
                 self.progress = Progress::AtEnd;
-                self.kept.clear();
-                Ok(Compared::End)
+                self.give_none(Ok(Compared::End))
             }
             Ok(Compared::Same) => {
                 self.progress = Progress::Reading(given + 1);
@@ -211,10 +202,19 @@ impl ComparingReader {
                 if fault.is_of_piece() {
                     self.behind = Some(given + 1);
                 }
-                self.kept.clear();
-                Err(fault)
+                self.give_none(Err(fault))
             }
         }
+    }
+
+    // Lends nothing, and gives this answer.
+    #[inline(always)]
+    fn give_none(&mut self, answer: Result<Compared, PesFault>) -> Result<Compared, PesFault>
+        ensures answer { result ≡ answer }
+        ensures none { self.new ≡ record self.old { frame = empty_value; data_field = [] } }
+    {
+        self.kept.clear();
+        answer
     }
 
     /// Goes on behind the piece whose fault was answered last: one of what stands in a packet that

@@ -1,8 +1,8 @@
 //! Who gives PES packets, and such byte strings as are as long as their length field says: pieces.
 //!
-//! `next` hands a piece to a taker where the source lends it, and passes it over at once. So none is
-//! copied, and none that was given stays in the source. What no piece begins is read by a call of
-//! its own: only `extract` asks for it.
+//! `next` hands a piece to a taker where the source lends it, and passes it over at once. So none
+//! is copied, and none that was given stays in the source. What no piece begins is read by a call
+//! of its own: only `extract` asks for it.
 ghost use Rattle.std.specs.Borrow.{GName};
 ghost use Rattle.std.specs.Prelude.{◌≡◌, ℕ, Bool, List, Option, is_ok, true};
 ghost use Rattle.std.specs.Io.{ReadsAtMost};

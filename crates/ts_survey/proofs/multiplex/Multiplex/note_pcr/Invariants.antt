@@ -1,5 +1,5 @@
--- Each so far knows of the PCR, and none behind; what was told so far, and then what the rest tells,
--- is what all tell.
+-- Each so far knows of the PCR, and none behind; what was told so far, and then what the rest
+-- tells, is what all tell.
 use Rattle.std.proofs.Common.{◌≡◌, ◌++◌, drop, map, take}
 use Rattle.ts_survey.specs.Endings.{words_of}
 use Rattle.ts_survey.specs.Holes.{after_pcr_of, pcr_told_of}

@@ -1,0 +1,6 @@
+-- What is asked for is as it was.
+use Rattle.ts_survey.specs.Asked.{KeepsAsked}
+use Rattle.ts_survey.proofs.multiplex.Multiplex.read_tables.Given as goal
+
+abbrev pub invariant-loop : goal.invariant-loop
+invariant-loop l = KeepsAsked l.fn.self l.self
