@@ -136,6 +136,16 @@ class Again(Programmes):
             self.must(why, (found.known is not None) == is_known and why in found.reason and
                       found.is_late == (seconds < 1), found)
 
+    def test_segments_that_are_needed(self) -> None:
+        """From the first on of all that are due, and were over since a time."""
+        channel = Told(self, self.listed("one", "two"), self.path("out"))
+        for name, over, numbers in (("one", 5, (3, 4, 7)), ("two", 9, (6, 8))):
+            record = channel.records.new(name, self.files[name], over, over)
+            channel.records.put_due(record, Due([self.files[name]], 0, None, True, [
+                Read(number, 1) for number in numbers]))
+        found = [channel.results.needed(since) for since in (0, 5, 6, 9, 10)]
+        self.must("needed", found == [3, 3, 6, 6, None], found)
+
     def test_segments_that_go(self) -> None:
         """Then it is not judged, for the reason for which it was not; until then they stay."""
         channel = Told(self, self.listed("one"), self.path("out"))
