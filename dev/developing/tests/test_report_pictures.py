@@ -9,10 +9,11 @@ from typing import Any, NamedTuple, Sequence
 from developing.stl import gsi_block, tti_block
 from subtitles.common.markup import Markup
 from subtitles.formats.stl import Subtitle, SubtitleFile
-from subtitles.report.faults import Entry, Looked, looked_at
+from subtitles.report.faults import Entries, Entry, Looked, looked_at
 from subtitles.report.pictures import (
     DIFFERENT, Figures, NOTHING, NOT_KNOWN, NOT_READ, SAME, marks_words)
-from subtitles.report.report import Blocks, marked_text, marked_times, readable, refused_blocks
+from subtitles.report.report import (
+    Blocks, end_of_knowledge, marked_text, marked_times, readable, refused_blocks)
 from subtitles.report.transmission import Strip, runs_of
 from subtitles.stream.receiver import BLANK_PAGE, Rows, State, TUNED
 from .bench import Case
@@ -139,6 +140,25 @@ class Seen(unittest.TestCase):
         self.assertEqual([Looked(one, 0).words() for one in (None, 0, 1, 2)], [
             "not seen whole while it is due", "whole after 0 frames", "whole after 1 frame",
             "whole after 2 frames"])
+
+
+    def test_fault_of_a_frame(self) -> None:
+        """The first of those that are told at one frame."""
+        none: Any = None
+        told = faults("refused 68 Parity frame @30", "refused 69 RowChanged frame @30",
+                      "refused 68 Parity frame @80")
+        found = Entries(none, none, [], [], told)
+        for begin, wanted in ((0, 1), (30, 1), (31, 3), (81, None)):
+            entry = found.entry_in(begin, 200)
+            self.assertEqual(entry and entry.index, wanted, begin)
+
+    def test_end_of_knowledge(self) -> None:
+        """The frame behind the last one that was heard, unless all is known that is due."""
+        report: Any = SimpleNamespace(subtitles=SUBTITLES)  # the last TCO is 125
+        for last, is_whole, wanted in ((None, True, None), (123, True, 124), (124, True, None),
+                                       (124, False, 125), (200, True, None)):
+            seen: Any = SimpleNamespace(last_frame=last, is_whole=lambda one=is_whole: one)
+            self.assertEqual(end_of_knowledge(seen, report), wanted, (last, is_whole))
 
 
 class Looks(unittest.TestCase):
