@@ -9,12 +9,11 @@ from typing import Any, NamedTuple, Sequence
 from developing.stl import gsi_block, tti_block
 from subtitles.common.markup import Markup
 from subtitles.formats.stl import Subtitle, SubtitleFile
+from subtitles.report.drawing import Strip, end_of_knowledge, runs_of
 from subtitles.report.faults import Entries, Entry, Looked, looked_at
 from subtitles.report.pictures import (
     DIFFERENT, Figures, NOTHING, NOT_KNOWN, NOT_READ, SAME, marks_words)
-from subtitles.report.report import (
-    Blocks, end_of_knowledge, marked_text, marked_times, readable, refused_blocks)
-from subtitles.report.transmission import Strip, runs_of
+from subtitles.report.report import Blocks, marked_text, marked_times, readable, refused_blocks
 from subtitles.stream.receiver import BLANK_PAGE, Rows, State, TUNED
 from .bench import Case
 from .parts import fault_of, in_page
