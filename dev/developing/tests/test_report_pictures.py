@@ -5,6 +5,7 @@ import re
 import unittest
 from types import SimpleNamespace
 from typing import Any, NamedTuple, Sequence
+from unittest import mock
 
 from developing.stl import gsi_block, tti_block
 from subtitles.common.markup import Markup
@@ -250,6 +251,17 @@ class BlocksOfFile(Case):
                   and made.subtitle(None) is None and made.subtitle(0) is None)
         passed = self.blocks("refused 21 Order block 3", "refused 50 X block 2 at 1").before(6)
         self.must("passed over", passed and passed.number == 1, passed)
+
+    def test_looks_at_each_block_once(self) -> None:
+        """However many blocks in a row have a fault after which the list goes on."""
+        blocks = range(1, 201)
+        path = self.write("many.stl", gsi_block(b"", 200, 200) + b"".join(
+            tti_block(block, 25 * block, 25 * block + 20, 20, 2, b"one") for block in blocks))
+        made = Blocks(SubtitleFile(path), (fault_of(f"refused 16 X block {block}")
+                                           for block in blocks))
+        with mock.patch.object(SubtitleFile, "is_outside", return_value=False) as asked:
+            self.must("none", not any(map(made.before, blocks)))
+        self.must("once", asked.call_count <= 200, asked.call_count)
 
     def test_fields(self) -> None:
         """The field that a fault is about, as it stands in the file; of no other fault one."""

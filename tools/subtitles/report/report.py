@@ -2,6 +2,8 @@
 a refused subtitle file."""
 from __future__ import annotations
 
+import bisect
+import functools
 import itertools
 from typing import Collection, Iterable, NamedTuple, Sequence
 
@@ -259,11 +261,15 @@ class Blocks:
 
     def before(self, block: int) -> NamedSubtitle | None:
         """The subtitle whose times those of a block's subtitle are held against."""
-        for number in range(self.file.firsts[block] - 1, 0, -1):
-            if self.is_text(number) and not self.file.is_outside(number) and \
-                    self.file.firsts[number] not in self.passed_over:
-                return self.subtitle(number)
-        return None
+        at = bisect.bisect_left(self.in_order, self.file.firsts[block])
+        return self.subtitle(self.in_order[at - 1]) if at else None
+
+    @functools.cached_property
+    def in_order(self) -> list[int]:
+        """The blocks of subtitles whose times are held against those of others."""
+        return [number for number in range(1, self.count + 1)
+                if self.is_text(number) and not self.file.is_outside(number)
+                and self.file.firsts[number] not in self.passed_over]
 
     def field(self, fault: FaultLine) -> Markup:
         """The field that a fault is about, with its bytes marked; nothing for another fault."""
