@@ -27,14 +27,14 @@ class Entry:
     `end` is where the last one ended, where it stood for some time.
     """
 
-    def __init__(self, index: int, told: FaultLine) -> None:
-        self.index, self.first, self.last = index, told, told
+    def __init__(self, index: int, fault: FaultLine) -> None:
+        self.index, self.first, self.last = index, fault, fault
         self.count, self.end = 1, End(None, None)
 
-    def add(self, told: FaultLine) -> None:
+    def add(self, fault: FaultLine) -> None:
         """One more of them."""
         self.count += 1
-        self.last = told
+        self.last = fault
 
 
 class Faults:
@@ -61,21 +61,21 @@ class Faults:
         self.leading: Entry | None = None
         last: tuple[object, ...] = ()  # what the last entry has in common
         entry: Entry | None = None
-        for index, (told, end) in enumerate(answer.told()):
-            of_entry = (told.block,) if told.block is not None else (
-                told.number, None if told.frame is None else programme.due(told.frame))
-            if told.block is not None and len(self.of_blocks) < MOST_OF_BLOCKS:
-                self.of_blocks.append(told)
-            if entry is None or of_entry != last or index in answer.anew and not told.block:
+        for index, (fault, end) in enumerate(answer.told()):
+            of_entry = (fault.block,) if fault.block is not None else (
+                fault.number, None if fault.frame is None else programme.due(fault.frame))
+            if fault.block is not None and len(self.of_blocks) < MOST_OF_BLOCKS:
+                self.of_blocks.append(fault)
+            if entry is None or of_entry != last or index in answer.anew and not fault.block:
                 self.entry_count += 1
-                entry = Entry(self.entry_count, told)
-                if told.block is None and self.entry_count <= MOST_ENTRIES:
+                entry = Entry(self.entry_count, fault)
+                if fault.block is None and self.entry_count <= MOST_ENTRIES:
                     self.entries.append(entry)
-            elif told.block is None:
-                entry.add(told)
-            if self.entry_count <= MOST_ENTRIES or told.block is not None:
-                self.first_entries.setdefault(told.number, self.entry_count)
-            if told == lead and told.block is None:
+            elif fault.block is None:
+                entry.add(fault)
+            if self.entry_count <= MOST_ENTRIES or fault.block is not None:
+                self.first_entries.setdefault(fault.number, self.entry_count)
+            if fault == lead and fault.block is None:
                 self.leading = self.leading or entry
             entry.end, last = end, of_entry
 

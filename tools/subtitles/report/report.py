@@ -231,10 +231,10 @@ DRAWN_BESIDE = "It is drawn as undecided: what was sent from the subtitle before
 class Blocks:
     """The blocks of a file, and the subtitles that they are of."""
 
-    def __init__(self, file: SubtitleFile, told: Iterable[FaultLine]) -> None:
+    def __init__(self, file: SubtitleFile, faults: Iterable[FaultLine]) -> None:
         self.file = file
         self.count = len(self.file.firsts) - 1
-        self.passed_over = {one.block for one in told if one.number in OF_FIRST_BLOCK}
+        self.passed_over = {one.block for one in faults if one.number in OF_FIRST_BLOCK}
 
     def is_text(self, block: int) -> bool:
         """Whether a block is of a subtitle: it holds no user data and is no comment."""
