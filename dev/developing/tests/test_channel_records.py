@@ -23,7 +23,8 @@ from subtitles.results.files import found, put_object, unjudged
 from subtitles.results.schema import ASKED, FORMAT
 from .bench import SECONDS
 from .channels import FIRST, SECOND
-from .listings import BEGIN, LAST, Judging, Lines, Programmes, Told, results_in, texts_of
+from .listings import (
+    BEGIN, LAST, Judging, Lines, Programmes, Told, results_at, results_in, texts_of)
 from .parts import asked_for
 from .results import result
 
@@ -359,9 +360,9 @@ class Crashes(Programmes):
                     stack.enter_context(mock.patch.object(owner, step, crashing(
                         getattr(owner, step))))
                 self.day(out)
-            before = self.results(out)
+            before = results_at(self, out)
             self.day(out)
-        known = self.results(out)
+        known = results_at(self, out)
         self.must(name, {one: json.loads(text)["asked"]["origin"] for one, text in known.items()}
                   == {f"{one}.json": (begin - TICKS * FIRST) % CLOCK
                       for one, begin in STARTS.items()}, known)
@@ -384,9 +385,3 @@ class Crashes(Programmes):
             channel.give(lines.sent(texts_of(name.partition("~")[0]), begin, 20))
         channel.results.judge_due()
         channel.results.publish()
-
-    def results(self, out: str) -> dict[str, bytes]:
-        """The results that are there."""
-        names = os.listdir(out) if os.path.isdir(out) else []
-        return {name: self.read(os.path.join(out, name)) for name in sorted(names)
-                if name.endswith(".json") and name != "channel.json"}
