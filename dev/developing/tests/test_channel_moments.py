@@ -24,9 +24,10 @@ EACH, LASTS = 40, 12  # seconds from one programme to the next one, and of each
 SIGNALS = (signal.SIGTERM, signal.SIGINT, signal.SIGHUP)
 MEMORY = 0  # stands beside numbers of signals for a process that gets no more
 # Which process is ended, and how: a recorder that a judge has begun is ended by that alone.
-KINDS = [("judge", signal.SIGKILL), *(("judge", number) for number in SIGNALS),
-         ("recorder", signal.SIGKILL), *[
-             ("any", kind) for kind in (signal.SIGKILL, signal.SIGSTOP, MEMORY)] * 2]
+KINDS: list[tuple[str, int]] = [
+    ("judge", signal.SIGKILL), *(("judge", number) for number in SIGNALS),
+    ("recorder", signal.SIGKILL),
+    *[("any", kind) for kind in (signal.SIGKILL, signal.SIGSTOP, MEMORY)] * 2]
 
 
 class Moments(Case):

@@ -349,9 +349,10 @@ class Channel:
 
     def lines(self) -> dict[str, int]:
         """How many lines have what result."""
-        records = (self.records.by_name.get(programme.name)
-                   for programme in self.queue.planned.programmes)
-        return lines_of([record and record.row for record in records], len(self.results.failed))
+        records = [self.records.by_name.get(programme.name)
+                   for programme in self.queue.planned.programmes]
+        rows = [record.row if record else None for record in records]
+        return lines_of(rows, len(self.results.failed))
 
     def tell_machine(self) -> None:
         """What a machine asks, and what is wrong now."""

@@ -9,7 +9,7 @@ import os
 import re
 import shutil
 import stat
-from typing import Any, Callable, Iterable, Iterator
+from typing import Any, Callable, Iterable
 
 from ...common.command_line import Stop
 from ...common.files import BEGIN, Inputs, kind_of, new_name
