@@ -57,11 +57,11 @@ def make_programme(case: Case, name: str, first: int, words: str, pts: int) -> b
     return case.read(f"{name}.pes")
 
 
-def blank(data: bytes, pts: int, seconds: int) -> bytes:
-    """The last sending of a transmission again, once a second from a PTS on."""
+def blank(data: bytes, pts: int, count: int, step: int = SECOND) -> bytes:
+    """The last sending of a transmission again, so often from a PTS on: once a second."""
     last = packets(data)[-1]
-    return b"".join(last[:9] + pts_bytes((pts + SECOND * one) % CLOCK) + last[14:]
-                    for one in range(seconds))
+    return b"".join(last[:9] + pts_bytes((pts + step * at) % CLOCK) + last[14:]
+                    for at in range(count))
 
 
 def three(case: Case, starts: Sequence[int], end: int, missing: int = 0) -> list[bytes]:

@@ -165,6 +165,13 @@ def results_in(case: Case, folder: str, out: str) -> Results:
     return Results(words, "tools/qc", folder, lambda line: None, case.fail)
 
 
+def results_at(case: Case, out: str) -> dict[str, bytes]:
+    """The results of programmes that are in a folder."""
+    names = os.listdir(out) if os.path.isdir(out) else []
+    return {name: case.read(os.path.join(out, name)) for name in sorted(names)
+            if name.endswith(".json") and name != "channel.json"}
+
+
 def files_of(case: Case, *names: str) -> dict[str, str]:
     """Subtitle files of four subtitles each."""
     return {name: make_subtitles(case, name, FIRST, texts_of(name)) for name in names}

@@ -268,8 +268,7 @@ class Written(Folders):
                     self.must(f"{number} {tries}", one.is_lost and one.number == number, one.number)
                     if number == 5 and tries == 1:
                         left[0] = 0
-                        one.write(b"e")
-                        one.end()
+                        one.write(b"e")  # its segment is open when the next loss comes
             self.must("kept", self.kept(folder) == [b"b", b"c", b"d", b"e"], self.kept(folder))
 
     def test_recorded_anew(self) -> None:
@@ -349,22 +348,6 @@ class Written(Folders):
                     self.must(f"{name} {is_ended}", one.place + one.written == place
                               and one.said == told and one.number == (0 if place else 2),
                               (one.said, one.number))
-
-    def test_loses_twice(self) -> None:
-        """Each loss leaves out a number."""
-        folder = self.new("twice")
-        with self.recorder(folder) as one:
-            opened = one.opened
-            for _ in range(3):
-                one.write(b"some")
-                with mock.patch.object(one, "opened", side_effect=OSError(28, "No space")):
-                    one.write(b"lost")
-            one.write(b"some")
-            self.must("as it was", one.opened == opened)
-            one.end()
-        numbers = numbers_in(folder)
-        self.must("numbers", [after - before for before, after in zip(numbers, numbers[1:])] ==
-                  [2, 2, 2], numbers)
 
     def test_that_can_not_begin(self) -> None:
         """Who waits for it is told."""

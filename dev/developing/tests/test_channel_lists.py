@@ -14,7 +14,7 @@ from subtitles.results.files import found, unjudged
 from subtitles.results.schema import ASKED
 from .bench import Case
 from .channels import SECOND, defaults
-from .listings import BEGIN, LAST, Judging, Lines, Programmes, Told, files_of, texts_of
+from .listings import BEGIN, LAST, Judging, Lines, Programmes, Told, files_of, results_at, texts_of
 from .parts import asked_for
 from .results import result
 
@@ -370,7 +370,7 @@ class AtRandom(Case):
                 self.compare(channel, truth, f"{seed}, {number}")
                 if is_seen:
                     truth.done.discard(name)
-                before = self.results(out)
+                before = results_at(self, out)
                 channel = self.begin(truth, files, out)
                 lines = Lines()  # another call counts anew
                 channel.give([lines.pes(begin - SECOND)])
@@ -385,7 +385,7 @@ class AtRandom(Case):
         channel.stop(BEFORE_IT)
         truth.stop()
         self.compare(channel, truth, f"{seed}, the end")
-        known = self.results(out)
+        known = results_at(self, out)
         listed = {f"{name}.json" for name in truth.listed}
         self.must(f"{seed}: one object each", {*known} == listed, {*known} ^ listed)
         self.must(f"{seed}: none has changed", before.items() <= known.items(), {*before})
@@ -402,11 +402,6 @@ class AtRandom(Case):
         truth.edit()
         channel.edit(truth.text(files))
         return now != "" and truth.settle(now)
-
-    def results(self, out: str) -> dict[str, bytes]:
-        """The results that are there."""
-        return {name: self.read(os.path.join(out, name)) for name in sorted(os.listdir(out))
-                if name.endswith(".json") and name != "channel.json"} if os.path.isdir(out) else {}
 
     def compare(self, channel: Told, truth: Truth, name: str) -> None:
         """Whether each result is there, once and in its order."""

@@ -1,6 +1,6 @@
 """A channel whose processes are ended at random moments, and begun again: each line has one result,
-which never changes, and it is that of a day without that. With --speed a day of forty programmes
-and twenty moments of each kind, else five programmes and three moments."""
+which never changes, and it is that of a day without that. With --speed days of forty programmes
+and hundreds of moments, else five programmes and some moments."""
 from __future__ import annotations
 
 import contextlib
@@ -22,9 +22,12 @@ from .muxed import in_frames
 
 EACH, LASTS = 40, 12  # seconds from one programme to the next one, and of each
 SIGNALS = (signal.SIGTERM, signal.SIGINT, signal.SIGHUP)
+MEMORY = 0  # stands beside numbers of signals for a process that gets no more
 # Which process is ended, and how: a recorder that a judge has begun is ended by that alone.
-KINDS = [("judge", signal.SIGKILL), ("recorder", signal.SIGKILL),
-         *(("judge", number) for number in SIGNALS)]
+KINDS: list[tuple[str, int]] = [
+    ("judge", signal.SIGKILL), *(("judge", number) for number in SIGNALS),
+    ("recorder", signal.SIGKILL),
+    *[("any", kind) for kind in (signal.SIGKILL, signal.SIGSTOP, MEMORY)] * 2]
 
 
 class Moments(Case):
@@ -46,6 +49,7 @@ class Moments(Case):
         self.write("list", "".join(f"{name}.stl\n" for name in self.names).encode())
         self.known = dict[str, bytes]()  # results that were there once
         self.took = list[float]()  # seconds from a signal to the end
+        self.disturbed = set[Running]()  # calls one of whose processes was disturbed
 
     def results(self, out: str) -> dict[str, Any]:
         """The results that are there; each that was there before is as it was."""
@@ -60,96 +64,56 @@ class Moments(Case):
         return found
 
     def end(self, call: Running, number: int) -> None:
-        """Ends a call by a signal: no programme is judged any more, but for one that was judged
-        just then."""
+        """Ends a call by a signal: where it was not disturbed before no programme is judged any
+        more, but for one that was judged just then."""
         said, began = len(self.read(call.log).splitlines()), time.monotonic()
         status = call.end(number)
-        if number in SIGNALS:
+        if number in SIGNALS and status != 0 and call not in self.disturbed:
             self.took.append(time.monotonic() - began)
             last = self.read(call.log).decode().splitlines()[said:]
             self.must(f"{number}: what is done then", status in (2, -number) and len(last) <= 2
                       and (not last or "stopped" in last[-1]), last)
 
-    def judge_file(self, out: str, which: str = "", number: int = 0) -> bool:
-        """Judges the file, until it ends or one of its processes is ended, at some time after some
-        more results; whether it came to its end."""
-        call = Running(self, "--channel", "list", "feed.ts", "-o", out, "-p", self.bench.program,
+    def begun(self, out: str) -> Running:
+        """A call that judges the file, once nobody records there any more: the recorder of a judge
+        that was killed goes on until it knows that."""
+        until(lambda: self.is_left(f"{out}.feed"))
+        return Running(self, "--channel", "list", "feed.ts", "-o", out, "-p", self.bench.program,
                        log=f"{out}.log")
-        count = self.count(out) + self.chance.randrange(3)
-        ending = time.monotonic() + self.chance.uniform(0.1, 1)
-        while which and call.process.poll() is None:
-            if which == "recorder":
-                for pid in self.recorders_of(call):
-                    with contextlib.suppress(ProcessLookupError):  # it ended just then
-                        os.kill(pid, number)
-                    return call.end() == 0
-            elif time.monotonic() > ending and self.count(out) >= count:
-                self.end(call, number)
-                until(lambda: self.is_left(f"{out}.feed"))
-                return False
-            time.sleep(0.01)
-        return call.process.wait(SECONDS) == 0
 
     def is_left(self, folder: str) -> bool:
-        """Whether nobody records into a folder: the recorder of a judge that was killed goes on
-        until it knows that."""
-        with contextlib.suppress(InUse), locking(self.path(folder), "recorder", ""):
+        """Whether nobody records into a folder, which may not be there yet."""
+        with contextlib.suppress(InUse), contextlib.ExitStack() as stack:
+            if os.path.isdir(self.path(folder)):
+                stack.enter_context(locking(self.path(folder), "recorder", ""))
             return True
         return False
 
-    def count(self, out: str) -> int:
-        """How many results there are."""
-        return sum(os.path.exists(self.path(f"{out}/{name}.json")) for name in self.names)
-
-    def recorders_of(self, call: Running) -> list[int]:
-        """The process that reads the feed, and of others that are begun none."""
-        found = []
-        for pid in [*family_of(call.process.pid)][1:]:
-            try:
-                files = [os.readlink(f"/proc/{pid}/fd/{one}")
-                         for one in os.listdir(f"/proc/{pid}/fd")]
-            except OSError:
-                continue
-            found += [pid] * any(one.endswith("/feed.ts") for one in files)
-        return found
+    def is_open(self, out: str) -> bool:
+        """Whether a programme has no result yet that stays."""
+        found = self.results(out)
+        return len(found) < len(self.names) or any(one.get("open") for one in found.values())
 
     def test_of_a_file(self) -> None:
-        """It is read on from where it was: nothing is lost."""
-        self.must("it ends", self.judge_file("whole"))
-        whole = self.results("whole")
-        self.must("the day", [one["verdict"] for one in whole.values()] ==
-                  ["accepted"] * len(self.names), whole)
-        for which, number in KINDS:
-            out = f"{which} {number}"
-            for _ in range(self.moments):
-                if self.judge_file(out, which, number):
-                    break
-                self.results(out)
-            self.must(f"{out}: it ends", self.judge_file(out))
-            found = self.results(out)
-            self.must(out, {name: one["line"] for name, one in found.items()} == {
-                name: one["line"] for name, one in whole.items()},
-                [one["reason"] for one in found.values()])
-            left = os.listdir(self.path(f"{out}.feed"))
-            self.must(f"{out}: nothing is left", not [
-                one for one in left if one.startswith("work-") or one.endswith(".seg")], left)
-        self.tell()
-
-    def test_of_any_process(self) -> None:
-        """Those that record, hear, judge and check are ended, stopped for a while, or get no more
-        memory, before the last result of a day: what was not sent to nobody is judged as without
-        that, however often."""
-        self.must("it ends", self.judge_file("whole"))
+        """The judge, and those that record, hear, judge and check, are ended, stopped for a while,
+        or get no more memory, before the last result of a day: nothing is lost, and each programme
+        is judged as without that, however often."""
+        self.must("it ends", self.begun("whole").process.wait(SECONDS) == 0)
         whole = {name: one["line"] for name, one in self.results("whole").items()}
-        moments, days = 200 if self.bench.is_timed else 12, list[int]()
+        self.must("the day", [*whole] == self.names and all(
+            line.startswith("accepted") for line in whole.values()), whole)
+        moments, days = 300 if self.bench.is_timed else 16, list[int]()
         while sum(days) < moments:
-            out = f"any {len(days)}"
+            out = f"day {len(days)}"
             days.append(self.disturb_day(out, moments - sum(days)))
             found = {name: one["line"] for name, one in self.results(out).items()}
             self.must(out, found == whole, self.read(f"{out}.log").decode())
+            left = [one for one in os.listdir(self.path(f"{out}.feed")) if one.endswith(".seg")]
+            self.must(f"{out}: nothing is left", not left, left)
         if self.bench.is_timed:
             print(f"{moments} moments before the last result of {len(days)} days of "
                   f"{len(whole)} programmes: {days}")
+        self.tell()
 
     def disturb_day(self, out: str, most: int) -> int:
         """Judges a day that is disturbed so many times at most; how often before its last result.
@@ -158,39 +122,38 @@ class Moments(Case):
         while count < most and self.is_open(out):
             if call.process.poll() is not None:
                 call = self.begun(out)
-            family = [*family_of(call.process.pid)][1:]
-            self.disturb(self.chance.choice(family or [call.process.pid]))
+            self.wait(call, out, len(self.results(out)) + self.chance.choice((0, 0, 1)))
+            self.disturb(call)
             count += self.is_open(out)
-            time.sleep(self.chance.uniform(0, 0.3))
         for _ in range(9):
             if call.process.wait(SECONDS) == 0:
                 break
             call = self.begun(out)
         return count
 
-    def is_open(self, out: str) -> bool:
-        """Whether a programme has no result yet that stays."""
-        found = self.results(out)
-        return len(found) < len(self.names) or any(one.get("open") for one in found.values())
+    def wait(self, call: Running, out: str, count: int) -> None:
+        """Waits until there are so many results, or the call has ended, and a moment more."""
+        until(lambda: len(self.results(out)) >= count or call.process.poll() is not None)
+        time.sleep(self.chance.uniform(0, 0.5))
 
-    def begun(self, out: str) -> Running:
-        """A call that judges the file, once nobody records there any more."""
-        until(lambda: not os.path.isdir(self.path(f"{out}.feed")) or self.is_left(f"{out}.feed"))
-        return Running(self, "--channel", "list", "feed.ts", "-o", out, "-p", self.bench.program,
-                       log=f"{out}.log")
-
-    def disturb(self, pid: int) -> None:
-        """Does something to a process that may be gone by now."""
+    def disturb(self, call: Running) -> None:
+        """Does something to the judge, to the recorder that it has begun first, or to any other of
+        its processes, which may be gone by now."""
+        which, kind = self.chance.choice(KINDS)
+        family = [*family_of(call.process.pid)][1:]
+        pid = (family[0] if which == "recorder" else self.chance.choice(family)) if family else 0
         with contextlib.suppress(OSError):
-            kind = self.chance.choice(("kill", "stop", "memory"))
-            if kind == "kill":
-                os.kill(pid, signal.SIGKILL)
-            elif kind == "memory":
-                resource.prlimit(pid, resource.RLIMIT_AS, (1 << 20, 1 << 20))
-            else:
-                os.kill(pid, signal.SIGSTOP)
-                time.sleep(0.2)
-                os.kill(pid, signal.SIGCONT)
+            if which == "judge":
+                self.end(call, kind)
+            elif pid:
+                self.disturbed.add(call)
+                if kind == MEMORY:
+                    resource.prlimit(pid, resource.RLIMIT_AS, (1 << 20, 1 << 20))
+                else:
+                    os.kill(pid, kind)
+                if kind == signal.SIGSTOP:
+                    time.sleep(0.2)
+                    os.kill(pid, signal.SIGCONT)
 
     def test_of_a_pipe(self) -> None:
         """The recorder and the judge are services of their own: what the recorder did not write is
@@ -215,7 +178,7 @@ class Moments(Case):
             calls[which] = Running(self, *words[which], log=f"log{which}")
         while at < len(self.feed):
             at += os.write(pipe, self.feed[at:at + 4096])
-        until(lambda: self.count("out") == len(self.names))
+        until(lambda: len(self.results("out")) == len(self.names))
         self.must("the ends", [one.end(signal.SIGTERM) for one in calls] == [2, 2])
         os.close(pipe)
         found = self.results("out")

@@ -23,7 +23,8 @@ from subtitles.results.files import found, put_object, unjudged
 from subtitles.results.schema import ASKED, FORMAT
 from .bench import SECONDS
 from .channels import FIRST, SECOND
-from .listings import BEGIN, LAST, Judging, Lines, Programmes, Told, results_in, texts_of
+from .listings import (
+    BEGIN, LAST, Judging, Lines, Programmes, Told, results_at, results_in, texts_of)
 from .parts import asked_for
 from .results import result
 
@@ -135,6 +136,16 @@ class Again(Programmes):
                 found = results.Results.judged(channel.results, record, due)
             self.must(why, (found.known is not None) == is_known and why in found.reason and
                       found.is_late == (seconds < 1), found)
+
+    def test_segments_that_are_needed(self) -> None:
+        """From the first on of all that are due, and were over since a time."""
+        channel = Told(self, self.listed("one", "two"), self.path("out"))
+        for name, over, numbers in (("one", 5, (3, 4, 7)), ("two", 9, (6, 8))):
+            record = channel.records.new(name, self.files[name], over, over)
+            channel.records.put_due(record, Due([self.files[name]], 0, None, True, [
+                Read(number, 1) for number in numbers]))
+        found = [channel.results.needed(since) for since in (0, 5, 6, 9, 10)]
+        self.must("needed", found == [3, 3, 6, 6, None], found)
 
     def test_segments_that_go(self) -> None:
         """Then it is not judged, for the reason for which it was not; until then they stay."""
@@ -349,9 +360,9 @@ class Crashes(Programmes):
                     stack.enter_context(mock.patch.object(owner, step, crashing(
                         getattr(owner, step))))
                 self.day(out)
-            before = self.results(out)
+            before = results_at(self, out)
             self.day(out)
-        known = self.results(out)
+        known = results_at(self, out)
         self.must(name, {one: json.loads(text)["asked"]["origin"] for one, text in known.items()}
                   == {f"{one}.json": (begin - TICKS * FIRST) % CLOCK
                       for one, begin in STARTS.items()}, known)
@@ -374,9 +385,3 @@ class Crashes(Programmes):
             channel.give(lines.sent(texts_of(name.partition("~")[0]), begin, 20))
         channel.results.judge_due()
         channel.results.publish()
-
-    def results(self, out: str) -> dict[str, bytes]:
-        """The results that are there."""
-        names = os.listdir(out) if os.path.isdir(out) else []
-        return {name: self.read(os.path.join(out, name)) for name in sorted(names)
-                if name.endswith(".json") and name != "channel.json"}

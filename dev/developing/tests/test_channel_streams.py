@@ -6,10 +6,9 @@ import re
 import shutil
 from typing import Any, Iterator, NamedTuple, Sequence
 
-from developing.pes import pts_bytes
 from subtitles.common.times import CLOCK, FRAMES_A_SECOND, TICKS
 from .bench import Case, packets
-from .channels import EACH, FITTED, SECOND, SHOWN, make_subtitles, verdicts
+from .channels import EACH, FITTED, SECOND, SHOWN, blank, make_subtitles, verdicts
 from .muxed import TELETEXT_PID, Sent, stream_of
 
 BEGIN = CLOCK - 20 * SECOND  # of a feed: PTS begin again within it
@@ -29,9 +28,9 @@ class Feed:
         stl = make_subtitles(case, name, FIRST, [f"{name} {at}" for at in range(count)])
         case.schedule(stl, f"{name}.pes", "--origin", str((self.first - TICKS * FIRST) % CLOCK),
                       "--every", "1")
-        own = packets(case.read(f"{name}.pes"))
-        self.pes = blank(own[-1], begin, BEFORE * FRAMES_A_SECOND) + own + blank(
-            own[-1], self.at(frames + 1), AFTER * FRAMES_A_SECOND)
+        own = case.read(f"{name}.pes")
+        self.pes = packets(blank(own, begin, BEFORE * FRAMES_A_SECOND, TICKS) + own + blank(
+            own, self.at(frames + 1), AFTER * FRAMES_A_SECOND, TICKS))
 
     def at(self, frame: int) -> int:
         """The PTS of a frame, from the first TCI on."""
@@ -49,11 +48,6 @@ class Feed:
         after, _ = stream_of(self.pes[number + gap:], middle, self.end, pid=OTHER_PID,
                              before=maker)
         return before + after
-
-
-def blank(last: bytes, begin: int, frames: int) -> list[bytes]:
-    """A PES packet again in some frames."""
-    return [last[:9] + pts_bytes((begin + TICKS * at) % CLOCK) + last[14:] for at in range(frames)]
 
 
 def bytes_of(sent: Sequence[Sent]) -> bytes:
@@ -187,32 +181,7 @@ class Streams(Case):
 
 
 class Ends(Case):
-    """Feeds that end, and channels that are ended, in mid-programme."""
-
-    def test_feed_that_ends(self) -> None:
-        """In mid-programme: it is not judged, and is waited for by the next call. Its last TCO is
-        no middle."""
-        feed = Feed(self, count=8)
-        sent = feed.stream()
-        own = [at for at, one in enumerate(sent) if one.pid == TELETEXT_PID]
-        self.write("list", b"one.stl\n")
-        for frame, why in ((EACH * 5 + 60, "the feed ended at 10:00:17:09, in mid-programme"),
-                           (EACH * 7 + 51, "")):
-            part = sent[:own[BEFORE * FRAMES_A_SECOND + frame - 1] + 1]
-            out = f"out{frame}"
-            done = self.tool("qc", "--channel", "list", "-", "-o", out, "-p",
-                             self.bench.program, data=bytes_of(part))
-            lines = verdicts(done.out.decode().splitlines())
-            known = json.loads(self.read(f"{out}/one.json"))
-            if not why:
-                self.must(f"{frame}", done.status == 0 and known["verdict"] == "accepted", lines)
-                continue
-            self.must(f"{frame}", done.status == 2 and lines[-1] ==
-                      f"one  not judged: {why}" and known["open"], lines)
-            again = self.tool("qc", "--channel", "list", "-", "-o", out, "--resume", "-p",
-                              self.bench.program, data=bytes_of(sent))
-            self.must("again", again.status == 2 and b"one  not judged: something of the feed was "
-                      b"not recorded at 10:00:17:0" in again.out, again)
+    """Feeds that end in mid-programme."""
 
     def test_file_that_grows(self) -> None:
         """A programme that is open is looked for in what is kept of it: once the file has grown it
@@ -229,8 +198,10 @@ class Ends(Case):
                 done = self.tool("qc", "--channel", "list", f"{count}.ts", "-o",
                                  f"out {count}", "-p", self.bench.program)
                 lines = verdicts(done.out.decode().splitlines())
+                known = json.loads(self.read(f"out {count}/one.json"))
                 self.must(f"{count}: {said}", done.status == status and
-                          [line.startswith(f"one  {said}") for line in lines] == [True], lines)
+                          [line.startswith(f"one  {said}") for line in lines] == [True] and
+                          known.get("open", False) == (status == 2), lines)
 
     def grow(self, name: str, data: bytes) -> None:
         """A file has more of the bytes with which it begins."""

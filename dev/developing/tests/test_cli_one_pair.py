@@ -422,4 +422,6 @@ class Overview(Case):
                   "&hellip;" not in lines["c"] and "9 faults<br/>" in lines["d<"] and
                   "1 fault<br/>" in lines["c"] and "0 faults" in lines["e"] and
                   "fault" not in lines["b"])
+        six = collection.pair_line(self.folder, one("f", "refused", 1, "refused 72", 9, 6)).source
+        self.must("all causes", six.count("&times;") == 6 and "&hellip;" not in six, six)
         self.must("name", "d&lt;" in lines["d<"] and 'class="not-judged"' in lines["b"])

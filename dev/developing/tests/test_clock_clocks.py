@@ -179,12 +179,13 @@ class Clocks(Case):
             both = [*self.sent, *((pts + origin, some) for pts, some in second)]
             found = self.judge(both)
             self.must(name, found.word == "not judged" and found.told[0] ==
-                      "the programme is there 2 times" and all(
-                          " --pes " in line for line in found.told[-2:]), found.told)
-            for line, word in zip(found.told[-2:], ("accepted", "refused" if name == "wrong" else
-                                                    "accepted")):
-                found = self.judge(both, *line.split()[-2:])
-                self.must(f"{name} {line}", found.word == word, found.said)
+                      "the programme is there 2 times" and
+                      found.told[-1].endswith(" --pes I-J"), found.told)
+            count = len(self.sent)
+            for pes, word in ((f"0-{count - 1}", "accepted"), (
+                    f"{count}-{2 * count - 1}", "refused" if name == "wrong" else "accepted")):
+                found = self.judge(both, "--pes", pes)
+                self.must(f"{name} {pes}", found.word == word, found.said)
             found = self.judge(both, "--pes", "99999-100000")
             self.must(f"{name}: none", found.word == "not judged", found.said)
 

@@ -14,7 +14,7 @@ from subtitles.clock.stretches import by_breaks, find_row, parts_of, runs_of
 from subtitles.common.command_line import Lateness
 from subtitles.common.times import CLOCK, FRAMES_A_SECOND, FRAMES_OF_A_DAY, TICKS, frame_in
 from subtitles.stream.packets import Change, Packets, Run
-from subtitles.stream.ranges import cut_of
+from subtitles.stream.ranges import SentPacket, begin_of, cut_of
 
 SEEDS = range(20)
 Sending = tuple[int, bytes]  # a PTS that does not wrap, and the letters of the page then
@@ -247,6 +247,13 @@ class Cuts(unittest.TestCase):
             with self.subTest(seed=seed):
                 self.assertEqual(cut_of(made, begin, end, origin, every).range,
                                  plain(made, frames, begin, end, every))
+
+    def test_a_sending_in_parts(self) -> None:
+        """Within some frames one without a PTS between two of a frame is of the same sending."""
+        for frame in (90, None):
+            row = [SentPacket(0, 90, "heo", False), SentPacket(1, frame, "o", False),
+                   SentPacket(2, 90, "ob", True), SentPacket(3, 100, "heo", True)]
+            self.assertEqual([begin_of(row, 100, within) for within in (0, 1)], [3, 0], frame)
 
     def test_a_range_and_a_wrong_pts(self) -> None:
         """PES packets outside of a range are not taken; one PTS that is far off ends nothing."""

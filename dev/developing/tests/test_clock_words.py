@@ -8,7 +8,7 @@ from typing import Any, Sequence
 from developing.pes import packet
 from subtitles.clock.alignment import Early
 from subtitles.clock.origin import (
-    Origin, Sought, break_lines, frames_words, part_lines, shift_lines, take_parts)
+    Origin, Sought, break_lines, frames_words, measure, part_lines, shift_lines, take_parts)
 from subtitles.clock.start import Clock, First, NoFirst, START, first_picture, left_out
 from subtitles.clock.stretches import Stretch
 from subtitles.common.times import CLOCK, TICKS
@@ -111,6 +111,20 @@ class Words(unittest.TestCase):
             found = Origin()
             take_parts(found, Sought("a", "b", origin=origin, breaks=1), [parts[0].sent], parts)
             self.assertEqual((found.status, len(found.parts)), (status, 2 - 2 * status), early)
+
+    def test_compared(self) -> None:
+        """With the origin that is known, also 0, however far it is; with 0 near that alone."""
+        rows: list[tuple[int | None, int, str]] = [
+            (None, 0, ""), (None, TICKS - 1, ""), (None, 251 * TICKS, ""),
+            (None, 250 * TICKS, "250 frames late compared with --origin 0"),
+            (0, 0, "--origin 0"), (0, 9, "0 frames and 9 ticks late compared with --origin 0"),
+            (0, 251 * TICKS, "251 frames late compared with --origin 0"), (9, 9, "--origin 9")]
+        for known, origin, words in rows:
+            found, part = Origin(), self.part(20, 20, 20)
+            part.origin = origin
+            measure(found, known, part)
+            self.assertEqual(found.told, [f"that is {words}"] * bool(words), (known, origin))
+            self.assertEqual(found.away, None if known is None else origin - known)
 
     def test_frames(self) -> None:
         for ticks, words in ((TICKS, "1 frame late"), (-2 * TICKS, "2 frames early"),

@@ -23,10 +23,6 @@ from .bench import Case, SECONDS, script
 ORDER = ["common", "formats", "request", "stream", "clock", "recording", "judging", "results",
          "report", "cli"]  # the packages of users, lowest first
 LONGEST_LINE = 100
-# The page's parts name the page itself, for type hints alone.
-FOR_HINTS = {("subtitles.report.faults", "subtitles.report.report"),
-             ("subtitles.report.transmission", "subtitles.report.report"),
-             ("subtitles.report.transmission", "subtitles.report.faults")}
 MAIN = "subtitles.cli.main"  # imports what a call needs when it needs it
 IN_ROWS = os.path.join("developing", "signs.py")  # a table: each of its rows is a line
 # The second implementation shares with the tools codes, times, layouts and the blocks of files.
@@ -155,8 +151,7 @@ class Layers(Case):
                 with open(path, encoding="utf-8") as file:
                     texts[name_of(path)] = file.read()
         found = cycle_in({
-            name: {other for other in texts.keys() & {*imported(text, name, False)}
-                   if name != MAIN and (name, other) not in FOR_HINTS}
+            name: {other for other in texts.keys() & {*imported(text, name, False)} if name != MAIN}
             for name, text in texts.items()})
         self.must("tools", not found, found)
 

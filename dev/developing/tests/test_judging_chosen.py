@@ -1,6 +1,7 @@
 """What is chosen and said so, and what is measured of recordings that are right."""
 from __future__ import annotations
 
+import itertools
 import json
 import os
 import re
@@ -12,7 +13,7 @@ from subtitles.cli.main import parser_of
 from subtitles.cli.measure import measure
 from subtitles.common.program import TOP, read
 from subtitles.common.times import TICKS, time_of
-from subtitles.judging.measurement import never_words, pace_found
+from subtitles.judging.measurement import Repeats, every_of, never_words, pace_found
 from subtitles.request.lines import profile_at, read_options
 from subtitles.request.request import CHOICES, option_line, request_of
 from subtitles.stream.gaps import PAUSED, Pace, REGULAR
@@ -289,6 +290,15 @@ class Measured(Case):
             ([*paces, Pace(PAUSED, 9, 9)], "")]
         for some, words in rows:
             self.must(f"{some}", pace_found(some).words == words, pace_found(some))
+
+    def test_every(self) -> None:
+        """The longest distance of all recordings, and the most that are usual, in any order."""
+        several = [Repeats(9, 30, 5, 25), Repeats(8, 50, 7, 26), Repeats(3, 40, 9, None)]
+        for some in itertools.permutations(several):
+            found = every_of(some)
+            self.must(f"{some}", (found.words, *found.lines) == (
+                "--every 50", "every: of 20 headers of the page the next comes within 50 frames, "
+                "the first of these from 00:00:00:07 on, and 26 are usual"), found)
 
     def test_round_trip(self) -> None:
         """What is measured of a house accepts what the house sends: layout, repeats that keep, late

@@ -100,6 +100,7 @@ class Words(Case):
         for numbers, wanted in (
                 ({72: 9}, ""), ({72: 9, 68: 1}, "; also 68 Name"), ({63: 1, 72: 9, 74: 1}, ""),
                 ({73: 2, 68: 1, 72: 9}, "; also 68 Name and 73 Name (2)"),
+                ({79: 1, 69: 1, 68: 1, 67: 1}, "; also 67 Name, 68 Name, 79 Name and 69 Name"),
                 ({79: 1, 73: 1, 69: 1, 68: 1_234, 67: 1},
                  "; also 67 Name, 68 Name (1,234), 79 Name, 69 Name and 1 more number"),
                 ({79: 1, 73: 1, 69: 1, 68: 1, 67: 1, 66: 1},

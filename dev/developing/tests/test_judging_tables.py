@@ -278,7 +278,8 @@ class Named(Case):
         os.mkdir(out)
         own = ["one.1.txt", "one.12.cut.pes", "one.3.txt", "one.9.html", "one.5.html"]
         others = ["one.0.txt", "one.x.txt", "one.1x.txt", "two.1.txt", "one.1.a.txt", "one.01.txt",
-                  "one.txt.1", "one.1.stl", "one.5.json", "one.x.recording.pes"]
+                  "one.txt.1", "one.1.stl", "one.5.json", "one.x.recording.pes", "one.x.1.html",
+                  "one.1.txt.1", "one.2.txt.old"]
         for name in [*own, *others]:
             with open(os.path.join(out, name), "wb"):
                 pass

@@ -96,7 +96,7 @@ class Verdicts(Case):
     def test_announced_jumps(self) -> None:
         """Those of each part, whichever has some."""
         recording: Any = SimpleNamespace(stages=[], places=lambda jumps: [
-            Place(*jump, is_announced=True) for jump in jumps])
+            Place(before, after, is_announced=True) for before, after in jumps])
         for own in ((0,), (1,), (2,), (0, 2), (0, 1, 2), ()):
             parts = [part_with(100 * at, 100 * at + 99, 0, number=at + 1, jumps=[
                 (TICKS * (100 * at + 50), TICKS * (100 * at + 60))] * (at in own))

@@ -11,7 +11,8 @@ from subtitles.common.times import time_of
 from subtitles.formats.stl import Subtitle, SubtitleList
 from subtitles.judging.causes import Cause
 from subtitles.judging.check import Answer, End
-from subtitles.report.faults import Entry, FaultList, Faults
+from subtitles.report.fault_list import FaultList
+from subtitles.report.faults import Entry, Faults
 from subtitles.report.report import Reasons
 from subtitles.stream.receiver import Rows, State, TUNED
 from .parts import fault_of, in_page
@@ -161,7 +162,7 @@ class Lists(unittest.TestCase):
         given: dict[str, Any] = {
             "report": SimpleNamespace(faults=SimpleNamespace(count=count, entry_count=count),
                                       reasons=None, programme=PROGRAMME, is_beside=False),
-            "looks": SimpleNamespace(entries=SimpleNamespace(drawn={}, frame_of=lambda one: None)),
+            "subtitles": SimpleNamespace(drawn={}, frame_of=lambda one: None),
             "held": SimpleNamespace(state_at=lambda frame: state),
             "figures": SimpleNamespace(due_at=lambda frame: (page_with(b"a"), bytes(8))),
             "section": lambda entry: markup("one "), "leading": made.entries[0]}

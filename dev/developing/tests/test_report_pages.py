@@ -13,7 +13,7 @@ from subtitles.common.markup import markup
 from subtitles.common.program import MadeWith
 from subtitles.common.times import CLOCK, FRAMES_OF_A_DAY, Spans, TICKS
 from subtitles.formats.teletext import ENGLISH
-from subtitles.report import page as report_page, report as report_report
+from subtitles.report import drawing, page as report_page
 from subtitles.report.faults import Entry
 from subtitles.report.page import lost_places, pages_table, subtitles_words
 from subtitles.report.pictures import (
@@ -310,8 +310,8 @@ class Bounds(unittest.TestCase):
             made.part, made.reasons = mock.MagicMock(), SimpleNamespace(drawn=None)
             others = {name: mock.DEFAULT for name in (
                 "Figures", "Entries", "FaultList", "Strip", "mark_unheard", "end_of_knowledge")}
-            with mock.patch.multiple(report_report, **others) as made_of:
-                looks = report_report.Looks(made, cast(Any, seen))
+            with mock.patch.multiple(drawing, **others) as made_of:
+                looks = drawing.Looks(made, cast(Any, seen))
             self.assertEqual(made_of["Strip"].call_args.args[4:6], (frame, line or ""))
             self.assertIs(made.reasons.drawn, looks.entries.drawn)
 

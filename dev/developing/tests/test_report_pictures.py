@@ -5,15 +5,16 @@ import re
 import unittest
 from types import SimpleNamespace
 from typing import Any, NamedTuple, Sequence
+from unittest import mock
 
 from developing.stl import gsi_block, tti_block
 from subtitles.common.markup import Markup
 from subtitles.formats.stl import Subtitle, SubtitleFile
-from subtitles.report.faults import Entry, Looked, looked_at
+from subtitles.report.drawing import Strip, end_of_knowledge, runs_of
+from subtitles.report.faults import Entries, Entry, Looked, looked_at
 from subtitles.report.pictures import (
     DIFFERENT, Figures, NOTHING, NOT_KNOWN, NOT_READ, SAME, marks_words)
 from subtitles.report.report import Blocks, marked_text, marked_times, readable, refused_blocks
-from subtitles.report.transmission import Strip, runs_of
 from subtitles.stream.receiver import BLANK_PAGE, Rows, State, TUNED
 from .bench import Case
 from .parts import fault_of, in_page
@@ -141,6 +142,25 @@ class Seen(unittest.TestCase):
             "whole after 2 frames"])
 
 
+    def test_fault_of_a_frame(self) -> None:
+        """The first of those that are told at one frame."""
+        none: Any = None
+        told = faults("refused 68 Parity frame @30", "refused 69 RowChanged frame @30",
+                      "refused 68 Parity frame @80")
+        found = Entries(none, none, [], [], told)
+        for begin, wanted in ((0, 1), (30, 1), (31, 3), (81, None)):
+            entry = found.entry_in(begin, 200)
+            self.assertEqual(entry and entry.index, wanted, begin)
+
+    def test_end_of_knowledge(self) -> None:
+        """The frame behind the last one that was heard, unless all is known that is due."""
+        report: Any = SimpleNamespace(subtitles=SUBTITLES)  # the last TCO is 125
+        for last, is_whole, wanted in ((None, True, None), (123, True, 124), (124, True, None),
+                                       (124, False, 125), (200, True, None)):
+            seen: Any = SimpleNamespace(last_frame=last, is_whole=lambda one=is_whole: one)
+            self.assertEqual(end_of_knowledge(seen, report), wanted, (last, is_whole))
+
+
 class Looks(unittest.TestCase):
     """What is held beside what is due."""
 
@@ -231,6 +251,17 @@ class BlocksOfFile(Case):
                   and made.subtitle(None) is None and made.subtitle(0) is None)
         passed = self.blocks("refused 21 Order block 3", "refused 50 X block 2 at 1").before(6)
         self.must("passed over", passed and passed.number == 1, passed)
+
+    def test_looks_at_each_block_once(self) -> None:
+        """However many blocks in a row have a fault after which the list goes on."""
+        blocks = range(1, 201)
+        path = self.write("many.stl", gsi_block(b"", 200, 200) + b"".join(
+            tti_block(block, 25 * block, 25 * block + 20, 20, 2, b"one") for block in blocks))
+        made = Blocks(SubtitleFile(path), (fault_of(f"refused 16 X block {block}")
+                                           for block in blocks))
+        with mock.patch.object(SubtitleFile, "is_outside", return_value=False) as asked:
+            self.must("none", not any(map(made.before, blocks)))
+        self.must("once", asked.call_count <= 200, asked.call_count)
 
     def test_fields(self) -> None:
         """The field that a fault is about, as it stands in the file; of no other fault one."""

@@ -313,6 +313,18 @@ class Beside(Case):
             again = asked_for("a.stl", "a.ts", *call_words(asked)[:-3])
             self.must(f"{call} | {line}: again", again == asked, again)
 
+    def test_clock_of_a_line(self) -> None:
+        """A line that tells its clock takes none of the call, also beside a profile of its own."""
+        self.write("other", b"--every 50\n")
+        rows: list[tuple[str, str, tuple[int | None, str | None]]] = [
+            ("--origin 9", "", (9, None)), ("--origin 9", "--profile other", (9, None)),
+            ("--origin 9", "--start tcp", (None, "tcp")),
+            ("--origin 9", "--profile other --start tcp", (None, "tcp")),
+            ("--start tcp", "--profile other --origin=0", (0, None))]
+        for call, line, wanted in rows:
+            asked = self.asked(call, line)
+            self.must(f"{call} | {line}", (asked.origin, asked.start) == wanted, asked)
+
     def test_shares_go_with_a_bound(self) -> None:
         for words in ("--late 0:1,1:1/0:1", "--late 0:1/0:1,3:1 --within 2"):
             self.assertRaises(Stop, asked_for, "a.stl", "a.ts", *words.split())

@@ -63,11 +63,11 @@ class Measured(NamedTuple):
 
 def measure(words: argparse.Namespace, called: str) -> int:
     """Prints the profile of the pairs of a call; answers the status."""
-    typed, asked = CommandWords(called, words.program), requests_of(words)
+    typed, requests = CommandWords(called, words.program), requests_of(words)
     with temporary_folder("subttx-qc-") as folder:
-        found = [measured(one, typed, os.path.join(folder, str(number)))
-                 for number, one in enumerate(asked)]
-    for line in profile_lines(asked, found):
+        recordings = [measured(request, typed, os.path.join(folder, str(number)))
+                      for number, request in enumerate(requests)]
+    for line in profile_lines(requests, recordings):
         say(line)
     return 0
 
@@ -77,29 +77,30 @@ def requests_of(words: argparse.Namespace) -> list[Request]:
     names = words.measure
     if len(names) % 2:
         raise Stop(f"--measure takes pairs, STL RECORDING: {names[-1]} has no recording")
-    asked = [request_with(stl, recording, words) for stl, recording in zip(names[::2], names[1::2])]
-    if len(asked) > 1 and words.origin is not None:
+    requests = [request_with(stl, recording, words)
+                for stl, recording in zip(names[::2], names[1::2])]
+    if len(requests) > 1 and words.origin is not None:
         raise Stop("--origin is the clock of one recording: measure it by itself, or give --start")
-    return asked
+    return requests
 
 
-def measured(asked: Request, typed: CommandWords, folder: str) -> Measured:
+def measured(request: Request, typed: CommandWords, folder: str) -> Measured:
     """What a recording tells; `Stop` where it can't be measured."""
     os.mkdir(folder)
     names = Names("measured", folder, None)
-    names.give(asked.stl)
+    names.give(request.stl)
     listener = Listener(Unprinted())
-    pair = Pair(Verdict(asked, Severity(None), now()), typed, names, listener, False)
+    pair = Pair(Verdict(request, Severity(None), now()), typed, names, listener, False)
     try:
-        refuse_files(asked)
+        refuse_files(request)
         return of_pair(pair)
     except Unclear as why:
-        raise Stop(f"{asked.stl} {asked.recording} can't be measured: {why}") from None
+        raise Stop(f"{request.stl} {request.recording} can't be measured: {why}") from None
 
 
 def of_pair(pair: Pair) -> Measured:
     """The same of a pair that is read."""
-    asked, option = pair.asked, BY_WORD[pair.asked.option]
+    request, option = pair.asked, BY_WORD[pair.asked.option]
     recording, clocks, subtitles = pair.located
     cuts = [cut_of_part(clocks.programme, frames) for frames in pair.parts_in(
         recording, clocks.found, clocks.programme, subtitles)]
@@ -113,12 +114,12 @@ def of_pair(pair: Pair) -> Measured:
         [repeats for part in parts if (repeats := repeats_in(
             part.pts(HEADER), part.pts()[-1], part.origin or 0, times))],
         [measured_pace(cut, times)[0] for cut in cuts],
-        [delays_of(asked.stl, *both, option) for both in sent],
+        [delays_of(request.stl, *both, option) for both in sent],
         (sum(counts.total() for counts in headers),
          sum(count for counts in headers for header, count in counts.items() if keeps(header))),
-        not any(control_words(header, asked.option) for counts in headers for header in counts),
+        not any(control_words(header, request.option) for counts in headers for header in counts),
         {word for part in parts for word in part.options_sent()},
-        [sending for both in sent for sending in sendings_of(asked.stl, *both, option)])
+        [sending for both in sent for sending in sendings_of(request.stl, *both, option)])
 
 
 def cut_of_part(programme: PartSearch, frames: PartFrames) -> PartRange:
@@ -131,9 +132,9 @@ def cut_of_part(programme: PartSearch, frames: PartFrames) -> PartRange:
 
 def held_near(part: Part) -> Timeline:
     """What is held around the frames of a part."""
-    recording, found = part.recorded
-    return timeline_near(recording.packets, part.asked.page, found.origin, 1,
-                         Span(found.begin, found.end), part.asked.every, found.packets)
+    recording, frames = part.recorded
+    return timeline_near(recording.packets, part.asked.page, frames.origin, 1,
+                         Span(frames.begin, frames.end), part.asked.every, frames.packets)
 
 
 def subtitles_of(part: Part, subtitles: Iterable[Subtitle]) -> list[Subtitle]:
@@ -159,33 +160,36 @@ def pid_of(pair: Pair) -> tuple[str | None, list[str]]:
 
 # What is printed.
 
-def profile_lines(asked: Sequence[Request], found: Sequence[Measured]) -> Iterator[str]:
+def profile_lines(requests: Sequence[Request], recordings: Sequence[Measured]) -> Iterator[str]:
     """The profile, which `--profile` reads."""
-    first = asked[0]
-    files = " ".join(quoted(name) for one in asked for name in (one.stl, one.recording or ""))
+    first = requests[0]
+    files = " ".join(quoted(name) for request in requests
+                     for name in (request.stl, request.recording or ""))
     yield f"# qc {version()} --measure {files}"
-    yield (f"# Measured of {counted(len(asked), 'recording')}, and not judged: what is wrong in it "
-           "is right by this. Read each line, and keep what is true of your house.")
+    yield (f"# Measured of {counted(len(requests), 'recording')}, and not judged: what is wrong in "
+           "it is right by this. Read each line, and keep what is true of your house.")
     is_known = first.origin is not None or first.start is not None
-    counts = [one.headers for one in found]
-    options = {option for one in found for option in one.options}
+    counts = [one.headers for one in recordings]
+    options = {option for one in recordings for option in one.options}
     findings = [
-        Finding(f"--page {page_name(*first.page)}", []), pid_found(found),
+        Finding(f"--page {page_name(*first.page)}", []), pid_found(recordings),
         option_of(options, first.option),
-        every_of([its for one in found for its in one.repeats]),
-        pace_found([its for one in found for its in one.paces]),
-        *late_found([its for one in found for its in one.delays], is_known),
+        every_of([repeats for one in recordings for repeats in one.repeats]),
+        pace_found([pace for one in recordings for pace in one.paces]),
+        *late_found([delays for one in recordings for delays in one.delays], is_known),
         keeping_of(sum(count for count, _ in counts), sum(count for _, count in counts),
-                   all(one.is_alone for one in found)),
-        layout_found([its for one in found for its in one.sendings], BY_WORD[first.option])]
+                   all(one.is_alone for one in recordings)),
+        layout_found([sending for one in recordings for sending in one.sendings],
+                     BY_WORD[first.option])]
     for finding in findings:
         yield from finding.all()
 
 
-def pid_found(found: Sequence[Measured]) -> Finding:
+def pid_found(recordings: Sequence[Measured]) -> Finding:
     """The PID, where it is the same in all recordings."""
-    pids = {one.pid for one in found}
-    lines = [f"pid: {line}" for line in dict.fromkeys(line for one in found for line in one.said)]
+    pids = {one.pid for one in recordings}
+    lines = [f"pid: {line}"
+             for line in dict.fromkeys(line for one in recordings for line in one.said)]
     pid = next(iter(pids)) if len(pids) == 1 else None
     if len(pids) > 1:
         lines.append("pid: it is not the same in all recordings")

@@ -7,7 +7,7 @@ from typing import Collection, Iterator, NamedTuple, Sequence
 from ..common.command_line import Lateness, Stop, counted, range_words
 from ..common.times import (
     ALL_DAY, Between, FRAMES_A_SECOND, FRAMES_OF_A_DAY, TICKS, frame_in, pts_of, ticks_between,
-    ticks_within, time_of, wrapped)
+    ticks_within, time_of)
 from ..formats.stl import letters_on_page, readable, stl_bytes, subtitle_times
 from ..formats.teletext import Page, page_name
 from ..stream.packets import Packets, Range, STRAY
@@ -105,7 +105,7 @@ def find(asked: Sought, packets: Packets) -> Origin:
     runs = runs_of(bases, asked.origin is not None)
     if len(runs) > 1:
         origin.runs = [packets_of(runs, number, bases, packets) for number in range(len(runs))]
-        origin.told += [runs_line(len(runs)), *run_lines(runs, origin.runs, bases)]
+        origin.told.append(runs_line(len(runs)))
         return origin
     row = find_row(bases)
     if asked.breaks:
@@ -347,20 +347,6 @@ def break_lines(parts: Sequence[FittedPart]) -> Iterator[str]:
 def runs_line(runs: int) -> str:
     """How often the programme is there."""
     return f"the programme is there {runs} times"
-
-
-def run_lines(runs: Sequence[Airing], packets: Sequence[Range], bases: Sequence[Base]) \
-        -> Iterator[str]:
-    """Where the runs of a programme are."""
-    def after(place: tuple[int, int]) -> str:
-        before = sum(wrapped(last - first) // TICKS
-                     for first, last in (one.sent for one in bases[:place[0]]))
-        return time_of(before + place[1])
-
-    for number, (run, own) in enumerate(zip(runs, packets), 1):
-        first, last = (pts_of(frames, bases[base].first) for base, frames in run)
-        yield (f"run {number} is sent from PTS {first} to PTS {last}, from {after(run.first)} to "
-               f"{after(run.last)} after the first header: --pes {own[0]}-{own[1]}")
 
 
 def packets_of(runs: Sequence[Airing], number: int, bases: Sequence[Base],

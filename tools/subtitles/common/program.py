@@ -52,10 +52,10 @@ def built_program(path: str | None = None) -> str:
 
 def program_at(path: str | None) -> str:
     """The file of the program: at `path`, or the one that stands by the tools."""
-    found = os.path.abspath(path or os.path.join(TOP, "subttx"))
-    if os.path.isdir(found) or not os.access(found, os.X_OK):
-        raise Stop(f"{path or found} is no program")
-    return behind_script(found)  # the script looks for it at each call
+    program = os.path.abspath(path or os.path.join(TOP, "subttx"))
+    if os.path.isdir(program) or not os.access(program, os.X_OK):
+        raise Stop(f"{path or program} is no program")
+    return behind_script(program)  # the script looks for it at each call
 
 
 def behind_script(path: str) -> str:
@@ -111,9 +111,9 @@ def proved_line(program: str, sha256: str) -> str | None:
     beside = os.path.dirname(program)
     for folder in (beside, os.path.dirname(beside), os.path.join(TOP, "dist")):
         lines = (read(os.path.join(folder, PROVED)) or "").splitlines()
-        found = [line for line in map(OF_PROGRAM.fullmatch, lines) if line]
-        if f"program {sha256}" in lines and found:
-            return found[0][1]
+        versions = [line for line in map(OF_PROGRAM.fullmatch, lines) if line]
+        if f"program {sha256}" in lines and versions:
+            return versions[0][1]
     return None
 
 
@@ -181,14 +181,14 @@ def compile_tools(prefix: str) -> None:
 def documents() -> list[str]:
     """README, the manual, and what these link, one from another, by their names from the top; but
     not what says of which sources another program is."""
-    found = list(READ)
-    for name in found:
+    names = list(READ)
+    for name in names:
         text = (read(os.path.join(TOP, name)) or "") if name.endswith(".md") else ""
         for _, target in LINK.findall(text):
             path = os.path.normpath(os.path.join(os.path.dirname(name), target))
             is_one = os.path.isfile(os.path.join(TOP, path)) and path.split(os.sep)[0] != "dist"
-            found += [path] if is_one and path not in found else []
-    return found
+            names += [path] if is_one and path not in names else []
+    return names
 
 
 def copy_documents(home: str) -> None:
@@ -208,9 +208,9 @@ def copy_documents(home: str) -> None:
 
 def without_dead_links(text: str, folder: str) -> str:
     """A document of a folder in which a link to a file that is not there is its words alone."""
-    def kept(found: re.Match[str]) -> str:
-        is_there = ":" in found[2] or os.path.exists(os.path.join(folder, found[2]))
-        return found[0] if is_there else found[1]
+    def kept(link: re.Match[str]) -> str:
+        is_there = ":" in link[2] or os.path.exists(os.path.join(folder, link[2]))
+        return link[0] if is_there else link[1]
 
     return LINK.sub(kept, text)
 
@@ -238,12 +238,12 @@ def install(program: str, prefix: str) -> list[str]:
 def shared_folders(prefix: str) -> list[str]:
     """The folders in which others may have files too, the innermost ones first."""
     names = ["bin", MAN, COMPLETIONS, "lib"]
-    found: list[str] = []
+    folders: list[str] = []
     for name in names:
         while name:
-            found.append(name)
+            folders.append(name)
             name = os.path.dirname(name)
-    return [os.path.join(prefix, name) for name in sorted({*found, ""}, key=len, reverse=True)]
+    return [os.path.join(prefix, name) for name in sorted({*folders, ""}, key=len, reverse=True)]
 
 
 def install_and_note(program: str, prefix: str) -> list[str]:
@@ -284,11 +284,11 @@ def remove(prefix: str) -> list[str]:
 
 def files_below(folder: str) -> list[str]:
     """The files of a folder, links left out, by their names from there."""
-    found = []
+    files = []
     for place, _, names in os.walk(folder):
         paths = [os.path.join(place, name) for name in names]
-        found += [os.path.relpath(path, folder) for path in paths if not os.path.islink(path)]
-    return sorted(found)
+        files += [os.path.relpath(path, folder) for path in paths if not os.path.islink(path)]
+    return sorted(files)
 
 
 def sums_of(folder: str, kind: str) -> str:

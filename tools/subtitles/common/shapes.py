@@ -149,10 +149,10 @@ class Listed(Shape):
     def misfit(self, value: object) -> str | None:
         if not isinstance(value, list) or not self.least <= len(value) <= self.most:
             return ""
-        for at, one in enumerate(value):
-            found = self.shape.misfit(one)
-            if found is not None:
-                return f"[{at}]{found}"
+        for at, item in enumerate(value):
+            place = self.shape.misfit(item)
+            if place is not None:
+                return f"[{at}]{place}"
         return None
 
     def schema(self) -> Schema:
@@ -173,13 +173,13 @@ class Member(NamedTuple):
     of: Callable[[Any], Any] | None = None
     is_always: bool = True  # whether each such object has it
 
-    def found(self, value: Any) -> Any:
+    def made(self, value: Any) -> Any:
         """The member of such a value, as it is written."""
         if self.of is not None:
-            found = self.of(value)
+            member = self.of(value)
         else:
-            found = value[self.name] if isinstance(value, dict) else getattr(value, self.name)
-        return self.shape.made(found)
+            member = value[self.name] if isinstance(value, dict) else getattr(value, self.name)
+        return self.shape.made(member)
 
     def schema(self) -> Schema:
         """The member in a schema; beside a reference nothing else is read."""
@@ -200,7 +200,7 @@ class Record(Shape):
         self.needed = {one.name for one in members if one.is_always}
 
     def made(self, value: Any) -> Any:
-        return {one.name: one.found(value) for one in self.members
+        return {one.name: one.made(value) for one in self.members
                 if one.is_always or one.name in value}
 
     def misfit(self, value: object) -> str | None:
@@ -209,11 +209,11 @@ class Record(Shape):
         strange = (value.keys() - self.shapes.keys()) | (self.needed - value.keys())
         if strange:
             return f".{min(strange)}"
-        for name, one in value.items():
-            found = self.shapes[name].misfit(one)
-            if found is not None:
-                return f".{name}{found}"
-        return next((found for rule in self.rules if (found := rule.misfit(value)) is not None),
+        for name, member in value.items():
+            place = self.shapes[name].misfit(member)
+            if place is not None:
+                return f".{name}{place}"
+        return next((place for rule in self.rules if (place := rule.misfit(value)) is not None),
                     None)
 
     def schema(self) -> Schema:
@@ -253,17 +253,17 @@ def named(name: str, shape: Shape, meaning: str = "") -> Shape:
 
 def definitions(shapes: Sequence[Shape]) -> Schema:
     """All shapes with a name of which some are made, in the order in which they come."""
-    found: Schema = {}
+    known: Schema = {}
     waiting = [*shapes]
     while waiting:
         shape = waiting.pop(0)
-        if shape.name and shape.name in found:
+        if shape.name and shape.name in known:
             continue
         if shape.name:
             meaning = {"description": shape.meaning} if shape.meaning else {}
-            found[shape.name] = {**meaning, **shape.schema()}
+            known[shape.name] = {**meaning, **shape.schema()}
         waiting += shape.inner()
-    return found
+    return known
 
 
 # Kinds of values that JSON results have in several places; each stands once in the schema.

@@ -259,8 +259,9 @@ def letters_in(cells: bytes) -> Iterator[Cell]:
         last = code
 
 
+@functools.lru_cache(maxsize=1000)
 def sight_of(cells: bytes) -> Sight:
-    """What is seen of a row."""
+    """What is seen of a row; most are blank."""
     found = [*letters_in(cells)]
     if all(one.is_seen for one in found):
         return Sight.ALL

@@ -183,7 +183,7 @@ def clock_options(recording: Recording, origin: Origin) -> Iterator[str]:
     if origin.runs and recording.stages:  # they are numbered on no PID
         yield from (again("--pid", f"0x{stage.pid:X}") for stage in recording.stages)
     elif origin.runs:
-        yield from (again("--pes", f"{first}-{last}") for first, last in origin.runs)
+        yield again("--pes", "I-J")
     elif origin.breaks is None:
         yield from () if origin.breaks is not None else (
             again("--origin", "T"), again("--page", "P"))

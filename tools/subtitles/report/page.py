@@ -18,9 +18,10 @@ from ..judging.status import ACCEPTED, LOST, NOT_JUDGED, REFUSED, WAIVED, WARNED
 from ..judging.verdict import Verdict, spread_of
 from ..request.commands import CommandWords
 from ..request.request import Request
-from .faults import heads, meaning_of_verdict, numbers_table, table_row
-from .report import (
-    Blocks, Looks, Report, Scope, Subject, block_place, names_block, refused_blocks)
+from .drawing import Looks
+from .fault_list import meaning_of_verdict, numbers_table
+from .faults import heads, table_row
+from .report import Blocks, Report, Scope, Subject, block_place, names_block, refused_blocks
 from .transmission import Seen, place_of_pts
 
 
@@ -164,7 +165,7 @@ def single_parts(report: Report) -> list[Markup]:
     if scope:
         parts.append(scope.box())
     parts += part_sections(report)
-    if report.looks:
+    if report.drawn:
         parts += [keys_of(report.asked.within), trusted_words(report)]
     return parts
 
@@ -172,8 +173,8 @@ def single_parts(report: Report) -> list[Markup]:
 def part_sections(report: Report) -> list[Markup]:
     """What there is to see of a part."""
     parts: list[Markup] = []
-    if report.looks:
-        parts += transmission_parts(report, report.looks)
+    if report.drawn:
+        parts += transmission_parts(report, Looks(report, report.drawn))
     elif report.is_refused_file:
         parts += refused_file_parts(report)
     if report.seen:
@@ -227,7 +228,7 @@ def verdict_box(report: Report) -> Markup:
     """The verdict word for word, with what the manual says of its number."""
     faults, parts = report.faults, list[Markup]()
     if report.first:
-        if faults.count > 1 and (report.looks or report.is_refused_file):
+        if faults.count > 1 and (report.drawn or report.is_refused_file):
             parts.append(markup('<p class="count">and {:,} more fault{}: <a href="#faults">all {}'
                                 "</a></p>", faults.count - 1, "s" * (faults.count != 2),
                                 faults_words(report)))
@@ -274,18 +275,18 @@ def lost_places(places: list[str]) -> Markup:
 def navigation(report: Report) -> Markup:
     """Links to the parts of the page."""
     links = []
-    if report.looks:
+    if report.drawn:
         links.append(("timeline", "Timeline"))
-    if report.faults.count and (report.looks or report.is_refused_file):
+    if report.faults.count and (report.drawn or report.is_refused_file):
         links += [("faults", "Faults"), ("place", "The broken place")]
     if report.reasons:
         links.append(("causes", "Why"))
-    if report.looks:
+    if report.drawn:
         links.append(("subtitles", "Subtitles"))
     if report.seen:
         links.append(("pages", "Headers"))
     if report.subject.parts == 1:
-        links += [("key", "How to read this page")] if report.looks else []
+        links += [("key", "How to read this page")] if report.drawn else []
         links.append(("files", "Made from"))
     return markup("<nav>{}</nav>", joined((markup('<a href="#{}">{}</a>', to, words)
                                            for to, words in links), " "))

@@ -316,8 +316,8 @@ class Figures:
             parts.append(figure("held", held, words, empty_picture("nothing heard", cut),
                                 ["heard no"]))
         else:
-            told = "still open for rows" if state.is_open else "not open"
-            parts.append(page_figure("held", held, told, due, (state.rows, state.header), cut,
+            note = "still open for rows" if state.is_open else "not open"
+            parts.append(page_figure("held", held, note, due, (state.rows, state.header), cut,
                                      place))
         if self.is_complete:
             parts.append(self.screen_figure(time, due, state, cut, place))
@@ -326,16 +326,16 @@ class Figures:
 
     def screen_figure(self, time: str, due: Rows, state: State | None, cut: Cut,
                       place: Place | None) -> Markup:
-        caption, told = f"On its screen at the end of {time}", "complete pages alone"
+        caption, note = f"On its screen at the end of {time}", "complete pages alone"
         if state is None:
             return figure("screen", caption, NOT_READ, empty_picture("not known", cut), [])
         if state.screen is None:
             lines = ["shown no" if state.is_heard else "heard no"]
-            return figure("screen", caption, told, empty_picture("nothing yet", cut), lines)
-        return page_figure("screen", caption, told, due, state.screen, cut, place)
+            return figure("screen", caption, note, empty_picture("nothing yet", cut), lines)
+        return page_figure("screen", caption, note, due, state.screen, cut, place)
 
 
-def page_figure(kind: str, caption: str, told: str, due: Rows, page: tuple[Rows, bytes], cut: Cut,
+def page_figure(kind: str, caption: str, note: str, due: Rows, page: tuple[Rows, bytes], cut: Cut,
                 place: Place | None) -> Markup:
     """The figure of a page that a receiver has, with the cells framed that are not as due."""
     rows, header = page
@@ -344,7 +344,7 @@ def page_figure(kind: str, caption: str, told: str, due: Rows, page: tuple[Rows,
     cells = markup("<b>{}</b>", "1 cell differs" if count == 1 else f"{count} cells differ")
     words = joined([cells if count else "no cell differs", *marks_words(header, rows)], ", ")
     return figure(kind, caption, words, picture(rows, header, cut, different, place),
-                  printed_rows(rows), f"{told}; {header_line(header)}")
+                  printed_rows(rows), f"{note}; {header_line(header)}")
 
 
 def marks_words(header: bytes, rows: Rows) -> list[str]:

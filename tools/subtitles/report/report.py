@@ -2,6 +2,8 @@
 a refused subtitle file."""
 from __future__ import annotations
 
+import bisect
+import functools
 import itertools
 from typing import Collection, Iterable, NamedTuple, Sequence
 
@@ -13,16 +15,14 @@ from ..common.times import frame_of, time_of
 from ..formats.listing import FaultLine, STL_FAULTS, fault_of_line, meanings, number_link
 from ..formats.stl import (
     COMMENT, GSI, LAST, NamedSubtitle, SubtitleFile, SubtitleList, TTI, USER_DATA, titles_in)
-from ..formats.teletext import BY_WORD, page_name
+from ..formats.teletext import page_name
 from ..judging.causes import Cause, Causes, Wording, names_line
 from ..judging.part import Part
 from ..judging.verdict import Verdict
 from ..stream.gaps import first_lines
 from ..stream.receiver import Timeline
-from .faults import (
-    Entries, FaultList, Faults, fault_place_words, heads, looked_at, table_row)
-from .pictures import Figures
-from .transmission import Seen, Strip
+from .faults import Faults, fault_place_words, heads, looked_at, table_row
+from .transmission import Seen
 
 
 # What a report speaks of: programme, recording, from when to when; what nobody looked at.
@@ -187,7 +187,7 @@ class Report:
             held = Timeline(self.part.packets, self.asked.page, self.origin, self.asked.within,
                             self.part.pes, is_single=True)
         self.seen: Seen | None = Seen(held, answer.passed, self.faults.ending()) if held else None
-        self.looks = Looks(self, self.seen) if self.seen and not self.is_refused_file else None
+        self.drawn = None if self.is_refused_file else self.seen
 
     def pair_notes(self) -> list[str]:
         """What stands beside the verdict on the pair."""
@@ -213,47 +213,6 @@ class Report:
         return markup('<a href="#e{}">{}</a>', entry, words) if entry else words
 
 
-class Looks:
-    """What there is to see of a transmission: its pictures, its faults, its strip."""
-
-    def __init__(self, report: Report, seen: Seen) -> None:
-        asked, faults = report.asked, report.faults
-        mark_unheard(faults, seen)
-        option = BY_WORD[asked.option].bits
-        header = bytes([0, 0, 0, 8, 0, 8, 1, option << 1])  # C4, C6 and C7
-        due = report.part.due().timeline
-        self.figures: Figures = Figures(due, seen, header, report.page, asked.is_complete)
-        leading = faults.leading
-        pes = leading.first.pes if leading else None
-        broken = seen.last_before(pes) if pes is not None else \
-            leading.first.frame if leading else None
-        self.entries: Entries = Entries(self.figures, seen, report.subtitles, report.looked, faults)
-        if report.reasons:
-            report.reasons.drawn = self.entries.drawn
-        self.fault_list = FaultList(report, self, seen)
-        self.strip = Strip(report.subtitles, seen.sendings, self.entries, faults, broken,
-                           leading.first.line if leading else "", end_of_knowledge(seen, report))
-
-
-def mark_unheard(faults: Faults, seen: Seen) -> None:
-    """Marks the frames of faults that name a PES packet: of those that go back, around those that
-    were passed over, and the last that was heard, where a fault ended that."""
-    faults.mark((frame, frame) for frame in seen.falls)
-    faults.mark(seen.doubted())
-    last = seen.last_frame
-    if last is not None and any(entry.first.pes == seen.stop for entry in faults.entries):
-        faults.mark([(last, last)])
-
-
-def end_of_knowledge(seen: Seen, report: Report) -> int | None:
-    """The frame from which on nothing is known, `None` where all is known that is due."""
-    last, subtitles = seen.last_frame, report.subtitles
-    if last is None:
-        return None
-    is_due_after = subtitles and subtitles[-1].end - 1 > last
-    return last + 1 if is_due_after or not seen.is_whole() else None
-
-
 # A refused subtitle file: its broken place, and all its refused subtitles as text.
 
 ORDER_FAULTS = 56, 57
@@ -272,10 +231,10 @@ DRAWN_BESIDE = "It is drawn as undecided: what was sent from the subtitle before
 class Blocks:
     """The blocks of a file, and the subtitles that they are of."""
 
-    def __init__(self, file: SubtitleFile, told: Iterable[FaultLine]) -> None:
+    def __init__(self, file: SubtitleFile, faults: Iterable[FaultLine]) -> None:
         self.file = file
         self.count = len(self.file.firsts) - 1
-        self.passed_over = {one.block for one in told if one.number in OF_FIRST_BLOCK}
+        self.passed_over = {one.block for one in faults if one.number in OF_FIRST_BLOCK}
 
     def is_text(self, block: int) -> bool:
         """Whether a block is of a subtitle: it holds no user data and is no comment."""
@@ -302,11 +261,15 @@ class Blocks:
 
     def before(self, block: int) -> NamedSubtitle | None:
         """The subtitle whose times those of a block's subtitle are held against."""
-        for number in range(self.file.firsts[block] - 1, 0, -1):
-            if self.is_text(number) and not self.file.is_outside(number) and \
-                    self.file.firsts[number] not in self.passed_over:
-                return self.subtitle(number)
-        return None
+        at = bisect.bisect_left(self.in_order, self.file.firsts[block])
+        return self.subtitle(self.in_order[at - 1]) if at else None
+
+    @functools.cached_property
+    def in_order(self) -> list[int]:
+        """The blocks of subtitles whose times are held against those of others."""
+        return [number for number in range(1, self.count + 1)
+                if self.is_text(number) and not self.file.is_outside(number)
+                and self.file.firsts[number] not in self.passed_over]
 
     def field(self, fault: FaultLine) -> Markup:
         """The field that a fault is about, with its bytes marked; nothing for another fault."""

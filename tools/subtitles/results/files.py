@@ -49,7 +49,7 @@ def object_of(verdict: Verdict, program: MadeWith) -> Iterator[str]:
         if member in LISTS:
             yield from listed(member, known, room)
         else:
-            value = room.left_out if member.shape is LEFT_OUT else member.found(known)
+            value = room.left_out if member.shape is LEFT_OUT else member.made(known)
             head[member.name] = fitting(member.shape, value, member.name)
             yield json.dumps(value, ensure_ascii=False)
         before = ","

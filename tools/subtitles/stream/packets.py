@@ -115,7 +115,8 @@ class Packets:
     def inside(self, first: int, last: int) -> Iterator[Run]:
         """Those with some numbers."""
         at = bisect.bisect_right(self.runs, first, key=lambda run: run.first) - 1
-        for run in self.runs[max(at, 0):]:
+        for place in range(max(at, 0), len(self.runs)):  # a slice would copy all that follow
+            run = self.runs[place]
             begin, end = max(run.first, first), min(run.end, last + 1)
             if run.first > last:
                 return

@@ -349,10 +349,10 @@ class Channel:
 
     def lines(self) -> dict[str, int]:
         """How many lines have what result."""
-        listed, by_name = self.queue.planned.programmes, self.records.by_name
-        return lines_of(len(listed), [
-            record.row for programme in listed
-            if (record := by_name.get(programme.name)) and record.row], len(self.results.failed))
+        records = [self.records.by_name.get(programme.name)
+                   for programme in self.queue.planned.programmes]
+        rows = [record.row if record else None for record in records]
+        return lines_of(rows, len(self.results.failed))
 
     def tell_machine(self) -> None:
         """What a machine asks, and what is wrong now."""

@@ -122,12 +122,12 @@ class Changes:
         """The number of the change that is nearest to a time, if it is near; or of the first with
         some letters that is at most so many ticks farther off."""
         if letters is not None:
-            first, end = (bisect.bisect_left(self.times, one)
-                          for one in (time - room - NEAR, time + room + NEAR + 1))
+            first, end = (bisect.bisect_left(self.times, bound)
+                          for bound in (time - room - NEAR, time + room + NEAR + 1))
             return next((at for at in range(first, end) if self.letters[at] == letters), None)
         at = bisect.bisect_left(self.times, time)
-        nearest = min((one for one in (at - 1, at) if 0 <= one < len(self.times)),
-                      key=lambda one: abs(self.times[one] - time), default=None)
+        nearest = min((place for place in (at - 1, at) if 0 <= place < len(self.times)),
+                      key=lambda place: abs(self.times[place] - time), default=None)
         return None if nearest is None or abs(self.times[nearest] - time) > NEAR else nearest
 
 
@@ -206,7 +206,7 @@ def span_of(shown: Sequence[Shown], stl: str) -> tuple[int, int]:
     """The frames of the first TCI and the last TCO."""
     if not shown:
         raise Stop(f"{stl} has no subtitle that comes and goes within a day")
-    return min(one.begin for one in shown), max(one.end for one in shown)
+    return min(subtitle.begin for subtitle in shown), max(subtitle.end for subtitle in shown)
 
 
 def subtitles_between(stl: str, option: str, between: Between) -> Iterator[Shown]:
@@ -283,7 +283,7 @@ class Losses:
     def __init__(self, said: list[str]) -> None:
         self.said = said
         self.waiting: list[Place] = []  # behind which no PTS has come yet
-        self.told: collections.deque[Place] = collections.deque(maxlen=KEPT)
+        self.known: collections.deque[Place] = collections.deque(maxlen=KEPT)
 
     def hear(self, pts: int) -> None:
         """Takes the PTS that comes behind what is missing."""
@@ -294,10 +294,10 @@ class Losses:
 
     def take_hole(self, hole: Place) -> None:
         """Takes what the PCR tells, unless the counter of the PID told it."""
-        if not any(overlap(hole, place) for place in [*self.told, *self.waiting]):
+        if not any(overlap(hole, place) for place in [*self.known, *self.waiting]):
             self.tell(hole)
 
     def tell(self, place: Place) -> None:
         """Tells where something is missing."""
-        self.told.append(place)
+        self.known.append(place)
         self.said.append(f"{what_of(place)}, before PTS {place.after}")

@@ -234,7 +234,7 @@ class Heard(Survey):
 
     def move_since(self, time: int) -> Move | None:
         """The first move from a time on."""
-        return next((one for one in self.moves if one.time >= time), None)
+        return next((move for move in self.moves if move.time >= time), None)
 
     # What is not needed any more.
 
@@ -255,10 +255,10 @@ class Heard(Survey):
         """Forgets PES packets before one, but the page that is held since."""
         packets.runs[:] = [run for run in packets.runs if run.first >= first]
         for several in (packets.held, packets.strays):
-            several[:] = [one for one in several if one[0] >= first]
-        packets.changes[:] = [one for one in packets.changes[:-1] if one.number >= first] \
-            + packets.changes[-1:]
-        packets.marks[:] = [one for one in packets.marks if one.number >= first]
+            several[:] = [packet for packet in several if packet[0] >= first]
+        packets.changes[:] = [change for change in packets.changes[:-1]
+                              if change.number >= first] + packets.changes[-1:]
+        packets.marks[:] = [mark for mark in packets.marks if mark.number >= first]
 
     def floor_of(self, packets: Packets) -> int:
         """How many runs of a PID are not needed any more."""
@@ -308,8 +308,8 @@ class Listening:
                 while left:
                     left = left[self.into.write(left):]
             while not self.is_ready():
-                yield from self.told(SOON)
-        yield from self.told(0)
+                yield from self.listen(SOON)
+        yield from self.listen(0)
 
     def is_ready(self) -> bool:
         """Whether it has taken all that was handed on."""
@@ -319,7 +319,7 @@ class Listening:
         fcntl.ioctl(self.into, termios.FIONREAD, waiting)
         return not waiting[0]
 
-    def told(self, seconds: float) -> Iterator[None]:
+    def listen(self, seconds: float) -> Iterator[None]:
         """Takes the lines that have come, or come soon; gives after each."""
         lines = self.lines
         while not lines.has_ended and select.select([lines.out], [], [], seconds)[0]:
@@ -332,7 +332,7 @@ class Listening:
         with contextlib.suppress(OSError, ValueError):
             self.into.close()
         while not self.lines.has_ended:
-            yield from self.told(1)
+            yield from self.listen(1)
 
     def close(self) -> None:
         """Ends it."""

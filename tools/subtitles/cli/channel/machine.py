@@ -27,14 +27,15 @@ RUNNING, ENDED, STOPPED, UNREADABLE = "running", "ended", "stopped", "unreadable
 DATES = ("came", "header", "silent_since")
 
 
-def lines_of(count: int, rows: Sequence[Row], not_written: int) -> dict[str, int]:
-    """Of so many lines of the list how many have no result, have one that is a verdict, of these
-    one that is not accepted, have one that is none; and how many results are not written. `rows`
-    are those of the lines that have a result."""
-    judged = [row for row in rows if row.is_judged]
+def lines_of(rows: Sequence[Row | None], not_written: int) -> dict[str, int]:
+    """How many lines of the list, by the rows of their results, have none, have one that is a
+    verdict, of these one that is not accepted, have one that is none; and how many results are not
+    written."""
+    judged = [row for row in rows if row and row.is_judged]
     refused = [row for row in judged if row.verdict not in (ACCEPTED, WAIVED)]
-    return {"open": count - len(rows), "judged": len(judged), "refused": len(refused),
-            "not_judged": len(rows) - len(judged), "not_written": not_written}
+    has_none = rows.count(None)
+    return {"open": has_none, "judged": len(judged), "refused": len(refused),
+            "not_judged": len(rows) - has_none - len(judged), "not_written": not_written}
 
 
 class Machine:

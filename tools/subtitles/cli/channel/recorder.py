@@ -76,7 +76,7 @@ class Segments:
         """What was known when the first segment began, if only of an earlier one."""
         if self.at in self.begins:
             return self.begins[self.at]
-        number = max((one for one in self.begins if self.at < 0 or one < self.at), default=None)
+        number = max((at for at in self.begins if self.at < 0 or at < self.at), default=None)
         return None if number is None else self.begins[number]._replace(is_exact=False)
 
     def read(self) -> bytes | None:
@@ -110,7 +110,7 @@ class Segments:
 
     def following(self) -> int | None:
         """The segment behind the one that is read, where there is one."""
-        return next((one for one in numbers_in(self.folder) if one > self.at), None)
+        return next((number for number in numbers_in(self.folder) if number > self.at), None)
 
     def begin(self, begin: Begin) -> None:
         """The segment that is read now begins so."""
@@ -135,13 +135,13 @@ class Segments:
 
     def there(self) -> list[int]:
         """The segments that were read, since the last loss, as far as they are there."""
-        return [one for one in numbers_in(self.folder) if self.oldest <= one <= self.at]
+        return [number for number in numbers_in(self.folder) if self.oldest <= number <= self.at]
 
     def first_at(self, time: int, numbers: list[int]) -> int | None:
         """The place, among the segments that are there, of the first with what came from a time on;
         `None` where some of that is gone."""
-        at = max((place for place, one in enumerate(numbers)
-                  if one in self.begins and self.begins[one].time <= time), default=0)
+        at = max((place for place, number in enumerate(numbers)
+                  if number in self.begins and self.begins[number].time <= time), default=0)
         behind = 0
         while at > 0 and behind < LEAST:
             at -= 1
@@ -155,8 +155,8 @@ class Segments:
         numbers = self.there()
         if self.first_at(time, numbers) is None:
             return None
-        return [self.read_of(one) for one in numbers[self.first_at(earlier, numbers) or 0:]
-                if one not in self.begins or self.begins[one].time <= last]
+        return [self.read_of(number) for number in numbers[self.first_at(earlier, numbers) or 0:]
+                if number not in self.begins or self.begins[number].time <= last]
 
     def drop(self, before: int, needed: int | None = None) -> None:
         """Takes away what came before a time, and what is before a loss, up to a segment that is
@@ -164,8 +164,8 @@ class Segments:
         numbers = self.there()
         floor = numbers[self.first_at(before, numbers) or 0] if numbers else self.at
         self.take_away(floor if needed is None else min(floor, needed))
-        least = max((one for one in self.begins if one <= floor), default=floor)
-        self.begins = {one: known for one, known in self.begins.items() if one >= least}
+        least = max((number for number in self.begins if number <= floor), default=floor)
+        self.begins = {number: known for number, known in self.begins.items() if number >= least}
         if self.count > len(self.begins) + MANY:
             self.index.replace([number, *known] for number, known in self.begins.items())
             self.count = len(self.begins)

@@ -57,8 +57,8 @@ class Judged(NamedTuple):
     @property
     def reason(self) -> str:
         """Why it is not judged, in a line."""
-        told = self.why if self.known is None else self.known["reason"] or ""
-        return str(told).partition("\n")[0]
+        reason = self.why if self.known is None else self.known["reason"] or ""
+        return str(reason).partition("\n")[0]
 
 
 @dataclasses.dataclass

@@ -96,7 +96,7 @@ def edits_of(known: Sequence[Programme], lines: Sequence[Line]) -> Edits:
             several = alike[words]
             more = max(len(several) - len(some), 0)  # of these those stay that have no result
             passed = {*[programme for programme in several if programme.has_ended][:more]}
-            for at, programme in zip(some, (one for one in several if one not in passed)):
+            for at, programme in zip(some, (own for own in several if own not in passed)):
                 rows[at] = programme
                 gone.remove(programme)
                 if programme.line.words != lines[at].words:
@@ -179,8 +179,8 @@ class Planned:
     def keep(self) -> None:
         """Keeps the list as it is known, with those that are gone and have no result yet."""
         self.journal.replace([(*self.day, self.since)] + [
-            (one.name, is_gone, *one.line) for is_gone, several in (
-                (True, self.gone), (False, self.programmes)) for one in several])
+            (programme.name, is_gone, *programme.line) for is_gone, several in (
+                (True, self.gone), (False, self.programmes)) for programme in several])
 
     def look_at_file(self) -> None:
         """Looks whether the subtitle file of a programme that has its result, one at each look, is
@@ -237,9 +237,9 @@ class Planned:
             programme for programme in self.programmes if programme not in gone]
         self.programmes = programmes
         self.gone += [programme for programme in edits.gone if not programme.has_ended]
-        told = {"new": new, "changed": edits.changed, "gone": edits.gone}
+        kinds = {"new": new, "changed": edits.changed, "gone": edits.gone}
         said = [f"{word}: {', '.join(programme.name for programme in several)}"
-                for word, several in told.items() if several]
+                for word, several in kinds.items() if several]
         said += [] if is_in_order else ["in another order"]
         if said and self.is_known:
             self.said.append(f"{self.path}: {'; '.join(said)}")

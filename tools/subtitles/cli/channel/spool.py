@@ -9,7 +9,7 @@ import os
 import re
 import shutil
 import stat
-from typing import Any, Callable, Iterable, Iterator
+from typing import Any, Callable, Iterable
 
 from ...common.command_line import Stop
 from ...common.files import BEGIN, Inputs, kind_of, new_name
@@ -76,8 +76,8 @@ def is_old_result(path: str) -> bool:
     """Whether a folder is the result of a programme that version 1.9 had not given its place."""
     name = os.path.basename(path)
     return stat.S_ISDIR(os.lstat(path).st_mode) and f"{name}.json" in os.listdir(path) and all(
-        one.startswith(f"{name}.") and stat.S_ISREG(os.lstat(os.path.join(path, one)).st_mode)
-        for one in os.listdir(path))
+        file.startswith(f"{name}.") and stat.S_ISREG(os.lstat(os.path.join(path, file)).st_mode)
+        for file in os.listdir(path))
 
 
 def numbers_in(folder: str, ending: str = SEGMENT) -> list[int]:
@@ -213,8 +213,8 @@ class Journal:
     def replace(self, entries: Iterable[Iterable[Any]]) -> None:
         """These in the place of all that there are."""
         with contextlib.suppress(OSError):
-            put_whole(self.folder, self.name, (json.dumps(list(one)).encode() + b"\n"
-                                               for one in entries))
+            put_whole(self.folder, self.name, (json.dumps(list(entry)).encode() + b"\n"
+                                               for entry in entries))
 
 
 # What the recorder and the judge of a channel tell each other: numbers in the file `state`, which
