@@ -88,8 +88,8 @@ class Agreed(NamedTuple):
 
 def edges_of(subtitles: Sequence[Shown]) -> list[Edge]:
     """The edges of subtitles, where another look is due than before."""
-    looks: dict[int, Shown | None] = {one.end: None for one in subtitles}
-    looks.update((one.begin, one) for one in subtitles)
+    looks: dict[int, Shown | None] = {shown.end: None for shown in subtitles}
+    looks.update((shown.begin, shown) for shown in subtitles)
     edges: list[Edge] = []
     before: Shown | None = None
     for frame, now in sorted(looks.items(), key=lambda item: item[0]):
@@ -114,21 +114,21 @@ class Base:
             near = sorted(rest for rest in rests if abs(rest) < EARLY)
             self.first = wrapped(first + (near[len(near) // 2] if near else 0))
             changes = list(self.at_ends(changes))
-        most = min([AGAIN] + [third.frame - second.frame - 1 for one, second, third in zip(
-            edges, edges[1:], edges[2:]) if one.letters == third.letters and not second.letters])
+        most = min([AGAIN] + [third.frame - second.frame - 1 for edge, second, third in zip(
+            edges, edges[1:], edges[2:]) if edge.letters == third.letters and not second.letters])
         self.changes: dict[int, Agreed] = {}
-        for one in without_repeats(changes, most):
-            frames, ticks = self.distance(one.pts)
-            self.changes[frames] = Agreed(0, one.letters, ticks)
+        for change in without_repeats(changes, most):
+            frames, ticks = self.distance(change.pts)
+            self.changes[frames] = Agreed(0, change.letters, ticks)
         self.length = self.distance(last)[0]
 
     def at_ends(self, changes: Sequence[Change]) -> Iterator[Change]:
         """The changes from the end of one frame to that of another."""
         before: Texts | None = None
-        for one in {self.distance(one.pts)[0]: one for one in changes}.values():
-            if one.rows != before or not one.letters:
-                yield one
-            before = one.rows
+        for change in {self.distance(one.pts)[0]: one for one in changes}.values():
+            if change.rows != before or not change.letters:
+                yield change
+            before = change.rows
 
     def distance(self, pts: int) -> tuple[int, int]:
         """From the first PTS to another: frames, and the rest in ticks."""
@@ -138,11 +138,11 @@ class Base:
 
     def limited(self, edges: Sequence[Edge], low: int, high: int) -> Base:
         """Some of the edges, and the changes between two distances."""
-        one = copy.copy(self)
-        one.__dict__.pop("fits", None)
-        one.edges, one.frames = edges, [edge.frame for edge in edges]
-        one.changes = {at: change for at, change in self.changes.items() if low < at < high}
-        return one
+        base = copy.copy(self)
+        base.__dict__.pop("fits", None)
+        base.edges, base.frames = edges, [edge.frame for edge in edges]
+        base.changes = {at: change for at, change in self.changes.items() if low < at < high}
+        return base
 
     def agreed(self, edge: Edge, start: int) -> Agreed | None:
         """The change with which a cue agrees, where the first PTS has a frame."""
@@ -195,26 +195,26 @@ class Base:
 
     def fit(self, start: int) -> Fit:
         """How the cues agree with an origin: what all share is no delay, but of the origin."""
-        found = self.fit_at(start)
-        least = min(found.late, default=0)
-        return self.fit(start - least) if least else found
+        fit = self.fit_at(start)
+        least = min(fit.late, default=0)
+        return self.fit(start - least) if least else fit
 
     def fit_at(self, start: int) -> Fit:
         """How they agree with just that origin."""
         inside = self.edges[bisect.bisect_left(self.frames, start):
                             bisect.bisect_right(self.frames, start + self.length)]
-        found = [(edge, change) for edge in inside if (change := self.agreed(edge, start))]
-        late = [change.late for _, change in found] if self.within else []
-        same = [edge for edge, change in found if change.letters == edge.letters]
-        ticks = sorted([change.ticks for _, change in found])
+        pairs = [(edge, change) for edge in inside if (change := self.agreed(edge, start))]
+        late = [change.late for _, change in pairs] if self.within else []
+        same = [edge for edge, change in pairs if change.letters == edge.letters]
+        ticks = sorted([change.ticks for _, change in pairs])
         rest = ticks[len(ticks) // 2] if ticks and not self.within else 0
-        agree = {edge.frame for edge, _ in found}
+        agree = {edge.frame for edge, _ in pairs}
         others = (edge.frame for edge in inside if edge.frame not in agree)
-        return Fit(wrapped(self.first + rest - TICKS * start), len(found), len(same),
+        return Fit(wrapped(self.first + rest - TICKS * start), len(pairs), len(same),
                    sum(edge.letters != b"" for edge in same),
                    len(ticks) if self.within else ticks.count(rest), len(inside),
                    next((edge.frame for edge in same if edge.letters), None),
-                   next(others, None) if len(found) < len(inside) else None, start, late)
+                   next(others, None) if len(pairs) < len(inside) else None, start, late)
 
     def apart(self, fit: Fit) -> Apart | None:
         """Whether beginnings and ends agree, but a constant number of frames apart."""
@@ -224,7 +224,7 @@ class Base:
                 continue
             best = max((self.late_by(fit, is_begin, late)
                         for late in range(-MOST_APART, MOST_APART + 1)),
-                       key=lambda one: (one.agree, -abs(one.late)))
+                       key=lambda apart: (apart.agree, -abs(apart.late)))
             least = 1 if is_begin or fit.texts else 2  # one that is erased may be any
             if abs(best.late) > self.within and best.agree >= least and \
                     best.agree * 10 >= best.of * 9:
@@ -262,37 +262,39 @@ def back_at(changes: Sequence[Change], at: int, most: int) -> int | None:
     if not text.letters or not after or after[0].letters:
         return None
     near = itertools.takewhile(
-        lambda one: wrapped(one.pts - after[0].pts) <= TICKS * most, after)
-    return next((at + away for away, one in enumerate(near, 1) if one.rows == text.rows), None)
+        lambda change: wrapped(change.pts - after[0].pts) <= TICKS * most, after)
+    return next((at + away for away, change in enumerate(near, 1) if change.rows == text.rows),
+                None)
 
 
 def bases_of(subtitles: Sequence[Shown], packets: Packets, within: int,
              inside: Range | None = None) -> list[Base]:
     """The time bases in which there is something of the page, of PES packets with some numbers."""
-    edges, found = edges_of(subtitles), []
+    edges, bases = edges_of(subtitles), []
     firsts = [run.first for run in packets.runs]
     for base, changes in most_changed(packets, inside or (0, packets.count - 1)):
         first, end = (bisect.bisect_left(firsts, at) for at in (base.start, base.stop))
         runs = [run for run in packets.runs[first:end] if run.pts is not None
                 and HEADER in run.does]
         if runs and runs[0].pts is not None and runs[-1].last is not None:
-            found.append(Base(edges, changes, runs[0].pts, runs[-1].last,
+            bases.append(Base(edges, changes, runs[0].pts, runs[-1].last,
                               (base.start, base.stop - 1), within))
-    return found
+    return bases
 
 
 def most_changed(packets: Packets, inside: Range) -> list[tuple[range, Sequence[Change]]]:
     """The time bases of PES packets with some numbers in which the page changes, each with the
     changes; where PTS go back more often, those alone in which it changes most."""
-    numbers = [one.number for one in packets.changes]
-    found = []
+    numbers = [change.number for change in packets.changes]
+    candidates = []
     for whole in packets.bases():
         base = range(max(whole.start, inside[0]), min(whole.stop, inside[1] + 1))
         first, end = (bisect.bisect_left(numbers, at) for at in (base.start, base.stop))
         if first < end:
-            found.append((base, packets.changes[first:end]))
-    kept = {base for base, _ in heapq.nlargest(MOST_BASES, found, key=lambda one: len(one[1]))}
-    return [one for one in found if one[0] in kept]
+            candidates.append((base, packets.changes[first:end]))
+    most = heapq.nlargest(MOST_BASES, candidates, key=lambda candidate: len(candidate[1]))
+    kept = {base for base, _ in most}
+    return [candidate for candidate in candidates if candidate[0] in kept]
 
 
 # What the delays of cues tell: which clock is meant within N frames, and whether it drifts.
@@ -436,8 +438,8 @@ def near_a_line(delays: Sequence[tuple[int, int]]) -> list[tuple[int, int]]:
 
 def single_texts(several: Iterable[tuple[int, bytes]]) -> dict[bytes, int]:
     """Where each text is that is there once."""
-    found: dict[bytes, list[int]] = {}
+    places_of: dict[bytes, list[int]] = {}
     for at, letters in several:
         if letters:
-            found.setdefault(letters, []).append(at)
-    return {letters: places[0] for letters, places in found.items() if len(places) == 1}
+            places_of.setdefault(letters, []).append(at)
+    return {letters: places[0] for letters, places in places_of.items() if len(places) == 1}

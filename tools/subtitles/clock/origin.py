@@ -77,90 +77,90 @@ class Origin:
 def subtitles_between(path: str, option: str, between: Between,
                       left_out: Collection[int] = ()) -> list[Shown]:
     """The subtitles of a file that come in some frames, and go within the day."""
-    found = []
-    for place, one in enumerate(readable(path, stl_bytes(path)), 1):
-        begin, end = subtitle_times(one)
+    shown = []
+    for place, stored in enumerate(readable(path, stl_bytes(path)), 1):
+        begin, end = subtitle_times(stored)
         is_one = begin is not None and between.has(begin) and place not in left_out
         if is_one and begin is not None and end is not None and begin < end:
-            found.append(Shown(begin, end, (one.row, one.justify, one.text),
-                               letters_on_page(one.text, option)))
-    if not found:
+            shown.append(Shown(begin, end, (stored.row, stored.justify, stored.text),
+                               letters_on_page(stored.text, option)))
+    if not shown:
         raise Stop(f"{path} has no subtitle that comes and goes within a day")
-    return found
+    return shown
 
 
-def find(asked: Sought, packets: Packets) -> Origin:
+def find(sought: Sought, packets: Packets) -> Origin:
     """The origin of a recording, or why it is not clear."""
     origin = Origin()
-    subtitles = subtitles_between(asked.stl, asked.option, asked.between, asked.left_out)
-    if not is_sent(packets, asked, origin.told):
+    subtitles = subtitles_between(sought.stl, sought.option, sought.between, sought.left_out)
+    if not is_sent(packets, sought, origin.told):
         return origin
-    bases = bases_of(subtitles, packets, asked.within, asked.inside)
+    bases = bases_of(subtitles, packets, sought.within, sought.inside)
     if not bases:
-        origin.told += [*other_words(packets, asked.page), "no cue agrees with any origin"]
+        origin.told += [*other_words(packets, sought.page), "no cue agrees with any origin"]
         return origin
     if (count := len(packets.bases())) > MOST_BASES:
         origin.told.append(f"PTS go back at {count - 1} places: of what lies between, the "
                            f"{MOST_BASES} stretches are looked at in which the page changes most")
-    runs = runs_of(bases, asked.origin is not None)
+    runs = runs_of(bases, sought.origin is not None)
     if len(runs) > 1:
         origin.runs = [packets_of(runs, number, bases, packets) for number in range(len(runs))]
         origin.told.append(runs_line(len(runs)))
         return origin
     row = find_row(bases)
-    if asked.breaks:
-        take_parts(origin, asked, bases, parts_of(subtitles, bases, by_breaks(row), asked.late))
+    if sought.breaks:
+        take_parts(origin, sought, bases, parts_of(subtitles, bases, by_breaks(row), sought.late))
     else:
-        take_one(origin, asked, bases, row, parts_of(subtitles, bases, row, asked.late))
+        take_one(origin, sought, bases, row, parts_of(subtitles, bases, row, sought.late))
     if origin.status:
-        origin.told[:0] = other_words(packets, asked.page)
+        origin.told[:0] = other_words(packets, sought.page)
     return origin
 
 
-def is_sent(packets: Packets, asked: Sought, told: list[str]) -> bool:
+def is_sent(packets: Packets, sought: Sought, lines: list[str]) -> bool:
     """Whether there is something of the page; else what there is, is told."""
     count, marks = packets.count, len(packets.marks)
     timed = sum(run.length for run in packets.timed())
     if packets.damage:
         if not count:
-            raise Stop(f"{asked.name}: {packets.damage}")
-        told.append(f"{asked.name}: {packets.damage}; what stands before is used")
+            raise Stop(f"{sought.name}: {packets.damage}")
+        lines.append(f"{sought.name}: {packets.damage}; what stands before is used")
     if not timed:
-        told.append(f"none of {counted(count, 'PES packet')} in {asked.name} has a PTS: check "
-                    "refuses them as 34")
+        lines.append(f"none of {counted(count, 'PES packet')} in {sought.name} has a PTS: check "
+                     "refuses them as 34")
         return False
     if marks:
-        told.append(f"{counted(marks, 'mark')} of what is missing skipped: check refuses them as "
-                    "45")
+        lines.append(f"{counted(marks, 'mark')} of what is missing skipped: check refuses them as "
+                     "45")
     if timed + marks < count:
-        told.append(f"{count - timed - marks} of {counted(count, 'PES packet')} have no PTS, and "
-                    "are skipped here: check refuses them as 34")
+        lines.append(f"{count - timed - marks} of {counted(count, 'PES packet')} have no PTS, and "
+                     "are skipped here: check refuses them as 34")
     if not packets.changes:
-        own = page_name(*asked.page)
-        others = sorted((one for one in packets.sent if one != own),
-                        key=lambda one: -packets.sent[one])
-        told.append(f"there is no header of page {own} in {asked.name}; other subtitle pages: "
-                    f"{', '.join(others[:NAMED]) or 'none'}")
+        own = page_name(*sought.page)
+        others = sorted((page for page in packets.sent if page != own),
+                        key=lambda page: -packets.sent[page])
+        lines.append(f"there is no header of page {own} in {sought.name}; other subtitle pages: "
+                     f"{', '.join(others[:NAMED]) or 'none'}")
     return bool(packets.changes)
 
 
-def take_one(origin: Origin, asked: Sought, bases: Sequence[Base],
+def take_one(origin: Origin, sought: Sought, bases: Sequence[Base],
              row: Sequence[Stretch], parts: Sequence[FittedPart]) -> None:
     """Takes one origin, that of the first part, where it is clear."""
     if not parts:
         origin.told.append("no cue agrees with any origin")
         return
     part, edges = parts[0], bases[0].edges
-    if is_clear(part, asked.origin is not None):
+    if is_clear(part, sought.origin is not None):
         origin.status = 0
         is_back = len(bases) > 1 and len(parts) == 1
         add(origin, part, part.sent.packets if is_back else None, None, len(edges))
     origin.told += part_lines(part, len(edges))
-    measure(origin, asked.origin, part)
+    measure(origin, sought.origin, part)
     if len(parts) > 1:
         origin.shifted_from = edges[row[1].first].frame
         origin.shifts = shift_lines(row, parts,
-                                    part.origin if asked.origin is None else asked.origin)
+                                    part.origin if sought.origin is None else sought.origin)
     if drift := drift_of(edges, bases[part.base].changes):
         origin.shifts = [drift_line(drift)]
     origin.told += origin.shifts
@@ -169,17 +169,17 @@ def take_one(origin: Origin, asked: Sought, bases: Sequence[Base],
                        f"{time_of(edges[-1].frame)}, page sent from {first} to {last}")
 
 
-def take_parts(origin: Origin, asked: Sought, bases: Sequence[Base],
+def take_parts(origin: Origin, sought: Sought, bases: Sequence[Base],
                parts: Sequence[FittedPart]) -> None:
     """Takes all parts, where they are as many as there are to be, and clear."""
-    if len(parts) != asked.breaks + 1:
+    if len(parts) != sought.breaks + 1:
         origin.breaks = max(len(parts) - 1, 0)
-        found = counted(origin.breaks, "break") if origin.breaks else "no break"
-        origin.told += [f"{found} found, where --breaks {asked.breaks} is said",
+        breaks = counted(origin.breaks, "break") if origin.breaks else "no break"
+        origin.told += [f"{breaks} found, where --breaks {sought.breaks} is said",
                         *break_lines(parts)]
         return
     count = sum(len(part.sent.edges) for part in parts)
-    if all(is_clear(part, part is parts[0] and asked.origin is not None) for part in parts):
+    if all(is_clear(part, part is parts[0] and sought.origin is not None) for part in parts):
         origin.status = 0
         for part in parts:
             add(origin, part, part.sent.packets if len(bases) > 1 else None,
@@ -189,9 +189,9 @@ def take_parts(origin: Origin, asked: Sought, bases: Sequence[Base],
     for part in parts:
         origin.told += part_lines(part, count)
         if part is parts[0]:
-            measure(origin, asked.origin, part)
-        origin.told += [f"the subtitle from {time_of(one.begin)} to {time_of(one.end)} reaches "
-                        "into the next part, and is in none" for one in part.over]
+            measure(origin, sought.origin, part)
+        origin.told += [f"the subtitle from {time_of(shown.begin)} to {time_of(shown.end)} reaches "
+                        "into the next part, and is in none" for shown in part.over]
 
 
 def add(origin: Origin, part: FittedPart, packets: Range | None,

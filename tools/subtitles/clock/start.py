@@ -149,7 +149,7 @@ def video_of(survey: Survey, teletext: int) -> tuple[int, int]:
     programmes = survey.programmes_of(teletext)
     if not programmes:
         raise NoFirst(f"no PMT names {pid_name(teletext)}")
-    kinds = {pid: kind for one in programmes for pid, kind in one.kinds.items()}
+    kinds = {pid: kind for program_map in programmes for pid, kind in program_map.kinds.items()}
     known = NAMES | OTHERS
     there = ", ".join(f"{pid_name(pid)} {known.get(kind, f'stream_type {kind:02X}')}"
                       for pid, kind in sorted(kinds.items()))
@@ -168,29 +168,29 @@ def first_picture(survey: Survey, teletext: int) -> First:
     random_access_indicator. Where those of its group can be decoded that are shown before it, or
     nothing tells whether they can, it is the one with the smallest PTS up to the next such flag."""
     pid, kind = video_of(survey, teletext)
-    name, one = f"{NAMES[kind]} of {pid_name(pid)}", survey.videos.get(pid)
-    if one is None and not survey.is_whole:
+    name, video = f"{NAMES[kind]} of {pid_name(pid)}", survey.videos.get(pid)
+    if video is None and not survey.is_whole:
         raise NoFirst(f"no PES packet of {name} has come with the random_access_indicator")
-    if one is None:
+    if video is None:
         raise NoFirst(f"{pid_name(pid)}, which the PMT names as {NAMES[kind]}, has no PES packets "
                       "of video that can be read")
-    if not one.pictures:
-        raise NoFirst(f"none of {counted(one.passed, 'PES packet')} of {name} has the "
+    if not video.pictures:
+        raise NoFirst(f"none of {counted(video.passed, 'PES packet')} of {name} has the "
                       "random_access_indicator")
-    if one.scrambled:
+    if video.scrambled:
         raise NoFirst(f"{name} is scrambled")
-    if one.lost:
-        raise NoFirst(f"{counted(one.lost, 'TS packet')} of {name} lost among its first pictures")
-    pts = [pts for pts in one.pictures if pts is not None]
-    if len(pts) < len(one.pictures):
+    if video.lost:
+        raise NoFirst(f"{counted(video.lost, 'TS packet')} of {name} lost among its first pictures")
+    pts = [pts for pts in video.pictures if pts is not None]
+    if len(pts) < len(video.pictures):
         raise NoFirst(f"a picture of {name} has no PTS")
-    if frames := left_out(pts, one.is_cut):
+    if frames := left_out(pts, video.is_cut):
         raise NoFirst(f"the PTS of the first pictures of {name} leave out "
                       f"{counted(frames, 'frame')}: a PES packet has several pictures, or some are "
                       "missing")
     least = min(pts, key=lambda each: ticks_between(pts[0], each))
-    first, other = (least, pts[0]) if one.form in ("", CLOSED) else (pts[0], least)
-    return First(pid, kind, first, one.passed, other if one.form and other != first else None)
+    first, other = (least, pts[0]) if video.form in ("", CLOSED) else (pts[0], least)
+    return First(pid, kind, first, video.passed, other if video.form and other != first else None)
 
 
 def left_out(pts: list[int], is_cut: bool) -> int:
@@ -207,37 +207,37 @@ def after_frame(packets: Packets, pts: int, within: int) -> int:
     """How many ticks after a frame that begins at a PTS most PTS of the Teletext are, less than a
     frame; within 1 and more, where there are some, of those that are near it: fields have two."""
     ticks: collections.Counter[int] = collections.Counter()
-    for _, (one, _) in zip(range(PTS_LOOKED_AT), ((one, 0) for one in packets.pts())):
-        ticks[wrapped(one - pts) % TICKS] += 1
+    for _, (sent, _) in zip(range(PTS_LOOKED_AT), ((sent, 0) for sent in packets.pts())):
+        ticks[wrapped(sent - pts) % TICKS] += 1
     known = [rest for rest, _ in ticks.most_common()]
     near = [rest for rest in known if rest <= EARLY or rest >= TICKS - EARLY]
     return (near if within and near else known)[0]
 
 
-def start_frame(asked: Request) -> int:
+def start_frame(request: Request) -> int:
     """The frame of the first picture, as it was given or as the GSI block has it."""
-    if asked.start != TCP:
-        frame = frame_of(asked.start or "")
+    if request.start != TCP:
+        frame = frame_of(request.start or "")
         assert frame is not None  # the words of the command line were looked at
         return frame
-    code = first_bytes(asked.stl_path, GSI)[TCP_PLACE].decode("latin-1")
+    code = first_bytes(request.stl_path, GSI)[TCP_PLACE].decode("latin-1")
     is_code = code.isascii() and code.isdecimal() and len(code) == 8
-    found = frame_of_code(int(code[at:at + 2]) for at in range(0, 8, 2)) if is_code else None
-    if found is None:
-        raise Unclear(f"the GSI block of {asked.stl} has no time as TCP: {shown(code)!r}")
-    return found
+    first = frame_of_code(int(code[at:at + 2]) for at in range(0, 8, 2)) if is_code else None
+    if first is None:
+        raise Unclear(f"the GSI block of {request.stl} has no time as TCP: {shown(code)!r}")
+    return first
 
 
-def began(asked: Request, survey: Survey, packets: Packets) -> Began:
+def began(request: Request, survey: Survey, packets: Packets) -> Began:
     """The clock, moved to the PTS of the Teletext by less than half a frame."""
-    first, frame = first_picture(survey, packets.pid), start_frame(asked)
-    after = after_frame(packets, first.pts, asked.within)
+    first, frame = first_picture(survey, packets.pid), start_frame(request)
+    after = after_frame(packets, first.pts, request.within)
     if after * 2 == TICKS:
         raise Unclear(f"{first.line()}. The PTS of the Teletext are half a frame after it: the "
                       "frame of neither is clear")
     ticks = after if after * 2 < TICKS else after - TICKS
     moved = wrapped(first.pts - TICKS * frame + ticks)
-    source = TCP if asked.start == TCP else START
+    source = TCP if request.start == TCP else START
     name = f"the TCP {time_of(frame)}" if source == TCP else f"--start {time_of(frame)}"
     said = "which the PTS of the Teletext agree with" if not ticks else \
         f"moved by {counted(abs(ticks), 'tick')} {'forward' if ticks > 0 else 'back'} to the PTS " \
@@ -246,15 +246,15 @@ def began(asked: Request, survey: Survey, packets: Packets) -> Began:
                  [first.line(), f"{name} there is --origin {moved}, {said}"], frame)
 
 
-def refuse_outside(asked: Request, one: Began, begin: int, end: int, last: int | None) -> None:
+def refuse_outside(request: Request, began: Began, begin: int, end: int, last: int | None) -> None:
     """Subtitles that lie outside of a recording which begins with the programme's first picture;
     `last` is its last PTS."""
-    if begin < one.frame:
-        raise Unclear(f"the first subtitle of {asked.stl} comes at {time_of(begin)}, before its "
-                      f"TCP {time_of(one.frame)}, at which the recording would begin")
-    over = None if last is None else frame_in(last, one.clock.origin)
+    if begin < began.frame:
+        raise Unclear(f"the first subtitle of {request.stl} comes at {time_of(begin)}, before its "
+                      f"TCP {time_of(began.frame)}, at which the recording would begin")
+    over = None if last is None else frame_in(last, began.clock.origin)
     if over is not None and end > over + FRAMES_NEAR:
-        raise Unclear(f"the last subtitle of {asked.stl} goes at {time_of(end)}, and by the TCP "
+        raise Unclear(f"the last subtitle of {request.stl} goes at {time_of(end)}, and by the TCP "
                       f"the recording ends at {time_of(over)}")
 
 

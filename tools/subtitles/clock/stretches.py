@@ -32,12 +32,12 @@ class Track:
 
     def __init__(self, number: int, start: int, base: Base) -> None:
         self.base, self.start, self.within, self.edges = number, start, base.within, base.edges
-        found = [base.agreed(edge, start) for edge in base.edges]
+        agreed = [base.agreed(edge, start) for edge in base.edges]
         self.points = [0 if not one else 1 if one.letters != edge.letters else
-                       OF_TEXT if edge.letters else 2 for edge, one in zip(base.edges, found)]
-        self.late = sum(one.late for one in found if one)
+                       OF_TEXT if edge.letters else 2 for edge, one in zip(base.edges, agreed)]
+        self.late = sum(one.late for one in agreed if one)
         self.places = [edge.frame - start + (one.late if one else 0)
-                       for edge, one in zip(base.edges, found)]
+                       for edge, one in zip(base.edges, agreed)]
 
     @functools.cached_property
     def in_a_row(self) -> list[int]:
@@ -85,12 +85,12 @@ def find_row(bases: Sequence[Base]) -> list[Stretch]:
         starts.update(start for start, _ in base.alike().most_common(TRIED))
         tracks += [track for start in sorted(starts) if max(
             (track := Track(number, start, base)).in_a_row, default=0) >= IN_A_ROW]
-    found: list[Track] = []
+    kept: list[Track] = []
     for track in sorted(tracks, key=Track.rank):
-        if not track.within or not any(one.base == track.base and abs(
-                one.start - track.start) <= track.within for one in found):
-            found.append(track)
-    return best_row(bases[0].edges, found[:TRIED]) if found else []
+        if not track.within or not any(other.base == track.base and abs(
+                other.start - track.start) <= track.within for other in kept):
+            kept.append(track)
+    return best_row(bases[0].edges, kept[:TRIED]) if kept else []
 
 
 class Turn(NamedTuple):
@@ -207,7 +207,8 @@ def parts_of(subtitles: Sequence[Shown], bases: Sequence[Base], row: Sequence[St
         return []
     fitted = own.fit(row[0].track.start) if row else own.by_beginnings(own.fits[0])
     best, early = settled(own, fitted, late)
-    return [FittedPart(min(one.begin for one in subtitles), max(one.end for one in subtitles), best,
+    return [FittedPart(min(shown.begin for shown in subtitles),
+                       max(shown.end for shown in subtitles), best,
                        others_of(own, fitted.start, best.start), own, number, [], early)]
 
 
@@ -229,13 +230,13 @@ def part_of(subtitles: Sequence[Shown], bases: Sequence[Base], row: Sequence[Str
         low = row[number - 1].agreeing()[-1]
     if number + 1 < len(row) and row[number + 1].track.base == track.base:
         high = row[number + 1].agreeing()[0]
-    inside = [one for one in subtitles if begin <= one.begin and one.end <= stop]
-    over = [one for one in subtitles if begin <= one.begin < stop < one.end]
+    inside = [shown for shown in subtitles if begin <= shown.begin and shown.end <= stop]
+    over = [shown for shown in subtitles if begin <= shown.begin < stop < shown.end]
     # Where subtitles adjoin at the end of a part, its last one is erased there.
     own = whole.limited(edges_of(inside) or whole.edges[first:end], low, high)
     best, early = settled(own, own.fit(track.start), late)
-    return FittedPart(min((one.begin for one in inside), default=begin),
-                      max((one.end for one in inside), default=stop), best,
+    return FittedPart(min((shown.begin for shown in inside), default=begin),
+                      max((shown.end for shown in inside), default=stop), best,
                       others_of(own, track.start, best.start), own, track.base, over, early)
 
 
@@ -273,36 +274,37 @@ def runs_of(bases: Sequence[Base], has_clock: bool = False) -> list[Airing]:
     row = find_row(bases)
     has_times = not has_clock and not are_alike([edge.frame for edge in bases[0].edges])
     if len(row) > 1:  # the end of another run may be taken for the end of the first
-        whole = max((Stretch(track, 0, row[-1].end) for track in {one.track for one in row}),
-                    key=lambda one: sum(one.track.points))
+        tracks = {stretch.track for stretch in row}
+        whole = max((Stretch(track, 0, row[-1].end) for track in tracks),
+                    key=lambda stretch: sum(stretch.track.points))
         places = sightings([whole])
-        others = [sightings([Stretch(one.track, 0, row[-1].end)]) for one in row
-                  if one.track is not whole.track]
+        others = [sightings([Stretch(stretch.track, 0, row[-1].end)]) for stretch in row
+                  if stretch.track is not whole.track]
         row = [whole] if any(is_again(bases, places, side) for one in others for side in (
             {at: place for at, place in one.items() if place < min(places.values())},
             {at: place for at, place in one.items() if place > max(places.values())})) else row
     first = sightings(row)
     if not first:
         return []
-    found = [Airing(min(first.values()), max(first.values()))]
-    windows = [((-1, 0), found[0].first), (found[0].last, (1 << 40, 0))]
+    airings = [Airing(min(first.values()), max(first.values()))]
+    windows = [((-1, 0), airings[0].first), (airings[0].last, (1 << 40, 0))]
     while windows:
         low, high = windows.pop()
         others_in = sent_between(bases, low, high)
-        some = sightings(find_row(others_in)) if any(one.changes for one in others_in) else {}
+        some = sightings(find_row(others_in)) if any(base.changes for base in others_in) else {}
         if not is_again(bases, first, some):
             some = by_times(others_in, len(first)) if has_times else {}
         if some:
             run = Airing(min(some.values()), max(some.values()))
-            found.append(run)
+            airings.append(run)
             windows += [(low, run.first), (run.last, high)]
-    return sorted(found)
+    return sorted(airings)
 
 
 def sightings(row: Sequence[Stretch]) -> dict[int, Place]:
     """Where the edges of a row are whose letters agree."""
-    return {at: (one.track.base, one.track.places[at]) for one in row
-            for at in range(one.first, one.end) if one.track.points[at] > 1}
+    return {at: (stretch.track.base, stretch.track.places[at]) for stretch in row
+            for at in range(stretch.first, stretch.end) if stretch.track.points[at] > 1}
 
 
 def is_again(bases: Sequence[Base], first: dict[int, Place], some: dict[int, Place]) -> bool:
@@ -337,9 +339,9 @@ def by_times(bases: Sequence[Base], count: int) -> dict[int, Place]:
         votes = collections.Counter(itertools.starmap(operator.sub, itertools.product(
             base.frames, voting)))
         for start, _ in votes.most_common(TRIED_TIMES):
-            found = changes_at(base, number, start)
-            if len(found) * 10 >= count * 9 and len(found) * 4 >= len(base.edges) * 3:
-                return found
+            changed = changes_at(base, number, start)
+            if len(changed) * 10 >= count * 9 and len(changed) * 4 >= len(base.edges) * 3:
+                return changed
     return {}
 
 

@@ -111,7 +111,7 @@ def item_of(name: str, value: str | None) -> dict[str, object] | None:
 
 def layout_of(text: str) -> Layout | None:
     """The layout that a TEXT of `--layout` means; None where it means none."""
-    found: dict[str, object] = {}
+    values: dict[str, object] = {}
     names: set[str] = set()
     for word in text.split(","):
         name, equals, value = word.partition("=")
@@ -119,8 +119,8 @@ def layout_of(text: str) -> Layout | None:
         if item is None or name in names:
             return None
         names.add(name)
-        found.update(item)
-    return Layout(**found)  # type: ignore[arg-type]
+        values.update(item)
+    return Layout(**values)  # type: ignore[arg-type]
 
 
 def fault_in(text: str) -> str | None:
@@ -240,7 +240,7 @@ def drawn_lines(cells: Sequence[bytes], first: int, justify: int, layout: Layout
                 ) -> list[DrawnLine] | Refused:
     """The lines of cells that are not empty, as they are drawn; or the first fault."""
     lines = [prepared(one, layout) for one in cells]
-    found: list[DrawnLine] = []
+    placed: list[DrawnLine] = []
     above = b""  # the line that is numbered before this one
     for number, (line, row) in enumerate(zip(lines, placed_rows(lines, first, layout))):
         is_under = DOUBLE in above and not layout.double
@@ -253,8 +253,8 @@ def drawn_lines(cells: Sequence[bytes], first: int, justify: int, layout: Layout
                              (HIDDEN, is_under)):
             if is_so:
                 return Refused(fault, number)
-        found.append(DrawnLine(number, row, column_of(line, justify, layout), line))
-    return found
+        placed.append(DrawnLine(number, row, column_of(line, justify, layout), line))
+    return placed
 
 
 def page_rows(lines: Sequence[DrawnLine]) -> tuple[bytes, ...]:

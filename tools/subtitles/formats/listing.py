@@ -90,10 +90,10 @@ class Trusted(NamedTuple):
 
 def fault_of_line(line: str) -> FaultLine | None:
     """A line with a number; `None` for another one."""
-    found = PLACED.fullmatch(line)
-    if not found:
+    match = PLACED.fullmatch(line)
+    if not match:
         return None
-    word, number, name, block, at, pes, time, packet, row, column = found.groups()
+    word, number, name, block, at, pes, time, packet, row, column = match.groups()
     return FaultLine(line, word, int(number), name, known(block), known(at), known(pes), time,
                      known(packet), known(row), known(column))
 
@@ -105,20 +105,20 @@ def known(digits: str | None) -> int | None:
 
 def accepted_of(line: str) -> Accepted | None:
     """A line `accepted`; `None` for another one."""
-    found = ACCEPTED.fullmatch(line)
-    return Accepted(int(found[1]), int(found[2])) if found else None
+    match = ACCEPTED.fullmatch(line)
+    return Accepted(int(match[1]), int(match[2])) if match else None
 
 
 def trusted_of(line: str) -> Trusted | None:
     """A line `trusted`; `None` for another one."""
-    found = TRUSTED.fullmatch(line)
-    return Trusted(found[1], found[2]) if found else None
+    match = TRUSTED.fullmatch(line)
+    return Trusted(match[1], match[2]) if match else None
 
 
 def count_of(line: str) -> int | None:
     """How many faults the last line of a list counts; `None` for another line."""
-    found = COUNT.fullmatch(line)
-    return int(found[1]) if found else None
+    match = COUNT.fullmatch(line)
+    return int(match[1]) if match else None
 
 
 def is_line(line: str) -> bool:
@@ -194,32 +194,32 @@ class Meaning(NamedTuple):
 
 def meanings() -> dict[int, Meaning]:
     """By number; empty where the manual does not stand beside tools/."""
-    found: dict[int, Meaning] = {}
+    by_number: dict[int, Meaning] = {}
     last = ""
     if not os.path.isfile(CHAPTER):
-        return found
+        return by_number
     with open(CHAPTER, encoding="utf-8") as file:
         for line in file:
             cells = [cell.strip() for cell in line.strip().strip("|").split("|")]
             if len(cells) >= 4 and cells[0].isdecimal():
                 last = cells[-1].replace("the same", last) if cells[-1].startswith("the same") \
                     else cells[-1]
-                found[int(cells[0])] = Meaning(cells[1], cells[-2], last)
-    return found
+                by_number[int(cells[0])] = Meaning(cells[1], cells[-2], last)
+    return by_number
 
 
 def named_meanings() -> dict[str, Meaning]:
     """The same of faults without a number, by their names."""
-    found: dict[str, Meaning] = {}
+    by_name: dict[str, Meaning] = {}
     if not os.path.isfile(CHAPTER):
-        return found
+        return by_name
     with open(CHAPTER, encoding="utf-8") as file:
         for line in file:
             cells = [cell.strip() for cell in line.strip().strip("|").split("|")]
             name = cells[0].strip("`")
             if len(cells) == 4 and name in FAULT_NAMES:
-                found[name] = Meaning(name, *cells[2:])
-    return found
+                by_name[name] = Meaning(name, *cells[2:])
+    return by_name
 
 
 def plain(text: str) -> str:

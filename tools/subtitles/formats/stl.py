@@ -48,18 +48,18 @@ def subtitles_in(data: bytes) -> Iterator[StoredSubtitle]:
     texts: list[bytes] = []
     block = 0
     for block, at in enumerate(range(GSI, len(data), TTI), 1):
-        one = data[at:at + TTI]
-        if len(one) < TTI:
+        tti = data[at:at + TTI]
+        if len(tti) < TTI:
             raise Damaged(f"block {block} is cut")
-        ebn = one[3]
-        if ebn == USER_DATA or one[15] == 1:
+        ebn = tti[3]
+        if ebn == USER_DATA or tti[15] == 1:
             continue
         if LAST_OF_MORE < ebn < LAST:
             raise Damaged(f"block {block} has the reserved extension block number {ebn:02X}")
-        if first is not None and first[:3] != one[:3]:
+        if first is not None and first[:3] != tti[:3]:
             raise Damaged(f"block {block} is of another subtitle than the one that it follows")
-        first = first or one
-        texts.append(one[16:].split(UNUSED)[0])
+        first = first or tti
+        texts.append(tti[16:].split(UNUSED)[0])
         if ebn == LAST:
             yield StoredSubtitle(first[1] + 256 * first[2], first[5:9], first[9:13], first[13],
                                  first[14], b"".join(texts))
@@ -84,9 +84,9 @@ def readable(name: str, data: bytes) -> Iterator[StoredSubtitle]:
     where there is none before the damage."""
     is_empty = True
     try:
-        for one in subtitles_in(data):
+        for stored in subtitles_in(data):
             is_empty = False
-            yield one
+            yield stored
     except Damaged as reason:
         if is_empty:
             raise Stop(f"{name}: {reason}") from None
@@ -112,13 +112,13 @@ def titles_in(path: str) -> list[str]:
     block = first_bytes(path, GSI)
     number = block[CODE_PAGE].decode("latin-1")
     code_page = f"cp{number}" if number in CODE_PAGES else "cp850"
-    found: list[str] = []
+    titles: list[str] = []
     for place in (ORIGINAL, TRANSLATED):
         text = block[place].decode(code_page, "replace")
         title = "".join(letter if letter.isprintable() else " " for letter in text).strip()
-        if title and title not in found:
-            found.append(title)
-    return found
+        if title and title not in titles:
+            titles.append(title)
+    return titles
 
 
 # The subtitles of a file as the program shows them, and which of them is due.
@@ -155,33 +155,34 @@ def subtitle_name(position: int, number: int) -> str:
 def subtitles_shown(lines: Sequence[str]) -> list[Subtitle]:
     """The subtitles of the lines of `show`, the last of which counts them, or says why the file is
     refused: then they are those before."""
-    found = [subtitle_of(index, line) for index, line in enumerate(lines[:-1], 1)]
+    subtitles = [subtitle_of(index, line) for index, line in enumerate(lines[:-1], 1)]
     last = "".join(lines[-1:])
-    told = fault_of_line(last)
-    if not (told and told.is_fault) and last.split(" ")[0] != str(len(found)):
+    fault = fault_of_line(last)
+    if not (fault and fault.is_fault) and last.split(" ")[0] != str(len(subtitles)):
         raise Stop(f"show was not answered: {last or 'it printed nothing'}")
-    return found
+    return subtitles
 
 
 def subtitles_read(data: bytes) -> list[Subtitle]:
     """The subtitles of a file's bytes that come and go within a day, as they stand."""
-    found: list[Subtitle] = []
-    for index, one in enumerate(subtitles_in(data), 1):
-        begin, end = subtitle_times(one)
+    subtitles: list[Subtitle] = []
+    for index, stored in enumerate(subtitles_in(data), 1):
+        begin, end = subtitle_times(stored)
         if begin is not None and end is not None and begin < end:
-            found.append(Subtitle(index, one.number, begin, end, one.row, one.justify, one.text))
-    return found
+            subtitles.append(Subtitle(index, stored.number, begin, end, stored.row, stored.justify,
+                                      stored.text))
+    return subtitles
 
 
 def subtitle_of(index: int, line: str) -> Subtitle:
     """The subtitle of a line of `show`."""
-    found = SHOWN.fullmatch(line)
-    begin, end = (frame_of(found[name]) if found else None for name in ("begin", "end"))
-    if not found or begin is None or end is None:
+    match = SHOWN.fullmatch(line)
+    begin, end = (frame_of(match[name]) if match else None for name in ("begin", "end"))
+    if not match or begin is None or end is None:
         raise Stop(f"show was not answered: {line}")
-    text = b"" if found["text"] == NO_TEXT else bytes.fromhex(found["text"])
-    return Subtitle(index, int(found["number"]), begin, end, int(found["row"]),
-                    int(found["justify"]), text)
+    text = b"" if match["text"] == NO_TEXT else bytes.fromhex(match["text"])
+    return Subtitle(index, int(match["number"]), begin, end, int(match["row"]),
+                    int(match["justify"]), text)
 
 
 class SubtitleList:
@@ -189,7 +190,7 @@ class SubtitleList:
 
     def __init__(self, subtitles: Iterable[Subtitle]) -> None:
         self.subtitles = list(subtitles)
-        self.begins = [one.begin for one in self.subtitles]
+        self.begins = [subtitle.begin for subtitle in self.subtitles]
 
     def place_at(self, frame: int) -> int:
         """The place of the last subtitle that has begun at a frame; -1 before the first."""
@@ -221,10 +222,10 @@ class SubtitleList:
 
     def edges(self, first: int, last: int) -> list[int]:
         """The frames from `first` on to `last` at which something else is due."""
-        found = []
-        for one in self.subtitles[max(self.place_at(first), 0):self.place_at(last) + 1]:
-            found += [frame for frame in (one.begin, one.end) if first < frame <= last]
-        return found
+        frames = []
+        for subtitle in self.subtitles[max(self.place_at(first), 0):self.place_at(last) + 1]:
+            frames += [frame for frame in (subtitle.begin, subtitle.end) if first < frame <= last]
+        return frames
 
 
 # The subtitles of a file by their blocks and by their frames, as its faults name them.
@@ -255,15 +256,15 @@ class SubtitleFile:
         self.begins, self.blocks = array.array("I"), array.array("I")
         first, is_open = 0, False
         for block in range(1, (len(self.data) - GSI) // TTI + 1):
-            one = self.block(block)
-            if one[3] == USER_DATA or one[15] == COMMENT:
+            tti = self.block(block)
+            if tti[3] == USER_DATA or tti[15] == COMMENT:
                 self.firsts.append(block)
                 continue
             if not is_open:
                 self.starts.append(block)
-            first, is_open = first if is_open else block, one[3] != LAST
+            first, is_open = first if is_open else block, tti[3] != LAST
             self.firsts.append(first)
-            begin = frame_of_code(one[5:9])
+            begin = frame_of_code(tti[5:9])
             is_one = first == block and len(self.starts) not in left_out
             if is_one and begin is not None and between.has(begin):
                 self.begins.append(begin)
@@ -277,10 +278,10 @@ class SubtitleFile:
         """The subtitle that a block is of; `None` for the GSI block, and for one that is cut."""
         if not 0 < block < len(self.firsts):
             return None
-        one = self.block(self.firsts[block])
+        tti = self.block(self.firsts[block])
         return NamedSubtitle(bisect.bisect_right(self.starts, self.firsts[block]),
-                             one[1] + 256 * one[2], time_of_code(one[5:9]),
-                             time_of_code(one[9:13]))
+                             tti[1] + 256 * tti[2], time_of_code(tti[5:9]),
+                             time_of_code(tti[9:13]))
 
     def is_outside(self, block: int) -> bool:
         """Whether the subtitle of a block comes in another frame than is judged."""
@@ -305,9 +306,9 @@ class SubtitleFile:
     def all(self) -> Iterator[NamedSubtitle]:
         """All subtitles, of a file that is read without a fault."""
         for block in self.blocks:
-            one = self.at_block(block)
-            assert one
-            yield one
+            subtitle = self.at_block(block)
+            assert subtitle
+            yield subtitle
 
     def at_frame(self, frame: int) -> NamedSubtitle | None:
         """The subtitle that is due at a frame, of a file whose subtitles rise."""
@@ -327,8 +328,8 @@ class SubtitleFile:
     def lasts(self) -> Iterator[int]:
         """The last block of each subtitle."""
         for number in range(1, len(self.firsts)):
-            one = self.block(number)
-            if one[3] == LAST and one[15] != COMMENT and not self.is_outside(number):
+            tti = self.block(number)
+            if tti[3] == LAST and tti[15] != COMMENT and not self.is_outside(number):
                 yield number
 
     def letter(self, block: int, at: int) -> tuple[str | None, str | None]:

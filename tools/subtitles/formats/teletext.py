@@ -64,16 +64,16 @@ def letter_of(byte: int) -> str:
 
 def letters_of(text: bytes) -> str:
     """The letters of text bytes of code table 00; an accent stands before its letter there."""
-    found, at = "", 0
+    text_so_far, at = "", 0
     while at < len(text):
         accent = ACCENTS.get(text[at], " ")
         if accent != " " and at + 1 < len(text):
-            found += unicodedata.normalize("NFC", letter_of(text[at + 1]) + accent)
+            text_so_far += unicodedata.normalize("NFC", letter_of(text[at + 1]) + accent)
             at += 2
         else:
-            found += letter_of(text[at])
+            text_so_far += letter_of(text[at])
             at += 1
-    return found
+    return text_so_far
 
 
 # The national options (EN 300 706, Latin national option sub-sets of the default region): a row for
@@ -141,12 +141,12 @@ def named_by(language: bytes) -> NationalOption:
     """The option of the language that a GSI block names (field LC); English where it names one that
     no other option is of."""
     word = language.decode("ascii", "replace").upper()
-    return next((one for one in OPTIONS if word in one.languages.split()), ENGLISH)
+    return next((option for option in OPTIONS if word in option.languages.split()), ENGLISH)
 
 
 def of_track(language: str) -> NationalOption | None:
     """The option of a language that a PMT names, where one of the seven is of it."""
-    return next((one for one in OPTIONS if language.lower() in one.tracks.split()), None)
+    return next((option for option in OPTIONS if language.lower() in option.tracks.split()), None)
 
 
 def as_sent(option: NationalOption) -> int:
@@ -193,15 +193,15 @@ def options_with(letter: bytes) -> list[NationalOption]:
     """The options that have a letter, a byte or a pair of bytes."""
     if len(letter) == 1 and letter[0] in COMMON:
         return list(OPTIONS)
-    return [one for one in OPTIONS if letter in cells_of(one)]
+    return [option for option in OPTIONS if letter in cells_of(option)]
 
 
 def character_of(letter: bytes) -> str | None:
     """The character of a byte or a pair of bytes of code table 00; None where it is none."""
     if len(letter) == 1 and letter[0] in MARKS:
         return None
-    found = letters_of(letter)
-    return None if NO_LETTER in found or len(found) != 1 else found
+    character = letters_of(letter)
+    return None if NO_LETTER in character or len(character) != 1 else character
 
 
 # The characters of the codes 20 to 7F under each national option (EN 300 706, Latin G0).
@@ -216,8 +216,8 @@ def letters(option: int) -> list[str]:
     """The character of each code; what has none, a spacing attribute, is a space. `option` is C12
     and twice C13 and four times C14 of a page's header."""
     table = [" "] * 32 + [chr(code) for code in range(32, 127)] + [BLOCK]
-    found = BY_BITS.get(option)
-    for code, letter in zip(PLACES, found.characters if found else UNKNOWN * len(PLACES)):
+    national = BY_BITS.get(option)
+    for code, letter in zip(PLACES, national.characters if national else UNKNOWN * len(PLACES)):
         table[code] = letter
     return table
 

@@ -75,17 +75,17 @@ class Namer(Sendings):
 
     def cause(self, place: int, faulty: Faulty) -> Cause:
         """The cause of a subtitle; where no PES packet came it is that."""
-        found, one = self.cause_of_sendings(place, faulty), self.subtitles[place]
-        pause = self.held.pause_at(one.end if found.name == NOT_ERASED else one.begin)
+        cause, subtitle = self.cause_of_sendings(place, faulty), self.subtitles[place]
+        pause = self.held.pause_at(subtitle.end if cause.name == NOT_ERASED else subtitle.begin)
         if pause is None:
-            return found
+            return cause
         is_by_pause = {
-            LATE: one.begin + (found.frames or 0) == pause.last + 1,
-            NEVER: one.end - 1 <= pause.last,
+            LATE: subtitle.begin + (cause.frames or 0) == pause.last + 1,
+            NEVER: subtitle.end - 1 <= pause.last,
             NOT_ERASED: self.held.number_at(pause.last + 1) != self.held.number_at(pause.last)}
-        if not is_by_pause.get(found.name):
-            return found
-        return self.unknown(place, one.begin, found.known, "no PES packet for "
+        if not is_by_pause.get(cause.name):
+            return cause
+        return self.unknown(place, subtitle.begin, cause.known, "no PES packet for "
                             f"{counted(pause.last + 1 - pause.first, 'frame')}, from "
                             f"{time_of(pause.first)} on")
 
@@ -108,14 +108,16 @@ class Namer(Sendings):
 
     def moved(self, place: int, came: int) -> Cause:
         """It came late or early."""
-        one = self.subtitles[place]
-        if came > one.begin and not self.held.is_seen(one.begin, came):
-            return self.unknown(place, one.begin, came, self.unseen_words(one.begin, came))
-        name, frames = (LATE, came - one.begin) if came > one.begin else (EARLY, one.begin - came)
+        subtitle = self.subtitles[place]
+        if came > subtitle.begin and not self.held.is_seen(subtitle.begin, came):
+            return self.unknown(place, subtitle.begin, came,
+                                self.unseen_words(subtitle.begin, came))
+        name, frames = (LATE, came - subtitle.begin) if came > subtitle.begin else (
+            EARLY, subtitle.begin - came)
         words = self.row_words(came) if name == LATE and frames <= self.held.within else ""
         if name == LATE and self.came_closed(place):
             words = self.closed_words()
-        return Cause(place, name, frames, self.pages[place], None, words, max(came, one.begin))
+        return Cause(place, name, frames, self.pages[place], None, words, max(came, subtitle.begin))
 
     def is_in_time(self, place: int, came: int) -> bool:
         """Whether a page came as many frames after its TCI as are allowed, and the page was whole
@@ -193,25 +195,27 @@ class Namer(Sendings):
 
     def later(self, place: int, faulty: Faulty) -> Cause:
         """It came at its TCI; something was wrong after that, or before."""
-        one = self.subtitles[place]
+        subtitle = self.subtitles[place]
         span = faulty.within or faulty.after
         if span and self.is_due(span.first):
             if rows := self.rows_left(span.first):
                 return Cause(place, IN_PART, None, self.pages[place], None, f"{rows} {REPEATED}",
-                             one.end)
-            return self.unknown(place, span.first, one.end, self.hidden_words(span.first))
+                             subtitle.end)
+            return self.unknown(place, span.first, subtitle.end, self.hidden_words(span.first))
         if faulty.within:
             return self.broken(place, faulty.within)
         if faulty.after is None:
-            return self.unknown(place, one.begin, one.end, "it is sent at another time too")
+            return self.unknown(place, subtitle.begin, subtitle.end,
+                                "it is sent at another time too")
         number = self.held.number_at(faulty.after.first)
         until = self.held.stretch(number).last
-        if self.held.frames[number] >= one.end:
+        if self.held.frames[number] >= subtitle.end:
             return self.after(place, number, faulty.after.first)
-        if not self.held.is_seen(one.end, until):
-            return self.unknown(place, one.end, one.end, self.unseen_words(one.end, until))
+        if not self.held.is_seen(subtitle.end, until):
+            return self.unknown(place, subtitle.end, subtitle.end,
+                                self.unseen_words(subtitle.end, until))
         return Cause(place, NOT_ERASED, None, self.held.pages[number], None,
-                     self.gone_words(place, number), one.end)
+                     self.gone_words(place, number), subtitle.end)
 
     def hidden_words(self, frame: int) -> str:
         """Why `check` tells another page at a frame than the one that is held after it."""

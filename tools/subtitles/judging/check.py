@@ -69,10 +69,10 @@ class FaultCounts:
         """A line `refused`."""
         number, place = int(words[1]), words[3:5]
         if number not in self.counts:
-            told = fault_of_line(line)
-            if told:
-                self.firsts[number] = told
-            self.first = self.first or told
+            fault = fault_of_line(line)
+            if fault:
+                self.firsts[number] = fault
+            self.first = self.first or fault
         self.latest[words[1]] = self.count
         self.count += 1
         self.counts[number] += 1
@@ -160,8 +160,8 @@ class Answer(FaultCounts):
     @functools.cached_property
     def rows(self) -> list[tuple[int, int]]:
         """The frames at which the content of a row is told, each with the row."""
-        return sorted((told.frame, told.row) for told, _ in self.told()
-                      if told.frame is not None and told.row is not None)
+        return sorted((fault.frame, fault.row) for fault, _ in self.told()
+                      if fault.frame is not None and fault.row is not None)
 
     def row_at(self, frame: int) -> int | None:
         """The row that was told last up to a frame."""
@@ -228,8 +228,8 @@ class Answer(FaultCounts):
 
     def told(self) -> Iterator[tuple[FaultLine, End]]:
         """The faults in order, each with where it ended."""
-        faults = (told for told in map(fault_of_line, self.lines()) if told and told.is_fault)
-        return ((told, self.ends.get(index, NO_END)) for index, told in enumerate(faults))
+        faults = (fault for fault in map(fault_of_line, self.lines()) if fault and fault.is_fault)
+        return ((fault, self.ends.get(index, NO_END)) for index, fault in enumerate(faults))
 
 
 def check(command: list[str], answer: Answer, hear: Callable[[str], None]) -> Answer:
@@ -257,13 +257,13 @@ def check(command: list[str], answer: Answer, hear: Callable[[str], None]) -> An
 NO_PES = os.devnull
 
 
-def check_alone(asked: Request, program: str, names: Names) -> Answer:
+def check_alone(request: Request, program: str, names: Names) -> Answer:
     """What is wrong with the subtitle file; nothing is said of it yet."""
-    return check([program, "check", *asked.check_words(True), "--all", "--", names.given, NO_PES],
+    return check([program, "check", *request.check_words(True), "--all", "--", names.given, NO_PES],
                  Answer(names.temporary("alone.txt")), lambda line: None)
 
 
-def say_alone(asked: Request, typed: CommandWords, listener: Listener) -> None:
+def say_alone(request: Request, typed: CommandWords, listener: Listener) -> None:
     """Says the command for that."""
-    listener.written(typed.program_word, "check", asked.stl, NO_PES, *asked.check_words(True),
+    listener.written(typed.program_word, "check", request.stl, NO_PES, *request.check_words(True),
                      "--all")

@@ -58,16 +58,16 @@ def fault_place(fault: FaultLine, packets: Packets, held: Timeline | None,
     if due:
         members = [next((one for one in reversed(members) if code_of(fault, due) != code_of(
             fault, held.state_after(one.first).rows)), members[-1])]
-    one = members[-1] if fault.packet is None else member_of(members, fault.packet)
-    return FaultPlace(one.first, one.pts, held.state_after(members[-1].first).rows,
-                 headed(one, held.state_after(one.first - 1)) if fault.number == CONTROL else ())
+    run = members[-1] if fault.packet is None else member_of(members, fault.packet)
+    return FaultPlace(run.first, run.pts, held.state_after(members[-1].first).rows,
+                 headed(run, held.state_after(run.first - 1)) if fault.number == CONTROL else ())
 
 
 def member_of(members: Sequence[Run], packet: int) -> Run:
     """The PES packet of a frame with a Teletext packet, which are counted on from one to the next.
     """
-    ends = itertools.accumulate(one.units for one in members)
-    return next((one for one, end in zip(members, ends) if packet < end), members[-1])
+    ends = itertools.accumulate(run.units for run in members)
+    return next((run for run, end in zip(members, ends) if packet < end), members[-1])
 
 
 def code_of(fault: FaultLine, rows: Rows) -> int | None:
@@ -102,25 +102,25 @@ def hints_of(verdict: Verdict) -> Iterator[str]:
 
 def hints_of_part(part: Part, verdict: Verdict) -> Iterator[str]:
     """The same of a part."""
-    for number, told in part.answer.firsts.items():
-        words = hint_words(told, part, verdict) if number in HINTS else ""
+    for number, fault in part.answer.firsts.items():
+        words = hint_words(fault, part, verdict) if number in HINTS else ""
         if words:
             yield f"{number}: {words}"
 
 
 def hint_words(fault: FaultLine, part: Part, verdict: Verdict) -> str:
     """What is to be said of such a fault; nothing where it is not known."""
-    asked = verdict.asked
+    request = verdict.asked
     if fault.number == CHARACTER:
         if not fault.block or fault.at is None:
             return ""
-        return OptionAdvice(part.subtitle_file(), asked.option).of(fault.block, fault.at)
+        return OptionAdvice(part.subtitle_file(), request.option).of(fault.block, fault.at)
     if fault.number == DISPLAY:
         return open_words(part.subtitle_file())
     if fault.number in OF_HEADERS:
         return part.explanation.of_header
     if fault.number in OF_ENDS:
-        return end_words(fault.number, part, asked.page_name)
+        return end_words(fault.number, part, request.page_name)
     if fault.number == CONTENT:
         return part.explanation.otherwise
     if fault.number in (EMPTY_TIME, OUT_OF_ORDER):
@@ -132,14 +132,14 @@ def hint_words(fault: FaultLine, part: Part, verdict: Verdict) -> str:
     if fault.number == SILENT:
         return silent_words(fault, part)
     if fault.number == GAP:
-        times = [(one.begin, one.end) for one in part.due().subtitles]
-        return gap_words((part.pts(HEADER), part.pts()[-1:]), part.origin, asked,
+        times = [(subtitle.begin, subtitle.end) for subtitle in part.due().subtitles]
+        return gap_words((part.pts(HEADER), part.pts()[-1:]), part.origin, request,
                          part.answer.numbers, times)
     if fault.number == PARITY:
         return letter_words(fault, part)
     if part.explanation.kept:
         return part.explanation.kept.words()
-    return header_words(fault_place(fault, part.packets, part.held).headers, asked)
+    return header_words(fault_place(fault, part.packets, part.held).headers, request)
 
 
 def lead_words(fault: FaultLine, part: Part, verdict: Verdict) -> str:
@@ -169,9 +169,9 @@ def letter_words(fault: FaultLine, part: Part) -> str:
     if fault.frame is None or rows is None:
         return ""
     due = part.due().page_at(fault.frame)
-    found = [code for cells, wanted in zip(rows, due) for cell, code in zip(cells, wanted)
+    codes = [code for cells, wanted in zip(rows, due) for cell, code in zip(cells, wanted)
              if cell == HIT]
-    code = next((code for code in found if code > SPACE), found[0] if found else None)
+    code = next((code for code in codes if code > SPACE), codes[0] if codes else None)
     if code is None:
         what = "a byte"
     elif code > SPACE:
@@ -202,29 +202,30 @@ def open_words(subtitles: SubtitleFile) -> str:
 
 def silent_words(fault: FaultLine, part: Part) -> str:
     """From when on, and for how long, no PES packet came."""
-    asked, pes, origin = part.asked, part.pes, part.origin
-    if asked is None or asked.pace is None or pes is None or origin is None or fault.frame is None:
+    request, pes, origin = part.asked, part.pes, part.origin
+    if request is None or request.pace is None or pes is None or origin is None \
+            or fault.frame is None:
         return ""
-    before = fault.frame - asked.pace
-    after = next((frame for row in frame_rows(part.packets, pes, origin, asked.within)
+    before = fault.frame - request.pace
+    after = next((frame for row in frame_rows(part.packets, pes, origin, request.within)
                   for frame in row if frame > before), None)
     return "" if after is None else \
         f"none for {counted(after - before - 1, 'frame')} from {time_of(before + 1)} on"
 
 
-def gap_words(sent: tuple[Sequence[int], Sequence[int]], origin: int, asked: Request,
+def gap_words(sent: tuple[Sequence[int], Sequence[int]], origin: int, request: Request,
               numbers: set[int], times: Sequence[tuple[int, int]]) -> str:
     """The longest gap between headers of the page, or behind the last one, where all that was sent
     can be read. What was sent are the PTS of headers, and that of the last PES packet."""
-    headers, last = ([frame for pts in some if (frame := frame_at(pts, origin, asked.within))
+    headers, last = ([frame for pts in some if (frame := frame_at(pts, origin, request.within))
                       is not None] for some in sent)
     end = last[0] + 1 if last else 0
     gap = longest_gap([*headers, end] if headers and end > headers[-1] else headers)
-    if gap <= asked.every or numbers & PASSED_OVER:
+    if gap <= request.every or numbers & PASSED_OVER:
         return ""
     words = f"the longest gap is {counted(gap, 'frame')}"
     usual = repeat_distance(headers, edges_of(times))
-    return f"{words}, and {usual} are usual" if usual and usual <= asked.every else words
+    return f"{words}, and {usual} are usual" if usual and usual <= request.every else words
 
 
 # The faults of a verdict with all that is known of them, one after another.
@@ -236,8 +237,8 @@ class PartFaults:
     def __init__(self, verdict: Verdict, part: Part) -> None:
         self.verdict, self.part, self.asked = verdict, part, verdict.asked
         self.letters: list[str] = letters(BY_WORD[self.asked.option].bits)
-        self.meanings = {number: (plain(one.means), plain(one.do))
-                         for number, one in meanings().items()}
+        self.meanings = {number: (plain(meaning.means), plain(meaning.do))
+                         for number, meaning in meanings().items()}
         self.wording = Wording(part.causes, self.asked.option) if part.causes else None
         self.subtitles = part.subtitle_file()
         self.of_letters = OptionAdvice(self.subtitles, self.asked.option)

@@ -45,8 +45,8 @@ class Sending(NamedTuple):
     @property
     def name(self) -> str:
         """It by its file, its place and its time."""
-        one = self.subtitle
-        return f"{self.stl}, {one.name} at {time_of(one.begin)}"
+        subtitle = self.subtitle
+        return f"{self.stl}, {subtitle.name} at {time_of(subtitle.begin)}"
 
 
 # How often the page is repeated.
@@ -85,8 +85,8 @@ def every_of(several: Sequence[Repeats]) -> Finding:
     usual = [one.usual for one in several if one.usual is not None]
     words = f", and {max(usual)} are usual" if usual else ""
     return Finding(f"--every {worst.longest}", [
-        f"every: of {counted(sum(one.headers for one in several), 'header')} of the page the next "
-        f"comes within {counted(worst.longest, 'frame')}, the first of these from "
+        f"every: of {counted(sum(repeats.headers for repeats in several), 'header')} of the page "
+        f"the next comes within {counted(worst.longest, 'frame')}, the first of these from "
         f"{time_of(worst.since)} on{words}"])
 
 
@@ -101,7 +101,7 @@ def pace_found(paces: Sequence[Pace]) -> Finding:
         why = ", ".join(dict.fromkeys(one.kind for one, its in zip(paces, frames) if its is None))
         return Finding("", [f"pace: none, since PES packets are {why or 'none'}"])
     return Finding(f"--pace {max(known)}", [
-        f"pace: a PES packet comes within {counted(max(one.apart for one in paces), 'frame')} of "
+        f"pace: a PES packet comes within {counted(max(pace.apart for pace in paces), 'frame')} of "
         "the one before nearly everywhere"])
 
 
@@ -122,26 +122,27 @@ def delays_of(stl: str, subtitles: Sequence[Subtitle], held: Timeline, option: N
         -> Delays:
     """Those of the subtitles of a file, by the letters that are held. Where two adjoin the end of
     one is the begin of the other."""
-    found = Delays(collections.Counter(), collections.Counter(), [], [])
+    delays = Delays(collections.Counter(), collections.Counter(), [], [])
     rows = [(one, letters_of_text(one.text, option)) for one in subtitles]
-    for place, (one, letters) in enumerate(rows):
+    for place, (subtitle, letters) in enumerate(rows):
         if not letters:
             continue
-        name = f"{stl}, {one.name} at {time_of(one.begin)}"
+        name = f"{stl}, {subtitle.name} at {time_of(subtitle.begin)}"
         before, after = (rows[at][0] if 0 <= at < len(rows) else None
                          for at in (place - 1, place + 1))
-        is_new = before is None or rows[place - 1][1] != letters or before.end + APART < one.begin
-        first = begun(held, one, letters, APART if is_new else 0)
+        is_new = before is None or rows[place - 1][1] != letters \
+            or before.end + APART < subtitle.begin
+        first = begun(held, subtitle, letters, APART if is_new else 0)
         if first is None:
-            found.unseen.append(name)
+            delays.unseen.append(name)
             continue
         if is_new and first > held.first:
-            take(found.begins, found.early, first - one.begin, f"{name} begins")
-        if after is None or after.begin > one.end:
-            last = ended(held, one, letters, FRAMES_OF_A_DAY if after is None else after.begin)
+            take(delays.begins, delays.early, first - subtitle.begin, f"{name} begins")
+        if after is None or after.begin > subtitle.end:
+            last = ended(held, subtitle, letters, FRAMES_OF_A_DAY if after is None else after.begin)
             if last < held.last:
-                take(found.ends, found.early, last + 1 - one.end, f"{name} ends")
-    return found
+                take(delays.ends, delays.early, last + 1 - subtitle.end, f"{name} ends")
+    return delays
 
 
 def take(counts: collections.Counter[int], early: list[str], delay: int, name: str) -> None:
@@ -152,17 +153,19 @@ def take(counts: collections.Counter[int], early: list[str], delay: int, name: s
         counts[delay] += 1
 
 
-def begun(held: Timeline, one: Subtitle, letters: bytes, earlier: int) -> int | None:
+def begun(held: Timeline, subtitle: Subtitle, letters: bytes, earlier: int) -> int | None:
     """The first frame at whose end the letters of a subtitle are held, from so many before its TCI
     on."""
-    return next((held.stretch(number).first for number in held.numbers(
-        max(one.begin - earlier, 0), one.end) if letters_on(held.pages[number]) == letters), None)
+    numbers = held.numbers(max(subtitle.begin - earlier, 0), subtitle.end)
+    return next((held.stretch(number).first for number in numbers
+                 if letters_on(held.pages[number]) == letters), None)
 
 
-def ended(held: Timeline, one: Subtitle, letters: bytes, limit: int) -> int:
+def ended(held: Timeline, subtitle: Subtitle, letters: bytes, limit: int) -> int:
     """The last such frame up to some behind its TCO."""
-    end = min(one.end + MOST_WITHIN + 1, limit)
-    return max(held.stretch(number).last for number in held.numbers(one.begin, max(end, one.end))
+    end = min(subtitle.end + MOST_WITHIN + 1, limit)
+    numbers = held.numbers(subtitle.begin, max(end, subtitle.end))
+    return max(held.stretch(number).last for number in numbers
                if letters_on(held.pages[number]) == letters)
 
 
@@ -173,8 +176,8 @@ def late_found(several: Sequence[Delays], is_known: bool) -> Iterator[Finding]:
                            "how late cues are"])
         return
     begins, ends = collections.Counter[int](), collections.Counter[int]()
-    for one in several:
-        begins, ends = begins + one.begins, ends + one.ends
+    for delays in several:
+        begins, ends = begins + delays.begins, ends + delays.ends
     lines = [f"within, late: begins {counts_text(begins)}; ends {counts_text(ends)} (frames late: "
              "how many)"]
     lines += named_lines("early, which nothing accepts", [
@@ -233,7 +236,7 @@ SPACE_IN_BOX = re.compile(rb"^[\x00-\x1f]*\x0b[\x00-\x1f]* | [\x00-\x1f]*\x0a[\x
 def layout_found(sendings: Sequence[Sending], option: NationalOption) -> Finding:
     """The layout that draws nearly all as they were sent, with those that speak against it; or why
     there is none, with the nearest."""
-    closest, choice = choices_of([one.sent for one in sendings], option)
+    closest, choice = choices_of([sending.sent for sending in sendings], option)
     if closest.found < FEWEST:
         return Finding("", [f"layout: {counted(closest.found, 'subtitle')} with their letters were "
                             f"found, and {FEWEST} say how a house draws"])
@@ -241,8 +244,8 @@ def layout_found(sendings: Sequence[Sending], option: NationalOption) -> Finding
     if not choice.is_clear:
         nearest = choice if closest.is_clear else closest
         return Finding("", [*no_layout(nearest, sendings, option), *left_lines(choice)])
-    rests = [f"{one.text} rests on {one.decides}, of which {one.drawn} were sent so"
-             for one in choice.items]
+    rests = [f"{rest.text} rests on {rest.decides}, of which {rest.drawn} were sent so"
+             for rest in choice.items]
     lines = ["; ".join([f"layout: {counts_words(choice)}", *rests])]
     return Finding(f"--layout {quoted(text)}" if text else "", [
         *lines, *against_lines(choice, sendings, option), *left_lines(choice)])
@@ -250,21 +253,21 @@ def layout_found(sendings: Sequence[Sending], option: NationalOption) -> Finding
 
 def left_lines(choice: Choice) -> list[str]:
     """Which items are not proposed that would draw more, and why."""
-    return [f"{left_words(one, choice.found)}: {never_words(one.whole)}" for one in choice.left]
+    return [f"{left_words(left, choice.found)}: {never_words(left.whole)}" for left in choice.left]
 
 
-def left_words(left: Left, found: int) -> str:
+def left_words(left: Left, count: int) -> str:
     """How many more an item would draw."""
-    return f"{left.text} would draw {left.more} more of {found}"
+    return f"{left.text} would draw {left.more} more of {count}"
 
 
 def against_lines(choice: Choice, sendings: Sequence[Sending], option: NationalOption) \
         -> Iterator[str]:
     """The subtitles that a layout draws otherwise than they were sent."""
     others = [one for one in sendings if not draws(choice.layout, one.sent, option)]
-    for one in others[:NAMED]:
-        yield f"against it: {one.name}: sent {cells_text(one.sent.rows)}; drawn " \
-            f"{page_text(choice, one.sent, option)}"
+    for sending in others[:NAMED]:
+        yield f"against it: {sending.name}: sent {cells_text(sending.sent.rows)}; drawn " \
+            f"{page_text(choice, sending.sent, option)}"
     if len(others) > NAMED:
         yield f"against it: {len(others) - NAMED} more"
 
@@ -279,12 +282,13 @@ def page_text(choice: Choice, sent: Sent, option: NationalOption) -> str:
 def no_layout(nearest: Choice, sendings: Sequence[Sending], option: NationalOption) \
         -> Iterator[str]:
     """Why no layout is proposed: what of the drawings none of them says, and the nearest."""
-    others = [one.sent for one in sendings if not draws(nearest.layout, one.sent, option)]
+    others = [sending.sent for sending in sendings
+              if not draws(nearest.layout, sending.sent, option)]
     text = layout_text(nearest.layout)
     yield f"layout: none is proposed. The nearest, {text or 'that without --layout'}, draws " \
         f"{counts_words(nearest)}, and {TENTHS} in 10 have to be"
     for words, is_one in KINDS:
-        count = sum(is_one(one, nearest, option) for one in others)
+        count = sum(is_one(sent, nearest, option) for sent in others)
         if count:
             yield f"{words} in {count} of these {len(others)} others: no layout says that"
     yield from against_lines(nearest, sendings, option)
@@ -295,12 +299,12 @@ def is_spaced(sent: Sent, _: Choice, option: NationalOption) -> bool:
     return any(SPACE_IN_BOX.search(row.strip(b" ")) for row in sent.rows)
 
 
-def is_block(one: Sent, nearest: Choice, option: NationalOption) -> bool:
+def is_block(sample: Sent, nearest: Choice, option: NationalOption) -> bool:
     """Whether lines begin in one column that a layout draws each in its own."""
-    lines = drawn(one.text, one.row, one.justify, nearest.layout, option)
+    lines = drawn(sample.text, sample.row, sample.justify, nearest.layout, option)
     if isinstance(lines, Refused):
         return False
-    due, sent = first_letters(page_rows(lines)), first_letters(one.rows)
+    due, sent = first_letters(page_rows(lines)), first_letters(sample.rows)
     return len(sent) > 1 and len({*sent}) == 1 < len({*due})
 
 
@@ -317,8 +321,8 @@ KINDS: Sequence[tuple[str, Callable[[Sent, Choice, NationalOption], bool]]] = (
 def sendings_of(stl: str, subtitles: Iterable[Subtitle], held: Timeline, option: NationalOption) \
         -> list[Sending]:
     """The subtitles of a file at whose frames a page with their letters was held."""
-    return [Sending(stl, one, sent) for one in subtitles
-            for sent in sent_in([one], held, option)]
+    return [Sending(stl, subtitle, sent) for subtitle in subtitles
+            for sent in sent_in([subtitle], held, option)]
 
 
 def never_words(text: str) -> str:
@@ -342,12 +346,12 @@ def counts_words(choice: Choice) -> str:
 
 def cells_text(rows: Rows) -> str:
     """The rows of a page that have cells: codes in hexadecimal, letters as they are."""
-    found = []
+    lines = []
     for number, row in enumerate(rows, 1):
         cells = row.strip(b" ")
         if cells:
             words = "".join(chr(cell) if SPACE <= cell < 0x7F else f"<{cell:02X}>"
                             for cell in cells)
             column = len(row) - len(row.lstrip(b" "))
-            found.append(f"row {number} column {column}: {words}")
-    return ", ".join(found)
+            lines.append(f"row {number} column {column}: {words}")
+    return ", ".join(lines)

@@ -40,14 +40,14 @@ class LetteredRow(NamedTuple):
 @functools.lru_cache(maxsize=1 << 12)
 def lettered_rows(rows: Rows) -> tuple[LetteredRow, ...]:
     """The rows of a page that have letters."""
-    found = []
+    lettered = []
     for number, row in enumerate(rows, 1):
         words = row.translate(SPACES)
         if words.strip():
             column = len(words) - len(words.lstrip())
             attributes = bytes(code for code in row if code < SPACE)
-            found.append(LetteredRow(number, column, words.strip(), attributes))
-    return tuple(found)
+            lettered.append(LetteredRow(number, column, words.strip(), attributes))
+    return tuple(lettered)
 
 
 def words_on(rows: Rows) -> str:
@@ -71,11 +71,11 @@ def code_words(code: int) -> str:
 
 def moved_words(due: Rows, sent: Rows) -> str:
     """In what place words are sent, beside the one where they are due: the first that differs."""
-    for one, other in zip(lettered_rows(due), lettered_rows(sent)):
-        if one.row != other.row:
-            return f"row {other.row} instead of {one.row}"
-        if one.column != other.column:
-            return f"row {one.row} from column {other.column} instead of {one.column}"
+    for row, other in zip(lettered_rows(due), lettered_rows(sent)):
+        if row.row != other.row:
+            return f"row {other.row} instead of {row.row}"
+        if row.column != other.column:
+            return f"row {row.row} from column {other.column} instead of {row.column}"
     return f"{len(lettered_rows(sent))} rows instead of {len(lettered_rows(due))}"
 
 
@@ -111,11 +111,11 @@ def columns_words(what: str, columns: int) -> str:
 def is_moved(due: Rows, sent: Rows) -> bool:
     """Whether pages with the same words have these in other places, and not since one has another
     attribute: that takes a cell too."""
-    one, other = lettered_rows(due), lettered_rows(sent)
-    if [line.row for line in one] != [line.row for line in other]:
+    rows, other = lettered_rows(due), lettered_rows(sent)
+    if [line.row for line in rows] != [line.row for line in other]:
         return True
-    same = [line.attributes for line in one] == [line.attributes for line in other]
-    return same and [line.column for line in one] != [line.column for line in other]
+    same = [line.attributes for line in rows] == [line.attributes for line in other]
+    return same and [line.column for line in rows] != [line.column for line in other]
 
 
 def beside_words(due: Rows, sent: Rows) -> str:
@@ -164,13 +164,13 @@ def otherwise(subtitles: Sequence[Subtitle], pages: Sequence[Rows], held: Timeli
               option: NationalOption) -> str:
     """How many subtitles were sent with their letters and drawn otherwise, and in which cells the
     first one; nothing where none was."""
-    found = [(subtitle, page, sent.rows) for subtitle, page in zip(subtitles, pages)
-             for sent in sent_in([subtitle], held, option) if sent.rows != page]
-    if not found:
+    differing = [(subtitle, page, sent.rows) for subtitle, page in zip(subtitles, pages)
+                 for sent in sent_in([subtitle], held, option) if sent.rows != page]
+    if not differing:
         return ""
-    subtitle, page, rows = found[0]
-    others = f", and so are those of {counted(len(found) - 1, 'more subtitle')}" \
-        if len(found) > 1 else ""
+    subtitle, page, rows = differing[0]
+    others = f", and so are those of {counted(len(differing) - 1, 'more subtitle')}" \
+        if len(differing) > 1 else ""
     return f"the letters of {subtitle.name} are right and drawn otherwise: " \
         f"{cells_words(page, rows)}{others}"
 
@@ -181,15 +181,15 @@ def cells_words(due: Rows, sent: Rows) -> str:
     lines, others = [*lines_of(due)], [*lines_of(sent)]
     if len(lines) != len(others):
         return f"in {counted(len(others), 'row')}, where {len(lines)} are due"
-    one, other = next((pair for pair in zip(lines, others) if pair[0] != pair[1]),
+    row, other = next((pair for pair in zip(lines, others) if pair[0] != pair[1]),
                       (lines[0], others[0]))
     words = [
-        f"row {other.row} where {one.row} is due" if other.row != one.row else f"row {one.row}",
-        *([f"column {other.column} where {one.column} is due"] * (other.column != one.column)),
+        f"row {other.row} where {row.row} is due" if other.row != row.row else f"row {row.row}",
+        *([f"column {other.column} where {row.column} is due"] * (other.column != row.column)),
         *(f"{codes_words(its)} {where} its letters where {codes_words(own)} is due"
-          for where, own, its in (("before", one.before, other.before),
-                                  ("behind", one.behind, other.behind)) if own != its),
-        *(["other codes between its letters"] * (other.letters != one.letters))]
+          for where, own, its in (("before", row.before, other.before),
+                                  ("behind", row.behind, other.behind)) if own != its),
+        *(["other codes between its letters"] * (other.letters != row.letters))]
     return ", ".join(words)
 
 
@@ -232,7 +232,7 @@ class Cell(NamedTuple):
 
 
 class Sight(enum.Enum):
-    """What is seen of a row."""
+    """What is seen of a row; most are blank."""
 
     ALL = "all of it, or it has no letters"
     SOME = "some letters, or all by some receivers"
@@ -262,10 +262,10 @@ def letters_in(cells: bytes) -> Iterator[Cell]:
 @functools.lru_cache(maxsize=1000)
 def sight_of(cells: bytes) -> Sight:
     """What is seen of a row; most are blank."""
-    found = [*letters_in(cells)]
-    if all(one.is_seen for one in found):
+    drawn_cells = [*letters_in(cells)]
+    if all(cell.is_seen for cell in drawn_cells):
         return Sight.ALL
-    return Sight.SOME if any(one.is_seen_somewhere for one in found) else Sight.NONE
+    return Sight.SOME if any(cell.is_seen_somewhere for cell in drawn_cells) else Sight.NONE
 
 
 def hidden_words(cells: bytes, option: str) -> str:
@@ -273,12 +273,12 @@ def hidden_words(cells: bytes, option: str) -> str:
     table = letters(BY_WORD[option].bits)
 
     def text(several: Sequence[Cell]) -> str:
-        return '"' + "".join(table[one.code] for one in several) + '"'
+        return '"' + "".join(table[cell.code] for cell in several) + '"'
 
-    found = [one for one in letters_in(cells) if not one.is_seen]
-    alike = [one for one in found if one.is_alike]
-    outside = [one for one in found if not one.is_alike and not one.is_begun]
-    behind = [one for one in found if one.is_seen_somewhere]
+    unseen = [cell for cell in letters_in(cells) if not cell.is_seen]
+    alike = [cell for cell in unseen if cell.is_alike]
+    outside = [cell for cell in unseen if not cell.is_alike and not cell.is_begun]
+    behind = [cell for cell in unseen if cell.is_seen_somewhere]
     words = [f"no set shows {text(alike)}, in the colour of its background"] if alike else []
     words += [f"no set shows {text(outside)}, outside of a box"] if outside else []
     words += [f"libzvbi does not show {text(behind)}, behind one start box (0B), and ffmpeg does"] \
@@ -295,21 +295,24 @@ class HiddenRows(NamedTuple):
 
 def may_hide(subtitles: Sequence[Subtitle], has_layout: bool) -> bool:
     """Whether a row of a file may be hidden: only codes of a text, or of a layout, do that."""
-    return has_layout or any(bytes([code]) in one.text for one in subtitles for code in HIDING)
+    return has_layout or any(bytes([code]) in subtitle.text
+                             for subtitle in subtitles for code in HIDING)
 
 
 def hidden_rows(subtitles: Sequence[Subtitle], pages: Sequence[Rows], file: SubtitleFile,
                 option: str) -> HiddenRows:
     """What is wrong with the rows of a programme."""
-    found = HiddenRows([], [])
-    for one, page in zip(subtitles, pages):
+    hidden = HiddenRows([], [])
+    for subtitle, page in zip(subtitles, pages):
         for row, cells in enumerate(page, 1):
             sight = sight_of(cells)
             if sight == Sight.ALL:
                 continue
-            words = f"{one.name} at {time_of(one.begin)}, row {row}: {hidden_words(cells, option)}"
+            words = f"{subtitle.name} at {time_of(subtitle.begin)}, row {row}: " \
+                f"{hidden_words(cells, option)}"
             if sight == Sight.NONE:
-                found.faults.append(NamedFault(NOT_SHOWN, words, block=file.starts[one.index - 1]))
+                hidden.faults.append(NamedFault(
+                    NOT_SHOWN, words, block=file.starts[subtitle.index - 1]))
             else:
-                found.warnings.append(Notice(HIDDEN, words, time_of(one.begin)))
-    return found
+                hidden.warnings.append(Notice(HIDDEN, words, time_of(subtitle.begin)))
+    return hidden

@@ -17,9 +17,9 @@ from ..formats.teletext import BY_WORD
 from ..recording import notices
 from ..recording.notices import NeverSent, Notice, refuse_elsewhere
 from ..recording.recording import Recording, refuse_files
-from ..request import commands, request
-from ..request.commands import CommandWords, Listener, Names
-from ..request.request import Request, Selection, Unclear, Unsaid, option_line
+from ..request.commands import CommandWords, Listener, Names, again
+from ..request.request import (
+    OPTION_CHOICE, Request, Selection, Unclear, Unsaid, option_line)
 from ..stream.packets import HEADER
 from .causes import Causes
 from .check import Answer, check, check_alone, say_alone
@@ -74,13 +74,13 @@ class Explainer(NamedTuple):
 
     def delays(self, part: Part) -> Sequence[int | None]:
         """After how many frames the subtitles of a part were whole; nothing where nobody asks."""
-        asked = self.programme.asked
+        request = self.programme.asked
         held = part.causes.held if part.causes else part.held
-        if not (self.is_summed or asked.within) or not held:
+        if not (self.is_summed or request.within) or not held:
             return ()
-        is_known = not asked.within and not part.answer.numbers & MOVED
+        is_known = not request.within and not part.answer.numbers & MOVED
         return frames_in(is_known, len(part.subtitle_file().begins), held, part.due,
-                         asked.is_complete)
+                         request.is_complete)
 
     def hint(self, lead: Lead | None, part: Part) -> str:
         """What to know of the fault that is said first."""
@@ -97,10 +97,10 @@ def with_more(part: Part, **more: object) -> Part:
 
 def part_options(part: Part) -> list[str]:
     """The options by which the program judges a part."""
-    recording, found = part.recorded
+    recording, alignment = part.recorded
     first, last = part.pes or (0, 0)
     return [*recording.words(), "--pes", f"{first}-{last}", *part.asked.check_words(),
-            *(["--origin", str(found.origin)] if found.origin else [])]
+            *(["--origin", str(alignment.origin)] if alignment.origin else [])]
 
 
 def check_part(part: Part, typed: CommandWords, listener: Listener) -> None:
@@ -125,17 +125,18 @@ class Located(NamedTuple):
 
 def adjoining_at(part: Part) -> int | None:
     """The last TCO of a part of which nothing else is refused than what is shown there."""
-    fault, (_, found) = part.answer.first, part.recorded
+    fault, (_, alignment) = part.answer.first, part.recorded
     is_alone = part.answer.count == 1 and fault is not None and fault.number == CONTENT
     frame = fault.frame if fault else None
-    is_there = frame is not None and found.end <= frame <= found.end + part.asked.within
-    return found.end if is_alone and is_there else None
+    is_there = frame is not None and alignment.end <= frame <= alignment.end + part.asked.within
+    return alignment.end if is_alone and is_there else None
 
 
 def pauses_near(subtitles: Sequence[Subtitle], at: int) -> list[int]:
     """The last TCO before a frame behind which there is a pause, and the first behind it; the end
     of the file is one."""
-    ends = [one.end for one, other in zip(subtitles, subtitles[1:]) if one.end < other.begin]
+    ends = [subtitle.end for subtitle, other in zip(subtitles, subtitles[1:])
+            if subtitle.end < other.begin]
     ends += [subtitles[-1].end] if subtitles else []
     return [*[end for end in ends if end < at][-1:], *[end for end in ends if end > at][:1]]
 
@@ -154,20 +155,20 @@ class Pair:
 
     def again(self, *more: str) -> str:
         """The call of this tool, with more words."""
-        return commands.again(self.asked, self.typed, *more)
+        return again(self.asked, self.typed, *more)
 
     def judge(self) -> None:
         """Judges the pair; `Unclear` where a step is not clear."""
-        asked = self.asked
-        refuse_files(asked)
-        if asked.language is not None:
+        request = self.asked
+        refuse_files(request)
+        if request.language is not None:
             self.listener.chosen(Selection(
-                request.OPTION_CHOICE, asked.option, option_line(asked)))
+                OPTION_CHOICE, request.option, option_line(request)))
         answer = self.judge_file()
         is_refused = answer.numbers != {EMPTY}
         if not is_refused:
             self.look_at_rows()
-        if asked.recording is None or is_refused and not self.verdict.beside:
+        if request.recording is None or is_refused and not self.verdict.beside:
             self.judge_alone(answer, is_refused)
         elif is_refused:
             self.judge_beside(answer)
@@ -203,27 +204,27 @@ class Pair:
     def judge_file(self) -> Answer:
         """What is told of the subtitle file alone; which subtitles are judged beside others of it
         stands in the verdict."""
-        asked, verdict = self.asked, self.verdict
+        request, verdict = self.asked, self.verdict
         if self.is_summed:
-            verdict.stl = file_of(asked.stl_path, asked.stl)
+            verdict.stl = file_of(request.stl_path, request.stl)
         answer = self.check_alone()
         if is_judged_beside(answer.numbers):
             answer = self.take_beside(answer)
         file = SubtitleFile(self.names.given)
         verdict.warnings += notices.count_notices(file)
-        if asked.from_time is None and (title := title_words(file)):
+        if request.from_time is None and (title := title_words(file)):
             self.listener.noted(title)
         return answer
 
     def look_at_rows(self) -> None:
         """Takes what no set shows of the subtitle file, and what some sets do not."""
-        asked, file = self.asked, SubtitleFile(self.names.given)
-        if not may_hide(subtitles_read(file.data), bool(asked.layout)):
+        request, file = self.asked, SubtitleFile(self.names.given)
+        if not may_hide(subtitles_read(file.data), bool(request.layout)):
             return
-        due = self.due_of(asked, [])
-        found = hidden_rows(due.subtitles, due.pages, file, asked.option)
-        self.verdict.named += found.faults
-        self.verdict.warn(found.warnings)
+        due = self.due_of(request, [])
+        hidden = hidden_rows(due.subtitles, due.pages, file, request.option)
+        self.verdict.named += hidden.faults
+        self.verdict.warn(hidden.warnings)
 
     def check_alone(self) -> Answer:
         """What is wrong with the subtitle file; at least there is no PES packet."""
@@ -237,7 +238,7 @@ class Pair:
         file alone."""
         if self.asked.recording is not None:
             file = SubtitleFile(self.names.given, self.asked.between)
-            faults = (told for told, _ in answer.told())
+            faults = (fault for fault, _ in answer.told())
             self.verdict.beside = beside_of(file, faults, self.asked.option)
         return answer.without(EMPTY, self.names.temporary("refused.txt"))
 
@@ -270,36 +271,36 @@ class Pair:
         between = self.asked.between
         if self.verdict.beside:
             return self.verdict.beside.judged
-        found = subtitles_in(self.typed.program_path, self.names.given, between,
-                             self.asked.is_open)
-        if not found and between != ALL_DAY:
+        subtitles = subtitles_in(self.typed.program_path, self.names.given, between,
+                                 self.asked.is_open)
+        if not subtitles and between != ALL_DAY:
             raise Unclear(f"no subtitle of {self.asked.stl} is left: none comes at "
                           f"{time_of(between.begin)} or later and before {time_of(between.end)}")
-        return found
+        return subtitles
 
     # The recording.
 
     @functools.cached_property
     def located(self) -> Located:
         """The recording, which is read once, and its parts."""
-        asked = self.asked
+        request = self.asked
         subtitles = self.subtitles()
         self.verdict.count = len(subtitles)
         if not subtitles:
-            raise Unclear(f"{asked.stl} has no subtitle")
-        clock = given_clock(asked, self.verdict.was_fitted) or NO_CLOCK
-        programme = PartSearch(asked, Found(subtitles[0].begin, subtitles[-1].end, clock),
-                              asked.pes, self.left_out, self.verdict.was_fitted,
+            raise Unclear(f"{request.stl} has no subtitle")
+        clock = given_clock(request, self.verdict.was_fitted) or NO_CLOCK
+        programme = PartSearch(request, Found(subtitles[0].begin, subtitles[-1].end, clock),
+                              request.pes, self.left_out, self.verdict.was_fitted,
                               self.given is not None)
-        self.recording = recording = Recording(asked, self.typed, self.names, self.listener,
-                                               self.given, [(one.begin, one.end)
-                                                            for one in subtitles])
+        self.recording = recording = Recording(request, self.typed, self.names, self.listener,
+                                               self.given, [(subtitle.begin, subtitle.end)
+                                                            for subtitle in subtitles])
         recording.read(self.is_summed)
         self.verdict.recording = recording.file
         self.refuse_range(recording)
         clocks = parts_of(programme, recording, self.listener)
         first, last = clocks.found[0], clocks.found[-1]
-        refuse_elsewhere(asked, recording.survey, pts_of(first.begin, first.origin),
+        refuse_elsewhere(request, recording.survey, pts_of(first.begin, first.origin),
                          pts_of(last.end, last.origin))
         self.verdict.notes[:0] = clocks.delay
         return Located(recording, clocks, subtitles)
@@ -352,20 +353,20 @@ class Pair:
             self.judge_part(part, programme, subtitles, len(parts))
         self.tell_losses(recording, clocks.is_shifted)
 
-    def parts_in(self, recording: Recording, found: list[Found], programme: PartSearch,
+    def parts_in(self, recording: Recording, alignments: list[Found], programme: PartSearch,
                  subtitles: list[Subtitle]) -> list[PartFrames]:
         """What is judged, one after another."""
-        asked = self.asked
-        found = parted(found, programme.whole, subtitles, recording.stages, programme.inside,
-                       asked.within)
-        if len(found) > 1:
-            refuse_others(found, subtitles, asked.stl)
-        is_whole = len(found) == 1
+        request = self.asked
+        alignments = parted(alignments, programme.whole, subtitles, recording.stages,
+                            programme.inside, request.within)
+        if len(alignments) > 1:
+            refuse_others(alignments, subtitles, request.stl)
+        is_whole = len(alignments) == 1
         return [PartFrames(
-            number, asked if is_whole else asked.of_part(*part.between),
+            number, request if is_whole else request.of_part(*part.between),
             self.names if is_whole else self.names.of_part(number), part,
             recording.of(part.stage) if part.stage else recording, self.left_out)
-            for number, part in enumerate(found, 1)]
+            for number, part in enumerate(alignments, 1)]
 
     def judge_part(self, frames: PartFrames, programme: PartSearch, subtitles: list[Subtitle],
                    count: int) -> None:
@@ -394,14 +395,14 @@ class Pair:
         at = adjoining_at(part) if self.asked.to_time and not self.verdict.beside else None
         if at is None or part.held is None:
             return
-        asked, program, given = self.asked, self.typed.program_path, self.names.given
-        due = due_pages_of(program, given, asked.page, asked.option, Between(at, at + 1),
-                           asked.words_of_pages(), asked.is_open)
+        request, program, given = self.asked, self.typed.program_path, self.names.given
+        due = due_pages_of(program, given, request.page, request.option, Between(at, at + 1),
+                           request.words_of_pages(), request.is_open)
         fault = part.answer.first
         if not due.pages or not fault or part.held.page_at(fault.frame or at) != due.pages[0]:
             return
         # Another range than the whole day takes the subtitles of a file that has a refused one.
-        subtitles = subtitles_in(program, given, Between(0, FRAMES_OF_A_DAY + 1), asked.is_open)
+        subtitles = subtitles_in(program, given, Between(0, FRAMES_OF_A_DAY + 1), request.is_open)
         raise Unclear(f"at {time_of(at)}, where --to cuts the file, the next subtitle adjoins: all "
                       "before it is as it is due, and nothing ends there",
                       *(self.again("--to", time_of(end + 1))
@@ -415,14 +416,14 @@ class Pair:
         self.verdict.named += faults
         self.listener.noted(*notes)
 
-    def due_of(self, asked: Request, subtitles: list[Subtitle]) -> DuePages:
+    def due_of(self, request: Request, subtitles: list[Subtitle]) -> DuePages:
         """The pages that are due of a part; beside subtitles that are refused those of the others.
         """
         if self.verdict.beside:
-            layout = layout_of(asked.layout or "") or PLAIN
-            return due_beside(subtitles, asked.page, asked.option, layout)
-        return due_pages_of(self.typed.program_path, self.names.given, asked.page, asked.option,
-                            asked.between, asked.words_of_pages(), asked.is_open)
+            layout = layout_of(request.layout or "") or PLAIN
+            return due_beside(subtitles, request.page, request.option, layout)
+        return due_pages_of(self.typed.program_path, self.names.given, request.page, request.option,
+                            request.between, request.words_of_pages(), request.is_open)
 
     def tell_losses(self, recording: Recording, is_shifted: bool) -> None:
         """Takes where something of the recording is missing, and that it grew meanwhile."""
@@ -437,13 +438,13 @@ class Pair:
 
     def warn(self, recording: Recording, origin: int, part: Found) -> None:
         """Takes what is strange of a recording, or of what is on a PID."""
-        found, packets, survey = list[Notice](), recording.packets, recording.survey
-        found += recording.strange()
+        warnings, packets, survey = list[Notice](), recording.packets, recording.survey
+        warnings += recording.strange()
         if recording.is_stream:
-            found += [*notices.of_timing(packets, origin),
-                      *notices.of_jumps(packets, origin, part.begin, part.end),
-                      *notices.of_tables(survey, packets.pid, self.asked)]
-        self.verdict.warn([*found, *notices.of_character_sets(packets, self.asked)])
+            warnings += [*notices.of_timing(packets, origin),
+                         *notices.of_jumps(packets, origin, part.begin, part.end),
+                         *notices.of_tables(survey, packets.pid, self.asked)]
+        self.verdict.warn([*warnings, *notices.of_character_sets(packets, self.asked)])
 
     def warn_of(self, part: Part, subtitles: list[Subtitle]) -> None:
         """Takes where a part has pauses, and how often its page is repeated."""

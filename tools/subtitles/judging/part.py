@@ -239,14 +239,14 @@ class Part:
 
 def answered_part(pace: PartPace, answer: Answer, due: Callable[[], DuePages]) -> Part:
     """The part that `check` answers about, as it was asked; due is what is due of it."""
-    (frames, pes, judged), asked, jumps = pace
-    number, _, names, found, recording, left_out = frames
+    (frames, pes, judged), request, jumps = pace
+    number, _, names, alignment, recording, left_out = frames
 
     def timeline() -> Timeline:
-        return Timeline(recording.packets, asked.page, found.origin, asked.within, pes)
+        return Timeline(recording.packets, request.page, alignment.origin, request.within, pes)
 
-    return Part(number, asked, names, answer, found, recording, left_out, pes, judged, jumps, due,
-                functools.lru_cache(maxsize=None)(timeline))
+    return Part(number, request, names, answer, alignment, recording, left_out, pes, judged, jumps,
+                due, functools.lru_cache(maxsize=None)(timeline))
 
 
 def is_in(place: Place, part: Part) -> bool:
@@ -273,56 +273,59 @@ def is_in(place: Place, part: Part) -> bool:
 PID = "pid"  # the word for machines
 
 
-def found_on(found: Found, stages: Sequence[Stage], subtitles: Sequence[Subtitle], within: int) \
-        -> list[Found]:
+def found_on(alignment: Found, stages: Sequence[Stage], subtitles: Sequence[Subtitle],
+             within: int) -> list[Found]:
     """What each PID carries of what is judged by a clock, where subtitles come on it."""
-    own = [one for one in subtitles if found.begin <= one.begin < found.end]
+    own = [subtitle for subtitle in subtitles if alignment.begin <= subtitle.begin < alignment.end]
     parts: list[Found] = []
     before = -1  # the last frame of the stage before
     for place, stage in enumerate(stages):
-        stage = stage._replace(inside=part_inside(stages, place, found.packets))
+        stage = stage._replace(inside=part_inside(stages, place, alignment.packets))
         if place + 1 < len(stages):
             stage = up_to(stage, stages[place + 1])
         # One that is over on the PID before needs not be seen on this one.
-        over = max([one.end for one in own if one.end <= before], default=0)
-        first = next((frame for frame in stage.frames(found.origin, within) if frame >= over), None)
+        over = max([subtitle.end for subtitle in own if subtitle.end <= before], default=0)
+        frames = stage.frames(alignment.origin, within)
+        first = next((frame for frame in frames if frame >= over), None)
         last = stage.last()
         if first is None or last is None:
             continue
-        last = frame_in(last, found.origin, within)
+        last = frame_in(last, alignment.origin, within)
         is_last = place == len(stages) - 1
-        begin = min([one.begin for one in own if one.begin <= before < one.end] + [before + 1])
-        between = Between(begin, found.end if is_last else min(last + 1, found.end))
-        if any(between.has(one.begin) for one in own):
-            parts.append(Found(first, last, found.clock, stage.inside, between, stage))
+        begin = min([subtitle.begin for subtitle in own
+                     if subtitle.begin <= before < subtitle.end] + [before + 1])
+        between = Between(begin, alignment.end if is_last else min(last + 1, alignment.end))
+        if any(between.has(subtitle.begin) for subtitle in own):
+            parts.append(Found(first, last, alignment.clock, stage.inside, between, stage))
         before = last
-    return [linked(parts, place, found) for place in range(len(parts))]
+    return [linked(parts, place, alignment) for place in range(len(parts))]
 
 
-def linked(parts: Sequence[Found], place: int, found: Found) -> Found:
+def linked(parts: Sequence[Found], place: int, whole: Found) -> Found:
     """One with those beside it. The first begins as all of them do, and the last ends so."""
-    one, is_first, is_last = parts[place], place == 0, place == len(parts) - 1
-    return one._replace(
-        begin=found.begin if is_first else one.begin, end=found.end if is_last else one.end,
-        between=Between(found.begin if is_first else one.between.begin,
-                        found.end if is_last else one.between.end),
+    alignment, is_first, is_last = parts[place], place == 0, place == len(parts) - 1
+    return alignment._replace(
+        begin=whole.begin if is_first else alignment.begin,
+        end=whole.end if is_last else alignment.end,
+        between=Between(whole.begin if is_first else alignment.between.begin,
+                        whole.end if is_last else alignment.between.end),
         came=None if is_first else parts[place - 1].pid,
         goes=None if is_last else parts[place + 1].pid)
 
 
 def moves_told(parts: Sequence[Found], page: str, within: int) -> Iterator[Notice]:
     """What is said of each move between PIDs of which something is judged."""
-    for one, other in zip(parts, parts[1:]):
-        if one.pid is None or one.goes is None or one.goes != other.pid:
+    for alignment, other in zip(parts, parts[1:]):
+        if alignment.pid is None or alignment.goes is None or alignment.goes != other.pid:
             continue  # a break stands between them
-        last, first = one.end, other.begin
+        last, first = alignment.end, other.begin
         where = f"between {time_of(last)} and {time_of(first)}: what was sent between is not " \
             "trusted" if last < first else f"at {time_of(first)}, where both carry it"
         begun = next(other.stage.frames(other.origin, within), first) if other.stage else first
         if begun < first:
-            where += f"; what {pid_name(one.goes)} carries from {time_of(begun)} up to then is " \
-                "not judged"
-        yield Notice(PID, f"{move_words(page, one.pid, one.goes)} {where}",
+            where += f"; what {pid_name(alignment.goes)} carries from {time_of(begun)} up to " \
+                "then is not judged"
+        yield Notice(PID, f"{move_words(page, alignment.pid, alignment.goes)} {where}",
                      time_of(max(last, first)))
 
 
@@ -330,24 +333,25 @@ def moves_told(parts: Sequence[Found], page: str, within: int) -> Iterator[Notic
 # PID while it is due.
 
 
-def parted(found: Sequence[Found], whole: Found, subtitles: Sequence[Subtitle],
+def parted(alignments: Sequence[Found], whole: Found, subtitles: Sequence[Subtitle],
            stages: Sequence[Stage], inside: Range | None, within: int) -> list[Found]:
     """What is judged, one after another, by the parts that were found: a single one is the whole
     file, several have the subtitles that come in their frames; of each what is on which PID."""
-    if len(found) == 1:
-        found = [whole._replace(clock=found[0].clock, packets=found[0].packets)]
+    if len(alignments) == 1:
+        alignments = [whole._replace(clock=alignments[0].clock, packets=alignments[0].packets)]
     else:
-        found = [one._replace(between=Between(one.begin, one.end)) for one in found]
+        alignments = [alignment._replace(between=Between(alignment.begin, alignment.end))
+                      for alignment in alignments]
     if not stages:
-        return [*found]
-    return [its for one in found for its in found_on(
-        one._replace(packets=one.packets or inside), stages, subtitles, within)]
+        return [*alignments]
+    return [alignment for alignment in alignments for alignment in found_on(
+        alignment._replace(packets=alignment.packets or inside), stages, subtitles, within)]
 
 
 def refuse_others(parts: Sequence[Found], subtitles: Sequence[Subtitle], stl: str) -> None:
     """`Unclear` where a subtitle of the file `stl` is in none of several parts, or they have others
     than it has, or in another order."""
-    own = [one for part in parts for one in subtitles if part.between.has(one.begin)]
+    own = [subtitle for part in parts for subtitle in subtitles if part.between.has(subtitle.begin)]
     if any(part.stage for part in parts):
         own = [*dict.fromkeys(own)]
     left = len(subtitles) - len(own)
@@ -363,25 +367,25 @@ def refuse_others(parts: Sequence[Found], subtitles: Sequence[Subtitle], stl: st
 
 def part_causes(part: Part) -> Causes | None:
     """The causes of a part that was judged; `None` where there are none."""
-    asked, (recording, found) = part.asked, part.recorded
+    request, (recording, alignment) = part.asked, part.recorded
     lost = part.places() if recording.is_stream else []
-    held = timeline_near(part.packets, asked.page, found.origin, asked.within,
-                         Span(found.begin, found.end), asked.every, found.packets,
-                         unseen(lost, found.origin, asked.within))
+    held = timeline_near(part.packets, request.page, alignment.origin, request.within,
+                         Span(alignment.begin, alignment.end), request.every, alignment.packets,
+                         unseen(lost, alignment.origin, request.within))
     causes = Causes(part.due(), held,
-                    reach(None if recording.packets.refusal else recording.reach(), found))
+                    reach(None if recording.packets.refusal else recording.reach(), alignment))
     causes.name(part.answer)
     return causes if causes.named else None
 
 
-def reach(pts: tuple[int, int] | None, found: Found) -> Span | None:
+def reach(pts: tuple[int, int] | None, alignment: Found) -> Span | None:
     """The frames of which all that was sent from a PTS to another one is, where PTS do not go back.
     """
-    if pts is None or found.packets:
+    if pts is None or alignment.packets:
         return None
-    first, last = (ticks_within(pts_of(found.begin, found.origin),
-                                TICKS * (found.end - found.begin), one) for one in pts)
-    return Span(found.begin - -first // TICKS, found.begin + last // TICKS)
+    first, last = (ticks_within(pts_of(alignment.begin, alignment.origin),
+                                TICKS * (alignment.end - alignment.begin), one) for one in pts)
+    return Span(alignment.begin - -first // TICKS, alignment.begin + last // TICKS)
 
 
 def unseen(places: Sequence[Place], origin: int, within: int, is_with_next: bool = True) \

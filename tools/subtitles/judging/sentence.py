@@ -64,7 +64,7 @@ OF_NAME = {NEVER_SENT: Rank.NEVER, NOT_SHOWN: Rank.WRONG, PICTURES_LEFT: Rank.MO
 
 def worst_name(faults: Sequence[NamedFault], than: Rank | None) -> NamedFault | None:
     """The first of the worst faults with a name, where it is as bad as what else is refused."""
-    worst = min(faults, key=lambda one: OF_NAME[one.name]) if faults else None
+    worst = min(faults, key=lambda fault: OF_NAME[fault.name]) if faults else None
     return worst if worst and (than is None or OF_NAME[worst.name] <= than) else None
 
 
@@ -75,8 +75,8 @@ def rank_of(number: int, cause: str | None = None) -> Rank:
 
 def worst_cause(causes: Iterable[Cause]) -> Cause | None:
     """The first one of those that are the worst."""
-    found = [*causes]
-    return min(found, key=lambda one: (OF_CAUSE[one.name], one.place)) if found else None
+    several = [*causes]
+    return min(several, key=lambda cause: (OF_CAUSE[cause.name], cause.place)) if several else None
 
 
 class Lead(NamedTuple):
@@ -92,14 +92,14 @@ def lead_of(answer: Answer, causes: Causes | None, left_out: Collection[int] = (
     """What is said first of some faults but those of some numbers: the first one of those that are
     the worst."""
     is_caused = bool(causes and causes.named)
-    found = [Lead(rank_of(number), at, told)
+    leads = [Lead(rank_of(number), at, told)
              for at, (number, told) in enumerate(answer.firsts.items())
              if number not in left_out and not (number == CONTENT and is_caused)]
     cause = worst_cause(causes.all()) if causes else None
-    told = line_of(answer, causes, cause) if causes and cause else None
-    if cause and told and told.number not in left_out:
-        found.append(Lead(OF_CAUSE[cause.name], -1, told, True))
-    return min(found, default=None)
+    fault = line_of(answer, causes, cause) if causes and cause else None
+    if cause and fault and fault.number not in left_out:
+        leads.append(Lead(OF_CAUSE[cause.name], -1, fault, True))
+    return min(leads, default=None)
 
 
 def line_of(answer: Answer, causes: Causes, cause: Cause) -> FaultLine | None:
@@ -110,13 +110,13 @@ def line_of(answer: Answer, causes: Causes, cause: Cause) -> FaultLine | None:
     first = causes.first_frames.get(cause.place)
     if edge is not None or first is None:
         return answer.firsts.get(edge or CONTENT)
-    found = answer.firsts.get(CONTENT)
-    for told, _ in answer.told():
-        if told.number == CONTENT and told.frame is not None:
-            if told.frame > first:
+    last = answer.firsts.get(CONTENT)
+    for fault, _ in answer.told():
+        if fault.number == CONTENT and fault.frame is not None:
+            if fault.frame > first:
                 break
-            found = told
-    return found
+            last = fault
+    return last
 
 
 # A fault of each number as a sentence: what stands behind `Refused: at TIME`.
@@ -299,22 +299,22 @@ def what_is_wrong(seen: Facts) -> str:
 def fault_clause(seen: Facts) -> str:
     """The first fault, with its place, in the words for it alone or those of the manual, and how
     many there are of each number."""
-    told = seen.first
-    if told is None and seen.named:
+    fault = seen.first
+    if fault is None and seen.named:
         return seen.named + (f"; in all {counted(seen.faults, 'fault')}" * (seen.faults > 1))
-    if told is None:
+    if fault is None:
         return f"{counted(seen.faults, 'fault')}"
-    if told.number == LOST_PACKETS and seen.lost:
+    if fault.number == LOST_PACKETS and seen.lost:
         more = f", and in {counted(len(seen.lost) - 1, 'more place')}" if len(seen.lost) > 1 else ""
         return f"{seen.lost[0]}{more}; that part was not recorded{also(seen)}"
-    words = WORDS.get(told.number, told.name)
-    place = told.time or (f"PES packet {told.pes}" if told.pes is not None else
-                          f"block {told.block}" if told.block is not None else "")
-    if seen.hint and told.number in OF_ALL:
+    words = WORDS.get(fault.number, fault.name)
+    place = fault.time or (f"PES packet {fault.pes}" if fault.pes is not None else
+                           f"block {fault.block}" if fault.block is not None else "")
+    if seen.hint and fault.number in OF_ALL:
         words, place = f"from {place} on {seen.hint}", ""
     elif seen.hint:
-        words = seen.hint if told.number in BY_HINT else f"{words}: {seen.hint}"
-    place = place and f"{'at' if told.time else 'in'} {place} "
+        words = seen.hint if fault.number in BY_HINT else f"{words}: {seen.hint}"
+    place = place and f"{'at' if fault.time else 'in'} {place} "
     more = f"; in all {counted(seen.faults, 'fault')}" if seen.faults > 1 else ""
     several = f": {numbers_words(seen.counts)}" if len(seen.counts) > 1 else ""
     return f"{place}{words}{more}{several}"
@@ -324,15 +324,16 @@ def also(seen: Facts) -> str:
     """How many faults there are that are none of the content, and not of the number that is said
     first."""
     first = seen.first.number if seen.first else None
-    others = [one for one in seen.counts if one.number not in WITH_CAUSE and one.number != first]
+    others = [count for count in seen.counts
+              if count.number not in WITH_CAUSE and count.number != first]
     return f"; also {numbers_words(others)}" if others else ""
 
 
 def numbers_words(several: Sequence[Count]) -> str:
     """How many faults there are of each number, the worst first, of many the first ones."""
-    rising = sorted(several, key=lambda one: (rank_of(one.number), one.number))
-    words = [f"{one.number} {one.name}" + (f" ({one.faults:,})" if one.faults > 1 else "")
-             for one in rising]
+    rising = sorted(several, key=lambda count: (rank_of(count.number), count.number))
+    words = [f"{count.number} {count.name}" + (f" ({count.faults:,})" if count.faults > 1 else "")
+             for count in rising]
     if len(words) > MOST_NUMBERS:
         words[MOST_NUMBERS:] = [counted(len(words) - MOST_NUMBERS, "more number")]
     return " and ".join(filter(None, (", ".join(words[:-1]), words[-1])))
@@ -343,9 +344,9 @@ def of_causes(causes: Causes, option: str) -> str:
     every = causes.all()
     worst = worst_cause(every)
     assert worst
-    found = [cause for cause in every if cause.name == worst.name]
+    alike = [cause for cause in every if cause.name == worst.name]
     subtitles = causes.programme.subtitles
-    words = of_one(worst, causes, option) if len(found) == 1 else of_several(found, subtitles)
+    words = of_one(worst, causes, option) if len(alike) == 1 else of_several(alike, subtitles)
     others = collections.Counter(cause.name for cause in every if cause.name != worst.name)
     if not others:
         return words
@@ -375,19 +376,19 @@ def due_text(causes: Causes, place: int, option: str) -> str:
     return page_text(causes.programme.pages[place], BY_WORD[option].bits)
 
 
-def of_several(found: Sequence[Cause], subtitles: Sequence[Subtitle]) -> str:
+def of_several(causes: Sequence[Cause], subtitles: Sequence[Subtitle]) -> str:
     """A cause that some subtitles have: from when on, or between when, and how many of all."""
-    first, last = subtitles[found[0].place], subtitles[found[-1].place]
-    name = found[0].name
+    first, last = subtitles[causes[0].place], subtitles[causes[-1].place]
+    name = causes[0].name
     if name == IN_PAUSE:
-        return f"another text was sent in {counted(len(found), 'pause')}, the first " \
-            f"{found[0].words}"
-    is_to_the_end = found[-1].place == len(subtitles) - 1
+        return f"another text was sent in {counted(len(causes), 'pause')}, the first " \
+            f"{causes[0].words}"
+    is_to_the_end = causes[-1].place == len(subtitles) - 1
     when = f"from {time_of(first.begin)} on" if is_to_the_end else \
         f"from {time_of(first.begin)} to {time_of(last.begin)}"
-    frames = sorted(cause.frames or 0 for cause in found)
+    frames = sorted(cause.frames or 0 for cause in causes)
     said = f"are {range_words(frames[0], frames[-1])} {name}" if name in (LATE, EARLY) else \
         SAID[name][1]
-    words = {cause.words for cause in found}
+    words = {cause.words for cause in causes}
     more = f" ({words.pop()})" if len(words) == 1 and words != {""} else ""
-    return f"{when} the subtitles {said}{more} ({len(found)} of {len(subtitles)})"
+    return f"{when} the subtitles {said}{more} ({len(causes)} of {len(subtitles)})"

@@ -65,15 +65,15 @@ def falls_at_midnight(earlier: bytes, later: bytes) -> bool:
 class OptionAdvice:
     """The advice for the letters of one subtitle file, which is judged by the option `asked`."""
 
-    def __init__(self, subtitles: SubtitleFile, asked: str) -> None:
-        self.subtitles, self.asked = subtitles, asked
+    def __init__(self, subtitles: SubtitleFile, option: str) -> None:
+        self.subtitles, self.asked = subtitles, option
 
     @functools.cached_property
     def drawing(self) -> list[NationalOption]:
         """The other options that have each letter of the whole file."""
         texts = {self.subtitles.text(block) for block in self.subtitles.lasts()}
-        return [one for one in OPTIONS if one.word != self.asked
-                and all(has_characters(text, one) for text in texts)]
+        return [option for option in OPTIONS if option.word != self.asked
+                and all(has_characters(text, option) for text in texts)]
 
     def of(self, block: int, at: int) -> str:
         """What to do about the byte at a place of the text whose last block that is."""
@@ -97,7 +97,7 @@ def advice_of(letter: bytes, drawing: list[NationalOption]) -> str:
 
 def listed(options: list[NationalOption]) -> str:
     """Some options, as words to type."""
-    return "--option " + ", ".join(one.word for one in options)
+    return "--option " + ", ".join(option.word for option in options)
 
 
 # What is judged beside subtitles that are refused: the subtitles that can be relied on.
@@ -137,8 +137,8 @@ class RefusedSubtitle(NamedTuple):
 
     def name(self) -> str:
         """It as all tools name it, with its time."""
-        one = self.subtitle
-        return f"{subtitle_name(one.position, one.number)} at {one.begin}"
+        subtitle = self.subtitle
+        return f"{subtitle_name(subtitle.position, subtitle.number)} at {subtitle.begin}"
 
     def why(self) -> str:
         """The number and the name of its fault, its letter, or what that means, and what to do."""
@@ -160,7 +160,7 @@ class JudgedBeside(NamedTuple):
 
     def lines(self) -> Iterator[str]:
         """A line for each that is refused, of many for the first ones."""
-        yield from (one.line() for one in self.refused[:MOST_LINES])
+        yield from (refused.line() for refused in self.refused[:MOST_LINES])
         if len(self.refused) > MOST_LINES:
             yield f"undecided: {counted(len(self.refused) - MOST_LINES, 'more subtitle')}"
 
@@ -168,7 +168,7 @@ class JudgedBeside(NamedTuple):
         """Which are refused: the first ones, and how many more."""
         if len(self.refused) == 1:
             return f"{self.refused[0].name()} is refused by {self.refused[0].why()}"
-        named = [f"{one.name()} by {one.why()}" for one in self.refused[:MOST_NAMED]]
+        named = [f"{refused.name()} by {refused.why()}" for refused in self.refused[:MOST_NAMED]]
         more, total = len(self.refused) - len(named), len(self.judged) + len(self.left_out)
         last = f"{more:,} more" if more else named.pop()
         return f"{len(self.refused):,} of {total:,} subtitles are refused, " \
@@ -183,19 +183,20 @@ def is_judged_beside(numbers: set[int]) -> bool:
 
 def beside_of(file: SubtitleFile, faults: Iterable[FaultLine], option: str) -> JudgedBeside:
     """What is judged of a file beside what is told of it."""
-    told: dict[int, list[FaultLine]] = {}
-    for one in faults:
-        subtitle = file.at_block(one.block) if one.block is not None else None
-        if subtitle and one.number in STL_FAULTS:
-            told.setdefault(subtitle.position, []).append(one)
+    by_position: dict[int, list[FaultLine]] = {}
+    for fault in faults:
+        subtitle = file.at_block(fault.block) if fault.block is not None else None
+        if subtitle and fault.number in STL_FAULTS:
+            by_position.setdefault(subtitle.position, []).append(fault)
     asked_for = [*positions_in(file)]
     records = [place for place in asked_for
-               if not {one.number for one in told.get(place, ())} & NO_RECORD]
+               if not {one.number for one in by_position.get(place, ())} & NO_RECORD]
     judged = {place for place, after in zip(records, [*records[1:], None])
-              if place not in told and not (after is not None and {
-                  one.number for one in told.get(after, ())} & COMPARED)}
+              if place not in by_position and not (after is not None and {
+                  one.number for one in by_position.get(after, ())} & COMPARED)}
     advice, known = OptionAdvice(file, option), meanings()
-    refused = [refused_of(file, told[place][0], advice, known) for place in sorted(told)]
+    refused = [refused_of(file, by_position[place][0], advice, known)
+               for place in sorted(by_position)]
     return JudgedBeside([one for one in subtitles_read(file.data) if one.index in judged], refused,
                         frozenset(asked_for) - judged)
 
@@ -229,11 +230,11 @@ def due_beside(subtitles: Sequence[Subtitle], page: Page, option: str, layout: L
     here."""
     pages = [page_drawn(one, option, layout) for one in subtitles]
     packets = Packets(PES)
-    for place, (one, rows) in enumerate(zip(subtitles, pages)):
-        send(packets, one.begin, rows, page, option)
+    for place, (subtitle, rows) in enumerate(zip(subtitles, pages)):
+        send(packets, subtitle.begin, rows, page, option)
         following = subtitles[place + 1:place + 2]
-        if not following or following[0].begin > one.end:
-            send(packets, one.end, BLANK_PAGE, page, option)
+        if not following or following[0].begin > subtitle.end:
+            send(packets, subtitle.end, BLANK_PAGE, page, option)
     return DuePages([*subtitles], pages, Timeline(packets, page, 0))
 
 

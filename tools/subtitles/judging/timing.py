@@ -59,11 +59,11 @@ class PartClocks(NamedTuple):
 def parts_of(programme: PartSearch, recording: Recording, listener: Listener) -> PartClocks:
     """The parts with their clocks; the first one has the one that was given, or that the first
     picture tells."""
-    asked, whole = programme.asked, programme.whole
-    given = given_clock(asked, programme.was_fitted) or by_start(programme, recording, listener)
+    request, whole = programme.asked, programme.whole
+    given = given_clock(request, programme.was_fitted) or by_start(programme, recording, listener)
     if programme.is_cut and given and not recording.stages:
         programme = programme._replace(
-            inside=last_time(recording.packets, whole._replace(clock=given), asked))
+            inside=last_time(recording.packets, whole._replace(clock=given), request))
     origin = fitted_origin(programme, recording, given, listener)
     if origin.runs and recording.is_cut:
         run = run_of(programme, recording, given, origin.runs)
@@ -72,39 +72,39 @@ def parts_of(programme: PartSearch, recording: Recording, listener: Listener) ->
         programme = programme._replace(inside=run)
         origin = fitted_origin(programme, recording, given, listener)
     listener.noted(*origin.shifts)
-    found = found_in(origin, whole)
-    if not found and (given is None or asked.breaks or origin.runs):
+    alignments = found_in(origin, whole)
+    if not alignments and (given is None or request.breaks or origin.runs):
         raise unclear_origin(origin, clock_options(recording, origin))
-    found, delay = found or [whole], list[str]()
+    alignments, delay = alignments or [whole], list[str]()
     if given:
         clock, delay = with_delay(given, origin)
-        found[0] = found[0]._replace(clock=clock)
-    return PartClocks(programme, found, delay, bool(origin.shifts))
+        alignments[0] = alignments[0]._replace(clock=clock)
+    return PartClocks(programme, alignments, delay, bool(origin.shifts))
 
 
 # What is known before.
 
-def given_clock(asked: Request, was_fitted: bool = False) -> Clock | None:
+def given_clock(request: Request, was_fitted: bool = False) -> Clock | None:
     """The clock that was given, `None` where it is to be found."""
     source = RECORDING if was_fitted else GIVEN
-    return None if asked.origin is None else Clock(asked.origin, source)
+    return None if request.origin is None else Clock(request.origin, source)
 
 
 def by_start(programme: PartSearch, recording: Recording, listener: Listener) -> Clock | None:
     """The clock that the first picture tells, where it is asked."""
-    asked, whole = programme.asked, programme.whole
-    if asked.start is None:
+    request, whole = programme.asked, programme.whole
+    if request.start is None:
         return None
     try:
         if not recording.is_stream:
             raise NoFirst("PES packets of Teletext have no pictures")
-        begin = began(asked, recording.survey, recording.packets)
+        begin = began(request, recording.survey, recording.packets)
     except NoFirst as reason:
         raise recording.without_first(reason) from None
     for line in begin.lines:
         listener.said(line)
     if begin.clock.source == TCP:
-        refuse_outside(asked, begin, whole.begin, whole.end, recording.last())
+        refuse_outside(request, begin, whole.begin, whole.end, recording.last())
     return begin.clock
 
 
@@ -112,16 +112,16 @@ def by_start(programme: PartSearch, recording: Recording, listener: Listener) ->
 
 def search_in(programme: PartSearch, name: str, clock: Clock | None = None) -> Sought:
     """What is looked for in a recording by its name."""
-    asked = programme.asked
-    return Sought(asked.stl_path, name, asked.page, asked.option, clock and clock.origin,
-                  asked.within, asked.breaks, programme.inside, asked.between, programme.left_out,
-                  asked.late)
+    request = programme.asked
+    return Sought(request.stl_path, name, request.page, request.option, clock and clock.origin,
+                  request.within, request.breaks, programme.inside, request.between,
+                  programme.left_out, request.late)
 
 
-def origin_in(packets: Packets, asked: Sought) -> Origin:
+def origin_in(packets: Packets, sought: Sought) -> Origin:
     """What is found of the origin of a recording."""
     try:
-        return find(asked, packets)
+        return find(sought, packets)
     except (Stop, OSError) as reason:
         return Origin(2, told=[error_line(reason)])
 
@@ -172,9 +172,9 @@ def with_delay(clock: Clock, origin: Origin) -> tuple[Clock, list[str]]:
 def unclear_origin(origin: Origin, again: Iterable[str]) -> Unclear:
     """Why the origin is not clear, with what there is; `again` is what to type then."""
     is_said = origin.runs or origin.breaks is not None
-    told = "\n".join(origin.told) if is_said else \
+    reason = "\n".join(origin.told) if is_said else \
         f"the origin is not clear: {'; '.join(origin.told)}"
-    return Unclear(told, *again)
+    return Unclear(reason, *again)
 
 
 def clock_options(recording: Recording, origin: Origin) -> Iterator[str]:
@@ -191,16 +191,16 @@ def clock_options(recording: Recording, origin: Origin) -> Iterator[str]:
 
 # What is taken of the recording.
 
-def cut_within(programme: PartSearch, recording: Recording, found: Found, within: int) -> Cut:
+def cut_within(programme: PartSearch, recording: Recording, alignment: Found, within: int) -> Cut:
     """The PES packets of the time of the subtitles, within so many frames."""
-    return cut_of(recording.packets, found.begin, found.end, found.origin, programme.asked.every,
-                  within, found.packets or programme.inside)
+    return cut_of(recording.packets, alignment.begin, alignment.end, alignment.origin,
+                  programme.asked.every, within, alignment.packets or programme.inside)
 
 
 def cut_part(programme: PartSearch, part: PartFrames, listener: Listener) -> Range:
     """The same of a part by their numbers, which is said."""
-    recording, asked = part.recording, programme.asked
-    cut = cut_within(programme, recording, part.found, asked.within)
+    recording, request = part.recording, programme.asked
+    cut = cut_within(programme, recording, part.found, request.within)
     damage, line = recording.packets.damage, f"cut: {cut.told()}"
     if cut.range is None:
         listener.said(line)
@@ -224,12 +224,12 @@ def run_of(programme: PartSearch, recording: Recording, given: Clock | None,
     return next((run for run in runs if own and run[0] <= own[0] and own[1] <= run[1]), runs[0])
 
 
-def last_time(packets: Packets, whole: Found, asked: Request) -> Range | None:
+def last_time(packets: Packets, whole: Found, request: Request) -> Range | None:
     """Of what was cut out of a feed the PES packets of about the time of the subtitles, the last
     time that this comes."""
-    more = max(LEAST, asked.every) + asked.within
+    more = max(LEAST, request.every) + request.within
     cuts = (cut_of(packets, max(whole.begin - more, 0),
-                   min(whole.end + more, FRAMES_OF_A_DAY - 1), whole.origin, None, asked.within,
+                   min(whole.end + more, FRAMES_OF_A_DAY - 1), whole.origin, None, request.within,
                    (base.start, base.stop - 1)).range for base in reversed(packets.bases()))
     return next(filter(None, cuts), None)
 
@@ -243,31 +243,31 @@ UNCHECKED = "not checked: whether"  # begins the note on what nothing tells
 def paced_part(part: PartRange, times: Sequence[tuple[int, int]], listener: Listener) -> PartPace:
     """A part with the pace of the PES packets that are judged, where they are regular and none is
     asked for, by the frames of the subtitles. Where holes may be unseen notes say so."""
-    number, asked, recording = part.frames.number, part.frames.asked, part.frames.recording
+    number, request, recording = part.frames.number, part.frames.asked, part.frames.recording
     pace, unseen = measured_pace(part, times)
     jumps, count = late_jumps(part, pace)
     notes = [jump_words(count, recording)]
-    if asked.pace_word is not None:
-        notes.append(clock_words(recording) if asked.pace_word == NONE else "")
+    if request.pace_word is not None:
+        notes.append(clock_words(recording) if request.pace_word == NONE else "")
     else:
         notes.append(note := unseen_words(pace, unseen, recording))
         if pace.frames:
             listener.chosen(chosen_of(pace, recording.is_stream, number))
-            asked = dataclasses.replace(asked, pace_word=str(pace.frames))
+            request = dataclasses.replace(request, pace_word=str(pace.frames))
         elif note:  # which is told with the verdict
             listener.chosen(Selection(PACE_CHOICE, None, note, part=number), is_said=False)
     listener.noted(*notes)
-    return PartPace(part, asked, jumps)
+    return PartPace(part, request, jumps)
 
 
 def measured_pace(part: PartRange, times: Sequence[tuple[int, int]]) -> tuple[Pace, int | None]:
     """How far apart the PES packets of a part come; and from how many frames on a hole of them is
     one that the counter may not show."""
-    (_, asked, _, found, recording, _), pes, _ = part
+    (_, request, _, alignment, recording, _), pes, _ = part
     size = None if recording.is_stream else os.path.getsize(recording.path)
-    rows = frame_rows(recording.packets, pes, found.origin, asked.within)
+    rows = frame_rows(recording.packets, pes, alignment.origin, request.within)
     each = each_of(recording.packets, pes, size)
-    return pace_of(rows, each, asked.every, pauses_of(times), recording.is_stream), \
+    return pace_of(rows, each, request.every, pauses_of(times), recording.is_stream), \
         unseen_from(rows, each)
 
 
@@ -278,10 +278,10 @@ def late_jumps(part: PartRange, pace: Pace) -> tuple[list[PTSPair], int]:
     if not recording.is_stream:
         return [], 0
     packets, usual = recording.packets, min(pace.apart, NEXT)
-    found = jumps_told(packets, part.pes, usual) if recording.survey.tells_seams else jumps_at(
+    jumps = jumps_told(packets, part.pes, usual) if recording.survey.tells_seams else jumps_at(
         packets, part.pes, usual, recording.path, recording.survey.size or PACKET)
-    late = [pair for pair in found if ticks_between(*pair) > pace.apart * TICKS]
-    return late, len(found) - len(late)
+    late = [pair for pair in jumps if ticks_between(*pair) > pace.apart * TICKS]
+    return late, len(jumps) - len(late)
 
 
 def jump_words(count: int, recording: Recording) -> str:
@@ -348,26 +348,29 @@ class PicturesFound(NamedTuple):
     notes: list[str]
 
 
-def left_by_pictures(survey: Survey, pid: int, found: Found, within: int, number: int
+def left_by_pictures(survey: Survey, pid: int, alignment: Found, within: int, number: int
                      ) -> PicturesFound:
     """What the pictures leave of a part by its number, whose Teletext is on a PID."""
     kinds = {pid for programme in survey.programmes_of(pid) for pid in programme.kinds}
     faults, notes = list[NamedFault](), list[str]()
     for video, clock in survey.picture_clocks.items():
         if video in kinds:
-            inside = departures_in(departures_of(clock.lines, pid), found)
-            faults += faults_of([one for one in inside if one.ticks], found, within, number)
-            notes += late_notes([one for one in inside if one.ticks], found, within)
-            notes += unclear_notes(clock, sum(one.ticks is None for one in inside))
+            inside = departures_in(departures_of(clock.lines, pid), alignment)
+            away = [departure for departure in inside if departure.ticks]
+            faults += faults_of(away, alignment, within, number)
+            notes += late_notes(away, alignment, within)
+            notes += unclear_notes(clock, sum(departure.ticks is None for departure in inside))
     return PicturesFound(faults, notes)
 
 
-def departures_in(several: Sequence[Departure], found: Found) -> list[Departure]:
+def departures_in(several: Sequence[Departure], alignment: Found) -> list[Departure]:
     """Those of the time of a part; where its clock is of the first picture, from that on."""
-    first, length = pts_of(found.begin, found.origin), TICKS * (found.end - found.begin)
-    is_of_picture = found.clock.source in (START, TCP)
-    return [one for one in several if (at := ticks_within(first, length, one.pts)) < length
-            and (at >= 0 and not one.is_begin or is_of_picture)]
+    first = pts_of(alignment.begin, alignment.origin)
+    length = TICKS * (alignment.end - alignment.begin)
+    is_of_picture = alignment.clock.source in (START, TCP)
+    return [departure for departure in several
+            if (at := ticks_within(first, length, departure.pts)) < length and (
+                at >= 0 and not departure.is_begin or is_of_picture)]
 
 
 class Away(NamedTuple):
@@ -386,13 +389,14 @@ class Away(NamedTuple):
             f"{'early' if self.ticks > 0 else 'late'} for viewers: the pictures go on elsewhere"
 
 
-def aways_of(several: Sequence[Departure], found: Found) -> Iterator[Away]:
+def aways_of(several: Sequence[Departure], alignment: Found) -> Iterator[Away]:
     """From when to when subtitles are away from the pictures, by all departures before."""
-    first, length, total = pts_of(found.begin, found.origin), found.end - found.begin, 0
-    frames = [found.begin + max(ticks_within(first, TICKS * length, one.pts), 0) // TICKS
+    first = pts_of(alignment.begin, alignment.origin)
+    length, total = alignment.end - alignment.begin, 0
+    frames = [alignment.begin + max(ticks_within(first, TICKS * length, one.pts), 0) // TICKS
               for one in several]
-    for one, frame, end in zip(several, frames, [*frames[1:], found.end]):
-        total += one.ticks or 0
+    for departure, frame, end in zip(several, frames, [*frames[1:], alignment.end]):
+        total += departure.ticks or 0
         if abs(total) * 2 >= TICKS and frame < end:
             yield Away(frame, end, total)
 
@@ -402,18 +406,18 @@ def is_allowed(ticks: int, within: int) -> bool:
     return -TICKS * within <= ticks < 0
 
 
-def faults_of(several: Sequence[Departure], found: Found, within: int, number: int) \
+def faults_of(several: Sequence[Departure], alignment: Found, within: int, number: int) \
         -> list[NamedFault]:
     """Where subtitles come early, or later than is allowed."""
     return [NamedFault(PICTURES_LEFT, away.words(), time_of(away.first), time_of(away.end - 1),
                        part=number)
-            for away in aways_of(several, found) if not is_allowed(away.ticks, within)]
+            for away in aways_of(several, alignment) if not is_allowed(away.ticks, within)]
 
 
-def late_notes(several: Sequence[Departure], found: Found, within: int) -> list[str]:
+def late_notes(several: Sequence[Departure], alignment: Found, within: int) -> list[str]:
     """Where they are late as `--within` allows."""
     return [f"{away.words()}, as --within {within} allows"
-            for away in aways_of(several, found) if is_allowed(away.ticks, within)]
+            for away in aways_of(several, alignment) if is_allowed(away.ticks, within)]
 
 
 def unclear_notes(clock: PictureClock, count: int) -> list[str]:

@@ -61,17 +61,17 @@ def headers_of(run: Run) -> list[bytes]:
 
 def headed(run: Run, state: State) -> list[Headed]:
     """The headers of the page in a PES packet, after what a receiver held before it."""
-    found: list[Headed] = []
+    heard: list[Headed] = []
     before, is_open = state.header, state.is_open
     headers = iter(headers_of(run))
     for letter in run.does:
         if letter == HEADER:
-            one = Headed(next(headers), before, is_open)
-            found.append(one)
-            before, is_open = one.numbers, True
+            header = Headed(next(headers), before, is_open)
+            heard.append(header)
+            before, is_open = header.numbers, True
         elif letter == CLOSED:
             is_open = False
-    return found
+    return heard
 
 
 def keeps(header: bytes) -> bool:
@@ -79,16 +79,16 @@ def keeps(header: bytes) -> bool:
     return not has_bit(header, ERASE)
 
 
-def unerased_words(one: Headed, asked: Request) -> str:
+def unerased_words(headed: Headed, request: Request) -> str:
     """Why a header has to erase the page and does not; nothing where it need not, or does."""
-    if not keeps(one.numbers):
+    if not keeps(headed.numbers):
         return ""
-    if not asked.may_keep:
+    if not request.may_keep:
         return REPEATS
-    codes = [subcode_of(header) for header in (one.numbers, one.before or one.numbers)]
+    codes = [subcode_of(header) for header in (headed.numbers, headed.before or headed.numbers)]
     if codes[0] != codes[1]:
         return f"{CLEAR}, and the sub-code is another one than before: {codes[0]} after {codes[1]}"
-    if asked.is_complete and one.is_open:
+    if request.is_complete and headed.is_open:
         return f"{CLEAR}, and the page was still open: no header had ended it"
     return ""
 
@@ -96,29 +96,29 @@ def unerased_words(one: Headed, asked: Request) -> str:
 def control_words(header: bytes, option: str, unerased: str = "") -> list[str]:
     """What is wrong with the control bits of a header of the page, with its national option. What
     is wrong with C4 is known."""
-    found = [unerased] if unerased else []
-    found += [words for bit, is_set, words in ASKED if has_bit(header, bit) != is_set]
+    faults = [unerased] if unerased else []
+    faults += [words for bit, is_set, words in ASKED if has_bit(header, bit) != is_set]
     bits = national_option(header)
     if bits == RESERVED:
-        found.append("C12, C13 and C14 are set, which is reserved")
+        faults.append("C12, C13 and C14 are set, which is reserved")
     elif bits != BY_WORD[option].bits:
-        found.append(f"the header is {BY_BITS[bits].name}, and {option} is asked for")
-    return found
+        faults.append(f"the header is {BY_BITS[bits].name}, and {option} is asked for")
+    return faults
 
 
-def effect_of(headers: Sequence[Headed], asked: Request) -> str:
+def effect_of(headers: Sequence[Headed], request: Request) -> str:
     """What the page does on some sets, by the first header of some of which something is wrong."""
-    numbers = next((one.numbers for one in headers if control_words(
-        one.numbers, asked.option, unerased_words(one, asked))), b"")
+    numbers = next((header.numbers for header in headers if control_words(
+        header.numbers, request.option, unerased_words(header, request))), b"")
     wrong = (words for bit, is_set, words in EFFECTS if numbers and has_bit(numbers, bit) != is_set
-             and not (bit == ERASE and asked.may_keep))
+             and not (bit == ERASE and request.may_keep))
     return next(wrong, OTHER_LETTERS)
 
 
-def header_words(headers: Sequence[Headed], asked: Request) -> str:
+def header_words(headers: Sequence[Headed], request: Request) -> str:
     """What is wrong with the control bits of the first header of some of which something is."""
-    wrong = (control_words(one.numbers, asked.option, unerased_words(one, asked))
-             for one in headers)
+    wrong = (control_words(header.numbers, request.option, unerased_words(header, request))
+             for header in headers)
     return "; ".join(next(filter(None, wrong), []))
 
 
@@ -179,8 +179,8 @@ def left_rows_words(rows: Sequence[int], row: int | None, came: int) -> str:
         *others, last = map(str, rows)
         return f"rows {', '.join(others)} and {last}" if others else f"row {last}"
     more = len(rows) - came - 1
-    one = "a row" if row is None else f"row {row}"
-    return f"{one} and {more} more" if more > 0 else one
+    first = "a row" if row is None else f"row {row}"
+    return f"{first} and {more} more" if more > 0 else first
 
 
 # The subtitles of a file with the pages that are due, as the program's own schedule sends them.
@@ -232,13 +232,13 @@ def subtitles_in(program: str, stl: str, between: Between = ALL_DAY,
     """The subtitles of a file that come in some frames, as the program shows them. It shows a whole
     file or none, and no open one: where another subtitle is refused they are read here."""
     try:
-        found = subtitles_read(stl_bytes(stl)) if is_open else \
+        subtitles = subtitles_read(stl_bytes(stl)) if is_open else \
             subtitles_shown(program_answer(program, "show", "--", stl))
     except Unclear:
         if between == ALL_DAY:
             raise
-        found = subtitles_read(stl_bytes(stl))
-    return [one for one in found if between.has(one.begin)]
+        subtitles = subtitles_read(stl_bytes(stl))
+    return [subtitle for subtitle in subtitles if between.has(subtitle.begin)]
 
 
 def due_pages_of(program: str, stl: str, page: Page, option: str, between: Between = ALL_DAY,
@@ -254,7 +254,7 @@ def due_pages_of(program: str, stl: str, page: Page, option: str, between: Betwe
                        "--every", EVERY, *between.words(), *words, "--", stl, path)
         packets = survey(program, path, page).by_pid.get(PES, Packets(PES))
     due = Timeline(packets, page, 0)
-    return DuePages(subtitles, [due.page_at(one.begin) for one in subtitles], due)
+    return DuePages(subtitles, [due.page_at(subtitle.begin) for subtitle in subtitles], due)
 
 
 # Which page transmission is of which subtitle.
@@ -320,9 +320,9 @@ class Sendings:
         just the TCI of another subtitle stands in the place of that one, unless both are moved by
         as many frames."""
         begin = self.subtitles[place].begin
-        found = [frame for frame in self.sendings(place) if frame == begin
-                 or not self.is_begin(frame) or self.are_moved(place, frame)]
-        return nearest(found, begin)
+        numbers = [frame for frame in self.sendings(place) if frame == begin
+                   or not self.is_begin(frame) or self.are_moved(place, frame)]
+        return nearest(numbers, begin)
 
     def sendings(self, place: int) -> list[int]:
         """All frames of those looked at at which the page of a subtitle came as its own."""
@@ -353,11 +353,11 @@ class Sendings:
         subtitle = self.subtitles[place]
         end = subtitle.end if came is None or came <= subtitle.begin else min(came, subtitle.end)
         least = subtitle.begin if place == 0 and came is not None else 0
-        found = [number for number in self.held.numbers(subtitle.begin, end)
-                 if self.is_of_its_time(number, place) and self.is_strange(number, place)
-                 and self.held.frames[number] >= least]
-        lengths = [self.length(number, subtitle.begin, end) for number in found]
-        return found[lengths.index(max(lengths))] if found else None
+        numbers = [number for number in self.held.numbers(subtitle.begin, end)
+                   if self.is_of_its_time(number, place) and self.is_strange(number, place)
+                   and self.held.frames[number] >= least]
+        lengths = [self.length(number, subtitle.begin, end) for number in numbers]
+        return numbers[lengths.index(max(lengths))] if numbers else None
 
     def is_of_its_time(self, number: int, place: int) -> bool:
         """Whether a page came after the TCO of the subtitle before."""

@@ -57,8 +57,8 @@ def spread_of(several: Iterable[int | None]) -> Spread | None:
 def frames_of(programme: DuePages, held: Timeline, is_complete: bool) -> list[int | None]:
     """After how many frames each subtitle was whole, and where complete pages are asked for
     closed."""
-    return [frames_until(one, page, held, is_complete)
-            for one, page in zip(programme.subtitles, programme.pages)]
+    return [frames_until(subtitle, page, held, is_complete)
+            for subtitle, page in zip(programme.subtitles, programme.pages)]
 
 
 def frames_until(subtitle: Subtitle, page: Rows, held: Timeline, is_complete: bool) -> int | None:
@@ -85,8 +85,8 @@ def frames_in(is_known: bool, count: int, held: Timeline, due: Callable[[], DueP
 def worst_of(parts: Sequence[Part], lead: Callable[[Part], Lead | None]) -> Part | None:
     """The first part of those that have the worst to say first."""
     def rank(part: Part) -> Rank:
-        one = lead(part)
-        return one.rank if one else Rank.LATER
+        worst = lead(part)
+        return worst.rank if worst else Rank.LATER
 
     return min(parts, key=rank) if parts else None
 
@@ -102,7 +102,7 @@ def counts_of_numbers(parts: Sequence[Part], left_out: Collection[int] = ()) -> 
     names: dict[int, str] = {}
     for part in parts:
         counts.update(part.answer.counts)
-        names |= {number: told.name for number, told in part.answer.firsts.items()}
+        names |= {number: fault.name for number, fault in part.answer.firsts.items()}
     return [Count(number, names.get(number, ""), count) for number, count in counts.items()
             if number not in left_out]
 
@@ -174,9 +174,10 @@ class Verdict:
         """Whether the verdict speaks of frames of which TS packets are lost."""
         return any(gap.is_judged for gap in self.gaps)
 
-    def warn(self, found: Iterable[Notice]) -> None:
+    def warn(self, notices: Iterable[Notice]) -> None:
         """Takes warnings that are not known yet."""
-        self.warnings += [one for one in dict.fromkeys(found) if one not in self.warnings]
+        self.warnings += [notice for notice in dict.fromkeys(notices)
+                          if notice not in self.warnings]
 
     def said(self) -> list[str]:
         """What the report and the object say beside the verdict."""
@@ -313,7 +314,7 @@ class Verdict:
     @property
     def leading(self) -> Part | None:
         """The part that has the worst of what is refused."""
-        return worst_of([part for part in self.parts if part.is_refused], lambda one: one.worst)
+        return worst_of([part for part in self.parts if part.is_refused], lambda part: part.worst)
 
     def line_of(self, refused: str | None) -> str | None:
         """A line of `check`, with what became of it; `None` where nothing is judged."""
@@ -364,8 +365,8 @@ def gaps_in(recording: Recording, parts: Sequence[Part]) -> list[Gap]:
     if not recording.stages:
         jumps = [jump for part in parts for jump in part.jumps]
         return gaps_of(recording.places(jumps), parts)
-    return [gap_of(place, one.origin or 0, True) for one, other in zip(parts, [*parts[1:], None])
-            for place in places_on(one, other) if is_in(place, one) or is_in_move(place, one)]
+    return [gap_of(place, part.origin or 0, True) for part, other in zip(parts, [*parts[1:], None])
+            for place in places_on(part, other) if is_in(place, part) or is_in_move(place, part)]
 
 
 def places_on(part: Part, other: Part | None) -> Iterator[Place]:
@@ -373,26 +374,26 @@ def places_on(part: Part, other: Part | None) -> Iterator[Place]:
     is told here, and not there."""
     for place in part.places():
         if other and is_in_move(place, part):
-            _, found = other.recorded
-            yield dataclasses.replace(place, after=pts_of(found.begin, found.origin))
+            _, alignment = other.recorded
+            yield dataclasses.replace(place, after=pts_of(alignment.begin, alignment.origin))
         elif place.mark is not None or place.before is not None or part.recorded[1].came is None:
             yield place
 
 
 def gaps_of(places: Sequence[Place], parts: Sequence[Part]) -> list[Gap]:
     """Places with the times of the first of these parts of which they are, else of the first."""
-    found = []
+    gaps = []
     for place in places:
         own = [part for part in parts if is_in(place, part)]
-        found.append(gap_of(place, (own or parts)[0].origin or 0, bool(own)))
-    return found
+        gaps.append(gap_of(place, (own or parts)[0].origin or 0, bool(own)))
+    return gaps
 
 
 def is_in_move(place: Place, part: Part) -> bool:
     """Whether something is missing where the page goes to another PID."""
-    found = part.found
-    return bool(found and found.stage and found.goes is not None and place.mark is None
-                and place.before == found.stage.last())
+    alignment = part.found
+    return bool(alignment and alignment.stage and alignment.goes is not None and place.mark is None
+                and place.before == alignment.stage.last())
 
 
 def lacks(part: Part, places: Sequence[Place]) -> bool:

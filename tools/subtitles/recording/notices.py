@@ -40,13 +40,13 @@ class Notice(NamedTuple):
 
 def of_timing(packets: Packets, origin: int) -> Iterator[Notice]:
     """Where PTS and PCR do not go together."""
-    for one in strange_of(packets):
-        frame = frame_in(one.pts, origin)
+    for strange in strange_of(packets):
+        frame = frame_in(strange.pts, origin)
         time = time_of(frame) if frame < FRAMES_OF_A_DAY else None
-        where = f"from {time} on" if time else f"from PTS {one.pts} on"
-        yield Notice(f"pts_{one.kind}", f"{where} PTS of the Teletext {SAID[one.kind]}, by up to "
-                     f"{abs(one.worst) / SECOND:.2f} s: {one.number} of {one.among} that were "
-                     "looked at", time)
+        where = f"from {time} on" if time else f"from PTS {strange.pts} on"
+        yield Notice(f"pts_{strange.kind}", f"{where} PTS of the Teletext {SAID[strange.kind]}, "
+                     f"by up to {abs(strange.worst) / SECOND:.2f} s: {strange.number} of "
+                     f"{strange.among} that were looked at", time)
 
 
 def of_jumps(packets: Packets, origin: int, first: int, last: int) -> Iterator[Notice]:
@@ -68,65 +68,65 @@ def length_words(ticks: int) -> str:
     return f"{seconds // 3600}:{seconds // 60 % 60:02}:{seconds % 60:02}"
 
 
-def of_tables(survey: Survey, pid: int, asked: Request) -> Iterator[Notice]:
+def of_tables(survey: Survey, pid: int, request: Request) -> Iterator[Notice]:
     """Where the PMT announces something else than was asked for."""
     programmes = survey.programmes_of(pid)
     if not programmes:
         return
-    announced = [page for one in programmes for page in one.pages.get(pid, [])]
-    own = [one for one in announced if one.page == asked.page]
-    name = asked.page_name
+    announced = [page for program_map in programmes for page in program_map.pages.get(pid, [])]
+    own = [one for one in announced if one.page == request.page]
+    name = request.page_name
     if not announced:
         yield Notice("page", f"the PMT announces no page of {pid_name(pid)}: receivers do not find "
                      f"page {name}")
     elif not own:
         yield Notice("page", f"the PMT announces {listed(announced)}, and not page {name}")
     else:
-        yield from of_page(own, asked)
+        yield from of_page(own, request)
 
 
-def of_page(own: list[Announced], asked: Request) -> Iterator[Notice]:
+def of_page(own: list[Announced], request: Request) -> Iterator[Notice]:
     """The same of what is announced of the page."""
-    name = asked.page_name
-    if not any(one.kind in SUBTITLE_KINDS for one in own):
-        kinds = " and ".join(dict.fromkeys(KINDS.get(one.kind, "of an unknown kind")
-                                           for one in own))
+    name = request.page_name
+    if not any(announced.kind in SUBTITLE_KINDS for announced in own):
+        kinds = " and ".join(dict.fromkeys(KINDS.get(announced.kind, "of an unknown kind")
+                                           for announced in own))
         yield Notice("type", f"the PMT announces page {name} as {kinds}, and not as subtitles")
-    code = language_of(asked.stl_path)
+    code = language_of(request.stl_path)
     wanted = {*names_of(code)}
-    languages = dict.fromkeys(one.language.lower() for one in own)
+    languages = dict.fromkeys(announced.language.lower() for announced in own)
     if wanted and not (wanted | ANY) & languages.keys():
         yield Notice("language", f"the PMT announces page {name} in "
                      f"{' and '.join(map(shown, languages))}; the LC of the GSI block is {code}, "
                      f"{' or '.join(names_of(code))}")
-    yield from of_option([*languages], asked)
+    yield from of_option([*languages], request)
 
 
-def of_option(languages: list[str], asked: Request) -> Iterator[Notice]:
+def of_option(languages: list[str], request: Request) -> Iterator[Notice]:
     """Where no language that a PMT has for the page may be of the national option: receivers may
     take the letters of that language."""
     options = [of_track(one) for one in languages]
-    is_other = [bool(option and option.word != asked.option) or language in OTHER_REGIONS
+    is_other = [bool(option and option.word != request.option) or language in OTHER_REGIONS
                 for language, option in zip(languages, options)]
     if not languages or not all(is_other):
         return
-    words = list(dict.fromkeys(f"--option {one.word}" if one else "another region"
-                               for one in options))
-    yield Notice("option", f"the PMT announces page {asked.page_name} in "
+    words = list(dict.fromkeys(f"--option {option.word}" if option else "another region"
+                               for option in options))
+    yield Notice("option", f"the PMT announces page {request.page_name} in "
                  f"{' and '.join(languages)}, which is of {' and '.join(words)}; it was judged by "
-                 f"--option {asked.option}")
+                 f"--option {request.option}")
 
 
-def of_character_sets(packets: Packets, asked: Request) -> Iterator[Notice]:
+def of_character_sets(packets: Packets, request: Request) -> Iterator[Notice]:
     """Where packets name another character set than that of the national option."""
     for number, designation, region, option in packets.sets:
         if region is None or option is None:
             named = "an unreadable character set"
-        elif region or option != as_sent(BY_WORD[asked.option]):
+        elif region or option != as_sent(BY_WORD[request.option]):
             named = f"character set {option:03b} of region {region:04b}"
         else:
             continue
-        yield Notice("character_set", f"packet {asked.page_name[0]}/{number}/{designation} "
+        yield Notice("character_set", f"packet {request.page_name[0]}/{number}/{designation} "
                      f"names {named}: receivers above level 1 may show other letters")
 
 
@@ -143,15 +143,15 @@ def language_of(stl: str) -> str:
 def count_notices(subtitles: SubtitleFile) -> Iterator[Notice]:
     """Where the GSI block counts other blocks or subtitles than there are, as in a file that was
     cut at the end of a block. A count that is no number tells nothing; comments may be counted."""
-    told = stated(subtitles.data[TNB])
+    expected = stated(subtitles.data[TNB])
     there = subtitles.count()
-    if told is not None and told != there:
-        yield Notice("blocks", f"the GSI block counts {counted(told, 'TTI block')} (TNB), and "
+    if expected is not None and expected != there:
+        yield Notice("blocks", f"the GSI block counts {counted(expected, 'TTI block')} (TNB), and "
                      f"{there_are(there)}: is the subtitle file whole?")
-    told, known = stated(subtitles.data[TNS]), subtitles.ended()
-    if told is not None and told not in known:
-        yield Notice("subtitles", f"the GSI block counts {counted(told, 'subtitle')} (TNS), and "
-                     f"{there_are(known[0])}: is the subtitle file whole?")
+    expected, known = stated(subtitles.data[TNS]), subtitles.ended()
+    if expected is not None and expected not in known:
+        yield Notice("subtitles", f"the GSI block counts {counted(expected, 'subtitle')} (TNS), "
+                     f"and {there_are(known[0])}: is the subtitle file whole?")
 
 
 def stated(digits: bytes) -> int | None:
@@ -164,9 +164,9 @@ def there_are(count: int) -> str:
     return "there is 1" if count == 1 else f"there are {count:,}"
 
 
-def of_pauses(pts: Sequence[int], asked: Request, origin: int) -> Iterator[Notice]:
+def of_pauses(pts: Sequence[int], request: Request, origin: int) -> Iterator[Notice]:
     """Where no PES packet came for some frames, of what else sends one in each frame but few."""
-    frames = [frame for frame in frames_at([*pts], origin, asked.within) if frame != NO_FRAME]
+    frames = [frame for frame in frames_at([*pts], origin, request.within) if frame != NO_FRAME]
     pauses = [(first + 1, second) for first, second in zip(frames, frames[1:])
               if second - first - 1 > PAUSE]
     if len(pauses) * FEW <= len(frames):
@@ -175,12 +175,12 @@ def of_pauses(pts: Sequence[int], asked: Request, origin: int) -> Iterator[Notic
                          f"{time_of(first)} on", time_of(first))
 
 
-def of_repeat(headers: Sequence[int], asked: Request, origin: int, times: list[tuple[int, int]]) \
+def of_repeat(headers: Sequence[int], request: Request, origin: int, times: list[tuple[int, int]]) \
         -> Iterator[Notice]:
     """Where the page is repeated so often that `--every` would not see a repeat that is missing."""
-    every = repeat_distance((frame_in(pts, origin, asked.within) for pts in headers),
+    every = repeat_distance((frame_in(pts, origin, request.within) for pts in headers),
                             edges_of(times))
-    if every is not None and every * 2 < asked.every:
+    if every is not None and every * 2 < request.every:
         yield Notice("repeat", f"the page is repeated each "
                      f"{'frame' if every == 1 else counted(every, 'frame')}; --every {every} would "
                      "hold it to that")
@@ -230,15 +230,18 @@ def unsent_by(announced: Sequence[Announcement], carriers: Collection[int], begi
               end: int) -> Announcement | None:
     """The first announcement between two PTS of a programme whose page comes elsewhere alone, on
     some PIDs: of the programme that carries it, or of any where no programme announces these."""
-    own = {one.number for one in announced if one.pids & {*carriers}}
-    return next((one for one in announced if carriers and not one.pids & {*carriers}
-                 and one.is_in(begin, end) and (not own or one.number in own)), None)
+    own = {announcement.number for announcement in announced if announcement.pids & {*carriers}}
+    return next((announcement for announcement in announced
+                 if carriers and not announcement.pids & {*carriers}
+                 and announcement.is_in(begin, end)
+                 and (not own or announcement.number in own)), None)
 
 
 def silent_beside(announced: Sequence[Announcement], carriers: Collection[int]) -> set[int]:
     """The PIDs on which other programmes alone announce a page than those that send it."""
-    own = {one.number for one in announced if one.pids & {*carriers}}
-    others = {pid for one in announced if one.number not in own for pid in one.pids}
+    own = {announcement.number for announcement in announced if announcement.pids & {*carriers}}
+    others = {pid for announcement in announced if announcement.number not in own
+              for pid in announcement.pids}
     return (others - {*carriers}) if own else set()
 
 
@@ -276,30 +279,31 @@ def never_words(survey: Survey, page: Page, pids: Collection[int],
     return words
 
 
-def refuse_unsent(asked: Request, survey: Survey, times: Sequence[tuple[int, int]]) -> None:
+def refuse_unsent(request: Request, survey: Survey, times: Sequence[tuple[int, int]]) -> None:
     """`NeverSent` where the page is announced, on the PID that is asked for where there is one,
     comes nowhere there, and something of it is due in the recording."""
-    named = {pid for one in announcements_of(survey.programmes, asked.page) for pid in one.pids
-             if asked.pid in (None, pid)}
+    announced = announcements_of(survey.programmes, request.page)
+    named = {pid for announcement in announced for pid in announcement.pids
+             if request.pid in (None, pid)}
     if named and not unread(survey, named) and any(
-            is_due_in(survey.clock_of(pid), times, origin_by(asked, survey, pid))
+            is_due_in(survey.clock_of(pid), times, origin_by(request, survey, pid))
             for pid in named):
-        raise NeverSent(never_words(survey, asked.page, named))
+        raise NeverSent(never_words(survey, request.page, named))
 
 
-def origin_by(asked: Request, survey: Survey, pid: int) -> int | None:
+def origin_by(request: Request, survey: Survey, pid: int) -> int | None:
     """The origin that is given, or that the first picture of a PID's programme tells."""
-    if asked.start is not None:
+    if request.start is not None:
         with contextlib.suppress(NoFirst, Unclear):
-            return began(asked, survey, Packets(pid)).clock.origin
-    return asked.origin
+            return began(request, survey, Packets(pid)).clock.origin
+    return request.origin
 
 
-def refuse_elsewhere(asked: Request, survey: Survey, begin: int, end: int) -> None:
+def refuse_elsewhere(request: Request, survey: Survey, begin: int, end: int) -> None:
     """`NeverSent` where the PMT announces the page, between two PTS, on a PID where it never comes;
     one that is asked for is judged."""
-    carriers = {pid for pid, one in survey.by_pid.items() if one.has_page}
-    announced = [*announcements_of(survey.programmes, asked.page)]
-    one = unsent_by(announced, carriers, begin, end) if asked.pid is None else None
-    if one and not unread(survey, one.pids):
-        raise NeverSent(never_words(survey, asked.page, one.pids, carriers))
+    carriers = {pid for pid, packets in survey.by_pid.items() if packets.has_page}
+    announced = [*announcements_of(survey.programmes, request.page)]
+    announcement = unsent_by(announced, carriers, begin, end) if request.pid is None else None
+    if announcement and not unread(survey, announcement.pids):
+        raise NeverSent(never_words(survey, request.page, announcement.pids, carriers))

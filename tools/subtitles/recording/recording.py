@@ -86,16 +86,16 @@ def is_recording(path: str) -> bool:
         head[at:at + size + 1:size] == b"GG" for at in (0, 4) for size in PACKET_SIZES)
 
 
-def refuse_files(asked: Request) -> None:
+def refuse_files(request: Request) -> None:
     """Files that are not there, or stand in the place of each other, are told before anything is
     judged."""
-    if not os.path.isfile(asked.stl_path):
-        name = asked.stl.removeprefix("./") if asked.stl.startswith("./-") else asked.stl
+    if not os.path.isfile(request.stl_path):
+        name = request.stl.removeprefix("./") if request.stl.startswith("./-") else request.stl
         raise Unclear(f"{name or 'an empty name'} is no file, or is not there")
-    if is_recording(asked.stl_path):
-        raise Unclear(f"{asked.stl} is a recording: the subtitle file stands before it")
-    if asked.recording is not None and asked.recording != STANDARD:
-        os.stat(asked.recording)
+    if is_recording(request.stl_path):
+        raise Unclear(f"{request.stl} is a recording: the subtitle file stands before it")
+    if request.recording is not None and request.recording != STANDARD:
+        os.stat(request.recording)
 
 
 def size_of(name: str) -> int | None:
@@ -120,7 +120,8 @@ def refuse_stream(survey: Survey, name: str) -> None:
 
 def silent_in(survey: Survey) -> list[Packets]:
     """The PIDs of which nothing is given though there are TS packets of them, in their order."""
-    return [one for _, one in sorted(survey.by_pid.items()) if not one.count and one.packets]
+    return [packets for _, packets in sorted(survey.by_pid.items())
+            if not packets.count and packets.packets]
 
 
 class Recording:
@@ -129,11 +130,11 @@ class Recording:
     range of the recording itself; what comes through a pipe is copied to a file, at `path`. Where
     `is_cut`, all that came of a feed is in a file that is `given`, by who calls this tool."""
 
-    def __init__(self, asked: Request, typed: CommandWords, names: Names, listener: Listener,
+    def __init__(self, request: Request, typed: CommandWords, names: Names, listener: Listener,
                  given: str | None = None, times: Sequence[tuple[int, int]] = ()) -> None:
-        assert asked.recording is not None
-        self.asked, self.typed, self.names, self.listener = asked, typed, names, listener
-        self.name, self.given, self.is_cut = asked.recording, given, given is not None
+        assert request.recording is not None
+        self.asked, self.typed, self.names, self.listener = request, typed, names, listener
+        self.name, self.given, self.is_cut = request.recording, given, given is not None
         self.size = size_of(self.name)
         self.times = times  # of the subtitles, in frames
         self.is_piped = self.size is None or self.name == STANDARD
@@ -168,20 +169,20 @@ class Recording:
         if self.survey.size == PES:
             return by_pid.setdefault(PES, Packets(PES))
         if self.asked.pid is not None:
-            one = by_pid.setdefault(self.asked.pid, Packets(self.asked.pid))
-            if not one.has_page:
+            packets = by_pid.setdefault(self.asked.pid, Packets(self.asked.pid))
+            if not packets.has_page:
                 refuse_unsent(self.asked, self.survey, self.times)
-            if one.count:
-                return one
-            why = "; ".join([f"{self.name}: {why_refused(one)}", *filter(None, [
-                self.header_words(one)])])
+            if packets.count:
+                return packets
+            why = "; ".join([f"{self.name}: {why_refused(packets)}", *filter(None, [
+                self.header_words(packets)])])
             raise Unclear(self.said(why), *self.other_pids())
-        found = [by_pid[pid] for pid in sorted(by_pid) if by_pid[pid].has_page]
-        self.refuse_silent({one.pid for one in found})
-        if len(found) == 1:
-            self.say_chosen(found[0], "on no other PID")
-            return found[0]
-        if not found:
+        pids = [by_pid[pid] for pid in sorted(by_pid) if by_pid[pid].has_page]
+        self.refuse_silent({one.pid for one in pids})
+        if len(pids) == 1:
+            self.say_chosen(pids[0], "on no other PID")
+            return pids[0]
+        if not pids:
             refuse_unsent(self.asked, self.survey, self.times)
             why = "; ".join([f"{self.name} has no header of page {page}", *self.why_nothing()])
             is_other = any(one.sent for one in by_pid.values())
@@ -192,8 +193,8 @@ class Recording:
             for stage in self.stages:
                 self.say_chosen(stage.packets, "the PMT moves it")
             return joined_stages(self.stages)
-        raise Unclear(self.said(f"page {page} is sent on {len(found)} PIDs of {self.name}"),
-                      *(self.again("--pid", f"0x{one.pid:X}") for one in found))
+        raise Unclear(self.said(f"page {page} is sent on {len(pids)} PIDs of {self.name}"),
+                      *(self.again("--pid", f"0x{one.pid:X}") for one in pids))
 
     def refuse_silent(self, carriers: Collection[int]) -> None:
         """`Unclear` where several programmes announce the page, and some of them never send it:
@@ -218,8 +219,8 @@ class Recording:
     def why_nothing(self) -> list[str]:
         """Why nothing is given of each PID that should carry Teletext: scrambled, or not as it is.
         """
-        return [words for one in silent_in(self.survey)
-                for words in (why_refused(one), self.header_words(one)) if words]
+        return [words for packets in silent_in(self.survey)
+                for words in (why_refused(packets), self.header_words(packets)) if words]
 
     def header_words(self, packets: Packets) -> str:
         """What is wrong with the PES header of a PID."""
@@ -262,9 +263,9 @@ class Recording:
 
     def of(self, stage: Stage) -> Recording:
         """The same of one PID, where the page moves to another one."""
-        one = copy.copy(self)
-        one.packets = stage.packets
-        return one
+        recording = copy.copy(self)
+        recording.packets = stage.packets
+        return recording
 
     @property
     def shown(self) -> str:
@@ -287,7 +288,7 @@ class Recording:
             yield from pieces_of(self.path)
             return
         own = self.names.temporary("kept.pes")
-        for pid in dict.fromkeys(one.pid for one in self.stages) or [self.packets.pid]:
+        for pid in dict.fromkeys(stage.pid for stage in self.stages) or [self.packets.pid]:
             subprocess.run([self.typed.program_path, "extract",
                             *stream_words(pid, self.survey.size or 0), "--", self.path, own],
                            stdin=subprocess.DEVNULL, stdout=subprocess.DEVNULL, check=True)
@@ -310,27 +311,27 @@ class Recording:
 
     def strange(self) -> list[Notice]:
         """Where it grew while it was read, or ends too early."""
-        found, now = list[Notice](), size_of(self.name)
+        notices, now = list[Notice](), size_of(self.name)
         if None not in (self.size, now) and self.size != now:
             word = "grew" if (now or 0) > (self.size or 0) else "became shorter"
-            found.append(Notice("grew", f"{shown(self.name)} {word} while it was read, from "
-                                f"{self.size:,} bytes to {now:,}: judge it again when it is "
-                                "complete"))
+            notices.append(Notice("grew", f"{shown(self.name)} {word} while it was read, from "
+                                  f"{self.size:,} bytes to {now:,}: judge it again when it is "
+                                  "complete"))
         is_open = self.packets.is_cut and not self.packets.refusal
         if self.is_stream and is_open and not self.is_cut:
-            found.append(Notice("cut", f"{shown(self.name)} ends within a PES packet of the page's "
-                                "PID, which is left out"))
+            notices.append(Notice("cut", f"{shown(self.name)} ends within a PES packet of the "
+                                  "page's PID, which is left out"))
         if self.packets.damage and not self.is_cut:
-            found.append(Notice("cut", f"{shown(self.name)}: {self.packets.damage}; it was read up "
-                                "to there"))
-        return found
+            notices.append(Notice("cut", f"{shown(self.name)}: {self.packets.damage}; it was "
+                                  "read up to there"))
+        return notices
 
     # What is said.
 
     def other_pids(self) -> list[str]:
         """What to type in the place of a PID that is wrong."""
-        known = [f"0x{pid:X}" for pid, one in sorted(self.survey.by_pid.items())
-                 if self.asked.page_name in one.sent]
+        known = [f"0x{pid:X}" for pid, packets in sorted(self.survey.by_pid.items())
+                 if self.asked.page_name in packets.sent]
         return [self.again("--pid", word)
                 for word in known or ["PID"] * bool(self.survey.by_pid)]
 

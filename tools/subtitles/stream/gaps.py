@@ -55,31 +55,31 @@ def places_of(packets: Packets, announced: Iterable[PTSPair] = ()) -> list[Place
     for run in reversed(packets.runs):
         pts = run.pts if run.pts is not None else pts
         following[run.first] = pts
-    known = [Place(one.before, following[one.number], one.lost, one.scrambled, mark=one.number)
-             for one in packets.marks]
+    known = [Place(mark.before, following[mark.number], mark.lost, mark.scrambled, mark=mark.number)
+             for mark in packets.marks]
     holes = [*filter(None, map(hole_of, packets.clocked))]
     for hole in holes:
-        for one in known:
-            if overlap(hole, one) and is_within(hole.missing, one):
-                one.missing = max(one.missing, hole.missing)
+        for place in known:
+            if overlap(hole, place) and is_within(hole.missing, place):
+                place.missing = max(place.missing, hole.missing)
     known += [hole for hole in holes if not any(overlap(hole, one) for one in known)]
     jumps = [Place(before, after, is_announced=True) for before, after in announced]
     return known + [jump for jump in jumps if not any(overlap(jump, one) for one in known)]
 
 
-def hole_of(one: Clocked) -> Place | None:
+def hole_of(clocked: Clocked) -> Place | None:
     """The hole that a PCR tells which comes late, where the counters of other PIDs are broken."""
-    if one.counters != "broken" or one.ticks <= 0:
+    if clocked.counters != "broken" or clocked.ticks <= 0:
         return None
-    return Place(one.before, one.after, missing=one.ticks - round(one.usual))
+    return Place(clocked.before, clocked.after, missing=clocked.ticks - round(clocked.usual))
 
 
 def jumps_of(packets: Packets) -> Iterator[ClockJump]:
     """Where nothing is missing and the clock was set anew."""
-    for one in packets.clocked:
-        if one.counters == "whole" and one.packets * PAUSE * one.usual < \
-                one.usual_packets * abs(one.ticks):
-            yield ClockJump(one.before, one.ticks - round(one.usual))
+    for clocked in packets.clocked:
+        if clocked.counters == "whole" and clocked.packets * PAUSE * clocked.usual < \
+                clocked.usual_packets * abs(clocked.ticks):
+            yield ClockJump(clocked.before, clocked.ticks - round(clocked.usual))
 
 
 def is_within(ticks: int, place: Place) -> bool:
@@ -88,14 +88,14 @@ def is_within(ticks: int, place: Place) -> bool:
         ticks <= ticks_between(place.before, place.after)
 
 
-def overlap(one: Place, other: Place) -> bool:
+def overlap(place: Place, other: Place) -> bool:
     """Whether two places lie where the same PES packets are."""
-    return not is_after(one, other) and not is_after(other, one)
+    return not is_after(place, other) and not is_after(other, place)
 
 
-def is_after(one: Place, other: Place) -> bool:
-    return one.before is not None and other.after is not None and \
-        ticks_between(other.after, one.before) >= 0
+def is_after(place: Place, other: Place) -> bool:
+    return place.before is not None and other.after is not None and \
+        ticks_between(other.after, place.before) >= 0
 
 
 def what_of(place: Place) -> str:
@@ -179,13 +179,14 @@ def strange_of(packets: Packets) -> Iterator[Strange]:
     first = [ahead for pts, ahead in samples
              if 0 <= ticks_between(samples[0][0], pts) <= 60 * SECOND]
     usual = round(statistics.median(first)) if first else 0
-    for kind, off, found in (
-            ("behind", 0, [one for one in samples if one[1] < 0]),
-            ("early", 0, [one for one in samples if one[1] > SECOND]),
-            ("changed", usual, [one for one in samples if abs(one[1] - usual) > SECOND // 2])):
-        if found:
-            worst = max((ahead - off for _, ahead in found), key=abs)
-            yield Strange(kind, found[0][0], len(found), len(samples), worst)
+    for kind, off, odd in (
+            ("behind", 0, [sample for sample in samples if sample[1] < 0]),
+            ("early", 0, [sample for sample in samples if sample[1] > SECOND]),
+            ("changed", usual, [sample for sample in samples
+                                if abs(sample[1] - usual) > SECOND // 2])):
+        if odd:
+            worst = max((ahead - off for _, ahead in odd), key=abs)
+            yield Strange(kind, odd[0][0], len(odd), len(samples), worst)
 
 
 def late_of(packets: Packets) -> int:
@@ -235,11 +236,11 @@ def repeats_of(frames: Iterable[int], edges: Sequence[int]) -> list[int]:
 def repeat_distance(frames: Iterable[int], edges: Sequence[int]) -> int | None:
     """The frames from one repeat to the next at most times, `None` where there are too few. Where
     each is sent twice in a row, most of the time lies between two pairs of them."""
-    found = repeats_of(frames, edges)
-    if len(found) < FEWEST:
+    repeats = repeats_of(frames, edges)
+    if len(repeats) < FEWEST:
         return None
-    totals = [*itertools.accumulate(found)]
-    return found[bisect.bisect_left(totals, -(-totals[-1] // 2))]
+    totals = [*itertools.accumulate(repeats)]
+    return repeats[bisect.bisect_left(totals, -(-totals[-1] // 2))]
 
 
 # How far apart PES packets come, and which pace tells a loss of any length.
@@ -318,10 +319,10 @@ def pace_of(rows: Sequence[Sequence[int]], each: int, every: int, pauses: Pauses
         if usual is None:
             return Pace(IRREGULAR, apart, lost)
         lost = usual + 2
-    silences = [one for row in rows for one in silences_in(row, lost, steps_of(each))]
+    silences = [lull for row in rows for lull in silences_in(row, lost, steps_of(each))]
     idle = idle_of(silences, every, pauses)
     if 2 * len(idle) > len(silences):
-        return Pace(PAUSED, max(one.last - one.first for one in idle), lost)
+        return Pace(PAUSED, max(lull.last - lull.first for lull in idle), lost)
     closer = sum(many for frames, many in far.items() if frames < lost)
     return Pace(REGULAR, apart, lost, closer, sum(far.values()), is_dense)
 
@@ -359,15 +360,15 @@ def idle_of(silences: Sequence[Lull], every: int, pauses: Pauses) -> list[Lull]:
     then, as where another page of the PID is over; one is longer than is usual, and `--every`
     allows that; one lies outside of the programme. Or it lies in a pause, up to its end, and so
     does one in most other pauses that are as long."""
-    inside = [(one, end - begin) for begin, end in pauses if begin is not None and end is not None
-              for one in silences if begin <= one.first and abs(end - one.last) <= NEAR]
+    inside = [(lull, end - begin) for begin, end in pauses if begin is not None and end is not None
+              for lull in silences if begin <= lull.first and abs(end - lull.last) <= NEAR]
     shortest = min((length for _, length in inside), default=0)
     longer = sum(begin is not None and end is not None and end - begin >= shortest
                  for begin, end in pauses)
-    usual = [one for one, _ in inside] if 2 * len(inside) > longer else []
-    return [one for one in silences if one.is_near_another or one in usual
-            or USUAL_EVERY < one.last - one.first <= every
-            or any(is_outside(one, *pause) for pause in pauses)]
+    usual = [lull for lull, _ in inside] if 2 * len(inside) > longer else []
+    return [lull for lull in silences if lull.is_near_another or lull in usual
+            or USUAL_EVERY < lull.last - lull.first <= every
+            or any(is_outside(lull, *pause) for pause in pauses)]
 
 
 def is_outside(silence: Lull, begin: int | None, end: int | None) -> bool:
@@ -380,13 +381,13 @@ def is_outside(silence: Lull, begin: int | None, end: int | None) -> bool:
 def distances(rows: Sequence[Sequence[int]], steps: int) -> collections.Counter[int]:
     """How many frames it is from a PES packet to the next one, or one that comes so many steps
     later, and how often."""
-    found: collections.Counter[int] = collections.Counter()
+    counts: collections.Counter[int] = collections.Counter()
     for row in rows:
         if isinstance(row, range):
-            found[steps * row.step] += max(len(row) - steps, 0)
+            counts[steps * row.step] += max(len(row) - steps, 0)
         else:
-            found.update(map(operator.sub, itertools.islice(row, steps, None), row))
-    return found
+            counts.update(map(operator.sub, itertools.islice(row, steps, None), row))
+    return counts
 
 
 def at_rank(counts: collections.Counter[int], rank: int, is_from_above: bool) -> int:
@@ -412,15 +413,15 @@ def silences_in(row: Sequence[int], lost: int, steps: int) -> Iterator[Lull]:
 def frame_rows(packets: Packets, inside: Range, origin: int, within: int) -> list[Sequence[int]]:
     """The frames of those of some PES packets that `check` hears: a row up to each mark, each one
     that is refused or has no frame, and wherever frames go back."""
-    found, pts = [], list[int]()
+    rows, pts = [], list[int]()
     for run in itertools.chain(packets.inside(*inside), [None]):
         if run is not None and run.pts is not None and not run.fault:
             pts += [run.pts] if run.length == 1 else [
                 wrapped(run.pts + run.step * at) for at in range(run.length)]
         elif pts:
-            found += rising(frames_at(pts, origin, within))
+            rows += rising(frames_at(pts, origin, within))
             pts = []
-    return found
+    return rows
 
 
 def rising(frames: Sequence[int]) -> list[Sequence[int]]:

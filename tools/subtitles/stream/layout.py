@@ -140,10 +140,11 @@ def ways_to_prepare(pairs: Sequence[SentLine]) -> list[Layout]:
         all_lines = Counter((stripped(pair.cells, strip), pair.sent) for pair in pairs)
         lines = Counter({line: count for line, count in all_lines.items()
                          if START_BOX not in line[0]})
-        found = [(False, PLAIN.before, PLAIN.behind)]
-        found = [*befores(lines, trim), *found] if lines else found
+        beginnings = [(False, PLAIN.before, PLAIN.behind)]
+        beginnings = [*befores(lines, trim), *beginnings] if lines else beginnings
         ends = {PLAIN.after, *afters(lines)}
-        for (white, before, behind), after, fit in itertools.product(found, ends, (False, True)):
+        for (white, before, behind), after, fit in itertools.product(
+                beginnings, ends, (False, True)):
             layout = Layout(strip, before, behind, after, fit, white, trim)
             if layout not in scores:
                 scores[layout] = sum(
@@ -164,13 +165,13 @@ def as_bits(places: Iterable[int]) -> int:
 
 
 def placed(layout: Layout, pairs: Sequence[SentLine], all_lines: Sequence[Sequence[bytes]],
-           found: Sequence[Sent]) -> Iterator[tuple[Layout, int]]:
+           subtitles: Sequence[Sent]) -> Iterator[tuple[Layout, int]]:
     """Layouts with these cells that say where rows are, each with the subtitles of which no line
     stands elsewhere."""
     lines = [[prepared(stripped(line, layout.strip), layout) for line in one] for one in all_lines]
     for double, pack, last in itertools.product((False, True), repeat=3):
         shape = layout._replace(double=double, pack=pack, last=last)
-        rows = {pair.place: placed_rows(lines[pair.place], found[pair.place].row, shape)
+        rows = {pair.place: placed_rows(lines[pair.place], subtitles[pair.place].row, shape)
                 for pair in pairs}
         votes = Counter(pair.row - rows[pair.place][pair.number] for pair in pairs)
         for shift in {0, *most(votes, 2)}:
@@ -180,7 +181,7 @@ def placed(layout: Layout, pairs: Sequence[SentLine], all_lines: Sequence[Sequen
                 yield shape._replace(row=shift), wrong
 
 
-def justified(layout: Layout, pairs: Sequence[SentLine], found: Sequence[Sent]
+def justified(layout: Layout, pairs: Sequence[SentLine], subtitles: Sequence[Sent]
               ) -> Iterator[tuple[Layout, int]]:
     """Layouts with these cells that say where columns are, each with the subtitles of which a line
     stands elsewhere or has other cells."""
@@ -191,7 +192,7 @@ def justified(layout: Layout, pairs: Sequence[SentLine], found: Sequence[Sent]
             wrong.add(pair.place)
             continue
         column = spaces_before(pair.sent) - spaces_before(cells)
-        kind = cells, found[pair.place].justify, column
+        kind = cells, subtitles[pair.place].justify, column
         kinds.setdefault(kind, set()).add(pair.place)
     for text, up, free in itertools.product((False, True), (False, True), (1, 2, 3)):
         shape = layout._replace(text=text, up=up, free=free)
@@ -203,10 +204,10 @@ def justified(layout: Layout, pairs: Sequence[SentLine], found: Sequence[Sent]
                 right[start_of(cells, 3, shape) - column] += len(places)
         for left_free, right_free in itertools.product({0, *most(left, 2)}, {0, *most(right, 2)}):
             if left_free in range(COLUMNS) and right_free in range(COLUMNS):
-                one = shape._replace(left=left_free, right=right_free)
+                candidate = shape._replace(left=left_free, right=right_free)
                 others = {place for (cells, justify, column), places in kinds.items()
-                          if column_of(cells, justify, one) != column for place in places}
-                yield one, as_bits(wrong | others)
+                          if column_of(cells, justify, candidate) != column for place in places}
+                yield candidate, as_bits(wrong | others)
 
 
 def draws(layout: Layout, sent: Sent, option: NationalOption) -> bool:
@@ -215,46 +216,46 @@ def draws(layout: Layout, sent: Sent, option: NationalOption) -> bool:
     return not isinstance(lines, Refused) and page_rows(lines) == sent.rows
 
 
-def missed(layout: Layout, found: Sequence[Sent], option: NationalOption, most: int) -> int:
+def missed(layout: Layout, subtitles: Sequence[Sent], option: NationalOption, most: int) -> int:
     """How many subtitles a layout draws otherwise than they were sent; of more than some no more
     are looked for."""
-    others = (one for one in found if not draws(layout, one, option))
+    others = (sent for sent in subtitles if not draws(layout, sent, option))
     return sum(1 for _ in itertools.islice(others, most + 1))
 
 
-def simplest(layout: Layout, found: Sequence[Sent], option: NationalOption) -> Layout:
+def simplest(layout: Layout, subtitles: Sequence[Sent], option: NationalOption) -> Layout:
     """A layout that draws as many, with each item left out that changes nothing."""
-    most = missed(layout, found, option, len(found))
+    most = missed(layout, subtitles, option, len(subtitles))
     for names in (("strip",), ("before", "behind"), ("behind",), ("after",), *(
             (name,) for name in Layout._fields[4:])):
         less = layout._replace(**{name: getattr(PLAIN, name) for name in names})
         if less != layout and simplicity(less) < simplicity(layout):
-            others = missed(less, found, option, most)
+            others = missed(less, subtitles, option, most)
             if others <= most:
                 layout, most = less, others
     return layout
 
 
-def candidates(found: Sequence[Sent], option: NationalOption) -> list[Layout]:
+def candidates(subtitles: Sequence[Sent], option: NationalOption) -> list[Layout]:
     """Some layouts of which one draws the most of the found subtitles as they were sent; the one
     without an item is one of them."""
-    all_lines = [raw_lines(one.text, option) for one in found]
-    pairs = [pair for place, one in enumerate(found)
-             for pair in pairs_of(place, all_lines[place], one.rows)]
+    all_lines = [raw_lines(sent.text, option) for sent in subtitles]
+    pairs = [pair for place, sent in enumerate(subtitles)
+             for pair in pairs_of(place, all_lines[place], sent.rows)]
     if not pairs:
         return [PLAIN]
-    unknown = as_bits(range(len(found))) ^ as_bits({pair.place for pair in pairs})
+    unknown = as_bits(range(len(subtitles))) ^ as_bits({pair.place for pair in pairs})
     counts = Counter[Layout]()
     for cells in ways_to_prepare(pairs):
-        rows = list(placed(cells, pairs, all_lines, found))
-        for column, wrong in justified(cells, pairs, found):
+        rows = list(placed(cells, pairs, all_lines, subtitles))
+        for column, wrong in justified(cells, pairs, subtitles):
             for row, others in rows:
                 layout = column._replace(double=row.double, pack=row.pack, last=row.last,
                                          row=row.row)
-                counts[layout] = len(found) - bin(wrong | others | unknown).count("1")
+                counts[layout] = len(subtitles) - bin(wrong | others | unknown).count("1")
     best = max(counts.values())
     near = sorted((one for one in counts if counts[one] == best), key=simplicity)
-    return [PLAIN, *(simplest(one, found, option) for one in near[:MOST_KEPT])]
+    return [PLAIN, *(simplest(one, subtitles, option) for one in near[:MOST_KEPT])]
 
 
 # Which items of a layout are seen in what was sent, and the layout of these alone.
@@ -327,12 +328,12 @@ class Choice(NamedTuple):
 def items_in(layout: Layout) -> list[LayoutItem]:
     """The items of a layout: each code that is left out is one, and so is the place of codes behind
     a line's own."""
-    found = [("strip", code) for code in layout.strip]
+    items = [("strip", code) for code in layout.strip]
     if (layout.before, layout.behind) != (PLAIN.before, PLAIN.behind):
-        found.append(("before", 0))
+        items.append(("before", 0))
     if layout.behind and layout.before + layout.behind != PLAIN.before:
-        found.append((STAR, 0))
-    return found + [(name, 0) for name in SINGLE if getattr(layout, name) != getattr(PLAIN, name)]
+        items.append((STAR, 0))
+    return items + [(name, 0) for name in SINGLE if getattr(layout, name) != getattr(PLAIN, name)]
 
 
 def without(layout: Layout, group: Iterable[LayoutItem]) -> Layout:
@@ -382,8 +383,8 @@ def taken_from(layout: Layout) -> Group:
 class Evidence:
     """Found subtitles, and what layouts draw of them."""
 
-    def __init__(self, found: Sequence[Sent], option: NationalOption) -> None:
-        self.found, self.option = found, option
+    def __init__(self, subtitles: Sequence[Sent], option: NationalOption) -> None:
+        self.found, self.option = subtitles, option
         self.known: dict[Layout, list[Page]] = {}  # of layouts that are looked at as a whole
 
     def page(self, sent: Sent, layout: Layout) -> Page:
@@ -394,26 +395,26 @@ class Evidence:
     def pages(self, layout: Layout) -> list[Page]:
         """What it draws of each."""
         if layout not in self.known:
-            self.known[layout] = [self.page(one, layout) for one in self.found]
+            self.known[layout] = [self.page(sent, layout) for sent in self.found]
         return self.known[layout]
 
     def count(self, layout: Layout) -> int:
         """How many it draws as they were sent."""
-        return sum(page == one.rows for page, one in zip(self.pages(layout), self.found))
+        return sum(page == sent.rows for page, sent in zip(self.pages(layout), self.found))
 
     def rest(self, layout: Layout, group: Iterable[LayoutItem], is_enough: bool = False) -> Rest:
         """On what some items of a layout rest; or on enough to say that they are seen, where it is
         enough to know that."""
         less, text = without(layout, group), items_text(group, layout)
         right = [page == one.rows for page, one in zip(self.pages(layout), self.found)]
-        decides = told = 0
+        decides = as_sent = 0
         for is_right in (False, True):
-            for page, one, its in zip(self.pages(layout), self.found, right):
-                if its == is_right and self.page(one, less) != page:
-                    decides, told = decides + 1, told + is_right
-                    if is_enough and is_right and Rest(text, decides, told).is_seen:
-                        return Rest(text, decides, told)
-        return Rest(text, decides, told)
+            for page, sent, was_right in zip(self.pages(layout), self.found, right):
+                if was_right == is_right and self.page(sent, less) != page:
+                    decides, as_sent = decides + 1, as_sent + is_right
+                    if is_enough and is_right and Rest(text, decides, as_sent).is_seen:
+                        return Rest(text, decides, as_sent)
+        return Rest(text, decides, as_sent)
 
     def unseen(self, layout: Layout) -> Group | None:
         """The items that are not seen, and decide the fewest; None where each group of them is. Of
@@ -448,25 +449,25 @@ class Evidence:
     def left_of(self, layout: Layout, gone: Sequence[Group], whole: Layout) -> list[Left]:
         """What would draw more than a layout, of the items of another one; and all of these, where
         they draw most together."""
-        count, found = self.count(layout), list[Left]()
+        count, left = self.count(layout), list[Left]()
         for group in gone:
             other, text = with_items(layout, group, whole), items_text(group, whole)
             more = self.count(other) - count
-            if more > 0 and all(one.text != text for one in found):
-                found.append(Left(text, more, layout_text(other)))
+            if more > 0 and all(one.text != text for one in left):
+                left.append(Left(text, more, layout_text(other)))
         together = self.count(whole) - count
-        if together > max((one.more for one in found), default=0):
+        if together > max((one.more for one in left), default=0):
             items = [item for group in gone for item in group]
-            found.append(Left(items_text(items, whole), together, layout_text(whole)))
-        return found
+            left.append(Left(items_text(items, whole), together, layout_text(whole)))
+        return left
 
 
 def choices_of(sent: Sequence[Sent], option: NationalOption) -> tuple[Choice, Choice]:
     """Of the found subtitles: the layout that draws the most as they were sent, and the one of
     those of its items that are seen, which alone may be taken."""
-    found = [one for one in sent if is_found(one, option)]
-    evidence = Evidence(found, option)
-    best = candidates(found, option)
+    subtitles = [one for one in sent if is_found(one, option)]
+    evidence = Evidence(subtitles, option)
+    best = candidates(subtitles, option)
     closest = evidence.choice(min(best, key=lambda one: (-evidence.count(one), simplicity(one))))
     if not closest.is_clear:
         return closest, closest
@@ -481,15 +482,16 @@ def choices_of(sent: Sequence[Sent], option: NationalOption) -> tuple[Choice, Ch
 def sent_in(subtitles: Iterable[Subtitle], held: Timeline, option: NationalOption) -> list[Sent]:
     """The subtitles at whose frames a page with their letters was held, each with the one that was
     held for longest."""
-    found = []
-    for one in subtitles:
-        letters = letters_of_text(one.text, option)
-        pages = [(-held_for(held, number, one), number)
-                 for number in held.numbers(one.begin, one.end)
+    drawings = []
+    for subtitle in subtitles:
+        letters = letters_of_text(subtitle.text, option)
+        pages = [(-held_for(held, number, subtitle), number)
+                 for number in held.numbers(subtitle.begin, subtitle.end)
                  if letters and letters_on(held.pages[number]) == letters]
         if pages:
-            found.append(Sent(one.text, one.row, one.justify, held.pages[min(pages)[1]]))
-    return found
+            drawings.append(Sent(subtitle.text, subtitle.row, subtitle.justify,
+                                 held.pages[min(pages)[1]]))
+    return drawings
 
 
 def held_for(held: Timeline, number: int, subtitle: Subtitle) -> int:

@@ -185,9 +185,9 @@ def jumps_told(packets: Packets, inside: Range, usual: int) -> list[PTSPair]:
     """Where a jump is announced of a PID, as it is told, and a PES packet comes more frames after
     the one before than is usual: the PTS of both."""
     late = late_pairs(packets, inside, usual)
-    found = (packets.pts_at(number) for number in packets.seams
+    seams = (packets.pts_at(number) for number in packets.seams
              if inside[0] <= number <= inside[1])
-    return [(late[one], one) for one in dict.fromkeys(found) if one in late]
+    return [(late[one], one) for one in dict.fromkeys(seams) if one in late]
 
 
 def jumps_at(packets: Packets, inside: Range, usual: int, path: str, size: int) \
@@ -197,8 +197,8 @@ def jumps_at(packets: Packets, inside: Range, usual: int, path: str, size: int) 
     if not late:
         return []
     with open(path, "rb") as file:
-        found = [one for one in announced_in(packets_in(file, size, packets.pid)) if one in late]
-    return [(late[one], one) for one in dict.fromkeys(found)]
+        jumps = [one for one in announced_in(packets_in(file, size, packets.pid)) if one in late]
+    return [(late[one], one) for one in dict.fromkeys(jumps)]
 
 
 def announced_in(several: Iterator[bytes]) -> Iterator[int]:

@@ -164,7 +164,7 @@ def begin_of(own: Sequence[SentPacket], begin: int, within: int) -> int | None:
     """The number with which a row begins whose last is the first from the first frame on: that of
     the last sending before it after which the page is blank, else its own, if it has a header."""
     *before, now = own
-    found: int | None = None
+    number: int | None = None
     is_known, at = False, 0
     while at < len(before):
         end = at + 1
@@ -174,13 +174,13 @@ def begin_of(own: Sequence[SentPacket], begin: int, within: int) -> int | None:
         is_known = is_known or any(ERASE in packet.does for packet in sending)
         if is_known and any(HEADER in packet.does for packet in sending) \
                 and BLANK in sending[-1].does:
-            found = sending[0].number
+            number = sending[0].number
         at = end
     is_blank = not before or BLANK in next(
         (packet.does for packet in reversed(before) if packet.frame is not None), BLANK)
     if now.frame == begin and not is_blank and now.changes:
-        found = None
-    return found if found is not None else now.number if HEADER in now.does else None
+        number = None
+    return number if number is not None else now.number if HEADER in now.does else None
 
 
 # Where it ends.
@@ -271,7 +271,7 @@ def stages_of(survey: Survey, page: Page) -> list[Stage]:
     it that the PMT of the others does not name, where there are too many, or where the time does
     not go on from one to the next. The times of a PMT are those of the PCR before it, which is told
     once a second: so stages may overlap by what came in that time."""
-    carriers = {pid for pid, one in survey.by_pid.items() if one.has_page}
+    carriers = {pid for pid, packets in survey.by_pid.items() if packets.has_page}
     by_number: dict[int, list[ProgramMap]] = {}
     for record in survey.programmes:
         by_number.setdefault(record.number, []).append(record)
@@ -285,9 +285,9 @@ def stages_of(survey: Survey, page: Page) -> list[Stage]:
     return []
 
 
-def goes_on(one: Stage, other: Stage) -> bool:
+def goes_on(stage: Stage, other: Stage) -> bool:
     """Whether the time goes on from a stage to the next one."""
-    last, first = one.last(), next(other.packets.pts(other.inside, HEADER), None)
+    last, first = stage.last(), next(other.packets.pts(other.inside, HEADER), None)
     return last is not None and first is not None and \
         -MOST_OVERLAP <= ticks_between(last, first) <= MOST_PAUSE
 
@@ -297,33 +297,34 @@ def named_in_turn(records: Sequence[ProgramMap], page: Page, carriers: set[int])
     """The PID that each PMT of a programme names for a page, where that is another one than before,
     with the PCR before that PMT. One that names several is not clear: nothing comes after it."""
     before: int | None = None
-    for one in records:
-        pids = (announced_in(one, page) or one.kinds.keys()) & carriers
+    for program_map in records:
+        pids = (announced_in(program_map, page) or program_map.kinds.keys()) & carriers
         if len(pids) > 1:
             return
         for pid in pids - {before}:
             before = pid
-            yield pid, one.after
+            yield pid, program_map.after
 
 
 def way_of(records: Sequence[ProgramMap], page: Page, pid: int) -> list[int]:
     """The PIDs that carry a page one after another, from one of them on: where a later PMT of its
     programme names it no more, and announces the page on another one alone."""
     way, number = [pid], None
-    for one in records:
-        if number is None and pid in one.kinds:
-            number = one.number
-        if one.number != number or way[-1] in one.kinds:
+    for program_map in records:
+        if number is None and pid in program_map.kinds:
+            number = program_map.number
+        if program_map.number != number or way[-1] in program_map.kinds:
             continue
-        announced = announced_in(one, page)
+        announced = announced_in(program_map, page)
         if len(announced) == 1:
             way += announced
     return way
 
 
-def announced_in(one: ProgramMap, page: Page) -> set[int]:
+def announced_in(program_map: ProgramMap, page: Page) -> set[int]:
     """The PIDs on which a PMT announces a page."""
-    return {pid for pid, pages in one.pages.items() if any(known.page == page for known in pages)}
+    return {pid for pid, pages in program_map.pages.items()
+            if any(known.page == page for known in pages)}
 
 
 def move_words(page: str, before: int, pid: int) -> str:
@@ -335,10 +336,10 @@ def stage_of(packets: Packets, begin: int | None, end: int | None) -> Stage:
     """What may have come from one PCR on, and up to a second after another one; PTS are ahead of
     the PCR."""
     ahead = max([0, *(ticks for _, ticks in packets.samples)]) + SECOND
-    found = [number for number, pts, _ in packets if pts is None or (
+    numbers = [number for number, pts, _ in packets if pts is None or (
         (begin is None or ticks_between(begin, pts) >= 0)
         and (end is None or ticks_between(pts, wrapped(end + ahead)) >= 0))]
-    return Stage(packets, (found[0], found[-1]) if found else (0, -1))
+    return Stage(packets, (numbers[0], numbers[-1]) if numbers else (0, -1))
 
 
 def joined_stages(stages: Sequence[Stage]) -> Packets:
@@ -348,17 +349,17 @@ def joined_stages(stages: Sequence[Stage]) -> Packets:
     whole = dataclasses.replace(first, runs=[], held=[], strays=[], changes=[], marks=[], seams=[])
     for stage in stages:
         low, high = stage.inside
-        more, one = whole.count - low, stage.packets
-        whole.runs += [run._replace(first=run.first + more) for run in one.inside(low, high)]
-        whole.held += [(number + more, texts) for number, texts in one.held
+        more, packets = whole.count - low, stage.packets
+        whole.runs += [run._replace(first=run.first + more) for run in packets.inside(low, high)]
+        whole.held += [(number + more, texts) for number, texts in packets.held
                        if low <= number <= high]
-        whole.strays += [(number + more, texts) for number, texts in one.strays
+        whole.strays += [(number + more, texts) for number, texts in packets.strays
                          if low <= number <= high]
-        whole.changes += [change._replace(number=change.number + more) for change in one.changes
+        whole.changes += [change._replace(number=change.number + more) for change in packets.changes
                           if low <= change.number <= high]
-        whole.marks += [mark._replace(number=mark.number + more) for mark in one.marks
+        whole.marks += [mark._replace(number=mark.number + more) for mark in packets.marks
                         if low <= mark.number <= high]
-        whole.begun = one.begun
+        whole.begun = packets.begun
     return whole
 
 
@@ -367,5 +368,5 @@ def part_inside(stages: Sequence[Stage], place: int, inside: Range | None) -> Ra
     low, high = stages[place].inside
     if inside is None:
         return low, high
-    before = sum(one.inside[1] - one.inside[0] + 1 for one in stages[:place])
+    before = sum(stage.inside[1] - stage.inside[0] + 1 for stage in stages[:place])
     return max(low, inside[0] - before + low), min(high, inside[1] - before + low)

@@ -124,12 +124,12 @@ class Held:
 
     def state_at(self, frame: int) -> State:
         """All that is held at the end of a frame."""
-        at = bisect.bisect_right(self.states, frame, key=lambda one: one.frame) - 1
+        at = bisect.bisect_right(self.states, frame, key=lambda stored: stored.frame) - 1
         return self.states[at].state if at >= 0 else TUNED
 
     def state_after(self, number: int) -> State:
         """All that is held after the PES packet with a number."""
-        at = bisect.bisect_right(self.states, number, key=lambda one: one.number) - 1
+        at = bisect.bisect_right(self.states, number, key=lambda stored: stored.number) - 1
         return self.states[at].state if at >= 0 else TUNED
 
     def numbers(self, begin: int, end: int) -> Iterator[int]:
@@ -212,31 +212,31 @@ class Order:
         self.doubts: list[Span] = []
         self.pauses: list[Span] = []  # frames without a PES packet
 
-    def goes_on(self, one: HeardRun) -> bool:
+    def goes_on(self, heard: HeardRun) -> bool:
         """Takes PES packets whose frames go on; whether they come after those before them."""
-        first = one.frames[0]
+        first = heard.frames[0]
         if self.halt is None and first < self.last + self.least:
-            self.halt, self.before = one.run.first, self.last
+            self.halt, self.before = heard.run.first, self.last
         if self.halt is not None:
             if first < self.before + self.least:
                 self.falls.append(first)
-            self.before = one.frames[-1]
+            self.before = heard.frames[-1]
             return False
         if self.is_doubted:
             self.doubts.append(Span(max(self.last, 0), first))
             self.is_doubted = False
         if self.first == NO_FRAME:
             self.first = first
-        self.pauses += pauses_in(self.last, one.frames)
-        self.heard.append(one)
-        self.count += len(one.frames)
-        self.last = one.frames[-1]
+        self.pauses += pauses_in(self.last, heard.frames)
+        self.heard.append(heard)
+        self.count += len(heard.frames)
+        self.last = heard.frames[-1]
         return True
 
     def pause_at(self, frame: int) -> Span | None:
         """The frames around one in which no PES packet came, of what else sends one in each frame
         but few."""
-        at = bisect.bisect_right(self.pauses, frame, key=lambda one: one.first) - 1
+        at = bisect.bisect_right(self.pauses, frame, key=lambda span: span.first) - 1
         is_steady = len(self.pauses) * FEW <= self.count
         return self.pauses[at] if is_steady and at >= 0 and self.pauses[at].last >= frame else None
 
@@ -252,19 +252,19 @@ class Order:
 
     def members(self, frame: int) -> list[Run]:
         """The PES packets of a frame, each as a run of its own."""
-        at = bisect.bisect_right(self.heard, frame, key=lambda one: one.frames[0])
-        found: list[Run] = []
+        at = bisect.bisect_right(self.heard, frame, key=lambda heard: heard.frames[0])
+        runs: list[Run] = []
         while at and self.heard[at - 1].frames[-1] >= frame:
             at -= 1
             run, frames = self.heard[at]
             places = range(bisect.bisect_left(frames, frame), bisect.bisect_right(frames, frame))
-            found[:0] = [run._replace(first=run.first + place, length=1,
-                                      pts=run.pts_of(run.first + place)) for place in places]
-        return found
+            runs[:0] = [run._replace(first=run.first + place, length=1,
+                                     pts=run.pts_of(run.first + place)) for place in places]
+        return runs
 
     def frame_before(self, number: int) -> int | None:
         """The frame that was heard last before a PES packet with a number."""
-        at = bisect.bisect_left(self.heard, number, key=lambda one: one.run.first) - 1
+        at = bisect.bisect_left(self.heard, number, key=lambda heard: heard.run.first) - 1
         if at < 0:
             return None
         run, frames = self.heard[at]
@@ -272,7 +272,7 @@ class Order:
 
     def frame_after(self, number: int) -> int | None:
         """The frame that was heard next after a PES packet with a number."""
-        at = bisect.bisect_right(self.heard, number, key=lambda one: one.run.end - 1)
+        at = bisect.bisect_right(self.heard, number, key=lambda heard: heard.run.end - 1)
         if at == len(self.heard):
             return None
         run, frames = self.heard[at]
@@ -342,34 +342,34 @@ class Timeline(Order, Held):
             if run.pts is None or run.fault:
                 self.pass_over(run, is_told)
                 continue
-            for one in heard_of(run, frames_of(run, self.origin, self.within), self.least):
-                if one.frames[0] == NO_FRAME:
-                    self.pass_over(one.run, is_told)
+            for heard in heard_of(run, frames_of(run, self.origin, self.within), self.least):
+                if heard.frames[0] == NO_FRAME:
+                    self.pass_over(heard.run, is_told)
                 else:
-                    self.hear(one, is_told, stray)
+                    self.hear(heard, is_told, stray)
 
     def pass_over(self, run: Run, is_told: bool) -> None:
         """Does not hear PES packets: what is told after them need not be what is held."""
         self.is_doubted = True
         self.is_behind = self.is_behind or is_told or HEADER in run.does or CLOSED in run.does
 
-    def hear(self, one: HeardRun, is_told: bool, stray: Texts) -> None:
+    def hear(self, heard: HeardRun, is_told: bool, stray: Texts) -> None:
         """Hears PES packets whose frames go on, after others."""
-        first, last = one.frames[0], one.frames[-1]
+        first, last = heard.frames[0], heard.frames[-1]
         if self.halt is None and first < self.last < self.begin:
             self.forget()
         is_first = self.first == NO_FRAME
-        if not self.goes_on(one):
+        if not self.goes_on(heard):
             return
         if is_first and self.came != NO_FRAME:
             self.first = self.came
         for letter, frames in ((HEADER, self.sendings), (ERASE, self.erasings)):
-            if letter in one.run.does:
-                frames.extend(frame for frame in dict.fromkeys(one.frames)
+            if letter in heard.run.does:
+                frames.extend(frame for frame in dict.fromkeys(heard.frames)
                               if not frames or frame > frames[-1])
-        if STRAY in one.run.does:
+        if STRAY in heard.run.does:
             self.strays.append((Span(first, last), stray))
-        self.take(one.run, first, is_told)
+        self.take(heard.run, first, is_told)
 
     def take(self, run: Run, frame: int, is_told: bool) -> None:
         """Takes what a PES packet does, as the first of some that do the same."""
@@ -460,15 +460,15 @@ def subcode_of(header: bytes) -> str:
 def turns_of(packets: Packets, inside: Range | None = None) -> list[str]:
     """The subcodes of the headers of the page, rising, where they alternate: a sub-page comes again
     after another one; else none."""
-    found, last, again = set[str](), "", 0
+    subcodes, last, again = set[str](), "", 0
     for run in packets.inside(*inside) if inside else packets.runs:
         codes = [subcode_of(bytes(int(digit, 16) for digit in control))
                  for control in run.control.split("+") if control]
         for code in codes * min(run.length, FEWEST):  # of which each is sent as often
-            again += code != last and code in found
-            found.add(code)
+            again += code != last and code in subcodes
+            subcodes.add(code)
             last = code
-    return sorted(found) if again >= FEWEST else []
+    return sorted(subcodes) if again >= FEWEST else []
 
 
 def subcode_words(subcodes: Sequence[str], page: str) -> str:

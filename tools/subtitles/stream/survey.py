@@ -82,17 +82,17 @@ def departures_of(lines: Sequence[Line], pid: int) -> list[Departure]:
             rows.append([])
         elif line.pid == pid:
             rows[-1].append(line)
-    found = []
+    departures = []
     for step, before, after in zip(steps, rows, rows[1:]):
         before, after = before[-LOOKED_AT:], after[:LOOKED_AT]
         if not after:
             continue  # and nothing is early or late
         pts = after[0].pts
         if min(len(before), len(after)) < FEW or max(spread(before), spread(after)) > JITTER:
-            found.append(Departure(pts, None, not before))
+            departures.append(Departure(pts, None, not before))
         elif abs(middle(after) - middle(before) + step.ticks) * 2 < TICKS:
-            found.append(Departure(pts, step.ticks))
-    return found
+            departures.append(Departure(pts, step.ticks))
+    return departures
 
 
 def middle(several: Sequence[Distance]) -> float:
@@ -162,8 +162,9 @@ class Video:
 
 def pid_line(packets: Packets, programmes: Iterable[ProgramMap]) -> str:
     """What is announced of a PID, and sent."""
-    announced = dict.fromkeys(f"{page.line()} in programme {one.number}" for one in programmes
-                              for page in one.pages.get(packets.pid, []))
+    announced = dict.fromkeys(f"{page.line()} in programme {program_map.number}"
+                              for program_map in programmes
+                              for page in program_map.pages.get(packets.pid, []))
     pages = sorted(packets.sent)
     more = [f"and {len(pages) - SHOWN} more"] if len(pages) > SHOWN else []
     return f"{pid_name(packets.pid)}: announced {', '.join(announced) or 'nothing'}; subtitle " \
@@ -239,9 +240,9 @@ class Survey:
         self.programmes[-1].kinds[int(pid)] = int(kind)
 
     def take_announce(self, pid: str, page: str, language: str, kind: str, *_: str) -> None:
-        found = page_in(page) or (int(page[0]) % 8, 0xFF)
+        shown = page_in(page) or (int(page[0]) % 8, 0xFF)
         self.programmes[-1].pages.setdefault(int(pid), []).append(
-            Announced(found, bytes.fromhex(language).decode("latin-1"), int(kind)))
+            Announced(shown, bytes.fromhex(language).decode("latin-1"), int(kind)))
 
     def take_teletext(self, pid: str, *_: str) -> None:
         self.of(pid)
@@ -258,24 +259,24 @@ class Survey:
                                      control, int(units), int(fault)))
 
     def take_rows(self, pid: str, number: str, rows: str, *_: str) -> None:
-        one, texts = self.of(pid), texts_of(rows)
-        pts = one.runs[-1].last
+        packets, texts = self.of(pid), texts_of(rows)
+        pts = packets.runs[-1].last
         assert pts is not None
-        one.held.append((int(number), texts))
+        packets.held.append((int(number), texts))
         plain = tuple((row, cells) for row, cells in (
             (row, cells.replace(HIT, b" ")) for row, cells in texts) if cells.strip(b" "))
-        if not one.changes or one.changes[-1].rows != plain:
+        if not packets.changes or packets.changes[-1].rows != plain:
             letters = b"".join(cells for _, cells in plain).translate(None, NO_LETTERS)
-            one.changes.append(Change(pts, letters, int(number), plain))
+            packets.changes.append(Change(pts, letters, int(number), plain))
 
     def take_strays(self, pid: str, number: str, rows: str, *_: str) -> None:
         self.of(pid).strays.append((int(number), texts_of(rows)))
 
     def take_gap(self, pid: str, number: str, lost: str, scrambled: str, *_: str) -> None:
-        one = self.of(pid)
-        before = next((run.last for run in reversed(one.runs) if run.pts is not None), None)
-        one.marks.append(Mark(int(number), before, int(lost), int(scrambled)))
-        one.runs.append(Run(int(number), 1, None, 0, "m", ""))
+        packets = self.of(pid)
+        before = next((run.last for run in reversed(packets.runs) if run.pts is not None), None)
+        packets.marks.append(Mark(int(number), before, int(lost), int(scrambled)))
+        packets.runs.append(Run(int(number), 1, None, 0, "m", ""))
 
     def take_clock(self, pid: str, before: str, after: str, ticks: str, packets: str, usual: str,
                    usual_packets: str, counters: str, *_: str) -> None:
@@ -326,19 +327,20 @@ class Survey:
 
     def take_pictures(self, pid: str, lost: str, scrambled: str, passed: str = "",
                       *_: str) -> None:
-        one = self.videos.setdefault(int(pid), Video(int(passed or 0)))
-        one.lost, one.scrambled = int(lost), int(scrambled)
-        one.is_cut = passed != ""
+        video = self.videos.setdefault(int(pid), Video(int(passed or 0)))
+        video.lost, video.scrambled = int(lost), int(scrambled)
+        video.is_cut = passed != ""
 
     def take_damaged(self, pid: str, number: str, why: str, *_: str) -> None:
         self.of(pid).damage = f"PES packet {number} " + {
             "start": "does not begin with 00 00 01 BD", "cut": "is cut"}[why]
 
     def take_end(self, pid: str, *numbers: str) -> None:
-        one = self.of(pid)
+        of_pid = self.of(pid)
         packets, scrambled, refusal, cut, begun = numbers[2:7]
-        one.packets, one.scrambled, one.refusal = int(packets), int(scrambled), int(refusal)
-        one.is_cut, one.begun = cut == "1", number_of(begun)
+        of_pid.packets, of_pid.scrambled = int(packets), int(scrambled)
+        of_pid.refusal = int(refusal)
+        of_pid.is_cut, of_pid.begun = cut == "1", number_of(begun)
 
     def take_over(self, skipped: str, *_: str) -> None:
         self.skipped, self.is_whole = int(skipped), True
@@ -347,7 +349,7 @@ class Survey:
 
     def programmes_of(self, pid: int) -> list[ProgramMap]:
         """The programmes whose PMT names a PID."""
-        return [one for one in self.programmes if pid in one.kinds]
+        return [program_map for program_map in self.programmes if pid in program_map.kinds]
 
     def clock_of(self, pid: int) -> tuple[int, int] | None:
         """The first PCR and the last one of the programme of a PID."""
@@ -375,24 +377,24 @@ def survey_call(program: str, name: str, page: Page, pid: int | None = None,
 def survey(program: str, name: str, page: Page, pid: int | None = None,
            packet_size: int | None = None, look: Callable[[], None] = lambda: None) -> Survey:
     """A recording that is a file, or standard input; after each line there is a look around."""
-    found = Survey()
+    answer = Survey()
     words = survey_call(program, name, page, pid, packet_size)
     with subprocess.Popen(words, stdout=subprocess.PIPE, encoding="ascii",
                           errors="replace") as process:
         assert process.stdout
         for line in process.stdout:
-            found.take(line.rstrip("\n"))
+            answer.take(line.rstrip("\n"))
             look()
-    found.refuse(process.returncode)
-    return found
+    answer.refuse(process.returncode)
+    return answer
 
 
 class Lines:
     """The lines that a call of `survey` prints of a feed, taken as they come; `has_ended` once no
     more do."""
 
-    def __init__(self, out: IO[bytes], found: Survey) -> None:
-        self.out, self.found = out, found
+    def __init__(self, out: IO[bytes], taken: Survey) -> None:
+        self.out, self.found = out, taken
         self.rest, self.has_ended = b"", False
 
     def take(self) -> Iterator[str]:
