@@ -100,11 +100,11 @@ def measured(request: Request, typed: CommandWords, folder: str) -> Measured:
 
 def of_pair(pair: Pair) -> Measured:
     """The same of a pair that is read."""
-    request, option = pair.asked, BY_WORD[pair.asked.option]
+    request, option = pair.request, BY_WORD[pair.request.option]
     recording, clocks, subtitles = pair.located
     cuts = [cut_of_part(clocks.programme, frames) for frames in pair.parts_in(
-        recording, clocks.found, clocks.programme, subtitles)]
-    parts = [answered_part(PartPace(cut, cut.frames.asked), Answer(pair.names.list_path),
+        recording, clocks.alignments, clocks.programme, subtitles)]
+    parts = [answered_part(PartPace(cut, cut.frames.request), Answer(pair.names.list_path),
                            nothing_due) for cut in cuts]
     times = [(one.begin, one.end) for one in subtitles]
     sent = [(subtitles_of(part, subtitles), held_near(part)) for part in parts]
@@ -124,7 +124,7 @@ def of_pair(pair: Pair) -> Measured:
 
 def cut_of_part(programme: PartSearch, frames: PartFrames) -> PartRange:
     """A part with the PES packets of its time."""
-    pes = cut_within(programme, frames.recording, frames.found, programme.asked.within).range
+    pes = cut_within(programme, frames.recording, frames.alignment, programme.request.within).range
     if pes is None:
         raise Unclear("nothing of the page is in the recording at the time of the subtitles")
     return PartRange(frames, pes)
@@ -133,26 +133,26 @@ def cut_of_part(programme: PartSearch, frames: PartFrames) -> PartRange:
 def held_near(part: Part) -> Timeline:
     """What is held around the frames of a part."""
     recording, frames = part.recorded
-    return timeline_near(recording.packets, part.asked.page, frames.origin, 1,
-                         Span(frames.begin, frames.end), part.asked.every, frames.packets)
+    return timeline_near(recording.packets, part.request.page, frames.origin, 1,
+                         Span(frames.begin, frames.end), part.request.every, frames.packets)
 
 
 def subtitles_of(part: Part, subtitles: Iterable[Subtitle]) -> list[Subtitle]:
     """The subtitles that come in the frames of a part."""
-    return [one for one in subtitles if part.asked.between.has(one.begin)]
+    return [one for one in subtitles if part.request.between.has(one.begin)]
 
 
 def pid_of(pair: Pair) -> tuple[str | None, list[str]]:
     """The PID with the page, and in lines what it rests on and what the PMT says; none of PES
     packets, and of several PIDs."""
-    recording, name = pair.located.recording, pair.asked.page_name
+    recording, name = pair.located.recording, pair.request.page_name
     lines = [one.line for one in pair.listener.selections if one.what == PID_CHOICE]
     if not recording.is_stream or recording.stages:
         return None, lines
     pid = recording.packets.pid
     for programme in recording.survey.programmes:
         for other, pages in programme.pages.items():
-            if any(one.page == pair.asked.page for one in pages):
+            if any(one.page == pair.request.page for one in pages):
                 lines.append(f"programme {programme.number} announces page {name} in PID "
                              f"0x{other:X}: {', '.join(one.line() for one in pages)}")
     return f"0x{pid:X}", [*dict.fromkeys(lines)] or [f"PID 0x{pid:X} was asked for"]

@@ -237,8 +237,8 @@ def layout_found(sendings: Sequence[Sending], option: NationalOption) -> Finding
     """The layout that draws nearly all as they were sent, with those that speak against it; or why
     there is none, with the nearest."""
     closest, choice = choices_of([sending.sent for sending in sendings], option)
-    if closest.found < FEWEST:
-        return Finding("", [f"layout: {counted(closest.found, 'subtitle')} with their letters were "
+    if closest.total < FEWEST:
+        return Finding("", [f"layout: {counted(closest.total, 'subtitle')} with their letters were "
                             f"found, and {FEWEST} say how a house draws"])
     text = layout_text(choice.layout)
     if not choice.is_clear:
@@ -253,7 +253,7 @@ def layout_found(sendings: Sequence[Sending], option: NationalOption) -> Finding
 
 def left_lines(choice: Choice) -> list[str]:
     """Which items are not proposed that would draw more, and why."""
-    return [f"{left_words(left, choice.found)}: {never_words(left.whole)}" for left in choice.left]
+    return [f"{left_words(left, choice.total)}: {never_words(left.whole)}" for left in choice.left]
 
 
 def left_words(left: Left, count: int) -> str:
@@ -341,7 +341,7 @@ def never_words(text: str) -> str:
 
 def counts_words(choice: Choice) -> str:
     """How many subtitles are drawn as they were sent."""
-    return f"{choice.drawn} of {counted(choice.found, 'subtitle')} as they were sent"
+    return f"{choice.drawn} of {counted(choice.total, 'subtitle')} as they were sent"
 
 
 def cells_text(rows: Rows) -> str:
