@@ -145,7 +145,20 @@ class Verdict:
     """All there is to say of a pair; `notes` are what else was seen, a line each, `hints` what to
     know of the first letter and of the first header that are refused. `files` is what its files
     were like when judging began, `seconds` how long it took. `was_fitted`: the origin that is given
-    was found in the recording, by who calls this tool."""
+    was found in the recording, by who calls this tool.
+
+    The texts that are made of it, and who takes each of them:
+
+        word      JSON, CSV, JUnit, reports; the exit status goes with it
+        line      the last line on standard output; JSON, CSV
+        lead      reports, tables of many pairs, JUnit, JSON: `line` with the worst fault
+        sentence  standard output, before the last line; reports, JSON, CSV
+        lines     standard output, before all that: a line for each of several parts
+        said      reports and JSON, as notes; of these standard error has `notes` alone
+        fitted    standard output; in `said` the others have it
+        why_not   where nothing is judged: standard error, reports, JUnit; JSON and CSV as `reason`
+        to_type   then too: standard error, reports
+    """
 
     request: Request
     severity: Severity
