@@ -1,6 +1,4 @@
-"""--measure: a profile of recordings that somebody says are right, each line with what it rests on.
-Nothing here judges.
-"""
+"""--measure: a profile of recordings that are right, by what it rests; nothing here judges."""
 from __future__ import annotations
 
 import argparse
