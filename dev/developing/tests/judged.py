@@ -90,7 +90,7 @@ def judged_by(program: str, *words: str, heard: Heard | None = None,
         names.give(asked.stl)
         files = Files(PairCall(program, known.out, known.is_kept, known.json, known.csv,
                                known.junit), verdict, typed, names)
-        verdict.found = found(asked)
+        verdict.files = found(asked)
         pair = Pair(verdict, typed, names, listener, True, asked.recording if is_cut else None)
         judge_pair(pair, files)
         end_pair(verdict, heard, files)

@@ -59,7 +59,7 @@ def part_with(begin: int | None, end: int | None, origin: int | None,
               packets: Packets | None = None, places: Sequence[Place] = (), **more: Any) -> Part:
     """A part of some frames; with PES packets or places at which something is missing of a
     recording that has these."""
-    found = None if begin is None or end is None or origin is None else \
+    alignment = None if begin is None or end is None or origin is None else \
         Found(begin, end, Clock(origin, source))
     names = Names("a", "", None)
     names.given = "a.stl"
@@ -67,10 +67,10 @@ def part_with(begin: int | None, end: int | None, origin: int | None,
         more["recording"] = SimpleNamespace(packets=packets, stream=lambda: None,
                                             places=lambda jumps: [*places])
     known: dict[str, Any] = {
-        "asked": asked_for("a.stl", "a.pes"), "names": names, "found": found,
+        "request": asked_for("a.stl", "a.pes"), "names": names, "alignment": alignment,
         "explanation": Explanation(was_read=True), **more}
-    if packets is not None and found and "pes" in more:
-        held = Timeline(packets, known["asked"].page, found.origin, 0, more["pes"])
+    if packets is not None and alignment and "pes" in more:
+        held = Timeline(packets, known["request"].page, alignment.origin, 0, more["pes"])
         known["timeline"] = lambda: held
     return Part(number, answer=said or answer(), **known)
 

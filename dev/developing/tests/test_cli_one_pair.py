@@ -163,7 +163,7 @@ class Writes(Case):
 
     def verdict(self, lines: Sequence[str] = REFUSED) -> Verdict:
         made = Verdict(asked_for(example("story.stl"), self.path("one.pes")), Severity(None), now())
-        made.found = found(made.asked)
+        made.files = found(made.request)
         made.parts = [self.part(1, lines)]
         return made
 
@@ -179,7 +179,7 @@ class Writes(Case):
         clear(self.path("out"), "one")
         self.must("left", sorted(os.listdir(self.path("out"))) == ["two.json"])
         os.symlink(example("story.stl"), self.path("link"))
-        asked = self.verdict().asked
+        asked = self.verdict().request
         for name in ("json", "csv", "junit"):
             for path in (self.path("one.pes"), example("story.stl"), self.path("link")):
                 self.must(f"{name} {path}",
@@ -187,7 +187,7 @@ class Writes(Case):
         self.must("none", not self.refused(asked, json=self.path("new.json")))
         for name in ("one.cut.pes", "one.recording.pes", "one.json", "one.2.txt", ".one.lock"):
             for at in ("stl", "recording", "severity"):
-                asked, path = self.verdict().asked, self.write(f"out/{name}", b"")
+                asked, path = self.verdict().request, self.write(f"out/{name}", b"")
                 setattr(asked, at, path)
                 self.must(f"{name} as {at}", "is an input too" in self.refused(
                     asked, out=self.path("out")))
@@ -195,7 +195,7 @@ class Writes(Case):
 
     def test_what_is_no_result(self) -> None:
         """It is refused, whatever it is; a link is taken away, and not what it leads to."""
-        asked, out = self.verdict().asked, self.path("out")
+        asked, out = self.verdict().request, self.path("out")
         page, like = HEAD.page(), b'<!DOCTYPE html>\n<html lang="en"><head><meta charset="UTF-8">'
         rows: list[tuple[str, bytes, bool]] = [
             ("one.json", b'{\n "format": 3,\n "verdict": "accepted",', True),
@@ -344,7 +344,7 @@ class Overview(Case):
         for delay, words in ((None, "origin 7, given"), (0, "origin 7, given"),
                              (2, "origin 7, given, all 2 frames late"),
                              (-1, "origin 7, given, all 1 frame early")):
-            part = part_with(0, 9, 7, found=Found(0, 9, Clock(7, GIVEN, delay)))
+            part = part_with(0, 9, 7, alignment=Found(0, 9, Clock(7, GIVEN, delay)))
             self.must(words, report_page.clock_of(part) == words)
         table = in_page(report_page.table(verdict))
         for number in (1, 2, 3):
@@ -362,8 +362,8 @@ class Overview(Case):
         scope = in_page(report_page.pair_scope(verdict).box())
         count = 3 * report_page.subtitle_count(verdict.parts[0])
         self.must("scope", f"00:00:00:00 to 00:00:05:24, {count} subtitles" in scope, scope)
-        verdict.asked = asked_for("piped.stl", "one.pes")  # what came through a pipe is kept
-        verdict.asked.kept_stl = example("story.stl")
+        verdict.request = asked_for("piped.stl", "one.pes")  # what came through a pipe is kept
+        verdict.request.kept_stl = example("story.stl")
         self.must("a pipe", "Programme" in scope and
                   in_page(report_page.pair_scope(verdict).box()) == scope, scope)
 

@@ -213,7 +213,7 @@ class Members(unittest.TestCase):
             2, 7, "00:00:01:00", "00:00:01:24", "accepted", 10, 2, 0, None, None, None, None])
         self.assertEqual(bare["clock"], {"origin": 7, "source": GIVEN, "delay_frames": None})
         recording: Any = SimpleNamespace(stream=lambda: (0x101, 204))
-        part = dataclasses.replace(part, recording=recording, pes=(3, 9), found=None,
+        part = dataclasses.replace(part, recording=recording, pes=(3, 9), alignment=None,
                                    judged=SummedFile("a.cut.pes", 5, "sum"))
         for is_kept, name in ((True, "a.cut.pes"), (False, None)):
             words = JUDGED_PART.made(PartOf(part, is_kept))

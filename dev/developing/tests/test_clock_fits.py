@@ -186,10 +186,10 @@ class Clocks(unittest.TestCase):
                          for (pts, text), edge in zip(sent(edges, 0), edges)]
                 with self.subTest(name, seed=seed):
                     one = found(shown, packets_of(times), within, late=shares)
-                    self.assertTrue(one.status == 0 and all_agree(one), one.told)
+                    self.assertTrue(one.status == 0 and all_agree(one), one.lines)
                     one = found(shown, packets_of(times), within)
-                    before = [line for line in one.told if " before what is usual" in line]
-                    self.assertTrue(one.status == 0 and all_agree(one) or before, one.told)
+                    before = [line for line in one.lines if " before what is usual" in line]
+                    self.assertTrue(one.status == 0 and all_agree(one) or before, one.lines)
 
     def test_early_ones(self) -> None:
         """One early subtitle of an inserter whose shares are known is before its clock."""
@@ -204,7 +204,7 @@ class Clocks(unittest.TestCase):
             times = [(pts + TICKS * (-1 if at == begins[20] else inserter(chance, edge.is_begin)),
                       text) for at, ((pts, text), edge) in enumerate(zip(sent(edges, 0), edges))]
             one = found(shown, packets_of(sorted(times)), within, late=shares)
-            self.assertFalse(all_agree(one), (name, one.told))
+            self.assertFalse(all_agree(one), (name, one.lines))
 
 
 class Drifts(unittest.TestCase):
@@ -424,7 +424,7 @@ class Losses(unittest.TestCase):
                 before, after = (shifted(TICKS * (at + more), shift) for more in (-1, 1))
                 for place in (Place(before, after), Place(before, after, missing=90_000)):
                     self.assertEqual(is_in(place, part), wanted, (hours, at))
-            found, ends = part.found, (-hour // 2, hours * hour + hour // 2)
+            found, ends = part.alignment, (-hour // 2, hours * hour + hour // 2)
             assert found
             seen = reach((shifted(TICKS * ends[0], shift), shifted(TICKS * ends[1], shift)), found)
             self.assertEqual(seen, Span(*ends), hours)

@@ -94,7 +94,7 @@ class Laws(unittest.TestCase):
                 one = found(shown, packets_of(some, chance.choice((0, 25))))
                 with self.subTest(name, origin=origin):
                     self.assertEqual((one.status, [part.origin for part in one.parts]),
-                                     (0, [origin % CLOCK]), one.told)
+                                     (0, [origin % CLOCK]), one.lines)
             self.assertEqual(one.runs, [])
 
     def test_a_delay_is_told(self) -> None:
@@ -111,7 +111,7 @@ class Laws(unittest.TestCase):
                         sent(edges, origin)]
             one = found(shown, packets_of(sendings))
             self.assertLessEqual(abs((one.parts[0].origin - origin + 900) % CLOCK - 900), 900)
-            self.assertTrue(any("only to the nearest frame" in line for line in one.told))
+            self.assertTrue(any("only to the nearest frame" in line for line in one.lines))
 
     def test_all_ends_may_be_late(self) -> None:
         """Beginnings and ends that are a constant number of frames apart."""
@@ -125,10 +125,10 @@ class Laws(unittest.TestCase):
             if sorted(sendings) != sendings:
                 continue
             one = found(shown, packets_of(sendings))
-            self.assertEqual([part.origin for part in one.parts], [origin % CLOCK], one.told)
+            self.assertEqual([part.origin for part in one.parts], [origin % CLOCK], one.lines)
             word = f"{abs(late)} frame{'s' * (abs(late) > 1)} {'late' if late > 0 else 'early'}"
             self.assertTrue(any(f"ends are {word} compared with the beginnings" in line
-                                for line in one.told), one.told)
+                                for line in one.lines), one.lines)
 
     def test_within(self) -> None:
         """Each up to N frames late: by shares that say so the origin is that of the least late.
@@ -143,11 +143,11 @@ class Laws(unittest.TestCase):
             shares = dict.fromkeys(range(within + 1), 1)
             one = found(shown, packets_of(sendings), within, late=Lateness(shares, shares))
             least = (origin + TICKS * min(late)) % CLOCK
-            self.assertEqual([part.origin for part in one.parts], [least], one.told)
+            self.assertEqual([part.origin for part in one.parts], [least], one.lines)
             one = found(shown, packets_of(sendings), within)
             origins = [part.origin for part in one.parts]
             self.assertTrue(origins == [least] or any(
-                "before what is usual for the others" in line for line in one.told), one.told)
+                "before what is usual for the others" in line for line in one.lines), one.lines)
 
     def test_fields(self) -> None:
         """Within some frames what comes in the second field of a frame is not late."""
@@ -156,8 +156,8 @@ class Laws(unittest.TestCase):
             sendings = [first, *((pts + TICKS // 2 * chance.randrange(2), text)
                                  for pts, text in others)]
             one = found(shown, packets_of(sendings), 1)
-            self.assertEqual([part.origin for part in one.parts], [origin % CLOCK], one.told)
-            self.assertIn("no cue is late", one.told)
+            self.assertEqual([part.origin for part in one.parts], [origin % CLOCK], one.lines)
+            self.assertIn("no cue is late", one.lines)
 
     def test_breaks(self) -> None:
         """Each part of the programme has its own origin, also where an encoder begins anew."""
@@ -172,7 +172,7 @@ class Laws(unittest.TestCase):
                 origins.append(origins[-1] + TICKS * chance.choice((300, 4000, -10 ** 6)))
             one = found(shown, packets_of(sendings), breaks=breaks)
             self.assertEqual([part.origin for part in one.parts],
-                             [origin % CLOCK for origin in origins[:-1]], one.told)
+                             [origin % CLOCK for origin in origins[:-1]], one.lines)
             self.assertEqual([part.frames for part in one.parts], [
                 (shown[12 * at].begin, shown[12 * at + 11].end) for at in range(breaks + 1)])
 
@@ -186,7 +186,7 @@ class Laws(unittest.TestCase):
                         for number, (pts, text) in enumerate(sent(edges, origin))]
             one = found(shown, packets_of(sendings))
             self.assertEqual([part.origin for part in one.parts], [origin % CLOCK])
-            self.assertEqual(one.shifted_from, edges[at].frame, one.told)
+            self.assertEqual(one.shifted_from, edges[at].frame, one.lines)
             self.assertIn(f"({late} frames) late", one.shifts[0])
 
     def test_runs(self) -> None:
@@ -202,7 +202,7 @@ class Laws(unittest.TestCase):
                 self.assertEqual((len(one.runs), [part.origin for part in one.parts]),
                                  (runs if runs > 1 else 0,
                                   [(origin + step * (number - 1)) % CLOCK]),
-                                 one.told)
+                                 one.lines)
 
     def test_runs_far_apart(self) -> None:
         """Twice in one time base, which is sent each hour and longer than half of what PTS count.
@@ -223,7 +223,7 @@ class Laws(unittest.TestCase):
         other = [Shown(100, 150, 1, b"other"), Shown(300, 350, 2, b"another")]
         one = found(shown, packets_of(sent(edges_of(other), 0)))
         self.assertEqual((one.status, one.parts), (1, []))
-        self.assertTrue(any("not unique" in line for line in one.told))
+        self.assertTrue(any("not unique" in line for line in one.lines))
 
 
 class Cuts(unittest.TestCase):

@@ -85,7 +85,7 @@ class Origins(Case):
                 found = self.find(stl, some)
                 self.must(f"{count} {which}", found.printed == [f"--origin {TICKS}"] and
                           f"{which} ends are 1 frame early compared with the beginnings"
-                          in found.told, found)
+                          in found.lines, found)
 
     def test_of_few_edges(self) -> None:
         """One subtitle of two seconds, and recordings in which others last as long; subtitles that
@@ -98,7 +98,7 @@ class Origins(Case):
             pes = self.planned(self.stl([(200 * at + 100, 200 * at + 150, text)
                                          for at, text in enumerate(texts)], "sent.stl"))
             found = self.find(one, pes)
-            is_told = any("not unique" in line for line in found.told)
+            is_told = any("not unique" in line for line in found.lines)
             self.must(f"{texts}", ([part.origin for part in found.parts], is_told) == (
                 [wanted][:wanted is not None], wanted is None), found)
         pes = self.planned(self.stl([(100, 150, b"Other"), (300, 350, b"Own")], "sent.stl"))
@@ -107,7 +107,7 @@ class Origins(Case):
             self.must("one sending", found.printed == printed, found)
         line = f"there is no header of page 100 in one.pes; other subtitle pages: 888"
         found = self.find(one, pes, "--page", "100")
-        self.must(line, (found.status, found.told, found.parts) == (1, [line], []), found)
+        self.must(line, (found.status, found.lines, found.parts) == (1, [line], []), found)
         alike = self.stl(each(30, 100, 50, b"Again"))
         pes = self.planned(alike)
         for some, printed in ((pes, ["--origin 0"]), (pes[10:20], [])):
@@ -127,7 +127,7 @@ class Origins(Case):
             pes = [pes for times, frames in ((some, by), (later, by_too)) for pes in self.planned(
                 self.stl(times, "sent.stl"), "--origin", str(TICKS * frames))]
             found = self.find(self.stl(sorted([*some, *later])), pes)
-            self.must(line, found.printed == printed and line in "".join(found.told), found)
+            self.must(line, found.printed == printed and line in "".join(found.lines), found)
 
     def test_of_parts_that_adjoin(self) -> None:
         """The last subtitle before a break is erased at its TCO, which is the TCI of the next one;
@@ -142,8 +142,8 @@ class Origins(Case):
             self.must(f"{count} {frames}", found.printed == [
                 f"--from {time_of(part[0][0])} --to {time_of(part[-1][1])} --origin {77_000 + late}"
                 for part, late in zip(parts, (0, frames * TICKS))] and
-                      not any("reaches into" in line for line in found.told) and
-                      found.told[0] == f"2 parts: {4 * count} of {4 * count} cues agree", found)
+                      not any("reaches into" in line for line in found.lines) and
+                      found.lines[0] == f"2 parts: {4 * count} of {4 * count} cues agree", found)
         times = [*each(20, 70, 40), (1500, 1520, b"One"), (1600, 1650, b"Two")]
         pes = self.planned(self.stl(times[:20], "sent.stl")) + self.planned(
             self.stl(times[20:], "sent.stl"), "--origin", str(900 * TICKS))
@@ -167,7 +167,7 @@ class Origins(Case):
         for row in ([*late, *other], [*(one - 1600 for one in other), *(1700 for _ in late)]):
             found = self.find(self.own(), self.sent(9 * 3600, row), "--breaks", "1")
             self.must(f"{row}", (found.status, found.printed, found.parts) == (1, [], []) and
-                      found.told[0].startswith("2 parts: "), found)
+                      found.lines[0].startswith("2 parts: "), found)
 
     def test_runs(self) -> None:
         """Each time that it is there, with its PES packets, of which one is looked for then."""
@@ -201,7 +201,7 @@ class Origins(Case):
         whole = self.find(self.own(), self.sent(5000))
         self.assertTrue(whole.are_all and not whole.shifts and whole.shifted_from is None)
         self.assertIn("subtitles due from 11:06:40:00 to 11:07:12:10, page sent from 11:06:40:00 "
-                      "to 11:07:12:10", whole.told)
+                      "to 11:07:12:10", whole.lines)
 
     def test_ends_that_are_late(self) -> None:
         """All agree, as all ends are late by as much; of some it is not so."""
@@ -225,7 +225,7 @@ class Origins(Case):
             part, are_all = found.parts[0], agree == among
             self.must(f"{agree}", (part.agree, part.among, found.are_all) == (
                 agree, among, are_all) and f" {letters} with the letters " in part.line, found)
-            others = [line for line in found.told if line.startswith("the first cue that does")]
+            others = [line for line in found.lines if line.startswith("the first cue that does")]
             self.must(f"{agree}: first", others == [
                 f"the first cue that does not agree is {time_of(FIRST + 350)}"] * (
                     not are_all), others)
@@ -236,12 +236,12 @@ class Origins(Case):
         for said, status, breaks in ((1, 0, None), (2, 1, 1)):
             found = self.find(self.own(), self.sent(0, late), "--breaks", str(said))
             self.must(f"{said}", (found.status, found.breaks) == (status, breaks) and (
-                "1 break found, where --breaks 2 is said" in found.told) == (said == 2), found)
+                "1 break found, where --breaks 2 is said" in found.lines) == (said == 2), found)
         found = self.find(self.own(), self.sent(0, late), "--breaks", "1")
         self.must("parts", [one.frames for one in found.parts] == [
             (FIRST, FIRST + 70 * 5 + 40), (FIRST + 70 * 6, FIRST + 70 * 11 + 40)], found.parts)
         found = self.find(self.own(), self.sent(0), "--breaks", "1")
-        self.must("none", found.told[0] == "no break found, where --breaks 1 is said", found.told)
+        self.must("none", found.lines[0] == "no break found, where --breaks 1 is said", found.lines)
 
     def test_what_is_sent(self) -> None:
         """What has no PTS, marks, another page: each is told, with how many they are."""
@@ -266,6 +266,6 @@ class Origins(Case):
                     "there is no header of page 888 in a.pes; other subtitle pages: none"])]
         for name, pes, is_page, told in rows:
             found = self.find(self.own(), pes)
-            lines = [line.replace("one.pes", "a.pes") for line in found.told]
+            lines = [line.replace("one.pes", "a.pes") for line in found.lines]
             self.must(name, all(line.startswith(begin) for line, begin in zip(lines, told)) and
                       len(lines) >= len(told) and (len(lines) > len(told)) == is_page, lines)

@@ -123,7 +123,7 @@ class Words(unittest.TestCase):
             found, part = Origin(), self.part(20, 20, 20)
             part.origin = origin
             measure(found, known, part)
-            self.assertEqual(found.told, [f"that is {words}"] * bool(words), (known, origin))
+            self.assertEqual(found.lines, [f"that is {words}"] * bool(words), (known, origin))
             self.assertEqual(found.away, None if known is None else origin - known)
 
     def test_frames(self) -> None:

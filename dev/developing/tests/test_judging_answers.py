@@ -278,7 +278,7 @@ class Values(Case):
                   Place(None, TICKS, 1, mark=0), Place(TICKS, 2 * TICKS, 1, mark=1)]
         for came, wanted in ((None, places), (5, places[1:])):
             one = part_with(0, 100, 0, places=places,
-                            found=Found(0, 100, Clock(0, GIVEN), came=came))
+                            alignment=Found(0, 100, Clock(0, GIVEN), came=came))
             self.must(f"{came}", [*places_on(one, None)] == wanted)
 
     def test_held_before(self) -> None:

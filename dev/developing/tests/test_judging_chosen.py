@@ -10,13 +10,12 @@ from typing import Any, Sequence
 from developing.pes import data_field, pes_packet, pts_in, teletext_packets
 from developing.stl import gsi_block, subtitle_blocks
 from subtitles.cli.main import parser_of
-from subtitles.cli.measure import measure
+from subtitles.cli.measure import every_of, measure, never_words, pace_found
 from subtitles.common.program import TOP, read
 from subtitles.common.times import TICKS, time_of
-from subtitles.judging.measurement import Repeats, every_of, never_words, pace_found
 from subtitles.request.lines import profile_at, read_options
 from subtitles.request.request import CHOICES, option_line, request_of
-from subtitles.stream.gaps import PAUSED, Pace, REGULAR
+from subtitles.stream.gaps import PAUSED, Pace, REGULAR, Repeats
 from .bench import Case, example, packets, tool_path
 from .judged import Judged, ORIGIN, Sent, apart, in_pipe, joined, judged, programme, sendings, times
 from .muxed import AHEAD, Maker, Shape, TELETEXT_PID, components, multiplexed

@@ -250,7 +250,7 @@ class Fitted(Case):
         """With several runs, or other breaks than were said, the lines alone are the reason."""
         for runs, breaks, is_alone in ((0, None, False), (2, None, True), (0, 0, True),
                                        (0, 2, True), (3, 2, True)):
-            why = unclear_origin(Origin(runs=[(0, 9)] * runs, breaks=breaks, told=["one"]), [])
+            why = unclear_origin(Origin(runs=[(0, 9)] * runs, breaks=breaks, lines=["one"]), [])
             self.must(f"{runs} {breaks}", (why.reason == "one") == is_alone)
 
 

@@ -266,7 +266,7 @@ class Words(Case):
                            asked=asked_for("one.stl", "one.pes"))
                  for at, some in enumerate((lines, good, [lines[2], "1 faults"]), 1)]
         verdict = verdict_of(parts)
-        verdict.asked.every = 100
+        verdict.request.every = 100
         self.must("of each", list(hints_of(verdict)) == [
             *wanted, wanted[1]], list(hints_of(verdict)))
         verdict.parts = parts[1:2]

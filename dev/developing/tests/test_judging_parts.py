@@ -243,9 +243,9 @@ class Within(Case):
                 found = origin.parts[0].origin - ORIGIN
                 self.must(f"{name} {within}", origin.status == 0 and
                           (abs(found) < EARLY if off is None else found == off), origin)
-                told = [line for line in origin.told if " late" in line]
+                told = [line for line in origin.lines if " late" in line]
                 self.must(f"{name} {within}: how late", len(told) == 1 and (
-                    told[0] == "no cue is late" or "cues are 0 to " in told[0]), origin.told)
+                    told[0] == "no cue is late" or "cues are 0 to " in told[0]), origin.lines)
         at_once: list[tuple[Change, int, str]] = [
             (with_late_rows, 3600, "1 frame"), (in_fields, 1800, "1 frame"),
             (in_three_frames, 7200, "2 frames")]
@@ -254,7 +254,7 @@ class Within(Case):
             origin = origin_in(packets, Sought(self.stl, "one.pes"))
             self.must(f"{ticks}: within 0", origin.parts[0].origin == ORIGIN + ticks and
                       any(f"all ends are {early} early compared with" in line
-                          for line in origin.told), origin)
+                          for line in origin.lines), origin)
 
     def test_of_each_subtitle(self) -> None:
         """After how many frames it was whole: of the first, one between, and the last; where it

@@ -334,7 +334,7 @@ class Worst(Case):
         for lines, wanted in rows:
             part = part_with(0, 9, 0, told(*lines, path=self.path("list")))
             sent = part.worst_sent
-            self.must(f"{lines}", (sent and sent.told.line) == wanted, sent)
+            self.must(f"{lines}", (sent and sent.fault.line) == wanted, sent)
 
     def test_by_causes(self) -> None:
         """The subtitle with the worst cause, the first of several; its first fault. A fault without
@@ -358,13 +358,13 @@ class Worst(Case):
                        for place, name in enumerate(names)})
             causes.all = lambda causes=causes: [*causes.named.values()]
             lead = lead_of(told(*some, path=self.path("list")), causes)
-            self.must(f"{names}", lead and lead.told.line == wanted, lead)
+            self.must(f"{names}", lead and lead.fault.line == wanted, lead)
         causes.of_edge = {63: 0}
         lead = lead_of(told(BEGIN, *lines, path=self.path("list")), causes)
-        self.must("at the begin", lead and lead.told.line == BEGIN, lead)
+        self.must("at the begin", lead and lead.fault.line == BEGIN, lead)
         causes.of_edge, causes.first_frames = {}, {0: 900_000 + SECOND + 9}
         lead = lead_of(told(*lines, path=self.path("list")), causes)
-        self.must("the fault that stands then", lead and lead.told.line == at(1), lead)
+        self.must("the fault that stands then", lead and lead.fault.line == at(1), lead)
         self.must("no cause", worst_cause([]) is None)
 
 

@@ -321,7 +321,7 @@ class Beside:
     """What the program prints of a pair."""
 
     def __init__(self, found: Judged) -> None:
-        self.asked, self.pes = found.verdict.asked, found.verdict.parts[0].pes
+        self.asked, self.pes = found.verdict.request, found.verdict.parts[0].pes
         asked = self.asked
         self.receiver = ["--origin", str(asked.origin), "--page", page_name(*asked.page)]
         options = [*self.receiver, "--option", asked.option]

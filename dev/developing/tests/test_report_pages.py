@@ -259,8 +259,8 @@ class Bounds(unittest.TestCase):
                 (("--within", "2"), 7, "--page 888 --every 250 --origin 7 --option english "
                  "--complete --within 2")):
             asked = asked_for("a.stl", "a.pes", *words)
-            part = part_with(0, 9, origin, asked=asked)
-            judged: Any = SimpleNamespace(asked=asked)
+            part = part_with(0, 9, origin, request=asked)
+            judged: Any = SimpleNamespace(request=asked)
             self.assertEqual(Subject(judged, part, 1).options(), wanted)
 
     def test_scope_of_a_part(self) -> None:

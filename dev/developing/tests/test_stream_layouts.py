@@ -142,7 +142,7 @@ class Searches(Case):
             assert layout is not None, text
             sent = programme(some, has_codes, leaves_room, layout)
             found = choices_of(sent, ENGLISH)[1]
-            self.must(text, found.drawn == found.found == len(sent) and found.is_clear
+            self.must(text, found.drawn == found.total == len(sent) and found.is_clear
                       and simplicity(found.layout) <= simplicity(layout), found)
 
     def test_a_wrong_page_is_no_layout(self) -> None:
@@ -154,8 +154,8 @@ class Searches(Case):
         sent[20:21], sent[30:31] = [wrong], [moved]
         found = choices_of(sent, ENGLISH)[1]
         self.must("the house's", found.layout == Layout(text=True) and found.is_clear, found)
-        self.must("counted", (found.found - found.drawn) == 1
-                  and found.found == sum(is_found(one, ENGLISH) for one in sent), found)
+        self.must("counted", (found.total - found.drawn) == 1
+                  and found.total == sum(is_found(one, ENGLISH) for one in sent), found)
 
     def test_one_drawn_otherwise_hides_no_column(self) -> None:
         """Whether it is the first or the last, lines of the others say where columns are."""
@@ -181,7 +181,7 @@ class Searches(Case):
                                      programme(some, False, False, Layout(row=-1), 60))
                  for one in pair]
         found = choices_of(turns, ENGLISH)[0]
-        self.must("in turns", not found.is_clear and found.found == 120
+        self.must("in turns", not found.is_clear and found.total == 120
                   and found.drawn >= len(turns) - missed(PLAIN, turns, ENGLISH, len(turns)), found)
         self.must("nine in ten", Choice(PLAIN, 90, 100).is_clear
                   and not Choice(PLAIN, 89, 100).is_clear and not Choice(PLAIN, 9, 9).is_clear)
@@ -361,7 +361,7 @@ class Taken(Case):
             several = [row.one] * row.times + plain(100 - row.times)
             closest, choice = choices_of(sent_of(several), ENGLISH)
             left = [(one.text, one.more) for one in choice.left]
-            self.must(row.name, layout_text(choice.layout) == row.taken and choice.found == 100
+            self.must(row.name, layout_text(choice.layout) == row.taken and choice.total == 100
                       and choice.drawn == 100 - (row.times if row.left else 0)
                       and left == ([(row.left, row.more)] if row.left else [])
                       and closest.drawn == 100, (closest, choice))

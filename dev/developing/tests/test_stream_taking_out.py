@@ -126,7 +126,7 @@ class Cuts(Case):
         """The numbers of the PES packets that are taken, and what is told of them."""
         for name, pes, asked, wanted, told in self.rows():
             found = cut_of(packets_told(self, b"".join(pes)), *asked)
-            self.must(name, (found.range, found.told()) == (wanted, told), found)
+            self.must(name, (found.range, found.words()) == (wanted, told), found)
         found = cut_of(packets_told(self, b"".join(STORY), (1, 0)), *Taken())
         self.must("another page", found.range is None, found)
 

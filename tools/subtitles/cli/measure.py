@@ -1,20 +1,22 @@
-"""--measure: a profile of recordings that somebody says are right, each line with what it rests on.
-"""
+"""--measure: a profile of recordings that are right, by what it rests; nothing here judges."""
 from __future__ import annotations
 
 import argparse
+import collections
 import os
-from typing import Iterable, Iterator, NamedTuple, Sequence
+import re
+from typing import Callable, Iterable, Iterator, NamedTuple, Sequence
 
-from ..common.command_line import Stop, counted, quoted, say, version
+from ..common.command_line import (
+    Lateness, MOST_WITHIN, Stop, counted, late_text, quoted, say, version)
 from ..common.files import temporary_folder
-from ..common.times import Span
+from ..common.times import FRAMES_OF_A_DAY, Span, time_of
+from ..formats.layout import (
+    PLAIN, Refused, SPACE, drawn, layout_of, layout_text, letters_of_text, letters_on, page_rows)
 from ..formats.stl import Subtitle
-from ..formats.teletext import BY_WORD, page_name
+from ..formats.teletext import BY_WORD, NationalOption, page_name
 from ..judging.check import Answer
-from ..judging.measurement import (
-    Delays, Finding, Repeats, Sending, delays_of, every_of, keeping_of, late_found, layout_found,
-    option_of, pace_found, repeats_in, sendings_of)
+from ..judging.pages import cells_text, first_letters
 from ..judging.pair import Pair
 from ..judging.part import Part, PartFrames, PartPace, PartRange, answered_part, nothing_due
 from ..judging.status import Severity
@@ -24,10 +26,311 @@ from ..judging.verdict import Verdict
 from ..recording.recording import refuse_files
 from ..request.commands import CommandWords, Listener, Names, Progress, Speech
 from ..request.request import PID_CHOICE, Request, Unclear, request_with
-from ..stream.gaps import Pace
+from ..stream.gaps import Pace, Repeats, repeats_in
+from ..stream.layout import (
+    Choice, FEWEST, FLASH, Left, MOST_MOVED, Sent, TENTHS, choices_of, draws, sent_in, taken_from)
 from ..stream.packets import HEADER
-from ..stream.receiver import Timeline, timeline_near
+from ..stream.receiver import Rows, Timeline, timeline_near
 from .single import now
+
+
+NAMED = 5  # subtitles that speak against something
+APART = 25  # frames before a TCI within which its page may come too early
+
+
+class Finding(NamedTuple):
+    """What is found of an option: the words that propose it, none where it is not proposed; and
+    what that rests on, in lines."""
+
+    words: str
+    lines: Sequence[str]
+
+    def all(self) -> Iterator[str]:
+        """It in lines of a profile."""
+        yield from (f"# {line}" for line in self.lines)
+        if self.words:
+            yield self.words
+
+
+class Sending(NamedTuple):
+    """A subtitle of a file, and the page with its letters that was sent at its frames."""
+
+    stl: str
+    subtitle: Subtitle
+    sent: Sent
+
+    @property
+    def name(self) -> str:
+        """It by its file, its place and its time."""
+        subtitle = self.subtitle
+        return f"{self.stl}, {subtitle.name} at {time_of(subtitle.begin)}"
+
+
+# How often the page is repeated.
+
+
+def every_of(several: Sequence[Repeats]) -> Finding:
+    """The repeat bound: the most frames from a header to the next one, of all recordings."""
+    if not several:
+        return Finding("", ["every: there are too few headers of the page"])
+    worst = max(several, key=lambda one: one.longest)
+    usual = [one.usual for one in several if one.usual is not None]
+    words = f", and {max(usual)} are usual" if usual else ""
+    return Finding(f"--every {worst.longest}", [
+        f"every: of {counted(sum(repeats.headers for repeats in several), 'header')} of the page "
+        f"the next comes within {counted(worst.longest, 'frame')}, the first of these from "
+        f"{time_of(worst.since)} on{words}"])
+
+
+# How far apart PES packets come.
+
+
+def pace_found(paces: Sequence[Pace]) -> Finding:
+    """The pace that holds in all recordings."""
+    frames = [one.frames for one in paces]
+    known = [one for one in frames if one is not None]
+    if not known or len(known) < len(frames):
+        why = ", ".join(dict.fromkeys(one.kind for one, its in zip(paces, frames) if its is None))
+        return Finding("", [f"pace: none, since PES packets are {why or 'none'}"])
+    return Finding(f"--pace {max(known)}", [
+        f"pace: a PES packet comes within {counted(max(pace.apart for pace in paces), 'frame')} of "
+        "the one before nearly everywhere"])
+
+
+# How late cues are, by a clock that is given.
+
+
+class Delays(NamedTuple):
+    """How many begins, and ends, are so many frames late; in words each cue that is early, and each
+    subtitle whose letters never came."""
+
+    begins: collections.Counter[int]
+    ends: collections.Counter[int]
+    early: list[str]
+    unseen: list[str]
+
+
+def delays_of(stl: str, subtitles: Sequence[Subtitle], held: Timeline, option: NationalOption) \
+        -> Delays:
+    """Those of the subtitles of a file, by the letters that are held. Where two adjoin the end of
+    one is the begin of the other."""
+    delays = Delays(collections.Counter(), collections.Counter(), [], [])
+    rows = [(one, letters_of_text(one.text, option)) for one in subtitles]
+    for place, (subtitle, letters) in enumerate(rows):
+        if not letters:
+            continue
+        name = f"{stl}, {subtitle.name} at {time_of(subtitle.begin)}"
+        before, after = (rows[at][0] if 0 <= at < len(rows) else None
+                         for at in (place - 1, place + 1))
+        is_new = before is None or rows[place - 1][1] != letters \
+            or before.end + APART < subtitle.begin
+        first = begun(held, subtitle, letters, APART if is_new else 0)
+        if first is None:
+            delays.unseen.append(name)
+            continue
+        if is_new and first > held.first:
+            take(delays.begins, delays.early, first - subtitle.begin, f"{name} begins")
+        if after is None or after.begin > subtitle.end:
+            last = ended(held, subtitle, letters, FRAMES_OF_A_DAY if after is None else after.begin)
+            if last < held.last:
+                take(delays.ends, delays.early, last + 1 - subtitle.end, f"{name} ends")
+    return delays
+
+
+def take(counts: collections.Counter[int], early: list[str], delay: int, name: str) -> None:
+    """Takes a delay; one below 0 is early."""
+    if delay < 0:
+        early.append(f"{name} {counted(-delay, 'frame')} early")
+    else:
+        counts[delay] += 1
+
+
+def begun(held: Timeline, subtitle: Subtitle, letters: bytes, earlier: int) -> int | None:
+    """The first frame at whose end the letters of a subtitle are held, from so many before its TCI
+    on."""
+    numbers = held.numbers(max(subtitle.begin - earlier, 0), subtitle.end)
+    return next((held.stretch(number).first for number in numbers
+                 if letters_on(held.pages[number]) == letters), None)
+
+
+def ended(held: Timeline, subtitle: Subtitle, letters: bytes, limit: int) -> int:
+    """The last such frame up to some behind its TCO."""
+    end = min(subtitle.end + MOST_WITHIN + 1, limit)
+    numbers = held.numbers(subtitle.begin, max(end, subtitle.end))
+    return max(held.stretch(number).last for number in numbers
+               if letters_on(held.pages[number]) == letters)
+
+
+def late_found(several: Sequence[Delays], is_known: bool) -> Iterator[Finding]:
+    """The bound, and the shares of each delay; none where no clock is given."""
+    if not is_known:
+        yield Finding("", ["within, late: no clock is given (--origin, --start), so nobody knows "
+                           "how late cues are"])
+        return
+    begins, ends = collections.Counter[int](), collections.Counter[int]()
+    for delays in several:
+        begins, ends = begins + delays.begins, ends + delays.ends
+    lines = [f"within, late: begins {counts_text(begins)}; ends {counts_text(ends)} (frames late: "
+             "how many)"]
+    lines += named_lines("early, which nothing accepts", [
+        name for one in several for name in one.early])
+    lines += named_lines("whose letters were never sent", [
+        name for one in several for name in one.unseen])
+    longest = max([*begins, *ends], default=0)
+    if longest > MOST_WITHIN:
+        lines.append(f"within is {MOST_WITHIN} frames at most")
+    if not begins or not ends or not longest or longest > MOST_WITHIN:
+        yield Finding("", lines)
+        return
+    yield Finding(f"--within {longest}", lines)
+    shares = Lateness(*(dict(sorted(counts.items())) for counts in (begins, ends)))
+    yield Finding(f"--late {late_text(shares)}", [])
+
+
+def counts_text(counts: collections.Counter[int]) -> str:
+    """`0:31, 1:40`; `none` of none."""
+    return ", ".join(f"{delay}:{count}" for delay, count in sorted(counts.items())) or "none"
+
+
+def named_lines(what: str, names: Sequence[str]) -> list[str]:
+    """The first names of something, and how many there are."""
+    if not names:
+        return []
+    more = f", and {len(names) - NAMED} more" if len(names) > NAMED else ""
+    return [f"{what}: {'; '.join(names[:NAMED])}{more}"]
+
+
+# Whether headers that repeat the page keep it, and their national option.
+
+
+def keeping_of(headers: int, keeping: int, is_alone: bool) -> Finding:
+    """How many headers keep the page, of so many; with nothing else wrong in any."""
+    lines = [f"keeping: C4 (erase page) is clear in {keeping} of {counted(headers, 'header')}"]
+    if keeping and not is_alone:
+        lines.append("other control bits of a header are wrong, which no option accepts")
+    return Finding("--keeping" if keeping and is_alone else "", lines)
+
+
+def option_of(options: Iterable[str], judged: str) -> Finding:
+    """The national option of all headers."""
+    sent = sorted(options)
+    lines = [f"option: by C12 to C14 of its headers the page is {' and '.join(sent) or 'unknown'}; "
+             f"letters were read as {judged}"]
+    return Finding(f"--option {sent[0]}" if len(sent) == 1 else "", lines)
+
+
+# How the house draws.
+
+# Behind the codes that open a box, or before those that close it: spaces.
+SPACE_IN_BOX = re.compile(rb"^[\x00-\x1f]*\x0b[\x00-\x1f]* | [\x00-\x1f]*\x0a[\x00-\x1f]*$")
+
+
+def layout_found(sendings: Sequence[Sending], option: NationalOption) -> Finding:
+    """The layout that draws nearly all as they were sent, with those that speak against it; or why
+    there is none, with the nearest."""
+    closest, choice = choices_of([sending.sent for sending in sendings], option)
+    if closest.total < FEWEST:
+        return Finding("", [f"layout: {counted(closest.total, 'subtitle')} with their letters were "
+                            f"found, and {FEWEST} say how a house draws"])
+    text = layout_text(choice.layout)
+    if not choice.is_clear:
+        nearest = choice if closest.is_clear else closest
+        return Finding("", [*no_layout(nearest, sendings, option), *left_lines(choice)])
+    rests = [f"{rest.text} rests on {rest.decides}, of which {rest.drawn} were sent so"
+             for rest in choice.items]
+    lines = ["; ".join([f"layout: {counts_words(choice)}", *rests])]
+    return Finding(f"--layout {quoted(text)}" if text else "", [
+        *lines, *against_lines(choice, sendings, option), *left_lines(choice)])
+
+
+def left_lines(choice: Choice) -> list[str]:
+    """Which items are not proposed that would draw more, and why."""
+    return [f"{left_words(left, choice.total)}: {never_words(left.whole)}" for left in choice.left]
+
+
+def left_words(left: Left, count: int) -> str:
+    """How many more an item would draw."""
+    return f"{left.text} would draw {left.more} more of {count}"
+
+
+def against_lines(choice: Choice, sendings: Sequence[Sending], option: NationalOption) \
+        -> Iterator[str]:
+    """The subtitles that a layout draws otherwise than they were sent."""
+    others = [one for one in sendings if not draws(choice.layout, one.sent, option)]
+    for sending in others[:NAMED]:
+        yield f"against it: {sending.name}: sent {cells_text(sending.sent.rows)}; drawn " \
+            f"{page_text(choice, sending.sent, option)}"
+    if len(others) > NAMED:
+        yield f"against it: {len(others) - NAMED} more"
+
+
+def page_text(choice: Choice, sent: Sent, option: NationalOption) -> str:
+    """What a layout draws of a subtitle."""
+    lines = drawn(sent.text, sent.row, sent.justify, choice.layout, option)
+    return f"nothing: refused {lines.number}" if isinstance(lines, Refused) else \
+        cells_text(page_rows(lines))
+
+
+def no_layout(nearest: Choice, sendings: Sequence[Sending], option: NationalOption) \
+        -> Iterator[str]:
+    """Why no layout is proposed: what of the drawings none of them says, and the nearest."""
+    others = [sending.sent for sending in sendings
+              if not draws(nearest.layout, sending.sent, option)]
+    text = layout_text(nearest.layout)
+    yield f"layout: none is proposed. The nearest, {text or 'that without --layout'}, draws " \
+        f"{counts_words(nearest)}, and {TENTHS} in 10 have to be"
+    for words, is_one in KINDS:
+        count = sum(is_one(sent, nearest, option) for sent in others)
+        if count:
+            yield f"{words} in {count} of these {len(others)} others: no layout says that"
+    yield from against_lines(nearest, sendings, option)
+
+
+def is_spaced(sent: Sent, _: Choice, option: NationalOption) -> bool:
+    """Whether spaces stand in a box at an end of a line, where its letters have none."""
+    return any(SPACE_IN_BOX.search(row.strip(b" ")) for row in sent.rows)
+
+
+def is_block(sample: Sent, nearest: Choice, option: NationalOption) -> bool:
+    """Whether lines begin in one column that a layout draws each in its own."""
+    lines = drawn(sample.text, sample.row, sample.justify, nearest.layout, option)
+    if isinstance(lines, Refused):
+        return False
+    due, sent = first_letters(page_rows(lines)), first_letters(sample.rows)
+    return len(sent) > 1 and len({*sent}) == 1 < len({*due})
+
+
+KINDS: Sequence[tuple[str, Callable[[Sent, Choice, NationalOption], bool]]] = (
+    ("a space stands in the box", is_spaced), ("lines are a block, aligned left,", is_block))
+
+
+def sendings_of(stl: str, subtitles: Iterable[Subtitle], held: Timeline, option: NationalOption) \
+        -> list[Sending]:
+    """The subtitles of a file at whose frames a page with their letters was held."""
+    return [Sending(stl, subtitle, sent) for subtitle in subtitles
+            for sent in sent_in([subtitle], held, option)]
+
+
+def never_words(text: str) -> str:
+    """Why a layout that draws more is not proposed."""
+    layout = layout_of(text) or PLAIN
+    brought, taken = layout.before + layout.behind, taken_from(layout)
+    if FLASH in brought:
+        return "all would flash"
+    if ("before", 0) in taken:
+        return "receivers show a line behind two start boxes"
+    if ("row", 0) in taken:
+        return f"no house moves all by more than {MOST_MOVED} rows"
+    return "it takes from a page what a viewer sees" if taken else \
+        f"{FEWEST} subtitles have to show it, and {TENTHS} in 10 of these as they were sent"
+
+
+def counts_words(choice: Choice) -> str:
+    """How many subtitles are drawn as they were sent."""
+    return f"{choice.drawn} of {counted(choice.total, 'subtitle')} as they were sent"
+
+
+# The recordings, one after another.
 
 
 class Unprinted(Speech):
@@ -46,9 +349,9 @@ class Unprinted(Speech):
 
 
 class Measured(NamedTuple):
-    """What one recording tells: its PID and what the PMT says of it, in words; the others as
-    `judging.measurement` has them. `headers` are how many there are, and how many keep the page;
-    `is_alone`: nothing else is wrong in any."""
+    """What one recording tells: its PID and what the PMT says of it, in words; how often the page
+    is repeated, the pace, how late cues are. `headers` are how many there are, and how many keep
+    the page; `is_alone`: nothing else is wrong in any."""
 
     pid: str | None
     said: Sequence[str]
@@ -100,11 +403,11 @@ def measured(request: Request, typed: CommandWords, folder: str) -> Measured:
 
 def of_pair(pair: Pair) -> Measured:
     """The same of a pair that is read."""
-    request, option = pair.asked, BY_WORD[pair.asked.option]
+    request, option = pair.request, BY_WORD[pair.request.option]
     recording, clocks, subtitles = pair.located
     cuts = [cut_of_part(clocks.programme, frames) for frames in pair.parts_in(
-        recording, clocks.found, clocks.programme, subtitles)]
-    parts = [answered_part(PartPace(cut, cut.frames.asked), Answer(pair.names.list_path),
+        recording, clocks.alignments, clocks.programme, subtitles)]
+    parts = [answered_part(PartPace(cut, cut.frames.request), Answer(pair.names.list_path),
                            nothing_due) for cut in cuts]
     times = [(one.begin, one.end) for one in subtitles]
     sent = [(subtitles_of(part, subtitles), held_near(part)) for part in parts]
@@ -124,7 +427,7 @@ def of_pair(pair: Pair) -> Measured:
 
 def cut_of_part(programme: PartSearch, frames: PartFrames) -> PartRange:
     """A part with the PES packets of its time."""
-    pes = cut_within(programme, frames.recording, frames.found, programme.asked.within).range
+    pes = cut_within(programme, frames.recording, frames.alignment, programme.request.within).range
     if pes is None:
         raise Unclear("nothing of the page is in the recording at the time of the subtitles")
     return PartRange(frames, pes)
@@ -133,26 +436,26 @@ def cut_of_part(programme: PartSearch, frames: PartFrames) -> PartRange:
 def held_near(part: Part) -> Timeline:
     """What is held around the frames of a part."""
     recording, frames = part.recorded
-    return timeline_near(recording.packets, part.asked.page, frames.origin, 1,
-                         Span(frames.begin, frames.end), part.asked.every, frames.packets)
+    return timeline_near(recording.packets, part.request.page, frames.origin, 1,
+                         Span(frames.begin, frames.end), part.request.every, frames.packets)
 
 
 def subtitles_of(part: Part, subtitles: Iterable[Subtitle]) -> list[Subtitle]:
     """The subtitles that come in the frames of a part."""
-    return [one for one in subtitles if part.asked.between.has(one.begin)]
+    return [one for one in subtitles if part.request.between.has(one.begin)]
 
 
 def pid_of(pair: Pair) -> tuple[str | None, list[str]]:
     """The PID with the page, and in lines what it rests on and what the PMT says; none of PES
     packets, and of several PIDs."""
-    recording, name = pair.located.recording, pair.asked.page_name
+    recording, name = pair.located.recording, pair.request.page_name
     lines = [one.line for one in pair.listener.selections if one.what == PID_CHOICE]
     if not recording.is_stream or recording.stages:
         return None, lines
     pid = recording.packets.pid
     for programme in recording.survey.programmes:
         for other, pages in programme.pages.items():
-            if any(one.page == pair.asked.page for one in pages):
+            if any(one.page == pair.request.page for one in pages):
                 lines.append(f"programme {programme.number} announces page {name} in PID "
                              f"0x{other:X}: {', '.join(one.line() for one in pages)}")
     return f"0x{pid:X}", [*dict.fromkeys(lines)] or [f"PID 0x{pid:X} was asked for"]

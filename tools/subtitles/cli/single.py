@@ -228,7 +228,7 @@ def judged(asked: Request, call: PairCall, called: str) -> Verdict:
         keep_stl(asked, folder)
         names.give(asked.stl_path)
         files = Files(call, verdict, typed, names)
-        verdict.found = found(asked)
+        verdict.files = found(asked)
         pair = Pair(verdict, typed, names, listener, files.are_any(), call.given)
         judge_pair(pair, files)
         end_pair(verdict, speech, files)
@@ -317,14 +317,14 @@ def say_verdict(verdict: Verdict, speech: Speech, page: str | None = None) -> No
     for line in first_lines([gap.line() + ("" if gap.is_judged else ", outside of what is judged")
                              for gap in verdict.gaps]):
         speech.tell(line)
-    if verdict.is_lost and not verdict.asked.is_loss_allowed:
+    if verdict.is_lost and not verdict.request.is_loss_allowed:
         speech.tell("that part was not recorded")
     for line in verdict.notes:
         speech.tell(line)
     for warned in verdict.warnings:
         speech.tell(warned.said())
     if verdict.line is not None:
-        if verdict.asked.within and verdict.delays:
+        if verdict.request.within and verdict.delays:
             speech.say(verdict.delays.words())
         if verdict.fitted:
             speech.say(verdict.fitted)
@@ -451,7 +451,7 @@ class Files:
     def testcase(self) -> Iterator[bytes]:
         """The file for a CI."""
         verdict = self.verdict
-        case = results.TestCase(pair_title(verdict.asked), verdict.word, verdict.status,
+        case = results.TestCase(pair_title(verdict.request), verdict.word, verdict.status,
                                verdict.lead or verdict.why_not or "", self.lines(), verdict.seconds,
                                verdict.counts.words() if verdict.counts else "")
         yield results.junit_file([case], verdict.date)

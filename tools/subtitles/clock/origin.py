@@ -60,7 +60,7 @@ class Origin:
     where others were said; by how many ticks the first part is later than the origin that is known;
     whether `are_all` of its cues agree, but where all beginnings are late compared with the ends,
     or all ends with them; from when on subtitles are late, first, and in words. `printed` and
-    `told` are all lines."""
+    `lines` are all that is told."""
 
     status: int = 1
     parts: list[OfPart] = dataclasses.field(default_factory=list)
@@ -71,7 +71,7 @@ class Origin:
     shifted_from: int | None = None
     shifts: list[str] = dataclasses.field(default_factory=list)
     printed: list[str] = dataclasses.field(default_factory=list)
-    told: list[str] = dataclasses.field(default_factory=list)
+    lines: list[str] = dataclasses.field(default_factory=list)
 
 
 def subtitles_between(path: str, option: str, between: Between,
@@ -93,19 +93,19 @@ def find(sought: Sought, packets: Packets) -> Origin:
     """The origin of a recording, or why it is not clear."""
     origin = Origin()
     subtitles = subtitles_between(sought.stl, sought.option, sought.between, sought.left_out)
-    if not is_sent(packets, sought, origin.told):
+    if not is_sent(packets, sought, origin.lines):
         return origin
     bases = bases_of(subtitles, packets, sought.within, sought.inside)
     if not bases:
-        origin.told += [*other_words(packets, sought.page), "no cue agrees with any origin"]
+        origin.lines += [*other_words(packets, sought.page), "no cue agrees with any origin"]
         return origin
     if (count := len(packets.bases())) > MOST_BASES:
-        origin.told.append(f"PTS go back at {count - 1} places: of what lies between, the "
-                           f"{MOST_BASES} stretches are looked at in which the page changes most")
+        origin.lines.append(f"PTS go back at {count - 1} places: of what lies between, the "
+                            f"{MOST_BASES} stretches are looked at in which the page changes most")
     runs = runs_of(bases, sought.origin is not None)
     if len(runs) > 1:
         origin.runs = [packets_of(runs, number, bases, packets) for number in range(len(runs))]
-        origin.told.append(runs_line(len(runs)))
+        origin.lines.append(runs_line(len(runs)))
         return origin
     row = find_row(bases)
     if sought.breaks:
@@ -113,7 +113,7 @@ def find(sought: Sought, packets: Packets) -> Origin:
     else:
         take_one(origin, sought, bases, row, parts_of(subtitles, bases, row, sought.late))
     if origin.status:
-        origin.told[:0] = other_words(packets, sought.page)
+        origin.lines[:0] = other_words(packets, sought.page)
     return origin
 
 
@@ -148,14 +148,14 @@ def take_one(origin: Origin, sought: Sought, bases: Sequence[Base],
              row: Sequence[Stretch], parts: Sequence[FittedPart]) -> None:
     """Takes one origin, that of the first part, where it is clear."""
     if not parts:
-        origin.told.append("no cue agrees with any origin")
+        origin.lines.append("no cue agrees with any origin")
         return
     part, edges = parts[0], bases[0].edges
     if is_clear(part, sought.origin is not None):
         origin.status = 0
         is_back = len(bases) > 1 and len(parts) == 1
         add(origin, part, part.sent.packets if is_back else None, None, len(edges))
-    origin.told += part_lines(part, len(edges))
+    origin.lines += part_lines(part, len(edges))
     measure(origin, sought.origin, part)
     if len(parts) > 1:
         origin.shifted_from = edges[row[1].first].frame
@@ -163,10 +163,10 @@ def take_one(origin: Origin, sought: Sought, bases: Sequence[Base],
                                     part.origin if sought.origin is None else sought.origin)
     if drift := drift_of(edges, bases[part.base].changes):
         origin.shifts = [drift_line(drift)]
-    origin.told += origin.shifts
+    origin.lines += origin.shifts
     first, last = (time_of_pts(pts, part.origin) for pts in part.sent.sent)
-    origin.told.append(f"subtitles due from {time_of(edges[0].frame)} to "
-                       f"{time_of(edges[-1].frame)}, page sent from {first} to {last}")
+    origin.lines.append(f"subtitles due from {time_of(edges[0].frame)} to "
+                        f"{time_of(edges[-1].frame)}, page sent from {first} to {last}")
 
 
 def take_parts(origin: Origin, sought: Sought, bases: Sequence[Base],
@@ -175,8 +175,8 @@ def take_parts(origin: Origin, sought: Sought, bases: Sequence[Base],
     if len(parts) != sought.breaks + 1:
         origin.breaks = max(len(parts) - 1, 0)
         breaks = counted(origin.breaks, "break") if origin.breaks else "no break"
-        origin.told += [f"{breaks} found, where --breaks {sought.breaks} is said",
-                        *break_lines(parts)]
+        origin.lines += [f"{breaks} found, where --breaks {sought.breaks} is said",
+                         *break_lines(parts)]
         return
     count = sum(len(part.sent.edges) for part in parts)
     if all(is_clear(part, part is parts[0] and sought.origin is not None) for part in parts):
@@ -184,14 +184,14 @@ def take_parts(origin: Origin, sought: Sought, bases: Sequence[Base],
         for part in parts:
             add(origin, part, part.sent.packets if len(bases) > 1 else None,
                 (part.begin, part.end), count)
-    origin.told += [f"{len(parts)} parts: {sum(part.best.agree for part in parts)} of "
-                    f"{counted(count, 'cue')} agree", *break_lines(parts)]
+    origin.lines += [f"{len(parts)} parts: {sum(part.best.agree for part in parts)} of "
+                     f"{counted(count, 'cue')} agree", *break_lines(parts)]
     for part in parts:
-        origin.told += part_lines(part, count)
+        origin.lines += part_lines(part, count)
         if part is parts[0]:
             measure(origin, sought.origin, part)
-        origin.told += [f"the subtitle from {time_of(shown.begin)} to {time_of(shown.end)} reaches "
-                        "into the next part, and is in none" for shown in part.over]
+        origin.lines += [f"the subtitle from {time_of(shown.begin)} to {time_of(shown.end)} "
+                         "reaches into the next part, and is in none" for shown in part.over]
 
 
 def add(origin: Origin, part: FittedPart, packets: Range | None,
@@ -214,8 +214,8 @@ def measure(origin: Origin, known: int | None, part: FittedPart) -> None:
     origin.away = None if known is None else away
     if known is not None or abs(away) // TICKS <= NEAR and not 0 <= abs(away) < TICKS:
         which = f"--origin {known or 0}"
-        origin.told.append(f"that is {frames_words(away)} compared with {which}" if away else
-                           f"that is {which}")
+        origin.lines.append(f"that is {frames_words(away)} compared with {which}" if away else
+                            f"that is {which}")
 
 
 # ---- words

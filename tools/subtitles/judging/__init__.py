@@ -10,7 +10,6 @@ subtitles      subtitles that are refused themselves: midnight, letters; what is
 part           a part of a pair, made in steps: frames, range, pace; with its answer, explained
 timing         the parts of a recording in time: clocks, PES packets, pace, pictures
 verdict        the verdict on a pair: all that is written of it, what is lost, delays
-measurement    how a house sends: what recordings tell that are right
 faults         faults with their places and all that is known of them, and hints on some numbers
 pair           a pair judged, from a recording to a verdict; why a part is refused
 """

@@ -110,7 +110,7 @@ def hints_of_part(part: Part, verdict: Verdict) -> Iterator[str]:
 
 def hint_words(fault: FaultLine, part: Part, verdict: Verdict) -> str:
     """What is to be said of such a fault; nothing where it is not known."""
-    request = verdict.asked
+    request = verdict.request
     if fault.number == CHARACTER:
         if not fault.block or fault.at is None:
             return ""
@@ -148,7 +148,7 @@ def lead_words(fault: FaultLine, part: Part, verdict: Verdict) -> str:
     words = hint_words(fault, part, verdict)
     if fault.number != CONTROL or not words or fault.frame is None:
         return words
-    effect = effect_of(fault_place(fault, part.packets, part.held).headers, verdict.asked)
+    effect = effect_of(fault_place(fault, part.packets, part.held).headers, verdict.request)
     return f"{whose_words(fault.frame, part)} {effect} on some sets: {words}"
 
 
@@ -159,7 +159,7 @@ def whose_words(frame: int, part: Part) -> str:
     count, is_due = due.due(frame)
     if not is_due:
         return f"the page behind {due.subtitles[count - 1].name}" if count else "the page"
-    text = page_text(due.pages[count - 1], BY_WORD[part.asked.option].bits)
+    text = page_text(due.pages[count - 1], BY_WORD[part.request.option].bits)
     return f'{due.subtitles[count - 1].name}, "{text}",'
 
 
@@ -175,7 +175,7 @@ def letter_words(fault: FaultLine, part: Part) -> str:
     if code is None:
         what = "a byte"
     elif code > SPACE:
-        what = f'the letter "{letters(BY_WORD[part.asked.option].bits)[code]}"'
+        what = f'the letter "{letters(BY_WORD[part.request.option].bits)[code]}"'
     else:
         what = f"a byte, {code_words(code)},"
     return f"{what} of {whose_words(fault.frame, part)} comes with even parity"
@@ -184,7 +184,7 @@ def letter_words(fault: FaultLine, part: Part) -> str:
 def end_words(number: int, part: Part, page: str) -> str:
     """That the page comes from another PID, or goes to one, or that its PID goes on with what is
     no Teletext, where that is why a subtitle is not whole."""
-    came, goes = (part.found.came, part.found.goes) if part.found else (None, None)
+    came, goes = (part.alignment.came, part.alignment.goes) if part.alignment else (None, None)
     if number == BEGIN and came is not None:
         return f"page {page} was on {pid_name(came)} before"
     if number == END and goes is not None:
@@ -202,7 +202,7 @@ def open_words(subtitles: SubtitleFile) -> str:
 
 def silent_words(fault: FaultLine, part: Part) -> str:
     """From when on, and for how long, no PES packet came."""
-    request, pes, origin = part.asked, part.pes, part.origin
+    request, pes, origin = part.request, part.pes, part.origin
     if request is None or request.pace is None or pes is None or origin is None \
             or fault.frame is None:
         return ""
@@ -235,13 +235,13 @@ class PartFaults:
     """The faults of one part."""
 
     def __init__(self, verdict: Verdict, part: Part) -> None:
-        self.verdict, self.part, self.asked = verdict, part, verdict.asked
-        self.letters: list[str] = letters(BY_WORD[self.asked.option].bits)
+        self.verdict, self.part, self.request = verdict, part, verdict.request
+        self.letters: list[str] = letters(BY_WORD[self.request.option].bits)
         self.meanings = {number: (plain(meaning.means), plain(meaning.do))
                          for number, meaning in meanings().items()}
-        self.wording = Wording(part.causes, self.asked.option) if part.causes else None
+        self.wording = Wording(part.causes, self.request.option) if part.causes else None
         self.subtitles = part.subtitle_file()
-        self.of_letters = OptionAdvice(self.subtitles, self.asked.option)
+        self.of_letters = OptionAdvice(self.subtitles, self.request.option)
 
     def __iter__(self) -> Iterator[Members]:
         return itertools.starmap(self.fault, self.part.answer.told())
@@ -263,7 +263,7 @@ class PartFaults:
         if fault.number == CONTENT:
             do = self.part.explanation.otherwise or do
         do = midnight_words(fault, self.subtitles) or do
-        means = header_words(place.headers, self.asked) or means
+        means = header_words(place.headers, self.request) or means
         return {
             "part": self.part.number, "line": fault.line, "number": fault.number,
             "name": fault.name, "severity": self.verdict.severity.of(fault.number),
@@ -295,7 +295,7 @@ class PartFaults:
         """The time of a PTS that is one of a frame of the day."""
         if pts is None or self.part.origin is None:
             return None
-        frame = frame_at(pts, self.part.origin, self.asked.within)
+        frame = frame_at(pts, self.part.origin, self.request.within)
         return None if frame is None else time_of(frame)
 
     def held_cell(self, fault: FaultLine, place: FaultPlace) -> Members | None:

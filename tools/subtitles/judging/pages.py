@@ -62,6 +62,25 @@ def page_text(rows: Rows, option: int) -> str:
                       for line in lettered_rows(rows))
 
 
+def cells_text(rows: Rows) -> str:
+    """The rows of a page that have cells: codes in hexadecimal, letters as they are."""
+    lines = []
+    for number, row in enumerate(rows, 1):
+        cells = row.strip(b" ")
+        if cells:
+            words = "".join(chr(cell) if SPACE <= cell < 0x7F else f"<{cell:02X}>"
+                            for cell in cells)
+            column = len(row) - len(row.lstrip(b" "))
+            lines.append(f"row {number} column {column}: {words}")
+    return ", ".join(lines)
+
+
+def first_letters(rows: Rows) -> list[int]:
+    """The column of the first letter of each row that has one."""
+    return [next(at for at, cell in enumerate(row) if cell > SPACE) for row in rows
+            if any(cell > SPACE for cell in row)]
+
+
 def code_words(code: int) -> str:
     """A cell's code as a person reads it."""
     if code == SPACE:

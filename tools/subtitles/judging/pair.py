@@ -53,13 +53,13 @@ class Explainer(NamedTuple):
         """A part with what explains the answer that `check` gave."""
         causes = part_causes(part) if part.answer.numbers & WITH_CAUSE else None
         if causes:
-            tell_causes(self.listener, causes, self.programme.asked.option)
+            tell_causes(self.listener, causes, self.programme.request.option)
         part = dataclasses.replace(part, explanation=Explanation(
             causes, otherwise=self.otherwise(part, causes) if causes else ""))
         part = with_more(part, delays=self.delays(part), is_lost=lacks(part, part.places()),
                          was_read=part.is_read())
-        if CONTROL in part.answer.numbers and not part.asked.may_keep:
-            part = with_more(part, kept=kept_in(part.headers_sent(), part.asked.option))
+        if CONTROL in part.answer.numbers and not part.request.may_keep:
+            part = with_more(part, kept=kept_in(part.headers_sent(), part.request.option))
         if OF_HEADERS & part.answer.numbers:
             part = with_more(part, of_header=part.recorded[0].header_words(part.packets))
         return with_more(part, hint=self.hint(part.worst, part),
@@ -69,12 +69,12 @@ class Explainer(NamedTuple):
         """What is drawn otherwise, where letters are right and the content is refused."""
         if CONTENT not in part.answer.numbers:
             return ""
-        due, option = part.due(), BY_WORD[self.programme.asked.option]
+        due, option = part.due(), BY_WORD[self.programme.request.option]
         return otherwise(due.subtitles, due.pages, causes.held, option)
 
     def delays(self, part: Part) -> Sequence[int | None]:
         """After how many frames the subtitles of a part were whole; nothing where nobody asks."""
-        request = self.programme.asked
+        request = self.programme.request
         held = part.causes.held if part.causes else part.held
         if not (self.is_summed or request.within) or not held:
             return ()
@@ -84,7 +84,7 @@ class Explainer(NamedTuple):
 
     def hint(self, lead: Lead | None, part: Part) -> str:
         """What to know of the fault that is said first."""
-        return lead_words(lead.told, part, self.verdict) if lead else ""
+        return lead_words(lead.fault, part, self.verdict) if lead else ""
 
 
 def with_more(part: Part, **more: object) -> Part:
@@ -99,14 +99,14 @@ def part_options(part: Part) -> list[str]:
     """The options by which the program judges a part."""
     recording, alignment = part.recorded
     first, last = part.pes or (0, 0)
-    return [*recording.words(), "--pes", f"{first}-{last}", *part.asked.check_words(),
+    return [*recording.words(), "--pes", f"{first}-{last}", *part.request.check_words(),
             *(["--origin", str(alignment.origin)] if alignment.origin else [])]
 
 
 def check_part(part: Part, typed: CommandWords, listener: Listener) -> None:
     """Tells all that is broken in the PES packets of a part."""
     recording, words = part.recorded[0], [*part_options(part), "--all"]
-    listener.written(typed.program_word, "check", part.asked.stl, recording.shown, *words)
+    listener.written(typed.program_word, "check", part.request.stl, recording.shown, *words)
     check([typed.program_path, "check", *words, "--", part.names.given, recording.path],
           part.answer, listener.speech.of_list)
     listener.speech.end_list(part.answer.last)
@@ -128,7 +128,7 @@ def adjoining_at(part: Part) -> int | None:
     fault, (_, alignment) = part.answer.first, part.recorded
     is_alone = part.answer.count == 1 and fault is not None and fault.number == CONTENT
     frame = fault.frame if fault else None
-    is_there = frame is not None and alignment.end <= frame <= alignment.end + part.asked.within
+    is_there = frame is not None and alignment.end <= frame <= alignment.end + part.request.within
     return alignment.end if is_alone and is_there else None
 
 
@@ -147,7 +147,7 @@ class Pair:
 
     def __init__(self, verdict: Verdict, typed: CommandWords, names: Names, listener: Listener,
                  is_summed: bool, given: str | None = None) -> None:
-        self.verdict, self.asked = verdict, verdict.asked
+        self.verdict, self.request = verdict, verdict.request
         self.typed, self.names, self.listener = typed, names, listener
         self.is_summed, self.given = is_summed, given
         self.recording: Recording | None = None
@@ -155,11 +155,11 @@ class Pair:
 
     def again(self, *more: str) -> str:
         """The call of this tool, with more words."""
-        return again(self.asked, self.typed, *more)
+        return again(self.request, self.typed, *more)
 
     def judge(self) -> None:
         """Judges the pair; `Unclear` where a step is not clear."""
-        request = self.asked
+        request = self.request
         refuse_files(request)
         if request.language is not None:
             self.listener.chosen(Selection(
@@ -204,7 +204,7 @@ class Pair:
     def judge_file(self) -> Answer:
         """What is told of the subtitle file alone; which subtitles are judged beside others of it
         stands in the verdict."""
-        request, verdict = self.asked, self.verdict
+        request, verdict = self.request, self.verdict
         if self.is_summed:
             verdict.stl = file_of(request.stl_path, request.stl)
         answer = self.check_alone()
@@ -218,7 +218,7 @@ class Pair:
 
     def look_at_rows(self) -> None:
         """Takes what no set shows of the subtitle file, and what some sets do not."""
-        request, file = self.asked, SubtitleFile(self.names.given)
+        request, file = self.request, SubtitleFile(self.names.given)
         if not may_hide(subtitles_read(file.data), bool(request.layout)):
             return
         due = self.due_of(request, [])
@@ -228,7 +228,7 @@ class Pair:
 
     def check_alone(self) -> Answer:
         """What is wrong with the subtitle file; at least there is no PES packet."""
-        answer = check_alone(self.asked, self.typed.program_path, self.names)
+        answer = check_alone(self.request, self.typed.program_path, self.names)
         if answer.verdict != REFUSED:
             raise Unsaid(f"{UNSAID}: {answer.last}, where there is no PES packet")
         return answer
@@ -236,10 +236,10 @@ class Pair:
     def take_beside(self, answer: Answer) -> Answer:
         """Takes what is judged beside the subtitles that are refused; answers what is told of the
         file alone."""
-        if self.asked.recording is not None:
-            file = SubtitleFile(self.names.given, self.asked.between)
+        if self.request.recording is not None:
+            file = SubtitleFile(self.names.given, self.request.between)
             faults = (fault for fault, _ in answer.told())
-            self.verdict.beside = beside_of(file, faults, self.asked.option)
+            self.verdict.beside = beside_of(file, faults, self.request.option)
         return answer.without(EMPTY, self.names.temporary("refused.txt"))
 
     @property
@@ -249,7 +249,7 @@ class Pair:
 
     def judge_alone(self, answer: Answer, is_refused: bool) -> None:
         """Ends with the subtitle file, which is refused or is all that there is."""
-        say_alone(self.asked, self.typed, self.listener)
+        say_alone(self.request, self.typed, self.listener)
         answer.move(self.names.list_path)
         if is_refused:
             for line in answer.lines():
@@ -259,8 +259,8 @@ class Pair:
             count = self.verdict.count = len(self.subtitles())
             answer.accept(f"{counted(count, 'subtitle')}, nothing is wrong with "
                           f"{'it' if count == 1 else 'them'}")
-        part = Part(1, self.asked, self.names, answer, explanation=Explanation(
-            was_read=self.asked.recording is None))
+        part = Part(1, self.request, self.names, answer, explanation=Explanation(
+            was_read=self.request.recording is None))
         self.verdict.parts.append(part)
         if answer.first:
             part = with_more(part, hint=hint_words(answer.first, part, self.verdict))
@@ -268,13 +268,13 @@ class Pair:
 
     def subtitles(self) -> list[Subtitle]:
         """The subtitles that are judged."""
-        between = self.asked.between
+        between = self.request.between
         if self.verdict.beside:
             return self.verdict.beside.judged
         subtitles = subtitles_in(self.typed.program_path, self.names.given, between,
-                                 self.asked.is_open)
+                                 self.request.is_open)
         if not subtitles and between != ALL_DAY:
-            raise Unclear(f"no subtitle of {self.asked.stl} is left: none comes at "
+            raise Unclear(f"no subtitle of {self.request.stl} is left: none comes at "
                           f"{time_of(between.begin)} or later and before {time_of(between.end)}")
         return subtitles
 
@@ -283,7 +283,7 @@ class Pair:
     @functools.cached_property
     def located(self) -> Located:
         """The recording, which is read once, and its parts."""
-        request = self.asked
+        request = self.request
         subtitles = self.subtitles()
         self.verdict.count = len(subtitles)
         if not subtitles:
@@ -299,7 +299,7 @@ class Pair:
         self.verdict.recording = recording.file
         self.refuse_range(recording)
         clocks = parts_of(programme, recording, self.listener)
-        first, last = clocks.found[0], clocks.found[-1]
+        first, last = clocks.alignments[0], clocks.alignments[-1]
         refuse_elsewhere(request, recording.survey, pts_of(first.begin, first.origin),
                          pts_of(last.end, last.origin))
         self.verdict.notes[:0] = clocks.delay
@@ -307,7 +307,7 @@ class Pair:
 
     def refuse_range(self, recording: Recording) -> None:
         """A range that has none of the PES packets is told so."""
-        count, pes = recording.packets.count, self.asked.pes
+        count, pes = recording.packets.count, self.request.pes
         if pes and count and pes[0] >= count:
             has = f"{counted(count, 'PES packet')}, 0-{count - 1}"
             raise Unclear(f"{recording.name} has {has}: --pes {pes[0]}-{pes[1]} is none of them",
@@ -340,15 +340,15 @@ class Pair:
             for line in self.verdict.beside.lines():
                 self.listener.said(line)
         if not recording.stages:
-            self.warn(recording, clocks.found[0].origin, programme.whole)
-        parts = self.parts_in(recording, clocks.found, programme, subtitles)
+            self.warn(recording, clocks.alignments[0].origin, programme.whole)
+        parts = self.parts_in(recording, clocks.alignments, programme, subtitles)
         for part in parts:
-            if selection := part.found.clock.chosen(part.number):
+            if selection := part.alignment.clock.chosen(part.number):
                 self.listener.chosen(selection, is_said=False)
         for part in parts if recording.stages else []:
-            self.warn(part.recording, part.found.origin, part.found)
-        self.verdict.warn(moves_told([part.found for part in parts], self.asked.page_name,
-                                     self.asked.within))
+            self.warn(part.recording, part.alignment.origin, part.alignment)
+        self.verdict.warn(moves_told([part.alignment for part in parts], self.request.page_name,
+                                     self.request.within))
         for part in parts:
             self.judge_part(part, programme, subtitles, len(parts))
         self.tell_losses(recording, clocks.is_shifted)
@@ -356,7 +356,7 @@ class Pair:
     def parts_in(self, recording: Recording, alignments: list[Found], programme: PartSearch,
                  subtitles: list[Subtitle]) -> list[PartFrames]:
         """What is judged, one after another."""
-        request = self.asked
+        request = self.request
         alignments = parted(alignments, programme.whole, subtitles, recording.stages,
                             programme.inside, request.within)
         if len(alignments) > 1:
@@ -373,12 +373,12 @@ class Pair:
         """Judges a part, one of so many: the PES packets of its time, their pace, what `check`
         says of them, and why."""
         recording, names, listener = frames.recording, frames.names, self.listener
-        own = [subtitle for subtitle in subtitles if frames.asked.between.has(subtitle.begin)]
-        due = functools.lru_cache(maxsize=None)(lambda: self.due_of(frames.asked, own))
+        own = [subtitle for subtitle in subtitles if frames.request.between.has(subtitle.begin)]
+        due = functools.lru_cache(maxsize=None)(lambda: self.due_of(frames.request, own))
         cut = PartRange(frames, cut_part(programme, frames, listener), file_of(
             recording.path, recording.shown) if self.is_summed and recording.is_piped else None)
         answer = Answer(names.list_path)
-        self.begun = answered_part(PartPace(cut, frames.asked), answer, due)
+        self.begun = answered_part(PartPace(cut, frames.request), answer, due)
         pace = paced_part(cut, [(subtitle.begin, subtitle.end) for subtitle in own], listener)
         self.begun = part = answered_part(pace, answer, due)
         check_part(part, self.typed, listener)
@@ -392,10 +392,10 @@ class Pair:
     def refuse_middle(self, part: Part) -> None:
         """`Unclear` where nothing is refused but that the next subtitle of the file comes at the
         last TCO, as it does: --to stands where subtitles adjoin, and nothing ends there."""
-        at = adjoining_at(part) if self.asked.to_time and not self.verdict.beside else None
+        at = adjoining_at(part) if self.request.to_time and not self.verdict.beside else None
         if at is None or part.held is None:
             return
-        request, program, given = self.asked, self.typed.program_path, self.names.given
+        request, program, given = self.request, self.typed.program_path, self.names.given
         due = due_pages_of(program, given, request.page, request.option, Between(at, at + 1),
                            request.words_of_pages(), request.is_open)
         fault = part.answer.first
@@ -411,8 +411,8 @@ class Pair:
     def look_at_pictures(self, part: PartFrames) -> None:
         """Takes where the pictures leave the subtitles of a part."""
         recording = part.recording
-        faults, notes = left_by_pictures(recording.survey, recording.packets.pid, part.found,
-                                         part.asked.within, part.number)
+        faults, notes = left_by_pictures(recording.survey, recording.packets.pid, part.alignment,
+                                         part.request.within, part.number)
         self.verdict.named += faults
         self.listener.noted(*notes)
 
@@ -431,7 +431,7 @@ class Pair:
         if not any(notice.kind == "grew" for notice in verdict.warnings):
             verdict.warnings += [notice for notice in recording.strange() if notice.kind == "grew"]
         verdict.gaps += gaps_in(recording, verdict.parts)
-        if recording.is_cut and not self.asked.breaks and not is_shifted:
+        if recording.is_cut and not self.request.breaks and not is_shifted:
             self.listener.noted(*unsent_in(verdict.parts[-1]))
 
     # What is strange, and breaks no rule.
@@ -443,13 +443,13 @@ class Pair:
         if recording.is_stream:
             warnings += [*notices.of_timing(packets, origin),
                          *notices.of_jumps(packets, origin, part.begin, part.end),
-                         *notices.of_tables(survey, packets.pid, self.asked)]
-        self.verdict.warn([*warnings, *notices.of_character_sets(packets, self.asked)])
+                         *notices.of_tables(survey, packets.pid, self.request)]
+        self.verdict.warn([*warnings, *notices.of_character_sets(packets, self.request)])
 
     def warn_of(self, part: Part, subtitles: list[Subtitle]) -> None:
         """Takes where a part has pauses, and how often its page is repeated."""
         origin = part.recorded[1].origin
         times = [(subtitle.begin, subtitle.end) for subtitle in subtitles]
         self.verdict.warn([
-            *notices.of_pauses(part.pts(), self.asked, origin),
-            *notices.of_repeat(part.pts(HEADER), self.asked, origin, times)])
+            *notices.of_pauses(part.pts(), self.request, origin),
+            *notices.of_repeat(part.pts(HEADER), self.request, origin, times)])

@@ -39,9 +39,9 @@ class PartFrames(NamedTuple):
     the recording. Subtitles of the file that are not judged are left out, by their places there."""
 
     number: int
-    asked: Request
+    request: Request
     names: Names
-    found: Found
+    alignment: Found
     recording: Recording
     left_out: Collection[int] = ()
 
@@ -60,7 +60,7 @@ class PartPace(NamedTuple):
     between which PTS a jump of the counter is announced, and more time passes than usual."""
 
     range: PartRange
-    asked: Request
+    request: Request
     jumps: Sequence[PTSPair] = ()
 
 
@@ -94,15 +94,15 @@ class Part:
     """What is judged by itself: all of a pair, or the subtitles of one clock, or of one PID; with
     what `check` answered, and what explains that.
 
-    `found` are its frames with their clock; of a subtitle file alone there are none. `pes` are the
-    numbers of the PES packets that are judged, and `judged` is what is judged of a feed.
+    `alignment` are its frames with their clock; of a subtitle file alone there are none. `pes` are
+    the numbers of the PES packets that are judged, and `judged` is what is judged of a feed.
     """
 
     number: int
-    asked: Request
+    request: Request
     names: Names
     answer: Answer
-    found: Found | None = None
+    alignment: Found | None = None
     recording: Recording | None = None
     left_out: Collection[int] = ()
     pes: Range | None = None
@@ -119,11 +119,11 @@ class Part:
 
     @property
     def clock(self) -> Clock | None:
-        return self.found and self.found.clock
+        return self.alignment and self.alignment.clock
 
     @property
     def origin(self) -> int | None:
-        return self.found and self.found.origin
+        return self.alignment and self.alignment.origin
 
     @property
     def stream(self) -> tuple[int, int] | None:
@@ -133,8 +133,8 @@ class Part:
     @property
     def recorded(self) -> tuple[Recording, Found]:
         """Its recording and its frames, of one that has these."""
-        assert self.recording and self.found
-        return self.recording, self.found
+        assert self.recording and self.alignment
+        return self.recording, self.alignment
 
     @functools.cached_property
     def worst(self) -> Lead | None:
@@ -149,12 +149,12 @@ class Part:
     @property
     def leading(self) -> FaultLine | None:
         """The fault that is said first."""
-        return self.worst.told if self.worst else None
+        return self.worst.fault if self.worst else None
 
     @property
     def lead(self) -> str:
         """The line that is said first."""
-        return self.worst.told.line if self.worst else self.answer.last
+        return self.worst.fault.line if self.worst else self.answer.last
 
     @property
     def held(self) -> Timeline | None:
@@ -172,7 +172,7 @@ class Part:
 
     def subtitle_file(self) -> SubtitleFile:
         """Its subtitles by their blocks and frames."""
-        return SubtitleFile(self.names.given, self.asked.between, self.left_out)
+        return SubtitleFile(self.names.given, self.request.between, self.left_out)
 
     def said(self) -> Said:
         """What the program said of it."""
@@ -203,11 +203,11 @@ class Part:
     def trusted(self) -> Spans:
         """The frames that may stay on air. A hole without a mark is seen by who reads the PCR: of
         its frames nothing is known."""
-        if self.found is None:
+        if self.alignment is None:
             return self.answer.trusted
         holes = [place for place in self.places() if place.mark is None and is_in(place, self)]
         return self.answer.trusted.without(
-            unseen(holes, self.found.origin, self.asked.within, False))
+            unseen(holes, self.alignment.origin, self.request.within, False))
 
     def pts(self, does: str = "") -> list[int]:
         """The PTS of its PES packets, of those that do something."""
@@ -234,7 +234,8 @@ class Part:
 
     def times(self) -> tuple[str, str] | tuple[None, None]:
         """Its first and its last frame as times."""
-        return (time_of(self.found.begin), time_of(self.found.end)) if self.found else (None, None)
+        alignment = self.alignment
+        return (time_of(alignment.begin), time_of(alignment.end)) if alignment else (None, None)
 
 
 def answered_part(pace: PartPace, answer: Answer, due: Callable[[], DuePages]) -> Part:
@@ -252,12 +253,12 @@ def answered_part(pace: PartPace, answer: Answer, due: Callable[[], DuePages]) -
 def is_in(place: Place, part: Part) -> bool:
     """Whether a mark is one of those that are judged with a part; or where none stands, whether
     frames of the part may lack what is missing there."""
-    if part.found is None:
+    if part.alignment is None:
         return False
     if place.mark is not None and part.pes is not None:
         return part.pes[0] <= place.mark <= part.pes[1]
-    begin, end = part.found[:2]
-    first, length = pts_of(begin, part.found.origin), TICKS * (end - begin)
+    begin, end = part.alignment[:2]
+    first, length = pts_of(begin, part.alignment.origin), TICKS * (end - begin)
     is_before = place.after is not None and ticks_within(first, length, place.after) <= 0
     is_after = place.before is not None and ticks_within(first, length, place.before) >= length
     return not is_before and not is_after
@@ -367,7 +368,7 @@ def refuse_others(parts: Sequence[Found], subtitles: Sequence[Subtitle], stl: st
 
 def part_causes(part: Part) -> Causes | None:
     """The causes of a part that was judged; `None` where there are none."""
-    request, (recording, alignment) = part.asked, part.recorded
+    request, (recording, alignment) = part.request, part.recorded
     lost = part.places() if recording.is_stream else []
     held = timeline_near(part.packets, request.page, alignment.origin, request.within,
                          Span(alignment.begin, alignment.end), request.every, alignment.packets,

@@ -84,7 +84,7 @@ class Lead(NamedTuple):
 
     rank: Rank
     place: int
-    told: FaultLine
+    fault: FaultLine
     is_caused: bool = False  # by the cause of a subtitle
 
 

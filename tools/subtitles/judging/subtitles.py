@@ -63,16 +63,16 @@ def falls_at_midnight(earlier: bytes, later: bytes) -> bool:
 
 
 class OptionAdvice:
-    """The advice for the letters of one subtitle file, which is judged by the option `asked`."""
+    """The advice for the letters of one subtitle file, which is judged by a national option."""
 
     def __init__(self, subtitles: SubtitleFile, option: str) -> None:
-        self.subtitles, self.asked = subtitles, option
+        self.subtitles, self.option = subtitles, option
 
     @functools.cached_property
     def drawing(self) -> list[NationalOption]:
         """The other options that have each letter of the whole file."""
         texts = {self.subtitles.text(block) for block in self.subtitles.lasts()}
-        return [option for option in OPTIONS if option.word != self.asked
+        return [option for option in OPTIONS if option.word != self.option
                 and all(has_characters(text, option) for text in texts)]
 
     def of(self, block: int, at: int) -> str:
@@ -131,7 +131,7 @@ class RefusedSubtitle(NamedTuple):
     refused, and what to do."""
 
     subtitle: NamedSubtitle
-    told: FaultLine
+    fault: FaultLine
     letter: str
     do: str
 
@@ -142,9 +142,9 @@ class RefusedSubtitle(NamedTuple):
 
     def why(self) -> str:
         """The number and the name of its fault, its letter, or what that means, and what to do."""
-        more = self.letter or WORDS.get(self.told.number, "")
+        more = self.letter or WORDS.get(self.fault.number, "")
         do = f": {self.do}" if self.do else ""
-        return f"{self.told.number} {self.told.name}, {more}{do}"
+        return f"{self.fault.number} {self.fault.name}, {more}{do}"
 
     def line(self) -> str:
         """All that, and up to when it would be due."""

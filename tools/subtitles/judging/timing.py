@@ -37,7 +37,7 @@ class PartSearch(NamedTuple):
     recording by who calls this tool; `is_cut`: all that is read is of about its time.
     """
 
-    asked: Request
+    request: Request
     whole: Found
     inside: Range | None
     left_out: frozenset[int] = frozenset()
@@ -51,7 +51,7 @@ class PartClocks(NamedTuple):
     some time on."""
 
     programme: PartSearch
-    found: list[Found]
+    alignments: list[Found]
     delay: list[str]
     is_shifted: bool
 
@@ -59,7 +59,7 @@ class PartClocks(NamedTuple):
 def parts_of(programme: PartSearch, recording: Recording, listener: Listener) -> PartClocks:
     """The parts with their clocks; the first one has the one that was given, or that the first
     picture tells."""
-    request, whole = programme.asked, programme.whole
+    request, whole = programme.request, programme.whole
     given = given_clock(request, programme.was_fitted) or by_start(programme, recording, listener)
     if programme.is_cut and given and not recording.stages:
         programme = programme._replace(
@@ -92,7 +92,7 @@ def given_clock(request: Request, was_fitted: bool = False) -> Clock | None:
 
 def by_start(programme: PartSearch, recording: Recording, listener: Listener) -> Clock | None:
     """The clock that the first picture tells, where it is asked."""
-    request, whole = programme.asked, programme.whole
+    request, whole = programme.request, programme.whole
     if request.start is None:
         return None
     try:
@@ -112,7 +112,7 @@ def by_start(programme: PartSearch, recording: Recording, listener: Listener) ->
 
 def search_in(programme: PartSearch, name: str, clock: Clock | None = None) -> Sought:
     """What is looked for in a recording by its name."""
-    request = programme.asked
+    request = programme.request
     return Sought(request.stl_path, name, request.page, request.option, clock and clock.origin,
                   request.within, request.breaks, programme.inside, request.between,
                   programme.left_out, request.late)
@@ -123,14 +123,14 @@ def origin_in(packets: Packets, sought: Sought) -> Origin:
     try:
         return find(sought, packets)
     except (Stop, OSError) as reason:
-        return Origin(2, told=[error_line(reason)])
+        return Origin(2, lines=[error_line(reason)])
 
 
 def fitted_origin(programme: PartSearch, recording: Recording, clock: Clock | None,
                   listener: Listener) -> Origin:
     """What is found of the clock, also compared with one that is known, which is said."""
     origin = origin_in(recording.packets, search_in(programme, recording.shown, clock))
-    for line in [*origin.printed, *(SAID + line for line in origin.told)]:
+    for line in [*origin.printed, *(SAID + line for line in origin.lines)]:
         listener.said(line)
     return origin
 
@@ -172,8 +172,8 @@ def with_delay(clock: Clock, origin: Origin) -> tuple[Clock, list[str]]:
 def unclear_origin(origin: Origin, again: Iterable[str]) -> Unclear:
     """Why the origin is not clear, with what there is; `again` is what to type then."""
     is_said = origin.runs or origin.breaks is not None
-    reason = "\n".join(origin.told) if is_said else \
-        f"the origin is not clear: {'; '.join(origin.told)}"
+    reason = "\n".join(origin.lines) if is_said else \
+        f"the origin is not clear: {'; '.join(origin.lines)}"
     return Unclear(reason, *again)
 
 
@@ -194,14 +194,14 @@ def clock_options(recording: Recording, origin: Origin) -> Iterator[str]:
 def cut_within(programme: PartSearch, recording: Recording, alignment: Found, within: int) -> Cut:
     """The PES packets of the time of the subtitles, within so many frames."""
     return cut_of(recording.packets, alignment.begin, alignment.end, alignment.origin,
-                  programme.asked.every, within, alignment.packets or programme.inside)
+                  programme.request.every, within, alignment.packets or programme.inside)
 
 
 def cut_part(programme: PartSearch, part: PartFrames, listener: Listener) -> Range:
     """The same of a part by their numbers, which is said."""
-    recording, request = part.recording, programme.asked
-    cut = cut_within(programme, recording, part.found, request.within)
-    damage, line = recording.packets.damage, f"cut: {cut.told()}"
+    recording, request = part.recording, programme.request
+    cut = cut_within(programme, recording, part.alignment, request.within)
+    damage, line = recording.packets.damage, f"cut: {cut.words()}"
     if cut.range is None:
         listener.said(line)
     else:
@@ -220,7 +220,7 @@ def run_of(programme: PartSearch, recording: Recording, given: Clock | None,
            runs: Sequence[Range]) -> Range:
     """The run that is at the origin that was given; without one, or where none is, the first."""
     own = cut_within(programme, recording, programme.whole._replace(clock=given),
-                     programme.asked.within).range if given else None
+                     programme.request.within).range if given else None
     return next((run for run in runs if own and run[0] <= own[0] and own[1] <= run[1]), runs[0])
 
 
@@ -243,7 +243,7 @@ UNCHECKED = "not checked: whether"  # begins the note on what nothing tells
 def paced_part(part: PartRange, times: Sequence[tuple[int, int]], listener: Listener) -> PartPace:
     """A part with the pace of the PES packets that are judged, where they are regular and none is
     asked for, by the frames of the subtitles. Where holes may be unseen notes say so."""
-    number, request, recording = part.frames.number, part.frames.asked, part.frames.recording
+    number, request, recording = part.frames.number, part.frames.request, part.frames.recording
     pace, unseen = measured_pace(part, times)
     jumps, count = late_jumps(part, pace)
     notes = [jump_words(count, recording)]

@@ -93,7 +93,7 @@ def worst_of(parts: Sequence[Part], lead: Callable[[Part], Lead | None]) -> Part
 
 def with_lead(said: Facts, lead: Lead | None) -> Facts:
     """The same with the fault that is said first."""
-    return said._replace(first=lead.told, is_caused=lead.is_caused) if lead else said
+    return said._replace(first=lead.fault, is_caused=lead.is_caused) if lead else said
 
 
 def counts_of_numbers(parts: Sequence[Part], left_out: Collection[int] = ()) -> list[Count]:
@@ -143,11 +143,24 @@ class Unjudged(NamedTuple):
 @dataclasses.dataclass
 class Verdict:
     """All there is to say of a pair; `notes` are what else was seen, a line each, `hints` what to
-    know of the first letter and of the first header that are refused. `found` is what its files
+    know of the first letter and of the first header that are refused. `files` is what its files
     were like when judging began, `seconds` how long it took. `was_fitted`: the origin that is given
-    was found in the recording, by who calls this tool."""
+    was found in the recording, by who calls this tool.
 
-    asked: Request
+    The texts that are made of it, and who takes each of them:
+
+        word      JSON, CSV, JUnit, reports; the exit status goes with it
+        line      the last line on standard output; JSON, CSV
+        lead      reports, tables of many pairs, JUnit, JSON: `line` with the worst fault
+        sentence  standard output, before the last line; reports, JSON, CSV
+        lines     standard output, before all that: a line for each of several parts
+        said      reports and JSON, as notes; of these standard error has `notes` alone
+        fitted    standard output; in `said` the others have it
+        why_not   where nothing is judged: standard error, reports, JUnit; JSON and CSV as `reason`
+        to_type   then too: standard error, reports
+    """
+
+    request: Request
     severity: Severity
     date: str
     parts: list[Part] = dataclasses.field(default_factory=list)
@@ -162,7 +175,7 @@ class Verdict:
     is_kept: bool = False  # what was judged stays in the folder
     unjudged: Unjudged | None = None  # where it is not judged
     failed: list[str] = dataclasses.field(default_factory=list)  # why outputs are not written
-    found: dict[str, object] = dataclasses.field(default_factory=dict)
+    files: dict[str, object] = dataclasses.field(default_factory=dict)
     seconds: float = 0.0
     was_fitted: bool = False
     count: int = 0  # of the subtitles
@@ -196,7 +209,7 @@ class Verdict:
         kinds = [*(warned.kind for warned in self.warnings), *[FITTED_KIND] * bool(self.fitted)]
         return Grounds([part.said() for part in self.parts], self.severity,
                     [gap.is_judged and gap.place.mark is None for gap in self.gaps], kinds,
-                    self.asked.is_strict, [self.unjudged.reason] if self.unjudged else [],
+                    self.request.is_strict, [self.unjudged.reason] if self.unjudged else [],
                     self.failed, [fault.name for fault in self.named])
 
     @property
@@ -236,11 +249,11 @@ class Verdict:
         """It in one sentence for a person."""
         refused = self.leading
         said = Facts(
-            self.word, self.count, option=self.asked.option, faults=self.faults,
+            self.word, self.count, option=self.request.option, faults=self.faults,
             counts=counts_of_numbers(self.parts),
             lost=[gap.line() for gap in self.gaps if gap.is_judged], warnings=self.seen().warnings,
             reason=self.why_not, named=self.first_named.words if self.first_named else "",
-            is_file=self.asked.recording is None, within=self.asked.within)
+            is_file=self.request.recording is None, within=self.request.within)
         if refused and self.beside:
             said = self.sent_beside(said, self.beside)
         elif refused and not self.first_named:
@@ -326,8 +339,8 @@ class Verdict:
         if word == REFUSED:
             return refused
         line = self.accepted_line() if refused is None else f"{WAIVED}: {refused}"
-        if self.asked.waivers:
-            line += f"; the profile has {' and '.join(self.asked.waivers)}"
+        if self.request.waivers:
+            line += f"; the profile has {' and '.join(self.request.waivers)}"
         if word == LOST:
             return f"not accepted, since TS packets are lost: {line}"
         if word == WARNED:
@@ -391,7 +404,7 @@ def gaps_of(places: Sequence[Place], parts: Sequence[Part]) -> list[Gap]:
 
 def is_in_move(place: Place, part: Part) -> bool:
     """Whether something is missing where the page goes to another PID."""
-    alignment = part.found
+    alignment = part.alignment
     return bool(alignment and alignment.stage and alignment.goes is not None and place.mark is None
                 and place.before == alignment.stage.last())
 

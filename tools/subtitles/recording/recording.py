@@ -133,7 +133,7 @@ class Recording:
     def __init__(self, request: Request, typed: CommandWords, names: Names, listener: Listener,
                  given: str | None = None, times: Sequence[tuple[int, int]] = ()) -> None:
         assert request.recording is not None
-        self.asked, self.typed, self.names, self.listener = request, typed, names, listener
+        self.request, self.typed, self.names, self.listener = request, typed, names, listener
         self.name, self.given, self.is_cut = request.recording, given, given is not None
         self.size = size_of(self.name)
         self.times = times  # of the subtitles, in frames
@@ -151,8 +151,8 @@ class Recording:
         elif self.is_piped:
             self.file = copy_piped(self.name, self.path, self.listener.speech)
         files = Sums([self.name]) if is_summed and not self.is_piped else None
-        self.survey = survey(self.typed.program_path, self.path, self.asked.page, self.asked.pid,
-                             look=self.show)
+        self.survey = survey(self.typed.program_path, self.path, self.request.page,
+                             self.request.pid, look=self.show)
         self.file = files.all()[0] if files else self.file
         refuse_stream(self.survey, self.name)
         self.packets = self.chosen()
@@ -165,13 +165,13 @@ class Recording:
 
     def chosen(self) -> Packets:
         """The only PID that carries the page, or the one that was asked for."""
-        page, by_pid = self.asked.page_name, self.survey.by_pid
+        page, by_pid = self.request.page_name, self.survey.by_pid
         if self.survey.size == PES:
             return by_pid.setdefault(PES, Packets(PES))
-        if self.asked.pid is not None:
-            packets = by_pid.setdefault(self.asked.pid, Packets(self.asked.pid))
+        if self.request.pid is not None:
+            packets = by_pid.setdefault(self.request.pid, Packets(self.request.pid))
             if not packets.has_page:
-                refuse_unsent(self.asked, self.survey, self.times)
+                refuse_unsent(self.request, self.survey, self.times)
             if packets.count:
                 return packets
             why = "; ".join([f"{self.name}: {why_refused(packets)}", *filter(None, [
@@ -183,12 +183,12 @@ class Recording:
             self.say_chosen(pids[0], "on no other PID")
             return pids[0]
         if not pids:
-            refuse_unsent(self.asked, self.survey, self.times)
+            refuse_unsent(self.request, self.survey, self.times)
             why = "; ".join([f"{self.name} has no header of page {page}", *self.why_nothing()])
             is_other = any(one.sent for one in by_pid.values())
             raise Unclear(self.said(why), *([self.again("--page", "P")] if is_other else []))
-        if self.asked.pes is None:
-            self.stages = stages_of(self.survey, self.asked.page)
+        if self.request.pes is None:
+            self.stages = stages_of(self.survey, self.request.page)
         if self.stages:
             for stage in self.stages:
                 self.say_chosen(stage.packets, "the PMT moves it")
@@ -199,11 +199,11 @@ class Recording:
     def refuse_silent(self, carriers: Collection[int]) -> None:
         """`Unclear` where several programmes announce the page, and some of them never send it:
         nobody but the house knows which one is meant."""
-        announced = [*announcements_of(self.survey.programmes, self.asked.page)]
+        announced = [*announcements_of(self.survey.programmes, self.request.page)]
         silent = silent_beside(announced, carriers)
-        if silent and self.asked.pes is None:
+        if silent and self.request.pes is None:
             raise Unclear(self.said(
-                f"page {self.asked.page_name} is announced by several programmes of {self.name}, "
+                f"page {self.request.page_name} is announced by several programmes of {self.name}, "
                 f"and sent on {' and '.join(map(pid_name, sorted(carriers)))}, not on "
                 f"{' and '.join(map(pid_name, sorted(silent)))}"),
                 *(self.again("--pid", f"0x{pid:X}") for pid in sorted({*carriers} | silent)))
@@ -211,8 +211,8 @@ class Recording:
     def say_chosen(self, packets: Packets, why: str) -> None:
         """Says which PID is chosen, and by what."""
         begun = sum(1 for _ in packets.pts(does=HEADER))
-        line = f"{pid_name(packets.pid)}: page {self.asked.page_name} has a header in {begun} of " \
-            f"{counted(packets.count, 'PES packet')}, and {why}"
+        line = f"{pid_name(packets.pid)}: page {self.request.page_name} has a header in {begun} " \
+            f"of {counted(packets.count, 'PES packet')}, and {why}"
         self.listener.chosen(Selection(PID_CHOICE, f"0x{packets.pid:X}", line, begun,
                                        packets.count))
 
@@ -331,7 +331,7 @@ class Recording:
     def other_pids(self) -> list[str]:
         """What to type in the place of a PID that is wrong."""
         known = [f"0x{pid:X}" for pid, packets in sorted(self.survey.by_pid.items())
-                 if self.asked.page_name in packets.sent]
+                 if self.request.page_name in packets.sent]
         return [self.again("--pid", word)
                 for word in known or ["PID"] * bool(self.survey.by_pid)]
 
@@ -340,10 +340,10 @@ class Recording:
                        self.again("--origin", "T"))
 
     def again(self, *more: str) -> str:
-        return again(self.asked, self.typed, *more)
+        return again(self.request, self.typed, *more)
 
     def said(self, reason: str) -> str:
         """A reason, and what there is."""
-        if self.asked.pid is not None:
-            self.survey = survey(self.typed.program_path, self.path, self.asked.page)
+        if self.request.pid is not None:
+            self.survey = survey(self.typed.program_path, self.path, self.request.page)
         return "\n".join([reason, *(self.survey.lines() or ["there is no PID with Teletext"])])

@@ -112,7 +112,7 @@ def report_page(verdict: Verdict, typed: CommandWords) -> Markup:
     """The page."""
     made = Made(verdict, typed)
     title = " and ".join(os.path.basename(name) for name in
-                         (verdict.asked.stl, verdict.asked.recording) if name)
+                         (verdict.request.stl, verdict.request.recording) if name)
     line = verdict.lead or f"{NOT_JUDGED}: {verdict.why_not}"
     if verdict.word == NOT_JUDGED:
         parts = [unjudged_box(verdict), *names_list(verdict)]
@@ -395,7 +395,7 @@ def several_parts(verdict: Verdict, reports: Sequence[Report]) -> list[Markup]:
         parts.append(markup('<section class="part" id="{}"><h2>Part {}, from {} to {}</h2>\n{}'
                             "</section>", name, report.part.number, begin or "", end or "",
                             sections.anchored(f"{name}-")))
-    return [*parts, keys_of(verdict.asked.within)]
+    return [*parts, keys_of(verdict.request.within)]
 
 
 def pair_box(verdict: Verdict) -> Markup:
@@ -425,10 +425,10 @@ def unjudged_box(verdict: Verdict) -> Markup:
 
 def names_list(verdict: Verdict) -> list[Markup]:
     """What was to be judged."""
-    titles = titles_in(verdict.asked.stl_path) if os.path.isfile(verdict.asked.stl_path) else []
+    titles = titles_in(verdict.request.stl_path) if os.path.isfile(verdict.request.stl_path) else []
     rows: list[tuple[str, Value]] = [("Programme", " / ".join(titles))] if titles else []
     rows += [(kind, name) for kind, name in (
-        ("Subtitle file", verdict.asked.stl), ("Recording", verdict.asked.recording)) if name]
+        ("Subtitle file", verdict.request.stl), ("Recording", verdict.request.recording)) if name]
     return [names_block(rows, "made scope")]
 
 
@@ -436,7 +436,7 @@ def pair_scope(verdict: Verdict) -> Scope:
     """What the verdict speaks of."""
     begins, ends = ([time for part in verdict.parts for time in [part.times()[at]] if time]
                     for at in (0, 1))
-    return Scope(titles_in(verdict.asked.stl_path), verdict.recording,
+    return Scope(titles_in(verdict.request.stl_path), verdict.recording,
                  frame_of(min(begins)) or 0, frame_of(max(ends)) or 0,
                  sum(subtitle_count(part) for part in verdict.parts), None, bool(verdict.fitted),
                  True)

@@ -146,23 +146,23 @@ class Subject(NamedTuple):
 
     def options(self) -> str:
         """All options as they hold."""
-        asked, part = self.judged.asked, self.part
+        asked, part = self.judged.request, self.part
         words = [f"--page {page_name(*asked.page)}", f"--every {asked.every}",
                  f"--origin {part.origin or 0}", f"--option {asked.option}"]
         words += ["--complete"] * asked.is_complete
         words += [f"--within {asked.within}"] * (asked.within > 0)
         words += [f"--pes {part.pes_name}"] if part.pes else []
-        return " ".join([*words, *part.asked.between.words()])
+        return " ".join([*words, *part.request.between.words()])
 
 
 class Report:
     """A verdict, the faults, and what there is to see of them."""
 
     def __init__(self, subject: Subject) -> None:
-        self.subject, self.asked = subject, subject.judged.asked
+        self.subject, self.asked = subject, subject.judged.request
         self.part = subject.part
         answer = self.part.answer
-        self.stl, self.page = self.part.asked.stl, page_name(*self.asked.page)
+        self.stl, self.page = self.part.request.stl, page_name(*self.asked.page)
         self.origin = self.part.origin or 0
         self.line, self.first = self.part.lead, self.part.leading
         self.is_refused = bool(answer.status)
@@ -174,7 +174,7 @@ class Report:
         self.subtitles = due.subtitles
         self.programme: SubtitleList = due
         worst = self.part.worst_sent if self.is_beside else self.part.worst
-        self.faults = Faults(answer, due, self.part.trusted, worst.told if worst else None)
+        self.faults = Faults(answer, due, self.part.trusted, worst.fault if worst else None)
         self.meanings = meanings()
         self.lost = first_lines([gap.line() for gap in subject.judged.gaps])
         self.notes = [*(self.pair_notes() if subject.parts == 1 else []),

@@ -304,7 +304,7 @@ def cell_words(cell: Members | None) -> str:
 
 def pair_columns(verdict: Verdict) -> Known:
     """The columns of a pair, which its faults have too; `line` is that of the verdict."""
-    return {"stl": verdict.asked.stl, "recording": verdict.asked.recording,
+    return {"stl": verdict.request.stl, "recording": verdict.request.recording,
             "verdict": verdict.word, "status": verdict.status, "reason": verdict.why_not,
             "line": verdict.line, "sentence": verdict.sentence,
             **count_columns(verdict.counts and verdict.counts._asdict()),

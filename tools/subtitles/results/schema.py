@@ -149,7 +149,7 @@ class PartOf(NamedTuple):
 JUDGED_PART = Record(
     "part", "",
     Member("part", PART, of=lambda of: of.part.number),
-    Member("stl", Text(), "The subtitle file, as in asked.", lambda of: of.part.asked.stl),
+    Member("stl", Text(), "The subtitle file, as in asked.", lambda of: of.part.request.stl),
     Member("origin", Maybe(PTS), of=lambda of: of.part.origin),
     Member("from", Maybe(TIME), of=lambda of: of.part.times()[0]),
     Member("to", Maybe(TIME), of=lambda of: of.part.times()[1]),
@@ -168,7 +168,7 @@ JUDGED_PART = Record(
            "that was handed on was judged, or no recording.", lambda of: of.part.pes_name),
     Member("pace", Maybe(Integer(1, MOST_EVERY)), "The frames from a PES packet to the next one at "
            "most by which it was judged: what was asked, or was found where PES packets are "
-           "regular; null where none was.", lambda of: of.part.asked.pace),
+           "regular; null where none was.", lambda of: of.part.request.pace),
     Member("judged", Maybe(FILE), "The PES packets of a feed that were judged; null of a file, "
            "which can be read once more."),
     Member("clock", Maybe(CLOCK_OF_PART), of=lambda of: of.part.clock))
@@ -275,7 +275,7 @@ def cause_rows(known: Writing) -> Iterator[dict[str, Value]]:
     """The causes of all parts, in the order of the subtitles."""
     for part in known.verdict.parts:
         if part.causes:
-            wording = Wording(part.causes, known.verdict.asked.option)
+            wording = Wording(part.causes, known.verdict.request.option)
             for cause in part.causes.all():
                 yield {"part": part.number, **wording.values(cause)}
 
@@ -363,7 +363,7 @@ VERDICT = Record(
            lambda known: known.verdict.sentence),
     Member("reason", Maybe(Text()), "Why it was not judged.", lambda known: known.verdict.why_not),
     Member("judged", OneOf("transmission", "subtitle file"), of=lambda known: "subtitle file"
-           if known.verdict.asked.recording is None else "transmission"),
+           if known.verdict.request.recording is None else "transmission"),
     Member("frames", Maybe(COUNT), of=lambda known: sum_of_parts(known, "frames")),
     Member("transmissions", Maybe(COUNT), of=lambda known: sum_of_parts(known, "transmissions")),
     Member("fault_count", COUNT, "Of all parts, those too that are left out of the list.",
@@ -371,8 +371,8 @@ VERDICT = Record(
     Member("subtitle_counts", Maybe(COUNTS), "How many subtitles were judged, and how many are "
            "refused, or can't be relied on since the next one is out of order or overlaps; null "
            "where none is judged.", lambda known: known.verdict.counts),
-    Member("asked", ASKED, of=lambda known: known.verdict.asked),
-    Member("found", FOUND, of=lambda known: known.verdict.found),
+    Member("asked", ASKED, of=lambda known: known.verdict.request),
+    Member("found", FOUND, of=lambda known: known.verdict.files),
     Member("inputs", INPUTS, of=lambda known: known.verdict),
     Member("program", PROGRAM),
     Member("date", DATE, of=lambda known: known.verdict.date),

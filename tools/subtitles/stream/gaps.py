@@ -243,6 +243,31 @@ def repeat_distance(frames: Iterable[int], edges: Sequence[int]) -> int | None:
     return repeats[bisect.bisect_left(totals, -(-totals[-1] // 2))]
 
 
+class Repeats(NamedTuple):
+    """Of the headers of a page from the first to the last: how many, the most frames from one to
+    the next, the frame from which on these are, how many frames are usual."""
+
+    headers: int
+    longest: int
+    since: int
+    usual: int | None
+
+
+def repeats_in(pts: list[int], last: int | None, origin: int, times: Sequence[tuple[int, int]]) \
+        -> Repeats | None:
+    """Those of the headers at some PTS, of a recording with a last PES packet; `None` where there
+    are fewer than two."""
+    frames = [frame for frame in frames_at(pts, origin, 1) if frame != NO_FRAME]
+    ends = [] if last is None else [frame + 1 for frame in frames_at([last], origin, 1)
+                                    if frame != NO_FRAME and frames and frame >= frames[-1]]
+    longest = longest_gap([*frames, *ends])
+    if not longest:
+        return None
+    known = sorted({*frames, *ends})
+    since = next(frame for frame, other in zip(known, known[1:]) if other - frame == longest)
+    return Repeats(len(frames), longest, since, repeat_distance(frames, edges_of(times)))
+
+
 # How far apart PES packets come, and which pace tells a loss of any length.
 #
 # The counter of a PID has four bits: where 16 TS packets are lost it is what it has to be, and of

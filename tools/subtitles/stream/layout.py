@@ -313,14 +313,14 @@ class Choice(NamedTuple):
 
     layout: Layout
     drawn: int
-    found: int
+    total: int
     items: tuple[Rest, ...] = ()
     left: tuple[Left, ...] = ()
 
     @property
     def is_clear(self) -> bool:
         """Whether it may be taken for the house's."""
-        return self.found >= FEWEST and self.drawn * 10 >= self.found * TENTHS
+        return self.total >= FEWEST and self.drawn * 10 >= self.total * TENTHS
 
 
 # ---- items, one by one
@@ -384,7 +384,7 @@ class Evidence:
     """Found subtitles, and what layouts draw of them."""
 
     def __init__(self, subtitles: Sequence[Sent], option: NationalOption) -> None:
-        self.found, self.option = subtitles, option
+        self.subtitles, self.option = subtitles, option
         self.known: dict[Layout, list[Page]] = {}  # of layouts that are looked at as a whole
 
     def page(self, sent: Sent, layout: Layout) -> Page:
@@ -395,21 +395,21 @@ class Evidence:
     def pages(self, layout: Layout) -> list[Page]:
         """What it draws of each."""
         if layout not in self.known:
-            self.known[layout] = [self.page(sent, layout) for sent in self.found]
+            self.known[layout] = [self.page(sent, layout) for sent in self.subtitles]
         return self.known[layout]
 
     def count(self, layout: Layout) -> int:
         """How many it draws as they were sent."""
-        return sum(page == sent.rows for page, sent in zip(self.pages(layout), self.found))
+        return sum(page == sent.rows for page, sent in zip(self.pages(layout), self.subtitles))
 
     def rest(self, layout: Layout, group: Iterable[LayoutItem], is_enough: bool = False) -> Rest:
         """On what some items of a layout rest; or on enough to say that they are seen, where it is
         enough to know that."""
         less, text = without(layout, group), items_text(group, layout)
-        right = [page == one.rows for page, one in zip(self.pages(layout), self.found)]
+        right = [page == one.rows for page, one in zip(self.pages(layout), self.subtitles)]
         decides = as_sent = 0
         for is_right in (False, True):
-            for page, sent, was_right in zip(self.pages(layout), self.found, right):
+            for page, sent, was_right in zip(self.pages(layout), self.subtitles, right):
                 if was_right == is_right and self.page(sent, less) != page:
                     decides, as_sent = decides + 1, as_sent + is_right
                     if is_enough and is_right and Rest(text, decides, as_sent).is_seen:
@@ -444,7 +444,7 @@ class Evidence:
         for item in items_in(layout):
             rest = self.rest(layout, [item])
             items[rest.text] = min(rest, items.get(rest.text, rest), key=lambda one: one.decides)
-        return Choice(layout, self.count(layout), len(self.found), (*items.values(),), (*left,))
+        return Choice(layout, self.count(layout), len(self.subtitles), (*items.values(),), (*left,))
 
     def left_of(self, layout: Layout, gone: Sequence[Group], whole: Layout) -> list[Left]:
         """What would draw more than a layout, of the items of another one; and all of these, where

@@ -69,7 +69,7 @@ class Cut(NamedTuple):
     has_end: bool = False
     is_over: bool = False
 
-    def told(self) -> str:
+    def words(self) -> str:
         count = counted(self.read, "PES packet")
         if self.range is None or self.first is None or self.last is None:
             return f"none of {count} is of these frames and comes with, or after, a header of " \

@@ -394,7 +394,7 @@ class Lines:
     more do."""
 
     def __init__(self, out: IO[bytes], taken: Survey) -> None:
-        self.out, self.found = out, taken
+        self.out, self.taken = out, taken
         self.rest, self.has_ended = b"", False
 
     def take(self) -> Iterator[str]:
@@ -404,7 +404,7 @@ class Lines:
         self.has_ended = not data
         for line in lines:
             text = line.decode("ascii", "replace")
-            self.found.take(text)
+            self.taken.take(text)
             yield text
 
 
