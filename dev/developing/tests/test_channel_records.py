@@ -12,7 +12,7 @@ from typing import Any, Callable
 from unittest import mock
 
 from subtitles.cli import single
-from subtitles.cli.channel import machine, records, results
+from subtitles.cli.channel import records, results
 from subtitles.cli.channel.channel import BEFORE_IT
 from subtitles.cli.channel.records import Due, Judged, Read, Records, Tries
 from subtitles.cli.channel.results import PASSING
@@ -179,7 +179,7 @@ class Kept(Programmes):
     def test_results_that_were_spoiled(self) -> None:
         """They are written again, byte by byte, and nobody judges or is told once more."""
         told = list[str]()
-        with mock.patch.object(machine, "failure_of", lambda *words: told.append(words[1])):
+        with mock.patch.object(results, "failure_of", lambda *words: told.append(words[1])):
             self.sent("one", "two", "three", spool=self.path("spool"), out=self.path("out"))
             before = {name: self.read(f"out/{name}.json") for name in ("one", "two", "three")}
             self.write("out/one.json", before["one"][:100])
@@ -314,7 +314,7 @@ STARTS = {"one": BEGIN, "two": BEGIN + 60 * SECOND, "one~2": BEGIN + 120 * SECON
 # The calls by which something is written, and how many of them there are at least.
 STEPS: list[tuple[Any, str]] = [
     (os, "mkdir"), (os, "rename"), (os, "replace"), (os, "unlink"), (shutil, "rmtree"),
-    (os, "fsync"), (os, "pwrite"), (Journal, "add"), (Records, "put_due"), (machine, "failure_of")]
+    (os, "fsync"), (os, "pwrite"), (Journal, "add"), (Records, "put_due"), (results, "failure_of")]
 LEAST = 30
 
 
@@ -354,7 +354,7 @@ class Crashes(Programmes):
         def note(command: str, path: str, verdict: str) -> None:
             told.append(os.path.basename(path))
 
-        with mock.patch.object(machine, "failure_of", note):
+        with mock.patch.object(results, "failure_of", note):
             with contextlib.ExitStack() as stack, contextlib.suppress(Crash):
                 for owner, step in STEPS:
                     stack.enter_context(mock.patch.object(owner, step, crashing(

@@ -9,8 +9,8 @@ import subprocess
 from typing import Any
 from unittest import mock
 
-from subtitles.cli.channel import machine
-from subtitles.cli.channel.machine import ALARMS, STOPPED, failure_of, refuse_command
+from subtitles.cli.channel import results
+from subtitles.cli.channel.results import ALARMS, STOPPED, failure_of, refuse_command
 from subtitles.cli.channel.schedule import LOST
 from subtitles.cli.channel.spool import path_of
 from subtitles.common.command_line import Stop
@@ -81,7 +81,7 @@ class Machine(Programmes):
         """Each once when it sets in, and once when it ends."""
         told = list[tuple[str, ...]]()
         channel = Told(self, self.listed("one"), self.path("out"), alarm="alarm")
-        with mock.patch.object(machine, "failure_of", lambda command, *words: told.append(words)):
+        with mock.patch.object(results, "failure_of", lambda command, *words: told.append(words)):
             channel.give([Lines().pes(BEGIN)])
             rows: list[tuple[int, bool, str, dict[str, str]]] = [
                 (0, False, "-", {}), (99, False, "-", {}), (99, False, "-", {}),
@@ -195,7 +195,7 @@ class Commands(Case):
 
         self.write("told", b"")
         command = self.write_program(name, f"#!/bin/sh\n{text}\n")
-        with mock.patch.object(machine, "HOOK_SECONDS", longest), \
+        with mock.patch.object(results, "HOOK_SECONDS", longest), \
                 mock.patch.object(subprocess.Popen, "wait", wait_then):
             failure = failure_of(command, "a b.json", "not judged")
         return failure and failure.removeprefix(f"{command} ")

@@ -11,7 +11,7 @@ from subtitles.common.times import time_of
 from subtitles.formats.stl import Subtitle, SubtitleList
 from subtitles.judging.causes import Cause
 from subtitles.judging.check import Answer, End
-from subtitles.report.fault_list import FaultList
+from subtitles.report.drawing import FaultList
 from subtitles.report.faults import Entry, Faults
 from subtitles.report.report import Reasons
 from subtitles.stream.receiver import Rows, State, TUNED

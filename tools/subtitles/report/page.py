@@ -18,8 +18,7 @@ from ..judging.status import ACCEPTED, LOST, NOT_JUDGED, REFUSED, WAIVED, WARNED
 from ..judging.verdict import Verdict, spread_of
 from ..request.commands import CommandWords
 from ..request.request import Request
-from .drawing import Looks
-from .fault_list import meaning_of_verdict, numbers_table
+from .drawing import Looks, meaning_of_verdict, numbers_table
 from .faults import heads, table_row
 from .report import Blocks, Report, Scope, Subject, block_place, names_block, refused_blocks
 from .transmission import Seen, place_of_pts

@@ -6,7 +6,7 @@ recorder       the recorder: a feed written into segments, which the judge reads
 feed           the time of a feed, what it lacks, and programmes that are waited for
 hearing        what is heard of a feed, by calls of `survey`: its pages and their PIDs
 schedule       the programmes of a list: those planned, those waited for, the one that is on air
-machine        the state for machines, and what is wrong
-results        results of programmes: judged, again where the machine failed, said and published
+results        results of programmes: judged, again where the machine failed, said and published;
+               the state for machines, and what is wrong
 channel        the judge of a channel: list and segments held against each other
 """

@@ -22,13 +22,12 @@ from ...request.request import Unclear
 from ...results.files import unjudged
 from .. import single
 from ..single import locking, now, refuse_files_of_all
-from . import machine, records
+from . import records, results
 from .feed import MINUTE, SECOND, Stall
 from .hearing import Hearing
-from .machine import Alarms, DISK, LOSS, Machine, RECORDER, SILENCE, lines_of
 from .records import Due
 from .recorder import Begin, Recorded, Segments, say_dated
-from .results import Results
+from .results import Alarms, DISK, LOSS, Machine, RECORDER, Results, SILENCE, lines_of
 from .schedule import ENDED, LOST, MARGIN, OnAir, Planned, Programme, Queue
 from .spool import ERROR, Exchange, RESTARTS, claim, spool_of
 
@@ -55,7 +54,7 @@ class Channel:
         state = Exchange(folder)
         self.machine = Machine(words.out, state[RESTARTS])
         state[RESTARTS] += 1
-        self.alarms = Alarms(functools.partial(machine.hook, words.on_alarm, self.fail))
+        self.alarms = Alarms(functools.partial(results.hook, words.on_alarm, self.fail))
         self.results = Results(words, called, folder, self.say, self.fail)
         self.records = self.results.records
         self.stall = Stall(words.stall, self.say)
@@ -128,7 +127,7 @@ class Channel:
                     self.follow(recording)
                     self.take_all(self.hearing.end())
                     self.hearing.refuse(name)
-                    self.machine.state = machine.ENDED
+                    self.machine.state = results.ENDED
                     return BEFORE_IT
                 except Unanswered as reason:
                     deaths = deaths + 1 if self.segments.at == place else 1
@@ -144,7 +143,7 @@ class Channel:
                     if self.segments.state[ERROR] and self.hearing.begin() is None:
                         why = self.why_not_kept()  # so that nothing could be heard
                 self.fail(f"the feed can't be read any further: {why}")
-                self.machine.state = machine.UNREADABLE
+                self.machine.state = results.UNREADABLE
                 return why
 
     def follow(self, recording: Recorded) -> None:
@@ -404,7 +403,7 @@ class Channel:
 
     def say_ended(self) -> None:
         """The last line: how it ended, and what came of the list."""
-        if self.machine.state == machine.STOPPED:
+        if self.machine.state == results.STOPPED:
             self.say(f"stopped at {self.time_of_feed()} of the feed")
             return
         lines = self.lines()
@@ -419,7 +418,7 @@ def judge_channel(words: argparse.Namespace, called: str) -> int:
     """Judges the programmes of a channel until the feed has ended, or a signal ends it."""
     for command in (words.on_result, words.on_alarm):
         if command is not None:
-            machine.refuse_command(command)
+            results.refuse_command(command)
     single.heed_signals()
     inputs = Inputs(words.channel, words.stl, words.severity)
     if words.out is not None:
@@ -436,12 +435,12 @@ def judge_channel(words: argparse.Namespace, called: str) -> int:
             channel.stop(channel.hear(words.stl))
         except KeyboardInterrupt:
             single.ignore_signals()
-            channel.machine.state = machine.STOPPED
+            channel.machine.state = results.STOPPED
             channel.tell_machine()
         finally:
             channel.hearing.close()
         channel.say_ended()
-    is_stopped, failed = channel.machine.state == machine.STOPPED, channel.results.failed
+    is_stopped, failed = channel.machine.state == results.STOPPED, channel.results.failed
     for what, why in failed.items():
         tell(f"{shown(what)} was not written: {why}")
     if not channel.results.verdicts and not is_stopped:
