@@ -263,7 +263,7 @@ class Words(Case):
                   "73: the longest gap is 225 frames"]
         parts = [part_with(0, 99, ORIGIN, answer(some, path=self.path(f"list{at}")), at,
                            packets=packets_told(self, data), pes=(0, 4),
-                           asked=asked_for("one.stl", "one.pes"))
+                           request=asked_for("one.stl", "one.pes"))
                  for at, some in enumerate((lines, good, [lines[2], "1 faults"]), 1)]
         verdict = verdict_of(parts)
         verdict.request.every = 100
