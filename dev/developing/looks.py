@@ -33,13 +33,17 @@ const contrast = (one, other) => {
   const [low, high] = [light(one), light(other)].sort((a, b) => a - b);
   return (high + 0.05) / (low + 0.05);
 };
+const grounds = new Map([[null, [255, 255, 255]]]);
 const ground = item => {
-  for (; item; item = item.parentElement) {
+  if (!grounds.has(item)) {
     const found = colour(getComputedStyle(item).backgroundColor);
-    if (found.length < 4 || found[3] > 0) return found;
+    const isOwn = found.length < 4 || found[3] > 0;
+    grounds.set(item, isOwn ? found : ground(item.parentElement));
   }
-  return [255, 255, 255];
+  return grounds.get(item);
 };
+const countLines = range =>
+  new Set([...range.getClientRects()].map(box => Math.round(box.top / 4))).size;
 const name = item => `${item.tagName} ${item.className.baseVal ?? item.className} ` +
   (item.textContent || "").trim().slice(0, 40);
 for (const item of document.querySelectorAll("body *")) {
@@ -59,12 +63,13 @@ for (let node; (node = walk.nextNode());) {
   if (!item.closest("span.in") && contrast(colour(style.color), ground(item)) < 4.5)
     told.push(`contrast: ${name(item)} ${style.color} on ${ground(item)}`);
   if (item.closest(".long, pre.lines")) continue;
+  const range = document.createRange();
+  range.selectNodeContents(node);
+  if (countLines(range) < 2) continue;  // none of its words is on two
   for (const word of node.data.matchAll(/[^\s\-\/\u2010-\u2015]+/g)) {
-    const range = document.createRange();
     range.setStart(node, word.index);
     range.setEnd(node, word.index + word[0].length);
-    const tops = new Set([...range.getClientRects()].map(box => Math.round(box.top / 4)));
-    if (tops.size > 1) told.push(`broken word: ${word[0]}`);
+    if (countLines(range) > 1) told.push(`broken word: ${word[0]}`);
   }
 }
 parent.postMessage(JSON.stringify(told), "*");
@@ -153,6 +158,8 @@ def framed(look: Look, folder: str, number: int) -> str:
     name = f"measured-{number}.html"
     text = re.sub(r"<details(?! open)", '<details open="open"', text)
     text = re.sub(r'<meta http-equiv="Content-Security-Policy"[^>]*/>', "", text)  # for the script
+    # What is laid out only when it comes into sight would be so anew for each place that is asked.
+    text = text.replace("content-visibility: auto", "content-visibility: visible")
     if look.is_dark:
         text = text.replace("(prefers-color-scheme: dark)", "(min-width: 1px)")
     with open(os.path.join(folder, name), "w", encoding="utf-8") as file:
