@@ -24,7 +24,7 @@ import shutil
 import subprocess
 import sys
 import tempfile
-from typing import Any, Iterator, NamedTuple, Sequence
+from typing import Any, Callable, Iterator, NamedTuple, Sequence
 from unittest import mock
 
 from subtitles.cli.main import main
@@ -35,7 +35,7 @@ from subtitles.judging import faults, subtitles
 from subtitles.report import report
 from .bench import example
 from .parts import MEANINGS
-from .results import wrong_by_schema, wrong_choices
+from .results import schema, wrong_by_schema, wrong_choices, wrong_in
 from .scenario import Scenario
 
 VECTORS = os.path.join(TOP, "dev", "vectors", "calls.tsv")
@@ -105,7 +105,7 @@ def said_of(number: int, program: str) -> Said:
     with in_folder():
         scenario = Scenario(number, program)
         words = scenario.call()
-        said = called(words, program)
+        said = called(words, program, wrong=by_one_reader)
         told = "".join(plain(said_by(*words), program) for words in scenario.tools(words[1]))
         return said._replace(files={**said.files, "tools": told})
 
@@ -178,8 +178,15 @@ def in_folder() -> Iterator[None]:
             os.chdir(back)
 
 
-def called(words: list[str], program: str, more: Sequence[str] = ("-p", "PROGRAM")) -> Said:
-    """All that a call of qc says; not by the time, and with other words for the manual's."""
+def by_one_reader(known: Any) -> list[str]:
+    """What is wrong in a result that is read by the other reader too where it is collected."""
+    return [*wrong_in(known, schema())]
+
+
+def called(words: list[str], program: str, more: Sequence[str] = ("-p", "PROGRAM"),
+           wrong: Callable[[Any], list[str]] = wrong_by_schema) -> Said:
+    """All that a call of qc says; not by the time, and with other words for the manual's. `wrong`
+    finds what in a result is not as the schema has it."""
     others: list[tuple[Any, str, object]] = [
         *((module, "meanings", lambda: MEANINGS) for module in (subtitles, faults, report))]
     with contextlib.ExitStack() as stack:
@@ -192,8 +199,8 @@ def called(words: list[str], program: str, more: Sequence[str] = ("-p", "PROGRAM
         with open(name, encoding="utf-8") as file:
             files[name] = file.read()
     for text in {text for name, text in files.items() if name.endswith(".json")}:
-        wrong = wrong_by_schema(json.loads(text))
-        assert not wrong, (words, wrong)
+        misfits = wrong(json.loads(text))
+        assert not misfits, (words, misfits)
     known = json.loads(files.get("one.json", "{}"))
     unsaid = [*wrong_choices(known, (out + told).splitlines())] if "chosen" in known else []
     assert not unsaid, (words, unsaid)

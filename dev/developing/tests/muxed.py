@@ -11,6 +11,7 @@ from .bench import packets
 
 RANDOM_ACCESS = 0x40
 PMT_PID, VIDEO_PID, AUDIO_PID, TELETEXT_PID = 0x100, 0x200, 0x201, 0x101
+NULL_PID = 0x1FFF
 MPEG_2, H_264, HEVC, PRIVATE = 0x02, 0x1B, 0x24, 0x06
 SLICES = b"\0\0\1\1" + b"slice data " * 9  # of a picture of MPEG-2
 AHEAD = 18_000  # ticks by which PTS are ahead of the PCR
@@ -62,7 +63,7 @@ class Maker:
     descriptors."""
 
     def __init__(self, components: list[tuple[int, int, bytes]], pcr_pid: int = VIDEO_PID) -> None:
-        self.data = b""
+        self.packets: list[bytes] = []
         self.counters: dict[int, int] = {}
         self.pcr_pid = pcr_pid
         pat = section(0, 1, b"\0\1" + (0xE000 | PMT_PID).to_bytes(2, "big"))
@@ -70,6 +71,16 @@ class Maker:
             bytes([kind]) + (0xE000 | pid).to_bytes(2, "big")
             + (0xF000 | len(more)).to_bytes(2, "big") + more for pid, kind, more in components)
         self.tables = (0, pat), (PMT_PID, section(2, 1, body))
+
+    @property
+    def data(self) -> bytes:
+        """The packets as bytes."""
+        return b"".join(self.packets)
+
+    def taken(self) -> list[bytes]:
+        """The packets since the last call."""
+        made, self.packets = self.packets, []
+        return made
 
     def put_tables(self) -> None:
         for pid, data in self.tables:
@@ -88,7 +99,7 @@ class Maker:
         self.counters[pid] = counter
         made = head(pid, begins, control | counter) + field + payload
         assert len(made) == PACKET
-        self.data += made
+        self.packets.append(made)
 
     def put(self, pid: int, data: bytes, is_access: bool = False) -> None:
         """A PES packet."""
@@ -159,8 +170,7 @@ def in_frames(pes: list[bytes], begin: int, count: int, rounds: int = 66,
         while at < len(pes) and ticks_between(pts_in(pes[at]), wrapped(now)) >= 0:
             maker.put(TELETEXT_PID, pes[at])
             at += 1
-        yield maker.data + filler
-        maker.data = b""
+        yield b"".join([*maker.taken(), filler])
 
 
 def spaced(data: bytes, size: int) -> bytes:
@@ -188,9 +198,7 @@ def stream_of(pes: list[bytes], begin: int, end: int, rate: int = 200, pid: int 
     due = [*map(pts_in, pes), None]
 
     def take(own: int) -> None:
-        made.extend(Sent(own, maker.data[at:at + PACKET])
-                    for at in range(0, len(maker.data), PACKET))
-        maker.data = b""
+        made.extend(Sent(own, one) for one in maker.taken())
 
     second, at, clock = TICKS * 25, 0, 0
     for number in range((end - begin) * rate // second):
@@ -218,14 +226,10 @@ def filler(pid: int, counters: dict[int, int]) -> Sent:
 
 
 FILLERS = {pid: [Sent(pid, head(pid, 0, PAYLOAD | counter) + b"\x55" * (PACKET - 4))
-                 for counter in range(16)] for pid in (VIDEO_PID, AUDIO_PID)}
+                 for counter in range(16)] for pid in (VIDEO_PID, AUDIO_PID, NULL_PID)}
 
 
 # A multiplex of some shape, from the first PES packet to the last.
-
-NULL_PID = 0x1FFF
-FILLING = b"\x55" * (PACKET - 4)
-
 
 class Shape(NamedTuple):
     """A multiplex: TS packets a second, ticks from a PCR to the next one, whether it has null
@@ -246,9 +250,7 @@ def multiplexed(pes: list[bytes], shape: Shape) -> list[Sent]:
     made: list[Sent] = []
 
     def take(pid: int) -> None:
-        made.extend(Sent(pid, maker.data[at:at + PACKET])
-                    for at in range(0, len(maker.data), PACKET))
-        maker.data = b""
+        made.extend(Sent(pid, one) for one in maker.taken())
 
     maker.put_tables()
     take(0)
@@ -271,8 +273,7 @@ def multiplexed(pes: list[bytes], shape: Shape) -> list[Sent]:
             take(TELETEXT_PID)
         pid = NULL_PID if shape.has_null and number % 3 else \
             AUDIO_PID if number % 9 == 0 else VIDEO_PID
-        maker.put_packet(pid, 0, FILLING)
-        take(pid)
+        made.append(filler(pid, maker.counters))
     return made
 
 

@@ -16,7 +16,7 @@ from developing.stl import boxed, gsi_block, subtitle_blocks
 from subtitles.common.times import CLOCK, FRAMES_OF_A_DAY, TICKS, ticks_between, time_of
 from subtitles.formats.stl import NEW_LINE
 from .muxed import (
-    AHEAD, MPEG_2, PRIVATE, TELETEXT_PID, VIDEO_PID, Maker, mpeg_2_picture, spaced,
+    AHEAD, MPEG_2, PRIVATE, TELETEXT_PID, VIDEO_PID, Maker, filler, mpeg_2_picture, spaced,
     teletext_descriptor, video_packet)
 
 SECOND_PID = 0x102
@@ -201,7 +201,6 @@ class Scenario:
         jump, at, frame = chance.choice((0, 0, 0, 5_000_000)), 0, 0
         waiting = sorted([(0, *one) for one in sent] + [(1, *one) for one in second],
                          key=lambda one: ticks_between(begin, one[1]))
-        pieces: list[bytes] = []
         for frame in range(max(ticks_between(begin, pts) for _, pts, _ in waiting) // TICKS + 60):
             now = begin + TICKS * frame
             if frame % 12 == 0:
@@ -211,11 +210,8 @@ class Scenario:
                 maker.put(SECOND_PID if waiting[at][0] else TELETEXT_PID, waiting[at][2])
                 at += 1
             maker.put(VIDEO_PID, video_packet(now, mpeg_2_picture()), frame % 12 == 0)
-            for _ in range(8):
-                maker.put_packet(VIDEO_PID, 0, b"\x55" * 184)
-            pieces.append(maker.data)
-            maker.data = b""
-        data = b"".join(pieces)
+            maker.packets += [filler(VIDEO_PID, maker.counters).data for _ in range(8)]
+        data = maker.data
         for _ in range(chance.choice((0, 0, 1, 2))):
             lost = chance.randrange(len(data) // 188) * 188
             data = data[:lost] + data[lost + 188 * chance.choice((1, 16, 40, 400)):]
