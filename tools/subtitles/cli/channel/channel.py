@@ -188,7 +188,7 @@ class Channel:
         error = self.segments.state[ERROR] or errno.ENOENT
         return f"the feed could not be kept: {os.strerror(error)}"
 
-    def take_all(self, lines: Iterator[None]) -> None:
+    def take_all(self, lines: Iterator[str]) -> None:
         """Takes each line that is told of the feed."""
         for _ in lines:
             self.take()

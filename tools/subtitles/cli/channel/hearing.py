@@ -1,14 +1,11 @@
 """What is heard of a feed: its pages, their PIDs, and the calls of `survey` that hear them."""
 from __future__ import annotations
 
-import array
 import collections
-import contextlib
-import fcntl
+import os
 import select
 import subprocess
-import termios
-from typing import BinaryIO, Callable, Iterable, Iterator, NamedTuple
+from typing import Callable, Iterable, Iterator, NamedTuple
 
 from ...common.command_line import Stop, pid_name
 from ...common.times import ticks_between
@@ -271,16 +268,10 @@ class Heard(Survey):
 
 
 # The pages of a feed that programmes are waited for on, each heard by a call of `survey`. Bytes are
-# handed on at the pace of those that hear them.
-#
-# What is told of a feed is behind what came of it by two parts at most: one that was just handed
-# on, and the one before, of which the lines may be still to come. So its times tell where in it
-# they are.
+# handed on at the pace of those that hear them: what is told of a feed is behind what came of it by
+# what a pipe holds, and by what a call has just read. So its times tell where in it they are.
 
-PART = 1 << 18  # bytes that are handed on at a time, at most
-PIPE = 1 << 19  # bytes that a pipe to a listener holds
 STANDARD_INPUT = "/dev/stdin"  # as the program opens it
-SOON = 0.001  # seconds after which it is looked again whether a part was taken
 
 
 class Listening:
@@ -292,55 +283,37 @@ class Listening:
                                         stdin=subprocess.PIPE, stdout=subprocess.PIPE,
                                         bufsize=0, start_new_session=True)
         assert self.process.stdin and self.process.stdout
-        self.into: BinaryIO = self.process.stdin  # type: ignore[assignment]
-        self.lines = Lines(self.process.stdout, heard)
-        with contextlib.suppress(OSError):
-            fcntl.fcntl(self.into, fcntl.F_SETPIPE_SZ, PIPE)
-        # Bytes that an empty pipe takes at once.
-        self.room = min(fcntl.fcntl(self.into, fcntl.F_GETPIPE_SZ) // 2, PART)
+        self.into, self.lines = self.process.stdin, Lines(self.process.stdout, heard)
+        os.set_blocking(self.into.fileno(), False)
 
-    def hand(self, data: bytes) -> Iterator[None]:
-        """Hands bytes on, as long as they are wanted, and gives after each line that is told
-        meanwhile."""
-        for at in range(0, len(data), self.room):
-            left = memoryview(data)[at:at + self.room]
-            with contextlib.suppress(OSError, ValueError):
-                while left:
-                    left = left[self.into.write(left):]
-            while not self.is_ready():
-                yield from self.listen(SOON)
-        yield from self.listen(0)
-
-    def is_ready(self) -> bool:
-        """Whether it has taken all that was handed on."""
-        if self.lines.has_ended or self.into.closed:
-            return True
-        waiting = array.array("i", [0])  # bytes that nobody has read yet
-        fcntl.ioctl(self.into, termios.FIONREAD, waiting)
-        return not waiting[0]
-
-    def listen(self, seconds: float) -> Iterator[None]:
-        """Takes the lines that have come, or come soon; gives after each."""
-        lines = self.lines
-        while not lines.has_ended and select.select([lines.out], [], [], seconds)[0]:
-            for _ in lines.take():
-                yield None
-            seconds = 0
-
-    def end(self) -> Iterator[None]:
-        """Nothing more comes: gives after each line that is still told."""
-        with contextlib.suppress(OSError, ValueError):
-            self.into.close()
+    def hand(self, data: bytes) -> Iterator[str]:
+        """Hands bytes on, as long as they are wanted; each line that is told meanwhile."""
+        left = memoryview(data)
         while not self.lines.has_ended:
-            yield from self.listen(1)
+            wanted = [self.into] if left else []
+            told, taken, _ = select.select([self.lines.out], wanted, [], None if left else 0)
+            if told:
+                yield from self.lines.take()
+            elif taken:
+                try:
+                    left = left[os.write(self.into.fileno(), left):]
+                except OSError:  # nobody hears it
+                    left = left[:0]
+            else:
+                return
+
+    def end(self) -> Iterator[str]:
+        """Nothing more comes: each line that is still told."""
+        self.into.close()
+        while not self.lines.has_ended:
+            yield from self.lines.take()
 
     def close(self) -> None:
         """Ends it."""
         self.process.kill()
         self.process.wait()
         self.lines.out.close()
-        with contextlib.suppress(OSError):
-            self.into.close()
+        self.into.close()
 
 
 class Hearing:
@@ -396,13 +369,13 @@ class Hearing:
         self.by_page[heard.page] = heard
         self.calls.append(Listening(self.program, heard, self.pid))
 
-    def take(self, data: bytes) -> Iterator[None]:
-        """Hears bytes, on all pages; gives after each line that is told."""
+    def take(self, data: bytes) -> Iterator[str]:
+        """Hears bytes, on all pages; each line that is told."""
         for call in [*self.calls]:
             yield from call.hand(data)
 
-    def end(self) -> Iterator[None]:
-        """Nothing more comes: gives after each line that is still told."""
+    def end(self) -> Iterator[str]:
+        """Nothing more comes: each line that is still told."""
         for call in self.calls:
             yield from call.end()
 
