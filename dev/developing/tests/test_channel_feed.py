@@ -6,7 +6,7 @@ from unittest import mock
 from developing.pes import pes_packet
 from developing.stl import gsi_block, subtitle_blocks
 from subtitles.cli.channel.feed import (
-    ANEW, Awaited, BACK, BEFORE, Changes, FeedClock, NEAR, SECOND, Timed)
+    ANEW, Awaited, BACK, BEFORE, Changes, FeedClock, NEAR, SECOND)
 from subtitles.cli.channel.schedule import OnAir, Programme
 from subtitles.common.command_line import Stop
 from subtitles.common.times import CLOCK, EARLY, TICKS, ticks_between
@@ -24,6 +24,11 @@ FOUR = ["Alpha", "Beta", "Gamma", "Delta"]
 AGES = 10 ** 15  # ticks
 
 
+def awaited(stl: str, since: int, until: int, *words: str) -> Awaited:
+    """A programme that is waited for, with some options."""
+    return Awaited(asked_for(stl, None, *words), since, until)
+
+
 class Changed(Case):
     """What a channel is made of."""
 
@@ -39,7 +44,7 @@ class Changed(Case):
               within: int = 0) -> int | None:
         """When a programme of some texts has its first TCI, by changes, where that is known."""
         stl = make_subtitles(self, "some", FIRST, texts)
-        found = Awaited(stl, "english", since, until, within).midnight(changes)
+        found = awaited(stl, since, until, "--within", str(within)).midnight(changes, FeedClock())
         return None if found is None else found + TICKS * FIRST
 
     def test_waits_for_five_edges(self) -> None:
@@ -81,17 +86,17 @@ class Changed(Case):
         texts = ["Alpha", "Beta", "Alpha", "Beta", "Gamma", "Beta"]
         stl, begin = make_subtitles(self, "one", FIRST, texts), 7 * SECOND
         whole = self.changes(texts, begin)
-        awaited, some, found = Awaited(stl, "english", 0, 3600 * SECOND), Changes(), list[int]()
+        sought, some, found = awaited(stl, 0, 3600 * SECOND), Changes(), list[int]()
         for number, (time, letters) in enumerate(zip(whole.times, whole.letters)):
             some.add(time, letters)
-            if awaited.midnight(some) is not None:
+            if sought.by_edges(some) is not None:
                 found.append(number)
         self.must("from the fifth on", found[:1] in ([4], [8], [9]), found)
-        awaited, some = Awaited(stl, "english", 0, 3600 * SECOND), Changes()
-        with mock.patch.object(awaited, "agreed", return_value=None) as agreed:
+        sought, some = awaited(stl, 0, 3600 * SECOND), Changes()
+        with mock.patch.object(sought, "agreed", return_value=None) as agreed:
             for at in range(200):
                 some.add(SECOND * at, b"Gamma")
-                awaited.midnight(some)
+                sought.by_edges(some)
         self.must("the last ones alone are looked at again", agreed.call_count < 200 * (BEFORE + 2),
                   agreed.call_count)
 
@@ -142,11 +147,10 @@ class Changed(Case):
             self.must(f"{within} {off}", found == wanted, found)
         blocks = [subtitle_blocks(at, *times, 20, 2, b"x") for at, times in enumerate(
             ((50, 40), (60, 60), (70, 90), (10, 20)))]
-        some = Awaited(self.write("two.stl", gsi_block(b"", 4, 4) + b"".join(blocks)), "english",
-                       0, 9)
+        some = awaited(self.write("two.stl", gsi_block(b"", 4, 4) + b"".join(blocks)), 0, 9)
         self.must("times", (some.first, some.last, len(some.edges)) == (10, 90, 4), some.edges)
         with self.assertRaises(Stop):
-            Awaited(self.write("none.stl", gsi_block(b"", 1, 1) + blocks[0]), "english", 0, 9)
+            awaited(self.write("none.stl", gsi_block(b"", 1, 1) + blocks[0]), 0, 9)
 
     def test_edges_within_some_frames(self) -> None:
         """Within N one edge may be N frames later than another, and no more."""
@@ -213,7 +217,7 @@ class FeedClocks(Case):
                 clock = FeedClock()
                 for now in (*range(0, ticks, 9 * SECOND), ticks):
                     clock.take((begin + now) % CLOCK)
-                found = Timed(stl, "english", origin, since).midnight(clock)
+                found = awaited(stl, since, 0, "--origin", str(origin)).midnight(Changes(), clock)
                 self.must(f"{begin} {since} {ticks}", found == (
                     None if wanted is None else wanted - TICKS * FIRST), found)
                 if found is not None:

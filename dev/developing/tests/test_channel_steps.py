@@ -15,6 +15,7 @@ from subtitles.cli.channel.schedule import AT_ONCE, LATER
 from subtitles.clock.start import FITTED_SHORT
 from subtitles.common.times import CLOCK, TICKS
 from .listings import BEGIN, LAST, Judging, Lines, Pages, Programmes, Told, texts_of
+from .parts import asked_for
 from .results import FAULT, result
 from .test_channel_heard import OTHER
 from .channels import FIRST, SECOND, make_subtitles
@@ -241,7 +242,7 @@ class Steps(Programmes):
     def test_at_midnight(self) -> None:
         """A first subtitle at 00:00:00:00 is one."""
         path = make_subtitles(self, "midnight", 0, texts_of("one"))
-        self.must("first", Awaited(path, "english", 0, 10 ** 12).first == 0)
+        self.must("first", Awaited(asked_for(path, None), 0, 10 ** 12).first == 0)
 
     def test_list_that_was_empty(self) -> None:
         """Patience begins once there is a line, and goes on in another call."""

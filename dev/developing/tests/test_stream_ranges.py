@@ -4,7 +4,7 @@ from __future__ import annotations
 import os
 
 from developing.stl import gsi_block, subtitle_blocks, tti_block
-from subtitles.cli.channel.feed import Awaited, Timed
+from subtitles.cli.channel.feed import Awaited
 from subtitles.cli.channel.schedule import Planned
 from subtitles.common.times import Between, FRAMES_OF_A_DAY, TICKS, time_of
 from subtitles.formats.stl import Subtitle, SubtitleFile, subtitles_read
@@ -121,9 +121,8 @@ class Ranges(Case):
         for words, span in ((EARLIER, (50, 190)), (LATER, (MINUTE + 50, MINUTE + 190)),
                             ((), (50, MINUTE + 190))):
             asked = Planned("list", defaults()).asked_of([day, *words])
-            sought = Awaited(day, asked.option, 0, 1 << 40, 0, asked.between)
-            timed = Timed(day, asked.option, 0, 0, asked.between)
-            self.must(f"{words}", (sought.first, sought.last) == span == (timed.first, timed.last))
+            awaited = Awaited(asked, 0, 1 << 40)
+            self.must(f"{words}", (awaited.first, awaited.last) == span)
 
     def test_commands(self) -> None:
         """The files that a command names; `judged` finds no others in any that is printed."""

@@ -6,11 +6,12 @@ import bisect
 import collections
 from typing import Callable, Iterator, NamedTuple, Sequence
 
-from ...clock.alignment import Edge, REPEATED, Shown, edges_of
-from ...common.command_line import Stop, counted, pid_name
+from ...clock.alignment import Edge, REPEATED, edges_of
+from ...clock.origin import subtitles_between
+from ...common.command_line import counted, pid_name
 from ...common.times import (
-    ALL_DAY, Between, EARLY, FRAMES_A_SECOND, TICKS, pts_of, ticks_between, time_of, wrapped)
-from ...formats.stl import letters_on_page, readable, stl_bytes, subtitle_times
+    EARLY, FRAMES_A_SECOND, TICKS, pts_of, ticks_between, time_of, wrapped)
+from ...request.request import Request
 from ...stream.gaps import Place, overlap, what_of
 from ...stream.packets import Run
 
@@ -132,25 +133,36 @@ class Changes:
 
 
 class Awaited:
-    """The edges of a subtitle file, looked for in changes from `since` on, and up to `until`; of
-    those that agree one may be so many frames later than another: `within`."""
+    """A programme that is waited for, from a time on and up to another one, by its edges, or by its
+    origin where that is given. Of edges that agree one may be so many frames later than another as
+    a page may be late. `first` and `last` are the frames of its first TCI and its last TCO."""
 
-    def __init__(self, stl: str, option: str, since: int, until: int, within: int = 0,
-                 between: Between = ALL_DAY) -> None:
-        self.room = TICKS * within
-        shown = list(subtitles_between(stl, option, between))
-        self.first, self.last = span_of(shown, stl)
-        self.edges: Sequence[Edge] = edges_of(shown)
-        self.since, self.until = since, until
+    def __init__(self, asked: Request, since: int, until: int) -> None:
+        self.origin, self.since, self.until = asked.origin, since, until
+        self.room = TICKS * asked.within
+        shown = subtitles_between(asked.stl, asked.option, asked.between)
+        self.first = min(subtitle.begin for subtitle in shown)
+        self.last = max(subtitle.end for subtitle in shown)
+        self.edges = edges_of(shown)
         self.count = 0  # changes that were looked at
         self.alike: dict[bytes, list[int]] = collections.defaultdict(list)
         for number, edge in enumerate(self.edges):
             if edge.letters:
                 self.alike[edge.letters].append(number)
 
-    def midnight(self, changes: Changes) -> int | None:
-        """The time of 00:00:00:00 with which five edges in a row agree, or all where they are
-        fewer; `None` where there is none yet."""
+    def midnight(self, changes: Changes, clock: FeedClock) -> int | None:
+        """The time of 00:00:00:00; `None` as long as nothing tells it."""
+        return self.by_edges(changes) if self.origin is None else self.by_origin(self.origin, clock)
+
+    def by_origin(self, origin: int, clock: FeedClock) -> int | None:
+        """The same once its first TCI has come, the first time at which it is not over before."""
+        end = clock.next_at(pts_of(self.last, origin), self.since + 1)
+        if end is None or clock.now < end - TICKS * (self.last - self.first):
+            return None
+        return end - TICKS * self.last
+
+    def by_edges(self, changes: Changes) -> int | None:
+        """The same once five edges in a row agree, or all where they are fewer."""
         count, new = len(changes.times), changes.count - self.count
         if not new:
             return None
@@ -183,39 +195,6 @@ class Awaited:
             if at is None or changes.letters[at] != edge.letters or changes.times[at] < self.since:
                 return
             yield changes.times[at] - time
-
-
-class Timed:
-    """A programme whose origin is given: it is there when its first TCI has come, the first time
-    at which it is not over before `since`."""
-
-    def __init__(self, stl: str, option: str, origin: int, since: int,
-                 between: Between = ALL_DAY) -> None:
-        self.first, self.last = span_of(list(subtitles_between(stl, option, between)), stl)
-        self.origin, self.since = origin, since
-
-    def midnight(self, clock: FeedClock) -> int | None:
-        """The time of 00:00:00:00; `None` as long as it has not come."""
-        end = clock.next_at(pts_of(self.last, self.origin), self.since + 1)
-        if end is None or clock.now < end - TICKS * (self.last - self.first):
-            return None
-        return end - TICKS * self.last
-
-
-def span_of(shown: Sequence[Shown], stl: str) -> tuple[int, int]:
-    """The frames of the first TCI and the last TCO."""
-    if not shown:
-        raise Stop(f"{stl} has no subtitle that comes and goes within a day")
-    return min(subtitle.begin for subtitle in shown), max(subtitle.end for subtitle in shown)
-
-
-def subtitles_between(stl: str, option: str, between: Between) -> Iterator[Shown]:
-    """The subtitles of a file that come in some frames, and go within the day."""
-    for subtitle in readable(stl, stl_bytes(stl)):
-        begin, end = subtitle_times(subtitle)
-        if begin is not None and end is not None and begin < end and between.has(begin):
-            yield Shown(begin, end, (subtitle.row, subtitle.justify, subtitle.text),
-                        letters_on_page(subtitle.text, option))
 
 
 # What a feed lacks of the PID of a page, told for a person: times at which it is silent, and places

@@ -6,7 +6,7 @@ import collections
 import dataclasses
 import os
 import time
-from typing import Any, Callable, NamedTuple, Sequence, Union
+from typing import Any, Callable, NamedTuple, Sequence
 
 from ...common.command_line import Stop, Words, error_line
 from ...common.times import FRAMES_OF_A_DAY, TICKS, frame_in, time_of
@@ -20,7 +20,7 @@ from ...stream.packets import Packets
 from ...stream.ranges import cut_of
 from ...stream.survey import Survey
 from ..main import refuse_options
-from .feed import Awaited, MINUTE, Timed
+from .feed import Awaited, MINUTE
 from .hearing import Heard, Hearing
 from .records import Outcome, is_name
 from .spool import Journal, are, is_number
@@ -42,7 +42,7 @@ class Programme:
     request: Request | None
     reason: str | None
     has_ended: bool = False
-    awaited: Union[Awaited, Timed, None] = None
+    awaited: Awaited | None = None
     why_not: str | None = None
 
     def wait(self, since: int, until: int) -> None:
@@ -53,9 +53,7 @@ class Programme:
         try:
             self.why_not = no_file(request.stl)
             if not self.why_not:
-                self.awaited = Awaited(request.stl, request.option, since, until, request.within,
-                                       request.between) if request.origin is None else \
-                    Timed(request.stl, request.option, request.origin, since, request.between)
+                self.awaited = Awaited(request, since, until)
         except (Stop, OSError) as reason:
             self.why_not = error_line(reason)
 
@@ -64,9 +62,7 @@ class Programme:
         if self.request is None or self.awaited is None:
             return None
         heard = hearing.by_page[self.request.page]
-        if isinstance(self.awaited, Timed):
-            return self.awaited.midnight(heard.clock)
-        return self.awaited.midnight(heard.changes[self.request.within > 0])
+        return self.awaited.midnight(heard.changes[self.request.within > 0], heard.clock)
 
 
 class Edits(NamedTuple):
