@@ -7,7 +7,7 @@ import random
 from unittest import mock
 
 from subtitles.cli.channel.channel import BEFORE_IT
-from subtitles.cli.channel.schedule import AT_ONCE, MISSING, Planned, Programme, edits_of
+from subtitles.cli.channel.schedule import AT_ONCE, MISSING, Queue, Programme, edits_of
 from subtitles.request.lines import Line, lines_in
 from subtitles.common.times import TICKS
 from subtitles.results.files import found, unjudged
@@ -100,11 +100,11 @@ class Edits(Case):
 class Lists(Case):
     """A list that is written to."""
 
-    def planned(self, text: str) -> Planned:
+    def planned(self, text: str) -> Queue:
         self.write("list", text.encode())
-        return Planned(self.path("list"), defaults())
+        return Queue(self.path("list"), defaults())
 
-    def look(self, planned: Planned, text: str | None = None, looks: int = 1,
+    def look(self, planned: Queue, text: str | None = None, looks: int = 1,
              is_whole: bool = False) -> list[str]:
         """The names that are known after some looks."""
         if text is not None:
@@ -181,7 +181,7 @@ class Lists(Case):
                 planned.said)
             planned.said.clear()
         with self.assertRaises(FileNotFoundError):
-            Planned(self.path("none"), defaults()).look()
+            Queue(self.path("none"), defaults()).look()
 
 
 class WhileItRuns(Programmes):

@@ -9,7 +9,7 @@ from typing import Any
 from developing.pes import pes_packet
 from developing.stl import gsi_block, subtitle_blocks
 from subtitles.cli.channel.feed import Losses
-from subtitles.cli.channel.schedule import Planned, Queue
+from subtitles.cli.channel.schedule import Queue, Queue
 from subtitles.clock.alignment import back_at
 from subtitles.clock.start import Clock, Found, GIVEN
 from subtitles.common.command_line import Stop, Words
@@ -328,7 +328,7 @@ class Channels(Case):
         stl = programme(self, [(10, 60)])
         for more, is_other in (("", False), (" --within 3", True)):
             path = self.write("list", f"{stl}\n".encode())
-            queue = Queue(Planned(path, defaults()), 100)
+            queue = Queue(Queue(path, defaults()), 100)
             queue.fill(0)
             before = queue.waiting[0].awaited
             self.write("list", f"{stl}{more}\n".encode())

@@ -12,7 +12,7 @@ from unittest import mock
 
 from subtitles.cli import batch, collection, main, measure, single
 from subtitles.cli.channel import channel, recorder
-from subtitles.cli.channel.schedule import Planned
+from subtitles.cli.channel.schedule import Queue
 from subtitles.cli.main import (
     TAKEN_BY, file_in, jobs_word, line_word, minutes_word, mode_of, name_in, parser_of,
     refuse_options, seconds_word)
@@ -58,7 +58,7 @@ def refusal(mode: Mode, name: str, folder: str) -> str | None:
         if mode is LINE:
             request_of_line(["a.stl", "a.ts", *words_of(name, folder)], defaults())
         elif mode is CHANNEL_LINE:
-            planned = Planned(os.path.join(folder, "list"), defaults())
+            planned = Queue(os.path.join(folder, "list"), defaults())
             planned.asked_of(["a.stl", *words_of(name, folder)])
         else:
             line = [*CALLS[mode], *words_of(name, folder)]

@@ -8,7 +8,7 @@ import os
 import sys
 from typing import Any
 
-from subtitles.cli.channel.schedule import Planned
+from subtitles.cli.channel.schedule import Queue
 from subtitles.common.command_line import Lateness, Stop, Words, late_text, late_word
 from subtitles.common.shapes import Flag, Text
 from subtitles.request.commands import CommandWords, again, profile_line
@@ -42,7 +42,7 @@ options.Request = dataclasses.make_dataclass("Request", [
 from developing import pages
 from developing.tests.channels import defaults
 from developing.tests.parts import call_words
-from subtitles.cli.channel.schedule import Planned
+from subtitles.cli.channel.schedule import Queue
 from subtitles.cli.main import parser_of
 from subtitles.results.schema import ASKED
 from subtitles.cli.main import mode_of, refuse_options
@@ -68,7 +68,7 @@ pair, given = ["a.stl", "a.ts"], ["--new-one", "5", "--newer"]
 asked = request_of(parser_of("").parse_args([*pair, *given]))
 none = request_of(parser_of("").parse_args(pair))
 help = parser_of("").format_help()
-planned = Planned(folder + "/list", defaults())
+planned = Queue(folder + "/list", defaults())
 print(json.dumps({
     "help": help, "man page": pages.of_qc(help)["options"],
     "chapter": pages.of_chapter()["options"],
@@ -351,11 +351,11 @@ class Beside(Case):
         house = self.write("house", b"--every 25\n")
         self.write("pid", b"--pid 0x101\n")
         path = self.write("list", b"")
-        planned = Planned(path, defaults("--every", "9"))
+        planned = Queue(path, defaults("--every", "9"))
         self.must("a line", planned.asked_of(["a.stl", "--profile", "house"]).every == 25)
-        self.must("the call", Planned(path, defaults("--profile", house)).asked_of(
+        self.must("the call", Queue(path, defaults("--profile", house)).asked_of(
             ["a.stl"]).every == 25)
-        self.must("a PID of the call", Planned(path, defaults(
+        self.must("a PID of the call", Queue(path, defaults(
             "--profile", self.path("pid"))).asked_of(["a.stl"]).pid == 0x101)
         with self.assertRaises(Stop) as refused:
             planned.asked_of(["a.stl", "--profile", "pid"])

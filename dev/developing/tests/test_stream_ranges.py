@@ -5,7 +5,7 @@ import os
 
 from developing.stl import gsi_block, subtitle_blocks, tti_block
 from subtitles.cli.channel.feed import Awaited
-from subtitles.cli.channel.schedule import Planned
+from subtitles.cli.channel.schedule import Queue
 from subtitles.common.times import Between, FRAMES_OF_A_DAY, TICKS, time_of
 from subtitles.formats.stl import Subtitle, SubtitleFile, subtitles_read
 from subtitles.judging.pair import pauses_near
@@ -120,7 +120,7 @@ class Ranges(Case):
         day = self.day()
         for words, span in ((EARLIER, (50, 190)), (LATER, (MINUTE + 50, MINUTE + 190)),
                             ((), (50, MINUTE + 190))):
-            asked = Planned("list", defaults()).asked_of([day, *words])
+            asked = Queue("list", defaults()).asked_of([day, *words])
             awaited = Awaited(asked, 0, 1 << 40)
             self.must(f"{words}", (awaited.first, awaited.last) == span)
 

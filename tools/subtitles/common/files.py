@@ -239,10 +239,10 @@ def whole_file(path: str, inputs: Inputs = NOTHING) -> Iterator[BinaryIO]:
 
 
 @contextlib.contextmanager
-def result_file(path: str) -> Iterator[BinaryIO]:
+def result_file(path: str, is_stored: bool = False) -> Iterator[BinaryIO]:
     """A file to write to in a folder of results, where others may write too: a link in its place is
-    replaced, and never followed."""
-    yield from replaced(path, path)
+    replaced, and never followed. One that is stored is there also where the machine stops."""
+    yield from replaced(path, path, is_stored)
 
 
 def is_replaced(path: str) -> bool:
@@ -260,7 +260,7 @@ def own_output() -> Iterator[BinaryIO]:
         yield file
 
 
-def replaced(path: str, target: str) -> Iterator[BinaryIO]:
+def replaced(path: str, target: str, is_stored: bool = False) -> Iterator[BinaryIO]:
     """A file to write to, which takes the place of `target` at the end; errors name `path`."""
     name = new_name(os.path.dirname(target), BEGIN)
     try:
@@ -268,11 +268,24 @@ def replaced(path: str, target: str) -> Iterator[BinaryIO]:
             file = open(name, "xb")  # it is made: a link of that name would be refused
         with written(file, path):
             yield file
+            if is_stored:
+                file.flush()
+                os.fsync(file.fileno())
         with naming(path):
             os.replace(name, target)
+        if is_stored:
+            store_names(os.path.dirname(target))
     finally:
         with contextlib.suppress(OSError):  # it has the other name by now
             os.unlink(name)
+
+
+def store_names(folder: str) -> None:
+    """Stores which names stand in a folder, where its file system knows such a thing."""
+    handle = os.open(folder, os.O_RDONLY | os.O_DIRECTORY | os.O_CLOEXEC)
+    with contextlib.suppress(OSError):
+        os.fsync(handle)
+    os.close(handle)
 
 
 def new_name(folder: str, begin: str) -> str:

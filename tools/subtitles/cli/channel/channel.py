@@ -28,7 +28,7 @@ from .hearing import Hearing
 from .records import Due
 from .recorder import Begin, Recorded, Segments, say_dated
 from .results import Alarms, DISK, LOSS, Machine, RECORDER, Results, SILENCE, lines_of
-from .schedule import ENDED, LOST, MARGIN, OnAir, Planned, Programme, Queue
+from .schedule import ENDED, LOST, MARGIN, OnAir, Programme, Queue
 from .spool import ERROR, Exchange, RESTARTS, claim, spool_of
 
 
@@ -58,10 +58,9 @@ class Channel:
         self.results = Results(words, called, folder, self.say, self.fail)
         self.records = self.results.records
         self.stall = Stall(words.stall, self.say)
-        self.queue = Queue(Planned(words.channel, words, folder, self.records.out,
-                                   self.results.adopt), self.patience,
-                           self.records.over(), self.records.since())
-        self.results.asked_of = self.queue.planned.asked_of
+        self.queue = Queue(words.channel, words, folder, self.records.out, self.results.adopt)
+        self.queue.begin(self.patience, self.records.over(), self.records.since())
+        self.results.asked_of = self.queue.asked_of
         self.running: OnAir | None = None
         self.came, self.headers = time.monotonic(), 0
         self.header: float | None = None  # when the last of `headers` came
@@ -84,20 +83,19 @@ class Channel:
 
     def begin(self) -> None:
         """Takes what an earlier call has left."""
-        planned = self.queue.planned
-        planned.look(True)
+        self.queue.look(True)
         self.take_inputs()
         self.machine.refuse(self.results.inputs)
         for line in (*self.records.said, *self.segments.index.said):
             self.say(line)
-        self.results.begin([programme.name for programme in planned.programmes
+        self.results.begin([programme.name for programme in self.queue.programmes
                             if programme.has_ended])
 
     def take_inputs(self) -> None:
         """Takes what is read, and so never written to."""
         words = self.words
         self.results.inputs = Inputs(words.channel, words.stl, words.severity,
-                                     *self.queue.planned.files())
+                                     *self.queue.files())
 
     @property
     def now(self) -> int:
@@ -244,7 +242,7 @@ class Channel:
         if first.why_not is not None:
             self.leave(first.why_not, queue.since)
             return True
-        place, midnight = queue.seen(self.hearing) or (None, 0)
+        place, midnight = queue.first_sent(self.hearing) or (None, 0)
         if place is not None:
             self.begin_seen(place, midnight)
         elif self.now <= queue.until:
@@ -259,15 +257,15 @@ class Channel:
     def look(self) -> None:
         """Looks into the list; waits for the next of it that have no result, and hears their
         pages. What is gone without a result is not judged."""
-        planned = self.queue.planned
-        if self.queue.fill(self.now):
+        queue = self.queue
+        if queue.fill(self.now):
             self.take_inputs()
-        for line in planned.said:
+        for line in queue.said:
             self.say(line)
-        planned.said.clear()
-        while planned.gone:
-            self.unjudged(planned.gone.pop(0), f"it is gone from {planned.path}", self.queue.since)
-        self.hearing.turn_to(programme.request.page for programme in self.queue.waiting
+        queue.said.clear()
+        while queue.gone:
+            self.unjudged(queue.gone.pop(0), f"it is gone from {queue.path}", queue.since)
+        self.hearing.turn_to(programme.request.page for programme in queue.waiting
                              if programme.request)
 
     def begin_seen(self, place: int, midnight: int) -> None:
@@ -335,7 +333,7 @@ class Channel:
                 self.judge(self.running)
         self.look()
         self.results.end_due(BEFORE_IT)
-        for programme in self.queue.planned.open():
+        for programme in self.queue.open():
             programme.has_ended = True
             if programme.reason is None:
                 self.results.leave_open(programme.name, reason)
@@ -349,7 +347,7 @@ class Channel:
     def lines(self) -> dict[str, int]:
         """How many lines have what result."""
         records = [self.records.by_name.get(programme.name)
-                   for programme in self.queue.planned.programmes]
+                   for programme in self.queue.programmes]
         rows = [record.row if record else None for record in records]
         return lines_of(rows, len(self.results.failed))
 

@@ -2,7 +2,6 @@
 from __future__ import annotations
 
 import contextlib
-import fcntl
 import hashlib
 import os
 import select
@@ -15,7 +14,7 @@ from ...common.files import Input, Inputs
 from ...formats.teletext import HEAD, START, begins_in
 from ...request.commands import lock_of
 from ..batch import beside, signals_held
-from ..single import InUse, heed_signals, ignore_signals, locking
+from ..single import InUse, heed_signals, ignore_signals, locked, locking
 from .records import Read
 from .spool import (
     ERROR, Exchange, FILE, HEARD, Journal, are, claim, is_number, numbers_in, opened, path_of)
@@ -27,6 +26,7 @@ from .spool import (
 PART = 1 << 18  # bytes that are read at a time
 LEAST = 1 << 20  # bytes by which what is told of a feed is behind what was read of it, at most
 MANY = 5000  # entries of the index that nobody needs, until it is written anew
+GONE = "the feed could not be kept as long as it was judged"
 
 
 def size_in(folder: str, number: int) -> int:
@@ -34,6 +34,18 @@ def size_in(folder: str, number: int) -> int:
     with contextlib.suppress(FileNotFoundError):
         return os.path.getsize(path_of(folder, number))
     return 0
+
+
+def pieces_of(folder: str, part: Read) -> Iterator[bytes]:
+    """What was read of a segment; `OSError` where some of that is not there."""
+    left, path = part.size, path_of(folder, part.number)
+    with opened(path) as file:
+        while left:
+            data = file.read(min(left, PART))
+            if not data:
+                raise OSError(0, GONE, path)
+            left -= len(data)
+            yield data
 
 
 class Begin(NamedTuple):
@@ -103,8 +115,7 @@ class Segments:
         """Some bytes of the segment that is read."""
         if self.file is None:
             with contextlib.suppress(OSError):
-                self.file = open(opened(path_of(self.folder, self.at), os.O_RDONLY), "rb",
-                                 buffering=0)
+                self.file = opened(path_of(self.folder, self.at))
                 self.state[HEARD] = self.at + 1
         return self.file.read(PART) if self.file else b""
 
@@ -120,12 +131,9 @@ class Segments:
 
     def before(self) -> Iterator[bytes]:
         """All that was read so far, since the last loss."""
-        for number, size in [self.read_of(number) for number in self.there()]:
-            with contextlib.suppress(OSError), open(opened(
-                    path_of(self.folder, number), os.O_RDONLY), "rb") as file:
-                while size and (data := file.read(min(PART, size))):
-                    size -= len(data)
-                    yield data
+        for number in self.there():
+            with contextlib.suppress(OSError):
+                yield from pieces_of(self.folder, self.read_of(number))
 
     def read_of(self, number: int) -> Read:
         """What was read of a segment: more may have come to it, where PTS may come again."""
@@ -201,13 +209,10 @@ class Segments:
     def is_recorded(self) -> bool:
         """Whether somebody records now."""
         with contextlib.suppress(OSError):
-            handle = opened(lock_of(self.folder, "recorder"), os.O_RDWR)
-            try:
-                fcntl.flock(handle, fcntl.LOCK_SH | fcntl.LOCK_NB)
-            except BlockingIOError:
+            handle = locked(lock_of(self.folder, "recorder"))
+            if handle is None:
                 return True
-            finally:
-                os.close(handle)
+            os.close(handle)
         return False
 
 
@@ -275,8 +280,7 @@ class Recorder:
     def is_written(self, number: int, written: int, end: int) -> bool:
         """Whether the end of what stands in a segment is in the file, too."""
         count, data = min(written, SUMMED), b""
-        with contextlib.suppress(OSError), open(opened(
-                path_of(self.folder, number), os.O_RDONLY), "rb") as file:
+        with contextlib.suppress(OSError), opened(path_of(self.folder, number)) as file:
             file.seek(written - count)
             data = file.read(count)
         return len(data) == count and self.bytes_at(end).endswith(data)
@@ -345,8 +349,8 @@ class Recorder:
             self.size, self.since = size_in(self.folder, self.number), time.monotonic()
             if self.own and not self.size:
                 self.state.put(FILE, *self.own, self.number, self.place, self.sum_at(self.place))
-            self.file = open(opened(path_of(self.folder, self.number), os.O_WRONLY | os.O_CREAT
-                                    | os.O_APPEND), "ab", buffering=0)
+            self.file = opened(path_of(self.folder, self.number),
+                               os.O_WRONLY | os.O_CREAT | os.O_APPEND)
         return self.file
 
     def lose(self) -> None:

@@ -8,11 +8,11 @@ import os
 import shutil
 from typing import Any, NamedTuple, Sequence
 
-from ...common.files import BEGIN
+from ...common.files import BEGIN, result_file
 from ...judging.status import NOT_JUDGED
 from ...results.files import ENDING, MOST_READ, Row, found_at, object_text, row_of_object
 from . import spool
-from .spool import RECORD, KeptRoom, WORK, are, is_number, numbers_in, opened, path_of, put_whole
+from .spool import RECORD, KeptRoom, WORK, are, is_number, numbers_in, opened, path_of
 
 # A record is a file that stays: its first line says what is known of the programme, and behind that
 # stands its JSON result, from which that in the folder of results is made. `told` is written in
@@ -169,7 +169,7 @@ class Records:
         """A record; `None` where it is damaged, and was set aside."""
         path = path_of(self.folder, number, RECORD)
         try:
-            with open(opened(path, os.O_RDONLY), "rb") as file:
+            with opened(path) as file:
                 return record_of(number, file.readline(MOST_OF_HEAD))
         except (OSError, ValueError, TypeError, KeyError, AttributeError, RecursionError):
             self.said.append(spool.set_aside(self.folder, os.path.basename(path)))
@@ -213,7 +213,7 @@ class Records:
         """The JSON result of a programme."""
         if record.unkept is not None:
             return record.unkept
-        with open(opened(path_of(self.folder, record.number, RECORD), os.O_RDONLY), "rb") as file:
+        with opened(path_of(self.folder, record.number, RECORD)) as file:
             file.readline(MOST_OF_HEAD)
             return file.read()
 
@@ -237,7 +237,7 @@ class Records:
         path = os.path.join(folder or self.work(record.number), record.name + ENDING)
         record.unkept = object_text(known)
         if folder or "asked" in known:
-            with contextlib.suppress(OSError), open(opened(path, os.O_RDONLY), "rb") as file:
+            with contextlib.suppress(OSError), opened(path) as file:
                 record.unkept = file.read(MOST_READ)
         record.row, record.due = row_of_object(known, record.name), None
         record.size, record.is_told = len(record.unkept), not self.out
@@ -252,15 +252,17 @@ class Records:
 
     def write(self, record: Outcome, result: bytes = b"") -> None:
         """Writes a record, with its result."""
-        name = os.path.basename(path_of(self.folder, record.number, RECORD))
-        self.room.put(lambda: put_whole(self.folder, name, [record.head(), result]))
+        def does() -> None:
+            with result_file(path_of(self.folder, record.number, RECORD), True) as file:
+                file.writelines([record.head(), result])
+
+        self.room.put(does)
 
     def tell(self, record: Outcome) -> None:
         """A result has its place, and somebody was told."""
         record.is_told = True
-        with contextlib.suppress(OSError), open(opened(
-                path_of(self.folder, record.number, RECORD), os.O_WRONLY), "wb",
-                buffering=0) as file:
+        with contextlib.suppress(OSError), opened(
+                path_of(self.folder, record.number, RECORD), os.O_WRONLY) as file:
             os.pwrite(file.fileno(), b"1", TOLD_AT)
         self.clear(record.number)
 

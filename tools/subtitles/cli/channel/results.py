@@ -29,8 +29,9 @@ from ...results.schema import FORMAT, misfit
 from .. import collection, single
 from ..batch import Forked, ended_of, signals_held
 from ..single import now, refuse_file
-from .records import Due, Judged, Outcome, Read, Records
-from .spool import Journal, OLD_FOLDER, are, opened, path_of
+from .records import Due, Judged, Outcome, Records
+from .recorder import pieces_of
+from .spool import Journal, OLD_FOLDER, are, path_of
 
 # What came of a programme is judged by a process of its own, which makes one file of the segments.
 # What it says is final where the program said it; what the machine did to it is not, and it is
@@ -39,21 +40,7 @@ from .spool import Journal, OLD_FOLDER, are, opened, path_of
 JUDGING_SECONDS, SLOWEST = 60.0, 2_000_000  # seconds, and one more for each so many bytes
 PASSING = 3  # the status of a call that the machine let down
 RECORDING = "all.recording"  # what is judged, in the folder of a programme
-GONE = "the feed could not be kept as long as it was judged"
 AT_END = 3  # more times that something is tried at the end of a feed
-
-
-def join(path: str, spool: str, parts: Sequence[Read]) -> None:
-    """Makes one file of what was read of segments; `OSError` where some of that is not there."""
-    with open(path, "xb") as file:
-        for number, size in parts:
-            with open(opened(path_of(spool, number), os.O_RDONLY), "rb") as segment:
-                while size:
-                    data = segment.read(min(size, 1 << 20))
-                    if not data:
-                        raise OSError(0, GONE, path_of(spool, number))
-                    file.write(data)
-                    size -= len(data)
 
 
 def called(does: Callable[[], int], longest: float) -> tuple[int, list[str]]:
@@ -181,7 +168,9 @@ class Results:
         def does(_: Sequence[str]) -> int:
             tempfile.tempdir = folder  # of this process, which is a fork of its own
             try:
-                join(path, self.folder, due.parts)
+                with open(path, "xb") as file:
+                    for part in due.parts:
+                        file.writelines(pieces_of(self.folder, part))
                 verdict = single.judged(request, self.call_of(record, due, path), self.called)
                 return verdict.status if verdict.is_final else PASSING
             except (OSError, MemoryError) as reason:

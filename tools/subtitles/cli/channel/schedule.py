@@ -101,13 +101,21 @@ def edits_of(known: Sequence[Programme], lines: Sequence[Line]) -> Edits:
                  [programme for programme in known if programme in gone], changed)
 
 
-class Planned:
-    """The programmes of a list, each with a name of its own, in the order of its lines.
+AT_ONCE = 4  # programmes that are looked for at the same time
+LOOK = 1.0  # seconds between two looks into the list
+
+
+class Queue:
+    """The programmes of a list, each with a name of its own, in the order of its lines; of those
+    that have no result the first ones are `waiting`.
 
     A list that is being written is not taken at its word: what is more than lines at its end counts
     once it stood there at two looks. `said` is what is to be told of it; `gone` are programmes that
     have left it and never had a result. `known` gives the record of a name. The list as it is known
     is kept in a file of the folder, so that an edit is one whenever somebody looks.
+
+    `since` is when waiting for the first one began, `ended` when the programme before was over;
+    `latest` is up to when an earlier call has heard the feed.
     """
 
     def __init__(self, path: str, defaults: argparse.Namespace, folder: str = os.devnull,
@@ -116,15 +124,19 @@ class Planned:
         self.path, self.defaults, self.known = path, defaults, known
         self.journal = Journal(folder, "list", is_entry)
         self.programmes: list[Programme] = []
+        self.waiting: list[Programme] = []
         self.gone: list[Programme] = []
         self.said: list[str] = []
         self.names = NamesOfList()
         self.taken: str | None = None  # the text that is known
         self.seen: str | None = None  # that of the last look
+        self.is_whole = False  # the list: nothing more comes to it
+        self.next_look = 0.0
         self.missing: float | None = None  # since when the file is not there
         self.is_missed = False  # for so long that it was said
         self.day = [os.path.abspath(path), out]  # whose results a record is of
-        self.since: int | None = None  # since when there is a line without a result
+        self.patience = self.since = self.ended = self.latest = 0
+        self.open_since: int | None = None  # since when there is a line without a result
         self.next_file = 0  # the programme whose subtitle file is looked at next
         self.other_files = set[tuple[str, str]]()  # those that were said
         self.take_kept(self.journal.entries())
@@ -140,7 +152,7 @@ class Planned:
                     self.said.append(f"{self.path} begins anew: the list before was {day[0]}, with "
                                      f"{day[1] or 'no folder'} for results")
                 return
-            self.since = since
+            self.open_since = since
         for name, is_gone, number, words, fault in entries:
             line = Line(number, tuple(words), fault)
             has_ended = self.known(self.names.take(name), "") is not None
@@ -174,7 +186,7 @@ class Planned:
 
     def keep(self) -> None:
         """Keeps the list as it is known, with those that are gone and have no result yet."""
-        self.journal.replace([(*self.day, self.since)] + [
+        self.journal.replace([(*self.day, self.open_since)] + [
             (programme.name, is_gone, *programme.line) for is_gone, several in (
                 (True, self.gone), (False, self.programmes)) for programme in several])
 
@@ -273,45 +285,12 @@ class Planned:
             refuse_settings(request.profile, CHANNEL_LINE)
         return request
 
+    # ---- those that are waited for
 
-def is_entry(entry: list[Any]) -> bool:
-    """Whether an entry of what is kept is the day, or a programme by its name and its line."""
-    if len(entry) == 3:
-        return are(entry[:2], str, str) and (entry[2] is None or is_number(entry[2]))
-    return are(entry, str, bool, int, list, str) and is_name(entry[0]) and all(
-        isinstance(word, str) for word in entry[3])
-
-
-def line_parser() -> Words:
-    """What a line of the list is read by."""
-    parser = Words("")
-    parser.add_argument("stl")
-    add_options(parser)
-    return parser
-
-
-# The programmes of a channel that are waited for: the first of the list that has no result, and the
-# next three.
-
-AT_ONCE = 4  # programmes that are looked for at the same time
-LOOK = 1.0  # seconds between two looks into the list
-
-
-class Queue:
-    """The programmes that are waited for, and those of the list behind them.
-
-    `since` is when waiting for the first one began, `ended` when the programme before was over;
-    `latest` is up to when an earlier call has heard the feed.
-    """
-
-    def __init__(self, planned: Planned, patience: int, ended: int = 0, since: int = 0) -> None:
-        self.planned, self.patience = planned, patience
-        self.waiting: list[Programme] = []
-        self.ended = ended
-        self.since = max(ended, since, planned.since or 0)
-        self.latest = 0
-        self.next_look = 0.0
-        self.is_whole = False  # the list: nothing more comes to it
+    def begin(self, patience: int, ended: int, since: int) -> None:
+        """Waits so long for each, from what is known on."""
+        self.patience, self.ended = patience, ended
+        self.since = max(ended, since, self.open_since or 0)
 
     @property
     def until(self) -> int:
@@ -321,24 +300,24 @@ class Queue:
     def fill(self, now: int) -> bool:
         """Looks into the list each second, and waits for as many as can be waited for; whether
         there is something else in it. Where there was nothing to wait for, patience begins now."""
-        planned, is_new = self.planned, False
+        is_new = False
         if time.monotonic() >= self.next_look:
-            is_new = planned.look(self.is_whole)
+            is_new = self.look(self.is_whole)
             self.next_look = time.monotonic() + LOOK
-        before, self.waiting = self.waiting, planned.open()[:AT_ONCE]
-        if self.waiting and planned.since is None:
+        before, self.waiting = self.waiting, self.open()[:AT_ONCE]
+        if self.waiting and self.open_since is None:
             self.since = max(self.since, now, self.latest)
         since = self.since if self.waiting else None
-        if since != planned.since:
-            planned.since = since
-            planned.keep()
+        if since != self.open_since:
+            self.open_since = since
+            self.keep()
         for programme in self.waiting:
             is_waited_for = programme.awaited is not None or programme.why_not is not None
             if programme not in before or not is_waited_for:
                 programme.wait(self.ended, self.until)
         return is_new
 
-    def seen(self, hearing: Hearing) -> tuple[int, int] | None:
+    def first_sent(self, hearing: Hearing) -> tuple[int, int] | None:
         """Of the first of them that is there how many stand before it, and the time of its
         midnight."""
         for place, programme in enumerate(self.waiting):
@@ -360,6 +339,22 @@ class Queue:
         self.since, self.ended = since, max(self.ended, ended)
         for programme in self.waiting:
             programme.wait(self.ended, self.until)
+
+
+def is_entry(entry: list[Any]) -> bool:
+    """Whether an entry of what is kept is the day, or a programme by its name and its line."""
+    if len(entry) == 3:
+        return are(entry[:2], str, str) and (entry[2] is None or is_number(entry[2]))
+    return are(entry, str, bool, int, list, str) and is_name(entry[0]) and all(
+        isinstance(word, str) for word in entry[3])
+
+
+def line_parser() -> Words:
+    """What a line of the list is read by."""
+    parser = Words("")
+    parser.add_argument("stl")
+    add_options(parser)
+    return parser
 
 
 # A programme of a channel that is sent, and what came of it.

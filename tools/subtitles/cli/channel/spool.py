@@ -9,10 +9,11 @@ import os
 import re
 import shutil
 import stat
-from typing import Any, Callable, Iterable
+import struct
+from typing import Any, BinaryIO, Callable, Iterable
 
 from ...common.command_line import Stop
-from ...common.files import BEGIN, Inputs, kind_of, new_name
+from ...common.files import BEGIN, Inputs, kind_of, result_file
 
 # What a channel makes in its folder: nothing else may stand there, and no link. The mark says that
 # nobody else made the folder.
@@ -56,7 +57,7 @@ def claim(folder: str, inputs: Inputs) -> None:
         raise Stop(f"{folder} holds {(strange or names)[0]}, which no channel made: move that "
                    "away, or give another folder by --spool")
     if MARK not in names:  # it is empty, so that a full disk has room for it
-        os.close(opened(os.path.join(folder, MARK), os.O_WRONLY | os.O_CREAT))
+        opened(os.path.join(folder, MARK), os.O_WRONLY | os.O_CREAT).close()
 
 
 def is_own(folder: str, name: str) -> bool:
@@ -90,30 +91,13 @@ def path_of(folder: str, number: int, ending: str = SEGMENT) -> str:
     return os.path.join(folder, f"{number:09}{ending}")
 
 
-def opened(path: str, flags: int) -> int:
-    """A file of the folder, opened: through no link, and nothing is waited for."""
-    return os.open(path, flags | os.O_NOFOLLOW | os.O_NONBLOCK | os.O_CLOEXEC, 0o666)
-
-
-def put_whole(folder: str, name: str, pieces: Iterable[bytes]) -> None:
-    """Writes a file, which is there as a whole, or as it was, also where the machine stops."""
-    path = new_name(folder, BEGIN)
-    try:
-        with open(opened(path, os.O_WRONLY | os.O_CREAT | os.O_EXCL), "wb") as file:
-            file.writelines(pieces)
-            file.flush()
-            os.fsync(file.fileno())
-        os.replace(path, os.path.join(folder, name))
-    except BaseException as error:
-        with contextlib.suppress(OSError):
-            os.unlink(path)
-        if isinstance(error, OSError):
-            error.filename, error.filename2 = os.path.join(folder, name), None
-        raise
-    handle = opened(folder, os.O_RDONLY | os.O_DIRECTORY)
-    with contextlib.suppress(OSError):  # of a file system that knows no such thing
-        os.fsync(handle)
-    os.close(handle)
+def opened(path: str, flags: int = os.O_RDONLY) -> BinaryIO:
+    """A file of the folder, opened: through no link, and nothing is waited for; what is written to
+    it is written at once."""
+    handle = os.open(path, flags | os.O_NOFOLLOW | os.O_NONBLOCK | os.O_CLOEXEC, 0o666)
+    if flags == os.O_RDONLY:
+        return open(handle, "rb")
+    return open(handle, "ab" if flags & os.O_APPEND else "wb", buffering=0)
 
 
 def set_aside(folder: str, name: str) -> str:
@@ -141,13 +125,11 @@ class KeptRoom:
             return
         with contextlib.suppress(OSError):
             size = min(ROOM, shutil.disk_usage(os.path.dirname(self.path)).total // SHARE)
-            handle = opened(self.path, os.O_WRONLY | os.O_CREAT)
-            try:
-                os.posix_fallocate(handle, 0, size)
-            except OSError:
-                os.unlink(self.path)
-            finally:
-                os.close(handle)
+            with opened(self.path, os.O_WRONLY | os.O_CREAT) as file:
+                try:
+                    os.posix_fallocate(file.fileno(), 0, size)
+                except OSError:
+                    os.unlink(self.path)
 
     def is_there(self) -> bool:
         """Whether it is kept now."""
@@ -189,7 +171,7 @@ class Journal:
     def entries(self) -> list[list[Any]]:
         """All of them; none where one does not fit."""
         entries = list[list[Any]]()
-        with contextlib.suppress(OSError), open(opened(self.path, os.O_RDONLY), "rb") as file:
+        with contextlib.suppress(OSError), opened(self.path) as file:
             for line in file.read(MOST_OF_JOURNAL).splitlines():
                 try:
                     entry = json.loads(line or b"[]")
@@ -206,15 +188,14 @@ class Journal:
 
     def add(self, *values: Any) -> None:
         """One more."""
-        with contextlib.suppress(OSError), open(opened(
-                self.path, os.O_WRONLY | os.O_CREAT | os.O_APPEND), "ab", buffering=0) as file:
+        with contextlib.suppress(OSError), opened(
+                self.path, os.O_WRONLY | os.O_CREAT | os.O_APPEND) as file:
             file.write(b"\n" + json.dumps(values).encode() + b"\n")
 
     def replace(self, entries: Iterable[Iterable[Any]]) -> None:
         """These in the place of all that there are."""
-        with contextlib.suppress(OSError):
-            put_whole(self.folder, self.name, (json.dumps(list(entry)).encode() + b"\n"
-                                               for entry in entries))
+        with contextlib.suppress(OSError), result_file(self.path, True) as file:
+            file.writelines(json.dumps(list(entry)).encode() + b"\n" for entry in entries)
 
 
 # What the recorder and the judge of a channel tell each other: numbers in the file `state`, which
@@ -247,18 +228,14 @@ class Exchange:
     def several(self, at: int, count: int) -> list[int]:
         """So many numbers; 0 for those that nobody has written."""
         data = b""
-        with contextlib.suppress(OSError), open(opened(self.path, os.O_RDONLY), "rb") as file:
+        with contextlib.suppress(OSError), opened(self.path) as file:
             data = os.pread(file.fileno(), SIZE * count, at)
-        data = data.ljust(SIZE * count, b"\0")
-        return [int.from_bytes(data[place:place + SIZE], "big")
-                for place in range(0, len(data), SIZE)]
+        return [*struct.unpack(f">{count}Q", data.ljust(SIZE * count, b"\0"))]
 
     def put(self, at: int, *values: int) -> None:
         """Writes numbers, all at once."""
-        data = b"".join(value.to_bytes(SIZE, "big") for value in values)
-        with contextlib.suppress(OSError), open(opened(
-                self.path, os.O_WRONLY | os.O_CREAT), "wb", buffering=0) as file:
-            os.pwrite(file.fileno(), data, at)
+        with contextlib.suppress(OSError), opened(self.path, os.O_WRONLY | os.O_CREAT) as file:
+            os.pwrite(file.fileno(), struct.pack(f">{len(values)}Q", *values), at)
 
 
 def is_number(value: object) -> bool:
