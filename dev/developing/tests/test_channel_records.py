@@ -296,7 +296,7 @@ class Kept(Programmes):
         due = records.new("three", "", 7, 8)
         records.put_due(due, Due(["three.stl"], 5, None, True, [Read(1, 2)]))
         again = Records(spool, "/out")
-        self.must("as they were", (again.over(), again.since(), [*again.by_name]) ==
+        self.must("as they were", (*again.times(), [*again.by_name]) ==
                   (7, 8, ["one", "two", "three"]) and again.due() == [due], again.all)
         whole = self.read("spool/000000001.done")
         for wrong in (b"", b"{", whole[:50], whole.replace(b'"one"', b'"../one"', 1),

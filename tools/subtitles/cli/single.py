@@ -59,17 +59,6 @@ def refuse_files_of_all(folder: str, inputs: Inputs) -> None:
         refuse_file(path, inputs)
 
 
-def refuse_file(path: str, inputs: Inputs) -> None:
-    """`Stop` where a file of a folder is an input, or nothing that these tools have written; a link
-    is taken away, and not what it leads to."""
-    inputs.refuse(path, False)
-    with contextlib.suppress(FileNotFoundError, NotADirectoryError):
-        about = os.lstat(path)
-        if not stat.S_ISLNK(about.st_mode) and (kind_of(about.st_mode) or not is_own(path)):
-            raise Stop(f"{path} is there, and is no result of these tools: move it away, or give "
-                       "another folder")
-
-
 def is_own(path: str) -> bool:
     """Whether these tools have written a file, by its first bytes: a page by all that stands before
     its title, a list by the line of a fault or of a verdict. Those of a recording tell nothing."""
@@ -91,6 +80,17 @@ def is_kept_beside(path: str, result: str) -> bool:
     if not os.path.isfile(result) or not is_own(result):
         return False
     return 0 <= os.stat(result).st_mtime_ns - os.stat(path).st_mtime_ns < KEPT_SECONDS * 10**9
+
+
+def refuse_file(path: str, inputs: Inputs, is_known: Callable[[str], object] = is_own,
+                why: str = "is no result of these tools") -> None:
+    """`Stop` where a file of a folder is an input, or nothing that these tools have written; a link
+    is taken away, and not what it leads to."""
+    inputs.refuse(path, False)
+    with contextlib.suppress(FileNotFoundError, NotADirectoryError):
+        about = os.lstat(path)
+        if not stat.S_ISLNK(about.st_mode) and (kind_of(about.st_mode) or not is_known(path)):
+            raise Stop(f"{path} is there, and {why}: move it away, or give another folder")
 
 
 def clear(folder: str, name: str) -> None:

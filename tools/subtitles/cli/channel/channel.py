@@ -5,7 +5,6 @@ import argparse
 import contextlib
 import dataclasses
 import errno
-import functools
 import os
 import shutil
 import tempfile
@@ -16,7 +15,7 @@ from ...common.command_line import (
     Stop, Unanswered, counted, error_line, shown, tell)
 from ...common.files import Inputs, temporary_folder
 from ...common.times import FRAMES_OF_A_DAY, TICKS, time_of
-from ...judging.status import of_all
+from ...judging.status import ACCEPTED, NOT_JUDGED, WAIVED, of_all
 from ...request.commands import CommandWords, Progress
 from ...request.request import Unclear
 from ...results.files import unjudged
@@ -27,7 +26,7 @@ from .feed import MINUTE, SECOND, Stall
 from .hearing import Hearing
 from .records import Due
 from .recorder import Begin, Recorded, Segments, say_dated
-from .results import Alarms, DISK, LOSS, Machine, RECORDER, Results, SILENCE, lines_of
+from .results import DISK, LOSS, Machine, RECORDER, Results, SILENCE
 from .schedule import ENDED, LOST, MARGIN, OnAir, Programme, Queue
 from .spool import ERROR, Exchange, RESTARTS, claim, spool_of
 
@@ -54,12 +53,12 @@ class Channel:
         state = Exchange(folder)
         self.machine = Machine(words.out, state[RESTARTS])
         state[RESTARTS] += 1
-        self.alarms = Alarms(functools.partial(results.hook, words.on_alarm, self.fail))
+        self.alarms = dict[str, str]()  # those that stand now, each with its line
         self.results = Results(words, called, folder, self.say, self.fail)
         self.records = self.results.records
         self.stall = Stall(words.stall, self.say)
         self.queue = Queue(words.channel, words, folder, self.records.out, self.results.adopt)
-        self.queue.begin(self.patience, self.records.over(), self.records.since())
+        self.queue.begin(self.patience, *self.records.times())
         self.results.asked_of = self.queue.asked_of
         self.running: OnAir | None = None
         self.came, self.headers = time.monotonic(), 0
@@ -176,7 +175,7 @@ class Channel:
             error = self.segments.state[ERROR]
             self.loss = f"{LOST}: {os.strerror(error) if error else 'it was recorded anew'}"
             self.fail(self.loss)
-            self.alarms.take(LOSS, self.loss)
+            self.alarm(LOSS, self.loss)
         self.machine.loss = now()
         self.begin_anew(LOST)
         self.hearing.renew()
@@ -221,10 +220,11 @@ class Channel:
 
     # ---- one programme after another
 
-    def go_on(self, is_still: bool = False) -> None:
-        """Judges what has come, and begins what can be begun."""
+    def go_on(self, is_still: bool = False, is_over: bool = False) -> None:
+        """Judges what has come, or at the feed's end what is there, and begins what can be begun.
+        """
         self.look()
-        while not self.running or self.running.has_come(
+        while not self.running or is_over or self.running.has_come(
                 self.hearing.by_page[self.running.request.page], self.now, is_still):
             if self.running:
                 self.judge(self.running)
@@ -325,13 +325,8 @@ class Channel:
 
     def stop(self, reason: str) -> None:
         """At the feed's end what is there of all that was kept is judged, and nothing else."""
-        if self.running:
-            self.judge(self.running)
         self.queue.is_whole, self.queue.next_look = True, 0.0
-        while self.begin_next():
-            if self.running:
-                self.judge(self.running)
-        self.look()
+        self.go_on(is_over=True)
         self.results.end_due(BEFORE_IT)
         for programme in self.queue.open():
             programme.has_ended = True
@@ -345,11 +340,15 @@ class Channel:
         self.tell_machine()
 
     def lines(self) -> dict[str, int]:
-        """How many lines have what result."""
-        records = [self.records.by_name.get(programme.name)
-                   for programme in self.queue.programmes]
-        rows = [record.row if record else None for record in records]
-        return lines_of(rows, len(self.results.failed))
+        """How many lines of the list have no result, one that is a verdict, of these one that is
+        not accepted, one that is none; and how many results are not written."""
+        records = (self.records.by_name.get(one.name) for one in self.queue.programmes)
+        verdicts = [record.row.verdict if record and record.row else None for record in records]
+        has_none, not_judged = verdicts.count(None), verdicts.count(NOT_JUDGED)
+        accepted = verdicts.count(ACCEPTED) + verdicts.count(WAIVED)
+        judged = len(verdicts) - has_none - not_judged
+        return {"open": has_none, "judged": judged, "refused": judged - accepted,
+                "not_judged": not_judged, "not_written": len(self.results.failed)}
 
     def tell_machine(self) -> None:
         """What a machine asks, and what is wrong now."""
@@ -364,7 +363,7 @@ class Channel:
             self.free_bytes = shutil.disk_usage(self.folder).free
         self.machine.tell(
             {"sent": self.running and self.running.programme.name, "waiting": waiting,
-             "lines": self.lines(), "alarms": [*self.alarms.on],
+             "lines": self.lines(), "alarms": [*self.alarms],
              "recorder": segments.is_recorded(), "last_verdict": self.results.last},
             {**about, "header": self.header,
              "silent_since": (self.header or about["came"]) if is_silent else None,
@@ -385,7 +384,15 @@ class Channel:
                  f"nothing has come for {counted(self.stall.seconds, 'second')}"),
                 (DISK, failed[0] if failed else None), (LOSS, self.loss),
                 (RECORDER, None if is_recorded else f"nobody records into {self.words.stl}")):
-            self.alarms.take(kind, line)
+            self.alarm(kind, line)
+
+    def alarm(self, kind: str, line: str | None) -> None:
+        """Takes what is wrong, `None` where nothing is; a command is told what changes."""
+        if line is not None and kind not in self.alarms:
+            self.alarms[kind] = line
+            results.hook(self.words.on_alarm, self.fail, kind, results.BEGINS, line)
+        elif line is None and kind in self.alarms:
+            results.hook(self.words.on_alarm, self.fail, kind, results.ENDS, self.alarms.pop(kind))
 
     def show(self) -> None:
         """What is done, on a terminal."""

@@ -196,13 +196,10 @@ class Records:
 
     # ---- what is asked
 
-    def over(self) -> int:
-        """When the last programme was over, of whatever list."""
-        return max((record.over for record in self.all.values()), default=0)
-
-    def since(self) -> int:
-        """Since when the next one is waited for."""
-        return max((record.since for record in self.all.values()), default=0)
+    def times(self) -> tuple[int, int]:
+        """When the last programme was over, of whatever list; since when the next is waited for."""
+        return (max((record.over for record in self.all.values()), default=0),
+                max((record.since for record in self.all.values()), default=0))
 
     def due(self) -> list[Outcome]:
         """Those that have to be judged, the one first that waits longest."""

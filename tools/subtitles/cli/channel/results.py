@@ -106,7 +106,7 @@ class Results:
         known = result_at(os.path.join(folder, name + ENDING))
         if known is None or known.get("open") or name in self.records.by_name:
             return None
-        record = self.records.new(name, stl, over, max(over, self.records.since()))
+        record = self.records.new(name, stl, over, max(over, self.records.times()[1]))
         if "asked" in known:
             record.stl, record.found = known["asked"]["stl"], known["found"]["stl"]
         self.records.put(record, known, folder)
@@ -217,7 +217,7 @@ class Results:
         records = self.records
         if name in records.by_name or self.out is None:
             return records.by_name.get(name)
-        record = self.record_in(self.out, name, stl, self.old_overs.get(name, records.over()))
+        record = self.record_in(self.out, name, stl, self.old_overs.get(name, records.times()[0]))
         if record:
             records.tell(record)
         return record
@@ -365,17 +365,6 @@ RUNNING, ENDED, STOPPED, UNREADABLE = "running", "ended", "stopped", "unreadable
 DATES = ("came", "header", "silent_since")
 
 
-def lines_of(rows: Sequence[Row | None], not_written: int) -> dict[str, int]:
-    """How many lines of the list, by the rows of their results, have none, have one that is a
-    verdict, of these one that is not accepted, have one that is none; and how many results are not
-    written."""
-    judged = [row for row in rows if row and row.is_judged]
-    refused = [row for row in judged if row.verdict not in (ACCEPTED, WAIVED)]
-    has_none = rows.count(None)
-    return {"open": has_none, "judged": len(judged), "refused": len(refused),
-            "not_judged": len(rows) - has_none - len(judged), "not_written": not_written}
-
-
 class Machine:
     """What is told: how the call goes on, and the last that was lost, and that failed."""
 
@@ -389,15 +378,9 @@ class Machine:
 
     def refuse(self, inputs: Inputs) -> None:
         """`Stop` where the file is an input, or no channel has written it; a link is replaced."""
-        if self.path is None:
-            return
-        inputs.refuse(self.path, False)
-        with contextlib.suppress(FileNotFoundError, NotADirectoryError):
-            mode = os.lstat(self.path).st_mode
-            if not os.path.islink(self.path) and (
-                    kind_of(mode) or not OWN.match(first_bytes(self.path, 100) or b"{")):
-                raise Stop(f"{self.path} is there, and no channel wrote it: move it away, or give "
-                           "another folder")
+        if self.path is not None:
+            refuse_file(self.path, inputs, lambda path: OWN.match(first_bytes(path, 100)),
+                        "no channel wrote it")
 
     def tell(self, known: dict[str, Any], feed: dict[str, Any], inputs: Inputs) -> None:
         """Tells what is known, and what is known of the feed, which changes all the time; dates are
@@ -417,25 +400,10 @@ class Machine:
                 file.write(json.dumps(whole, indent=1).encode() + b"\n")
 
 
-# What is wrong for some time: told once when it sets in, and once when it ends.
+# What is wrong for some time.
 
 SILENCE, LOSS, DISK, RECORDER = ALARMS = ("silence", "loss", "disk", "recorder")
-BEGINS, ENDS = "begins", "ends"
-
-
-class Alarms:
-    """Those that stand now; `call` is told the kind, whether it begins or ends, and a line."""
-
-    def __init__(self, call: Callable[[str, str, str], None]) -> None:
-        self.call, self.on = call, dict[str, str]()
-
-    def take(self, kind: str, line: str | None) -> None:
-        """Takes what is wrong; `None` where nothing is."""
-        if line is not None and kind not in self.on:
-            self.on[kind] = line
-            self.call(kind, BEGINS, line)
-        elif line is None and kind in self.on:
-            self.call(kind, ENDS, self.on.pop(kind))
+BEGINS, ENDS = "begins", "ends"  # each is told once when it sets in, and once when it ends
 
 
 # What a house has called after each result, and when something is wrong.
