@@ -164,7 +164,7 @@ class Pages(Case):
 
     def test_page_that_is_new(self) -> None:
         """It is heard of what came before too, however much it is, at the times of the feed; nobody
-        is told of that again."""
+        is told of that again, and nothing begins anew for it."""
         other = packet(0, 0, [7, 8, 0, 8, 0, 8, 1, 0], b" " * 32)
         sent = [pes_packet(SECOND * at, [HEADER, row(20, b"%d" % at), other, row(20, b"x%d" % at),
                                          CLOSING]) for at in range(3000)]
@@ -186,7 +186,8 @@ class Pages(Case):
                 self.must("times", changes.times[-1] - changes.times[0] == 2994 * SECOND)
             times = [heard.changes[False].times[0] for heard in hearing.by_page.values()]
             self.must("one time", times[0] == times[1], times)
-            self.must("told", not list(hearing.take_said()))
+            hearing.by_page[PAGE].anew = ""
+            self.must("told", not list(hearing.take_said()) and not hearing.take_anew())
             self.must("none hears", hearing.has_ended())
 
     def test_feeds_that_are_none(self) -> None:

@@ -1,4 +1,5 @@
-"""The judge of a channel: list and segments held against each other."""
+"""The judge of a channel: a list and the segments of a feed, held against each other, one programme
+after another. All that it knows is in files, so that it may end at any moment, and goes on."""
 from __future__ import annotations
 
 import argparse
@@ -30,9 +31,6 @@ from .results import DISK, LOSS, Machine, RECORDER, Results, SILENCE
 from .schedule import ENDED, LOST, MARGIN, OnAir, Programme, Queue
 from .spool import ERROR, Exchange, RESTARTS, claim, spool_of
 
-
-# The judge of a channel: a list and the segments of a feed, held against each other, one programme
-# after another. All that it knows is in files, so that it may end at any moment, and goes on.
 
 AROUND = 50  # frames before the last page transmission before it that have to be there
 OVERLAP = 10 * MINUTE  # by which a programme may begin before the one before it is over
@@ -66,7 +64,13 @@ class Channel:
         self.loss: str | None = None  # that nothing has come behind yet
         self.next_write, self.free_bytes = 0.0, 0
         self.open()
-        self.begin()
+        self.queue.look(True)
+        self.take_inputs()
+        self.machine.refuse(self.results.inputs)
+        for line in (*self.records.said, *self.segments.index.said):
+            self.say(line)
+        self.results.begin([programme.name for programme in self.queue.programmes
+                            if programme.has_ended])
 
     def open(self) -> None:
         """Hears what is kept, from the oldest on: what is sent now is found there once more."""
@@ -79,16 +83,6 @@ class Channel:
         if self.running:
             self.running.programme.has_ended, self.running = False, None
         self.queue.wait_anew(self.queue.since)
-
-    def begin(self) -> None:
-        """Takes what an earlier call has left."""
-        self.queue.look(True)
-        self.take_inputs()
-        self.machine.refuse(self.results.inputs)
-        for line in (*self.records.said, *self.segments.index.said):
-            self.say(line)
-        self.results.begin([programme.name for programme in self.queue.programmes
-                            if programme.has_ended])
 
     def take_inputs(self) -> None:
         """Takes what is read, and so never written to."""

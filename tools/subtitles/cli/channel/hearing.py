@@ -347,10 +347,12 @@ class Hearing:
         for page in pages:
             if page not in self.by_page:
                 known = next((heard.clock for heard in self.by_page.values()), None)
-                self.hear(self.heard(page, known))
+                heard = self.heard(page, known)
+                self.hear(heard)
                 for data in self.before():
                     collections.deque(self.calls[-1].hand(data), 0)
-                self.by_page[page].said.clear()  # nobody is told of it
+                heard.said.clear()  # nobody is told of it
+                heard.anew = ""
 
     def heard(self, page: Page, reference: FeedClock | None = None) -> Heard:
         """A page that is heard from now on: the first one at the time that is known, each other one

@@ -20,8 +20,7 @@ from .spool import (
     ERROR, Exchange, FILE, HEARD, Journal, are, claim, is_number, numbers_in, opened, path_of)
 
 
-# A feed on disk: segments with numbers in a folder. A recorder writes them; a judge reads them as
-# they grow, and takes away what no programme needs any more. A number that is left out is a loss.
+# A feed on disk: segments with numbers in a folder. A number that is left out is a loss.
 
 PART = 1 << 18  # bytes that are read at a time
 LEAST = 1 << 20  # bytes by which what is told of a feed is behind what was read of it, at most
@@ -68,8 +67,9 @@ def is_begin(entry: list[Any]) -> bool:
 
 
 class Segments:
-    """The segments of a folder, read from the oldest on. When each began is kept in the file
-    `index`, so that the time of the feed goes on for who begins to read anew.
+    """The segments of a folder, read from the oldest on as they grow, and taken away once no
+    programme needs them. When each began is kept in the file `index`, so that the time of the feed
+    goes on for who begins to read anew.
 
     `at` is the segment that is read, `oldest` the first one that was read, or that is behind the
     last loss; what an earlier call has read ends with `known`.
@@ -96,7 +96,8 @@ class Segments:
         something is lost: what came before it is there until more is read."""
         while True:
             data = self.read_on()
-            following = None if data else self.following()
+            following = None if data else next(
+                (number for number in numbers_in(self.folder) if number > self.at), None)
             if following is None:
                 return data
             data = self.read_on()  # all of it is there by now
@@ -118,10 +119,6 @@ class Segments:
                 self.file = opened(path_of(self.folder, self.at))
                 self.state[HEARD] = self.at + 1
         return self.file.read(PART) if self.file else b""
-
-    def following(self) -> int | None:
-        """The segment behind the one that is read, where there is one."""
-        return next((number for number in numbers_in(self.folder) if number > self.at), None)
 
     def begin(self, begin: Begin) -> None:
         """The segment that is read now begins so."""
@@ -216,8 +213,7 @@ class Segments:
         return False
 
 
-# Writes a feed into segments, and does nothing else: a process of its own, which may end at any
-# moment, and be begun again. With who judges it shares the segments, and the file `state`.
+# A process of its own writes a feed into segments, and does nothing else.
 
 LONG, MOST = 5.0, 1 << 25  # seconds, and bytes, of a segment
 AHEAD = 8  # segments by which a file may be read before it is heard

@@ -18,13 +18,13 @@ from typing import Any, Callable, Sequence
 
 from ...clock.start import FITTED_SHORT
 from ...common.command_line import Stop, counted, ended, error_line, tell
-from ...common.files import Inputs, NOTHING, first_bytes, kind_of, result_file
-from ...judging.status import ACCEPTED, NOT_JUDGED, WAIVED
+from ...common.files import Inputs, NOTHING, first_bytes, result_file
+from ...judging.status import NOT_JUDGED
 from ...request.commands import CHANNEL
 from ...request.request import Request
 from ...results.files import (
-    ENDING, Row, in_order, left_by_call, object_at, objects_in, put_object, row_of_object, unjudged,
-    value_at)
+    ENDING, Row, in_order, left_by_call, object_at, object_text, objects_in, row_of_object,
+    unjudged, value_at)
 from ...results.schema import FORMAT, misfit
 from .. import collection, single
 from ..batch import Forked, ended_of, signals_held
@@ -227,12 +227,13 @@ class Results:
         again; those of a list that has some names were kept."""
         by_name = self.records.by_name
         self.records.drop_old()
-        for record in by_name.values():
-            if record.is_told and self.out is not None and not self.is_written(record):
-                record.is_told, record.is_mended = False, True
-        lost = [name for name, record in by_name.items() if record.is_mended]
+        lost = [record for record in by_name.values() if record.is_told and self.out is not None
+                and not self.is_written(record)]
+        for record in lost:
+            record.is_told, record.is_mended = False, True
         if lost:
-            self.say(f"written once more, since it is not there as a whole: {', '.join(lost)}")
+            self.say("written once more, since it is not there as a whole: "
+                     + ", ".join(record.name for record in lost))
         self.rows = {name: record.row for name, record in by_name.items() if record.row}
         if self.out and os.path.isdir(self.out):
             for path, known in objects_in(self.out, {*by_name}):
@@ -283,32 +284,30 @@ class Results:
         return True
 
     def write(self, record: Outcome) -> None:
-        """Writes the files of a programme, its result last; then somebody is told, once."""
-        assert self.out is not None and record.row
-        os.makedirs(self.out, exist_ok=True)
-        folder, path = self.records.work(record.number), self.path(record.name)
-        for file in sorted(os.listdir(folder)) if os.path.isdir(folder) else ():
-            if file.startswith(f"{record.name}."):
-                move(os.path.join(folder, file), os.path.join(self.out, file), self.inputs)
-        refuse_file(path, self.inputs)
-        with result_file(path) as written:
-            written.write(self.records.result(record))
+        """Writes the files of a programme; then somebody is told, once."""
+        assert record.row
+        self.put(record.name, self.records.result(record), self.records.work(record.number))
         if not record.is_mended:
-            self.hook(path, record.row.verdict)
+            self.hook(self.path(record.name), record.row.verdict)
         self.records.tell(record)
+
+    def put(self, name: str, result: bytes, folder: str = "") -> None:
+        """Gives the files of a programme their place that stand in a folder, its result last."""
+        assert self.out is not None
+        os.makedirs(self.out, exist_ok=True)
+        for file in sorted(os.listdir(folder)) if os.path.isdir(folder) else ():
+            if file.startswith(f"{name}."):
+                move(os.path.join(folder, file), os.path.join(self.out, file), self.inputs)
+        refuse_file(self.path(name), self.inputs)
+        with result_file(self.path(name)) as written:
+            written.write(result)
 
     def leave_open(self, name: str, reason: str) -> None:
         """A programme has no result that stays when this call ends: nobody is told."""
         known = unjudged(name, reason, True)
         self.open.add(name)
-
-        def write() -> None:
-            os.makedirs(self.out or "", exist_ok=True)
-            refuse_file(self.path(name), self.inputs)
-            put_object(self.path(name), known)
-
         if self.out is not None:
-            self.attempt(f"{name}: its result", write)
+            self.attempt(f"{name}: its result", lambda: self.put(name, object_text(known)))
         self.show(name, known)
 
     def end(self, record: Outcome, known: dict[str, Any], more: str = "") -> None:
