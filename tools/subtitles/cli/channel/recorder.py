@@ -109,8 +109,9 @@ class Segments:
                 return None
             if self.at < 0 or is_lost:
                 self.oldest = following
-            self.close()
-            self.at, self.is_lost = following, False
+            if self.file:
+                self.file.close()
+            self.file, self.at, self.is_lost = None, following, False
 
     def read_on(self) -> bytes:
         """Some bytes of the segment that is read."""
@@ -181,11 +182,6 @@ class Segments:
             if number < floor:
                 with contextlib.suppress(OSError):
                     os.unlink(path_of(self.folder, number))
-
-    def close(self) -> None:
-        if self.file:
-            self.file.close()
-            self.file = None
 
     # ---- what a machine asks
 

@@ -5,7 +5,6 @@ from __future__ import annotations
 import argparse
 import contextlib
 import dataclasses
-import functools
 import json
 import os
 import re
@@ -69,7 +68,6 @@ class Results:
                  say: Callable[[str], None], fail: Callable[[str], None]) -> None:
         self.words, self.called, self.folder, self.say, self.fail = words, called, folder, say, fail
         self.out: str | None = words.out
-        self.hook = functools.partial(hook, words.on_result, fail)
         self.records = Records(folder, os.path.abspath(self.out) if self.out else "")
         self.inputs = NOTHING
         self.rows: dict[str, Row] = {}
@@ -288,7 +286,7 @@ class Results:
         assert record.row
         self.put(record.name, self.records.result(record), self.records.work(record.number))
         if not record.is_mended:
-            self.hook(self.path(record.name), record.row.verdict)
+            hook(self.words.on_result, self.fail, self.path(record.name), record.row.verdict)
         self.records.tell(record)
 
     def put(self, name: str, result: bytes, folder: str = "") -> None:

@@ -336,9 +336,7 @@ class Queue:
         """The first one is another one than before, and is waited for since a time; its subtitle
         file may have come meanwhile. What an earlier call has judged may be heard once more, and is
         over all the same: `ended` never goes back."""
-        self.since, self.ended = since, max(self.ended, ended)
-        for programme in self.waiting:
-            programme.wait(self.ended, self.until)
+        self.since, self.ended, self.waiting = since, max(self.ended, ended), []
 
 
 def is_entry(entry: list[Any]) -> bool:
