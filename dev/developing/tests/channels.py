@@ -18,7 +18,7 @@ from subtitles.common.command_line import Words
 from subtitles.common.times import CLOCK, FRAMES_A_SECOND, TICKS
 from subtitles.request.lines import read_options
 from subtitles.request.request import add_options
-from .bench import SECONDS, Case, loaded, packets, tool_path
+from .bench import SECONDS, Case, Done, loaded, packets, tool_path
 
 SECOND = TICKS * FRAMES_A_SECOND
 BEGIN = CLOCK - 30 * SECOND  # of a feed, so that PTS begin again soon
@@ -196,3 +196,14 @@ class Running:
         elif self.process.stdin:
             self.process.stdin.close()
         return self.process.wait(SECONDS)
+
+
+def fed(case: Case, *words: str, log: str = "log", before: Sequence[str] = ()) -> Running:
+    """A call of a channel whose feed comes through a pipe."""
+    return Running(case, "--channel", "list", "-", *words, "-p", case.bench.program,
+                   stdin=subprocess.PIPE, log=log, before=before)
+
+
+def judged(case: Case, *words: str, data: bytes | None = None) -> Done:
+    """A call of a channel that has ended."""
+    return case.tool("qc", "-p", case.bench.program, "--channel", *words, data=data)

@@ -5,14 +5,14 @@ from __future__ import annotations
 import itertools
 import json
 import os
-import subprocess
 from typing import Iterable
 
 from subtitles.cli.channel.recorder import size_in
 from subtitles.cli.channel.spool import numbers_in
 from subtitles.common.times import CLOCK
 from .bench import Case, example, packets
-from .channels import BEGIN, SECOND, THREE, WITH_BLANK, Running, blank, make_programme, three
+from .channels import (
+    BEGIN, SECOND, THREE, WITH_BLANK, Running, blank, fed, judged, make_programme, three)
 from .muxed import in_frames, spaced
 
 MEMORY, HANDLES = 120_000, 20  # kilobytes of all processes, and open files of one, at most
@@ -29,8 +29,7 @@ class Days(Case):
         names = [f"p{number}" for number in range(7 * DAY // EACH if self.bench.is_timed else 4)]
         self.write("list", "".join(f"{name}.stl\n" for name in names).encode())
         self.sent(0)
-        call = Running(self, "--channel", "list", "-", "-o", "out", "-p", self.bench.program,
-                       stdin=subprocess.PIPE)
+        call = fed(self, "-o", "out")
         call.watching.start()
         kept = list[int]()
         for number, name in enumerate(names):
@@ -71,8 +70,7 @@ class Feeds(Case):
 
     def judged(self, name: str, pieces: Iterable[bytes], *words: str) -> Running:
         """A call that has judged a feed through a pipe, or a file."""
-        call = Running(self, "--channel", "list", *words, "-p", self.bench.program, log=name,
-                       stdin=subprocess.PIPE)
+        call = fed(self, *words, log=name)
         call.watching.start()
         for data in pieces:
             call.put(data)
@@ -125,8 +123,7 @@ class Feeds(Case):
         parts = three(self, (10, 130, 250), 283, 70)
         whole = self.read("list")
         self.write("list", b"one.stl\n")
-        call = Running(self, "--channel", "list", "-", "--stall", "1", "--patience", "2", "-o",
-                       "out", "-p", self.bench.program, stdin=subprocess.PIPE)
+        call = fed(self, "--stall", "1", "--patience", "2", "-o", "out")
         call.put(parts[0] + parts[1])
         self.must("the first one, and a stall", call.says("one  accepted") and
                   call.says("nothing has come for 1 second"), call.lines())
@@ -148,6 +145,6 @@ class Feeds(Case):
     def test_names_no_programme(self) -> None:
         """Of a list without a line that is told at the end of the feed."""
         self.write("list", b"# none\n")
-        done = self.tool("qc", "--channel", "list", example("story.pes"), "-p", self.bench.program)
+        done = judged(self, "list", example("story.pes"))
         self.must("told", (done.status, done.told) == (2, ["qc: list names no programme"]) and
                   done.out.endswith(b"  ended: 0 lines judged, 0 not judged, 0 open\n"), done)

@@ -6,26 +6,33 @@ import json
 import os
 import shutil
 import signal
-import subprocess
 from typing import Any, Callable
 
 from subtitles.cli.channel.spool import MARK, claim
 from subtitles.common.command_line import Stop
 from subtitles.common.files import Inputs
-from .bench import Case, example, packets, tool_path
-from .channels import BEGIN, THREE, Running, three, until
+from .bench import Case, example, example_bytes, packets, tool_path
+from .channels import BEGIN, THREE, fed, judged, three, until
 from .muxed import in_frames
 
 
 class Own(Case):
     """A folder that is the channel's own."""
 
-    def claimed(self, make: Callable[[str], object], *inputs: str) -> str:
-        """Why a folder is refused in which something stands; nothing of that is changed."""
+    def claimed(self, words: str, *inputs: str) -> str:
+        """Why a folder is refused in which that stands which words name: a file, `>x` a link, `|x`
+        a pipe, `x:48` a file of so many bytes. Nothing of it is changed."""
         folder = self.path("spool")
         shutil.rmtree(folder, ignore_errors=True)
         os.mkdir(folder)
-        make(folder)
+        for word in words.split():
+            name, _, size = word.lstrip(">|").partition(":")
+            path = os.path.join(folder, name)
+            os.makedirs(os.path.dirname(path), exist_ok=True)
+            if word[0] in ">|":
+                os.symlink("x", path) if word[0] == ">" else os.mkfifo(path)
+            else:
+                self.write(path, bytes(int(size or 1)))
         before = self.state(folder)
         try:
             claim(folder, Inputs(*inputs))
@@ -36,73 +43,47 @@ class Own(Case):
 
     def state(self, folder: str) -> dict[str, object]:
         """All that stands in a folder."""
-        return {path: os.lstat(os.path.join(folder, path)).st_mtime_ns
-                for top, folders, files in os.walk(folder) for path in (
-                    os.path.relpath(os.path.join(top, one), folder)
-                    for one in (*folders, *files))}
-
-    def put(self, name: str, data: bytes = b"x") -> Callable[[str], object]:
-        def make(folder: str) -> None:
-            os.makedirs(os.path.dirname(os.path.join(folder, name)), exist_ok=True)
-            with open(os.path.join(folder, name), "wb") as file:
-                file.write(data)
-        return make
+        return {path: os.lstat(path).st_mtime_ns for top, folders, files in os.walk(folder)
+                for path in (os.path.join(top, one) for one in (*folders, *files))}
 
     def test_what_stands_in_it(self) -> None:
         """Nothing, what a channel made, and what version 1.9 made, by its form: all else is
         refused, by name."""
-        def all_of(*several: Callable[[str], object]) -> Callable[[str], None]:
-            def make(folder: str) -> None:
-                for one in several:
-                    one(folder)
-            return make
-
-        old = all_of(self.put("state", bytes(48)), self.put("journal"), self.put("list"),
-                     self.put("done/one/one.json"), self.put("done/one/one.html"),
-                     self.put("work-0123456789abcdef/a"), self.put("000000001.seg"))
-        own = self.put(MARK, b"")
-        rows: list[tuple[str, Callable[[str], object], str]] = [
-            ("nothing", lambda _: None, ""), ("locks", self.put(".lock", b""), ""),
-            ("own", all_of(own, self.put("000000007.done"), self.put("000000007.files/a"),
-                           self.put("list.damaged")), ""),
-            ("of 1.9", old, ""), ("of 1.9 and more", all_of(old, self.put("notes")), "notes"),
-            ("LIST", self.put("list"), "list"), ("a file", all_of(own, self.put("a.stl")), "a.stl"),
-            ("done", self.put("done/monday/notes"), "done"),
-            ("done beside", all_of(old, self.put("done/monday/notes")), "done"),
-            ("work", self.put("work-mine/a"), "work-mine"),
-            ("a folder", all_of(own, self.put("000000001.seg/a")), "000000001.seg"),
-            ("a link", all_of(own, lambda folder: os.symlink("x", f"{folder}/state")), "state"),
-            ("a pipe", all_of(own, lambda folder: os.mkfifo(f"{folder}/index")), "index")]
-        for name, make, refused in rows:
-            why = self.claimed(make)
+        own = f"{MARK}:0"
+        old = "state:48 journal list done/one/one.json done/one/one.html " \
+            "work-0123456789abcdef/a 000000001.seg"
+        for words, refused in (
+                ("", ""), (".lock:0", ""), (old, ""),
+                (f"{own} 000000007.done 000000007.files/a list.damaged", ""),
+                (f"{old} notes", "notes"), ("list", "list"), (f"{own} a.stl", "a.stl"),
+                ("done/monday/notes", "done"), (f"{old} done/monday/notes", "done"),
+                ("work-mine/a", "work-mine"), (f"{own} 000000001.seg/a", "000000001.seg"),
+                (f"{own} >state", "state"), (f"{own} |index", "index")):
+            why = self.claimed(words)
             wanted = refused and f" holds {refused}, which no channel made: move that away, or " \
                 "give another folder by --spool"
-            self.must(name, why == wanted, why)
+            self.must(words, why == wanted, why)
         self.must("an input", "is an input too" in self.claimed(
-            all_of(own, self.put("list")), self.path("spool/list")))
+            f"{own} list", self.path("spool/list")))
 
     def test_of_the_call_itself(self) -> None:
         """LIST, severity, STL and FEED under the name channel.json, and one of somebody's own."""
-        self.write("one.stl", self.read_example("story.stl"))
+        self.write("one.stl", example_bytes("story.stl"))
+        feed = example("story.pes")
         for name, words, lines in (
-                ("LIST", ["--channel", "out/channel.json", example("story.pes")], b"one.stl\n"),
-                ("severity", ["--channel", "list", example("story.pes"), "--severity",
-                              "out/channel.json"], b"72 error\n"),
-                ("FEED", ["--channel", "list", "out/channel.json"], self.read_example("story.pes")),
-                ("STL", ["--channel", "of", example("story.pes")], self.read_example("story.stl")),
-                ("his own", ["--channel", "list", example("story.pes")], b'{"a": 1}')):
+                ("LIST", ["out/channel.json", feed], b"one.stl\n"),
+                ("severity", ["list", feed, "--severity", "out/channel.json"], b"72 error\n"),
+                ("FEED", ["list", "out/channel.json"], example_bytes("story.pes")),
+                ("STL", ["of", feed], example_bytes("story.stl")),
+                ("his own", ["list", feed], b'{"a": 1}')):
             shutil.rmtree(self.path("out"), ignore_errors=True)
             os.mkdir(self.path("out"))
             self.write("list", b"one.stl\n")
             self.write("of", b"out/channel.json\n")
             self.write("out/channel.json", lines)
-            done = self.tool("qc", *words, "-o", "out", "-p", self.bench.program)
+            done = judged(self, *words, "-o", "out")
             self.must(name, done.status == 2 and self.read("out/channel.json") == lines and
                       "channel.json is" in done.told[-1], done)
-
-    def read_example(self, name: str) -> bytes:
-        with open(example(name), "rb") as file:
-            return file.read()
 
     def test_what_stands_in_the_way(self) -> None:
         """Of a result or a subtitle file: it ends no channel, and is no programme's end but its
@@ -120,8 +101,7 @@ class Own(Case):
                 make(self.path(f"{name}.stl"))
                 lines.append(self.path(f"{name}.stl"))
             self.write("list", "".join(f"{one}\n" for one in lines).encode())
-            done = self.tool("qc", "--channel", "list", example("story.pes"), "-o", name, "-p",
-                             self.bench.program)
+            done = judged(self, "list", example("story.pes"), "-o", name)
             out = done.out.decode()
             self.must(name, "story  accepted 226 frames" in out and "Traceback" not in out and (
                 name != "pipe" or "pipe  not judged: " in out and "is a pipe" in out), done)
@@ -132,11 +112,9 @@ class Own(Case):
     def test_two_channels(self) -> None:
         """One folder of results is that of one."""
         self.write("list", b"none.stl\n")
-        call = Running(self, "--channel", "list", "-", "-o", "out", "-p", self.bench.program,
-                       stdin=subprocess.PIPE)
+        call = fed(self, "-o", "out")
         self.must("it has begun", call.says("none  not judged"), call.lines())
-        done = self.tool("qc", "--channel", "list", example("story.pes"), "-o", "out", "--spool",
-                         "other", "-p", self.bench.program)
+        done = judged(self, "list", example("story.pes"), "-o", "out", "--spool", "other")
         self.must("refused", done.status == 2 and done.told == [
             "qc: another call is judging into out"], done)
         call.end(signal.SIGTERM)
@@ -156,8 +134,7 @@ class Killed(Case):
             self.write("which", which.encode())
             if os.path.exists(self.path("killed")):
                 os.unlink(self.path("killed"))
-            done = self.tool("qc", "--channel", "list", example("story.pes"), "-o", which, "-p",
-                             stalls)
+            done = judged(self, "list", example("story.pes"), "-o", which, "-p", stalls)
             self.must(which, done.status == 0 and b"story  accepted 226 frames" in done.out, done)
 
 
@@ -186,17 +163,9 @@ class Disks(Case):
             while True:
                 file.write(bytes(4096))
 
-    def empty(self, folder: str) -> None:
-        """There is room again."""
-        os.unlink(f"{folder}/full")
-
-    def lock(self, folder: str) -> None:
-        """Makes it read-only."""
-        assert self.call(["mount", "-o", "remount,ro", folder]).status == 0
-
-    def unlock(self, folder: str) -> None:
-        """It can be written to again."""
-        assert self.call(["mount", "-o", "remount,rw", folder]).status == 0
+    def mount(self, folder: str, how: str) -> None:
+        """Makes it read-only, `ro`, or not, `rw`."""
+        assert self.call(["mount", "-o", f"remount,{how}", folder]).status == 0
 
     def results(self, out: str) -> list[dict[str, Any]]:
         """The result of each line."""
@@ -206,15 +175,16 @@ class Disks(Case):
     def test_of_results(self) -> None:
         """What can't be written is said, and is there once it can be."""
         rows: list[tuple[str, Callable[[str], None], Callable[[str], None], str]] = [
-            ("full", self.fill, self.empty, "No space left on device"),
-            ("read-only", self.lock, self.unlock, "Read-only file system")]
+            ("full", self.fill, lambda folder: os.unlink(f"{folder}/full"),
+             "No space left on device"),
+            ("read-only", lambda folder: self.mount(folder, "ro"),
+             lambda folder: self.mount(folder, "rw"), "Read-only file system")]
         for name, spoil, mend, why in rows:
             parts, folder = three(self, STARTS, END), self.disk(name)
             out = f"{name}/out"
             os.mkdir(self.path(out))
             spoil(folder)
-            call = Running(self, "--channel", "list", "-", "-o", out, "--spool", f"feed {name}",
-                           "-p", self.bench.program, stdin=subprocess.PIPE, log=f"log {name}")
+            call = fed(self, "-o", out, "--spool", f"feed {name}", log=f"log {name}")
             call.put(b"".join(parts))
             said = "one: its result can't be written, and is tried again: "
             self.must(f"{name}: said", call.says(said) and call.says("three  accepted") and [
@@ -237,17 +207,16 @@ class Disks(Case):
         with open(self.path("small/taken"), "wb") as file:
             file.write(bytes(SIZE * 2 ** 20 - len(feed) // 2))
         for name in ("small", "full"):
-            done = self.tool("qc", "--channel", "list", "-", "-o", name + " out", "--spool",
-                             "small/feed", "-p", self.bench.program, data=feed)
+            done = judged(self, "list", "-", "-o", f"{name} out", "--spool", "small/feed",
+                          data=feed)
             self.must(f"{name}: its end", done.status == 2 and not done.told, done)
             for one, line in zip(self.results(name + " out"), THREE):
                 reason = one["reason"] or ""
                 self.must(f"{name}: {line[:5]}", any(why in reason for why in LOST)
                           if reason else one["line"] in line, one)
             self.fill(self.path("small"))
-        self.lock(self.disk("read-only"))
-        done = self.tool("qc", "--channel", "list", "-", "--spool", "read-only/feed", "-p",
-                         self.bench.program, data=feed)
+        self.mount(self.disk("read-only"), "ro")
+        done = judged(self, "list", "-", "--spool", "read-only/feed", data=feed)
         self.must("read-only", done.status == 2 and "Read-only file system" in done.told[-1], done)
 
     def test_of_temporary_files(self) -> None:

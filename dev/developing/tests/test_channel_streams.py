@@ -8,7 +8,7 @@ from typing import Any, Iterator, NamedTuple, Sequence
 
 from subtitles.common.times import CLOCK, FRAMES_A_SECOND, TICKS
 from .bench import Case, packets
-from .channels import EACH, FITTED, SECOND, SHOWN, blank, make_subtitles, verdicts
+from .channels import EACH, FITTED, SECOND, SHOWN, blank, judged, make_subtitles, verdicts
 from .muxed import TELETEXT_PID, Sent, stream_of
 
 BEGIN = CLOCK - 20 * SECOND  # of a feed: PTS begin again within it
@@ -90,8 +90,7 @@ class Streams(Case):
         self.write("list", "".join(f"{name}.stl {line}\n" for name in names).encode())
         for folder in ("out", "out.feed"):
             shutil.rmtree(self.path(folder), ignore_errors=True)
-        done = self.tool("qc", "--channel", "list", "-", "-o", "out", "-p", self.bench.program,
-                         *more, data=data)
+        done = judged(self, "list", "-", "-o", "out", *more, data=data)
         self.must("nothing on standard error", not done.told, done.told)
         return done.status, verdicts(done.out.decode().splitlines()), [
             json.loads(self.read(f"out/{name}.json")) for name in names]
@@ -195,8 +194,7 @@ class Ends(Case):
             for data, status, said in ((part, 2, "not judged: the feed ended at 10:00:"),
                                        (sent, 0, "accepted ")):
                 self.grow(f"{count}.ts", bytes_of(data))
-                done = self.tool("qc", "--channel", "list", f"{count}.ts", "-o",
-                                 f"out {count}", "-p", self.bench.program)
+                done = judged(self, "list", f"{count}.ts", "-o", f"out {count}")
                 lines = verdicts(done.out.decode().splitlines())
                 known = json.loads(self.read(f"out {count}/one.json"))
                 self.must(f"{count}: {said}", done.status == status and

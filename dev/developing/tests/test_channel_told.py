@@ -1,11 +1,13 @@
 """What a channel tells those that are no people: channel.json, and a command after each result."""
 from __future__ import annotations
 
+import contextlib
 import json
 import os
 import shutil
 import signal
 import subprocess
+import time
 from typing import Any
 from unittest import mock
 
@@ -15,7 +17,7 @@ from subtitles.cli.channel.schedule import LOST
 from subtitles.cli.channel.spool import path_of
 from subtitles.common.command_line import Stop
 from .bench import SECONDS, Case, example
-from .channels import SECOND, Running, until
+from .channels import SECOND, fed, judged, until
 from .listings import BEGIN, Judging, Lines, Programmes, Told, texts_of
 from .results import result
 
@@ -103,26 +105,21 @@ class Machine(Programmes):
 
     def test_when(self) -> None:
         """When something changes, and every ten seconds; where it can't be written nothing else
-        happens."""
-        channel, now = Told(self, self.listed("one"), self.path("out")), [100.0]
-        with mock.patch("time.monotonic", lambda: now[0]):
-            channel.tell_machine()
-            for seconds, is_new in ((1.0, False), (9.0, False), (10.0, True), (11.0, False)):
-                os.unlink(self.path("out/channel.json")) if os.path.exists(
-                    self.path("out/channel.json")) else None
-                now[0] = 100.0 + seconds
-                channel.tell_machine()
-                self.must(f"{seconds}", os.path.exists(self.path("out/channel.json")) == is_new)
-        channel.machine.path, channel.machine.next = self.path("none/channel.json"), 0.0
-        channel.tell_machine()
-
-    def test_programme_of_that_name(self) -> None:
-        """It has another file."""
+        happens. A programme of that name has another file."""
         os.rename(self.files["one"], self.path("channel.stl"))
         channel = Told(self, f"{self.path('channel.stl')}\n", self.path("out"))
         channel.give(Lines().sent(texts_of("one"), BEGIN, 20))
         self.must("its result", json.loads(self.read("out/%63hannel.json"))["verdict"] ==
                   "accepted" and self.look(channel)["format"] == 2)
+        began = time.monotonic() + 99
+        for seconds, is_new in ((0, True), (1, False), (9, False), (10, True), (11, False)):
+            with contextlib.suppress(FileNotFoundError):
+                os.unlink(self.path("out/channel.json"))
+            with mock.patch("time.monotonic", lambda: began + seconds):
+                channel.tell_machine()
+            self.must(f"{seconds}", os.path.exists(self.path("out/channel.json")) == is_new)
+        channel.machine.path, channel.machine.next = self.path("none/channel.json"), 0.0
+        channel.tell_machine()
 
 
 class Folders(Programmes):
@@ -168,13 +165,11 @@ class Folders(Programmes):
         """A device, a pipe, and one that stands in the place of a result: that stays."""
         os.mkfifo(self.path("pipe"))
         for name in ("/dev/zero", "pipe", "out"):
-            done = self.tool("qc", "--channel", name, example("story.pes"), "-o", "results", "-p",
-                             self.bench.program)
+            done = judged(self, name, example("story.pes"), "-o", "results")
             self.must(name, done.status == 2 and name in done.told[-1] and not done.out, done)
         text = f"{example('story.stl')}\n".encode()
         self.write("out/story.json", text)
-        done = self.tool("qc", "--channel", "out/story.json", example("story.pes"), "-o", "out",
-                         "-p", self.bench.program)
+        done = judged(self, "out/story.json", example("story.pes"), "-o", "out")
         self.must("an output", done.status == 2 and self.read("out/story.json") == text and
                   done.told == ["qc: story: its result was not written: out/story.json is an input "
                                 "too"], done)
@@ -225,10 +220,8 @@ class Commands(Case):
                            f"{example('german.stl')} --option german\n".encode())
         command = self.write_program(
             "command", f'#!/bin/sh\ntest -f "$1" && echo "$1 $2" >>{self.path("told")}; exit 3\n')
-        words = ["qc", "--channel", "list", example("story.pes"), "-o", "out", "--on-result",
-                 command, "-p", self.bench.program]
         for _ in range(2):
-            done = self.tool(words[0], *words[1:])
+            done = judged(self, "list", example("story.pes"), "-o", "out", "--on-result", command)
             told = self.read("told").decode().splitlines()
             self.must("told", told == ["out/story.json accepted", "out/none.json not judged"], told)
         self.must("said", done.status == 2 and done.out.count(b"ended with status 3") == 0 and
@@ -237,8 +230,7 @@ class Commands(Case):
     def test_hang_up_that_is_ignored(self) -> None:
         """As by nohup: it goes on; any other signal ends it."""
         self.write("list", b"none.stl\n")
-        call = Running(self, "--channel", "list", "-", "-o", "out", "-p", self.bench.program,
-                       stdin=subprocess.PIPE, before=("sh", "-c", 'trap "" HUP; exec "$0" "$@"'))
+        call = fed(self, "-o", "out", before=("sh", "-c", 'trap "" HUP; exec "$0" "$@"'))
         self.must("it has begun", call.says("none  not judged"), call.lines())
         call.process.send_signal(signal.SIGHUP)
         self.write("list", b"none.stl\nmore.stl\n")
