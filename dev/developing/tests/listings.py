@@ -108,7 +108,7 @@ class Told(Channel):
             "program": case.bench.program, "on_result": command, "on_alarm": alarm, "json": None})
         Judging.made = []
         self.said: list[str] = []
-        self.back = back
+        self.feed, self.back = Lines(), back
         spool = spool or tempfile.mkdtemp(dir=case.folder)
         os.makedirs(spool, exist_ok=True)
         super().__init__(words, "tools/qc", spool)
@@ -144,6 +144,11 @@ class Told(Channel):
         for line in lines:
             self.hearing.by_page[page].take(line)
             self.take()
+
+    def send(self, *names: str, second: int = 0) -> None:
+        """Programmes are sent, a minute from one to the next, from a second on."""
+        for number, name in enumerate(names):
+            self.give(self.feed.sent(texts_of(name), BEGIN + SECOND * (second + 60 * number), 20))
 
     def keep_now(self) -> None:
         """What is done each second."""

@@ -149,6 +149,8 @@ class Changed(Case):
             ((50, 40), (60, 60), (70, 90), (10, 20)))]
         some = awaited(self.write("two.stl", gsi_block(b"", 4, 4) + b"".join(blocks)), 0, 9)
         self.must("times", (some.first, some.last, len(some.edges)) == (10, 90, 4), some.edges)
+        first = awaited(make_subtitles(self, "midnight", 0, FOUR), 0, 9).first
+        self.must("at midnight", first == 0, first)
         with self.assertRaises(Stop):
             awaited(self.write("none.stl", gsi_block(b"", 1, 1) + blocks[0]), 0, 9)
 
@@ -168,7 +170,8 @@ class FeedClocks(Case):
     """The time of a feed."""
 
     def test_time_of_a_feed(self) -> None:
-        """It goes on with PTS, also over their end, and stays where they go back a little."""
+        """It goes on with PTS, also over their end, and stays where they go back a little, or an
+        encoder begins anew."""
         for shift in (0, CLOCK - 5 * TICKS):
             clock, first = FeedClock(), 1000
             for pts, now in ((0, 0), (10, 10), (4, 10), (7, 10), (12, 12), (12, 12),
@@ -177,8 +180,6 @@ class FeedClocks(Case):
                 self.must(f"{shift}: {pts}", clock.now == now, clock.now)
                 self.must(f"{shift}: its PTS", clock.pts_at(0) == (first + shift) % CLOCK
                           and clock.pts_at(now) == (first + shift + now) % CLOCK, clock)
-
-    def test_clock_of_an_encoder_that_begins_anew(self) -> None:
         for jump in (-BACK - 1, ANEW + 1, CLOCK // 2 - 5):
             clock = FeedClock()
             for pts in (100, 200, 150):

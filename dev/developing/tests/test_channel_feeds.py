@@ -5,6 +5,7 @@ from __future__ import annotations
 import itertools
 import json
 import os
+import subprocess
 from typing import Iterable
 
 from subtitles.cli.channel.recorder import size_in
@@ -70,7 +71,8 @@ class Feeds(Case):
 
     def judged(self, name: str, pieces: Iterable[bytes], *words: str) -> Running:
         """A call that has judged a feed through a pipe, or a file."""
-        call = fed(self, *words, log=name)
+        call = Running(self, "--channel", "list", *words, "-p", self.bench.program, log=name,
+                       stdin=subprocess.PIPE)
         call.watching.start()
         for data in pieces:
             call.put(data)

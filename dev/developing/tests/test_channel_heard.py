@@ -41,13 +41,16 @@ class Pids(Case):
 
     def test_of_the_page(self) -> None:
         """The first that sends its header; another one at about the same time is one too many, a
-        later one is left, and so is what came on it; what came before the header is of the time."""
+        later one is left, which is said once, and so is what came on it; what came before the
+        header is of the time."""
         own, other = Lines(PID), Lines(OTHER)
         heard = heard_of([own.pes(0, ""), other.pes(0, ""), own.pes(SECOND), own.rows("one")])
         self.must("the first", (heard.pid, heard.now, heard.first) == (PID, SECOND, (0, 0)))
-        for line in (other.pes(7 * SECOND), other.rows("two")):
+        for line in (other.pes(7 * SECOND), other.rows("two"), other.pes(8 * SECOND)):
             heard.take(line)
-        self.must("a later one", heard.pid == PID and heard.changes[False].letters == [b"one"])
+        self.must("a later one", heard.pid == PID and heard.changes[False].letters == [b"one"] and
+                  heard.said == ["page 888 is sent on PID 0x101 and PID 0x102: PID 0x101 is heard "
+                                 "on"], heard.said)
         for pts, is_refused in ((4, True), (-4, True), (6, False)):
             lines = [Lines(PID).pes(9 * SECOND), Lines(OTHER).pes((9 + pts) * SECOND)]
             for pid in (None, PID):
@@ -94,7 +97,7 @@ class Pids(Case):
 
     def test_heard_before(self) -> None:
         """Of two PIDs that send the page from the first seconds on the one is heard on that was
-        heard before; one that sets in later is said, once. After a move the old one is none."""
+        heard before. After a move the old one is none."""
         both = "page 888 is sent on PID 0x101 and PID 0x102: PID 0x10{} is heard on"
         for likely, pid, later in ((None, None, 0), (PID, PID, 0), (OTHER, OTHER, 0),
                                    (0x103, None, 0), (PID, PID, 99), (OTHER, OTHER, 99)):
@@ -113,9 +116,6 @@ class Pids(Case):
             changes = heard.changes[False].letters
             self.must("its text", changes[-1] == (b"own8" if pid == PID else b"two8"), changes)
         own, other = Lines(PID), Lines(OTHER)
-        late = heard_of([own.pes(0), own.pes(9 * SECOND), other.pes(9 * SECOND),
-                         other.pes(10 * SECOND)])
-        self.must("later", late.pid == PID and late.said == [both.format(1)], late.said)
         after = heard_of([*TABLE, own.pes(10 * SECOND), *MOVED, other.pes(11 * SECOND),
                           own.pes(12 * SECOND)])
         self.must("after a move", after.pid == OTHER and len(after.said) == 1, after.said)

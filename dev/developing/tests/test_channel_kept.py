@@ -207,7 +207,8 @@ class Written(Folders):
     """Segments that are written."""
 
     def test_whole_pes_packets(self) -> None:
-        """Of PES packets in pieces of any size each is whole in one segment, up to what is none."""
+        """Of PES packets in pieces of any size each is whole in one segment, up to what is none; a
+        transport stream is kept as it comes, also one that begins with 00 00 01 BD 47."""
         for size in (1, 5, 183, 184, 500):
             for data, count in ((b"".join(PES), 10), (b"".join(PES[:4]) + b"x" * 300 + PES[5], 4)):
                 folder = self.new(f"{size} {count}")
@@ -219,9 +220,6 @@ class Written(Folders):
                 self.must(f"{size} {count}", b"".join(found) == data[:len(b"".join(found))] and
                           b"".join(found).startswith(own), found)
                 self.must("each is whole", count < 10 or not any(len(one) % 184 for one in found))
-
-    def test_other_bytes(self) -> None:
-        """A transport stream is kept as it comes, also one that begins with 00 00 01 BD 47."""
         for data in (b"G" + bytes(187), b"\0\0\1\xbdG" + bytes(187), b"G"):
             folder = self.new(f"{len(data)} {data[0]}")
             with self.recorder(folder) as one:
@@ -349,17 +347,15 @@ class Written(Folders):
                               and one.said == told and one.number == (0 if place else 2),
                               (one.said, one.number))
 
-    def test_that_can_not_begin(self) -> None:
-        """Who waits for it is told."""
-        one = recorder.Recorded.__new__(recorder.Recorded)
-        one.is_over, (alive, one.alive) = False, os.pipe()
-        one.pid = beside(lambda: False, alive)
-        with self.assertRaises(Stop):
-            while not one.has_ended():
-                pass
-
     def test_how_it_ends(self) -> None:
-        """A feed that ends, one that nobody wants, and a file that is far ahead."""
+        """A feed that ends, one that nobody wants, and a file that is far ahead; where it can't
+        begin, who waits for it is told."""
+        waiting = recorder.Recorded.__new__(recorder.Recorded)
+        waiting.is_over, (alive, waiting.alive) = False, os.pipe()
+        waiting.pid = beside(lambda: False, alive)
+        with self.assertRaises(Stop):
+            while not waiting.has_ended():
+                pass
         path = self.write("feed", b"G" * 1000)
         folder = self.new("one")
         with self.recorder(folder, path) as one:

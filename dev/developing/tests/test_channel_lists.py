@@ -29,14 +29,6 @@ def programmes(text: str) -> list[Programme]:
 class Edits(Case):
     """Which line is which programme."""
 
-    def test_lines(self) -> None:
-        """Comments and empty lines are none; quotes, and one that does not end."""
-        found = lines_in("one.stl\n# none\n\n  \ntwo.stl --every 50 # more\n'a b.stl'\n\"x y\nz")
-        self.must("lines", [(one.number, one.words) for one in found] == [
-            (1, ("one.stl",)), (5, ("two.stl", "--every", "50")), (6, ("a b.stl",)),
-            (7, ('"x y',)), (8, ("z",))] and [bool(one.fault) for one in found] == [
-                False, False, False, True, False], found)
-
     def test_edits(self) -> None:
         """Of each line the number of the programme that it is, 0 where it is new; what is gone, and
         what has other options."""
@@ -190,8 +182,8 @@ class WhileItRuns(Programmes):
     def test_list_that_is_edited(self) -> None:
         """What is gone was never judged, and is told so; what is judged now or was stays; lines
         that change places change turns; another option is that of the programme from then on."""
-        channel, lines = Told(self, self.listed("one", "two", "three", "four")), Lines()
-        channel.give([*lines.sent(texts_of("one"), BEGIN)][:14])
+        channel = Told(self, self.listed("one", "two", "three", "four"))
+        channel.give([*channel.feed.sent(texts_of("one"), BEGIN)][:14])
         path = self.path("list")
         channel.edit(self.listed("three", "two"))
         self.must("gone", channel.said == [
@@ -201,9 +193,8 @@ class WhileItRuns(Programmes):
         channel.edit(self.listed("three", options=" --every 99") + self.listed("two", "five"))
         self.must("changed", channel.said[2:] == [f"{path}: new: five; changed: three"],
                   channel.said)
-        channel.give([*lines.sent(texts_of("one"), BEGIN, 20)][14:])
-        for number, name in enumerate(("three", "two", "five"), 1):
-            channel.give(lines.sent(texts_of(name), BEGIN + 60 * SECOND * number, 20))
+        channel.give([*channel.feed.sent(texts_of("one"), BEGIN, 20)][14:])
+        channel.send("three", "two", "five", second=60)
         self.must("all", self.names() == ["one", "three", "two", "five"] and
                   Judging.made[1].words.every == 99, self.names())
         channel.stop(BEFORE_IT)

@@ -59,25 +59,21 @@ class Again(Programmes):
             waits.append(tries.next - 100)
         self.must("when", waits == [1, 2, 4, 8, 16, 32, 60, 60], waits)
 
-    def let_down(self, channel: Told) -> None:
-        """What has to be judged is there."""
-        channel.results.are_there = lambda due: True  # type: ignore[assignment]
-
     def test_tried_again(self) -> None:
         """It is said once, is open meanwhile, lets others pass, and gets its verdict; also in
         another call, which does not hear it once more."""
         spool, out = self.path("spool"), self.path("out")
-        channel, lines = Told(self, self.listed("one", "two"), out, spool=spool), Lines()
-        self.let_down(channel)
+        channel = Told(self, self.listed("one", "two"), out, spool=spool)
+        channel.results.are_there = lambda due: True  # type: ignore[assignment]
         with mock.patch.object(Judging, "ended", PASSING):
-            channel.give(lines.sent(texts_of("one"), BEGIN, 20))
+            channel.send("one")
             for _ in range(3):
                 channel.records.due()[0].tries.next = 0.0
                 channel.results.judge_due()
         said = "one: it was not judged, and is tried again: the machine failed"
         self.must("said", channel.said == [said] and not os.listdir(out), channel.said)
         self.must("counts", channel.lines()["open"] == 2, channel.lines())
-        channel.give(lines.sent(texts_of("two"), BEGIN + 60 * SECOND, 20))
+        channel.send("two", second=60)
         self.must("two", self.names()[-1] == "two" and channel.results.verdicts == ["accepted"])
         again = Told(self, self.listed("one", "two", "three"), out, spool=spool)
         again.results.judge_due()
@@ -91,7 +87,7 @@ class Again(Programmes):
         for turn, verdict in ((2, "accepted"), (9, "not judged")):
             out = self.path(f"out{turn}")
             channel = Told(self, self.listed("one"), out)
-            self.let_down(channel)
+            channel.results.are_there = lambda due: True  # type: ignore[assignment]
             real, count = channel.results.judged, [0]
 
             def judge(*words: Any) -> Judged:
@@ -101,7 +97,7 @@ class Again(Programmes):
 
             with mock.patch.object(channel.results, "judged", judge), \
                     mock.patch.object(records, "AGAIN", 0.01):
-                channel.give(Lines().sent(texts_of("one"), BEGIN, 20))
+                channel.send("one")
                 channel.stop(BEFORE_IT)
             known = json.loads(self.read(f"{out}/one.json"))
             self.must(verdict, known["verdict"] == verdict and known.get("open", False) ==
@@ -138,7 +134,8 @@ class Again(Programmes):
                       found.is_late == (seconds < 1), found)
 
     def test_segments_that_are_needed(self) -> None:
-        """From the first on of all that are due, and were over since a time."""
+        """From the first on of all that are due, and were over since a time. Where they go it is
+        not judged, for the reason for which it was not; until then they stay."""
         channel = Told(self, self.listed("one", "two"), self.path("out"))
         for name, over, numbers in (("one", 5, (3, 4, 7)), ("two", 9, (6, 8))):
             record = channel.records.new(name, self.files[name], over, over)
@@ -146,14 +143,11 @@ class Again(Programmes):
                 Read(number, 1) for number in numbers]))
         found = [channel.results.needed(since) for since in (0, 5, 6, 9, 10)]
         self.must("needed", found == [3, 3, 6, 6, None], found)
-
-    def test_segments_that_go(self) -> None:
-        """Then it is not judged, for the reason for which it was not; until then they stay."""
         channel = Told(self, self.listed("one"), self.path("out"))
         with open(path_of(channel.folder, 1), "wb"):
             pass
         with mock.patch.object(Judging, "ended", PASSING):
-            channel.give(Lines().sent(texts_of("one"), BEGIN, 20))
+            channel.send("one")
             self.must("needed", channel.results.needed(0) == 1 and
                       channel.results.needed(1 << 60) is None)
             os.unlink(path_of(channel.folder, 1))
@@ -169,11 +163,9 @@ class Kept(Programmes):
     """One record says what has its result."""
 
     def sent(self, *names: str, spool: str, out: str, listed: str = "") -> Told:
-        """A channel that has judged some programmes."""
+        """A new channel that has judged some programmes."""
         channel = Told(self, listed or self.listed(*names), out, spool=spool, command="told")
-        lines, begin = Lines(), BEGIN + channel.queue.ended
-        for number, name in enumerate(names):
-            channel.give(lines.sent(texts_of(name), begin + SECOND * 60 * number, 20))
+        channel.send(*names)
         return channel
 
     def test_results_that_were_spoiled(self) -> None:
@@ -205,8 +197,7 @@ class Kept(Programmes):
                       "begins anew: the list before was " in other.said[0], other.said)
             self.must(f"{out}: nothing is told", not os.path.exists(self.path(f"{out}/two.json")))
             self.must(f"{out}: what was over", other.queue.ended == first.queue.ended)
-        lines = Lines()
-        other.give(lines.sent(texts_of("one"), BEGIN + first.queue.ended + SECOND * 60, 20))
+        other.send("one", second=first.queue.ended // SECOND + 60)
         self.must("of today", json.loads(self.read("wednesday/one.json"))["verdict"] == "accepted")
 
     def test_same_name_with_other_content(self) -> None:

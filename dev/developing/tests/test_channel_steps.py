@@ -8,14 +8,13 @@ from typing import Any
 from unittest import mock
 
 from subtitles.cli.channel.channel import BEFORE_IT
-from subtitles.cli.channel.feed import Awaited, MINUTE
+from subtitles.cli.channel.feed import MINUTE
 from subtitles.cli.channel.hearing import Move
 from subtitles.cli.channel.spool import ERROR
 from subtitles.cli.channel.schedule import AT_ONCE, LATER
 from subtitles.clock.start import FITTED_SHORT
 from subtitles.common.times import CLOCK, TICKS
 from .listings import BEGIN, LAST, Judging, Lines, Pages, Programmes, Told, texts_of
-from .parts import asked_for
 from .results import FAULT, result
 from .test_channel_heard import OTHER
 from .channels import FIRST, SECOND, make_subtitles
@@ -75,13 +74,11 @@ class Steps(Programmes):
     def test_several(self) -> None:
         """The second and the third, each by its own clock; what stands before one that is sent was
         not, and of many no more than four are looked for."""
-        channel, lines = Told(self, self.listed("one", "two", "three", "four", "five")), Lines()
-        for number, name in enumerate(("one", "three", "five")):
-            begin = BEGIN + 60 * SECOND * number
-            channel.give(lines.sent(texts_of(name), begin, 20))
-            self.must(f"{name} is judged", self.names()[-1] == name, self.names())
-            self.must(f"{name}: origin",
-                      Judging.made[-1].words.origin == (begin - TICKS * FIRST) % CLOCK)
+        channel = Told(self, self.listed("one", "two", "three", "four", "five"))
+        channel.send("one", "three", "five")
+        self.must("judged", [(one.name, one.words.origin) for one in Judging.made] == [
+            (name, (BEGIN + 60 * SECOND * number - TICKS * FIRST) % CLOCK)
+            for number, name in enumerate(("one", "three", "five"))], self.names())
         self.must("said", [line.split("  ")[0] for line in channel.said] ==
                   ["one", "two", "three", "four", "five"], channel.said)
         self.must("why", channel.said[1].endswith(
@@ -92,18 +89,18 @@ class Steps(Programmes):
         # What is waited for at the same time is waited for anew, and its file may come meanwhile.
         for late in ("two", "three"):
             os.rename(self.files[late], self.path("away"))
-            channel, lines = Told(self, self.listed("one", "two", "three")), Lines()
-            channel.give([*lines.sent(texts_of("one"), BEGIN)])
+            channel = Told(self, self.listed("one", "two", "three"))
+            channel.give([*channel.feed.sent(texts_of("one"), BEGIN)])
             os.rename(self.path("away"), self.files[late])
-            channel.give([lines.pes(BEGIN + TICKS * LAST + SECOND, "hecb", 20, SECOND)])
-            channel.give(lines.sent(texts_of(late), BEGIN + 115 * SECOND, 20))
+            channel.give([channel.feed.pes(BEGIN + TICKS * LAST + SECOND, "hecb", 20, SECOND)])
+            channel.send(late, second=115)
             self.must(f"the {late}", self.names() == ["one", late], self.names())
         self.write("copy.stl", self.read("one.stl"))
         channel = Told(self, f"{self.path('copy.stl')}\n" + self.listed("one", "two"))
-        channel.give(Lines().sent(texts_of("one"), BEGIN, 20))
+        channel.send("one")
         self.must("the first of two that are alike", self.names() == ["copy"], self.names())
         channel = Told(self, self.listed("one", "two", "three", "four", "five"))
-        channel.give(Lines().sent(texts_of("five"), BEGIN, 20))
+        channel.send("five")
         self.must("the fifth", not Judging.made and len(channel.queue.waiting) == AT_ONCE)
 
     def test_pages(self) -> None:
@@ -122,7 +119,7 @@ class Steps(Programmes):
         choice; else there is none."""
         for options, wanted in ((" --option auto", "09"), (" --option english", None), ("", None)):
             channel = Told(self, self.listed("one", options=options))
-            channel.give(Lines().sent(texts_of("one"), BEGIN, 20))
+            channel.send("one")
             self.must(f"{options}", [one.words.language for one in Judging.made] == [wanted],
                       [one.words.language for one in Judging.made])
 
@@ -141,7 +138,7 @@ class Steps(Programmes):
                 (result("not judged", reason="why\nmore"), 2, "not judged: why")):
             channel = Told(self, self.listed("one"), self.path("out"))
             with mock.patch.multiple(Judging, left=left, ended=ended):
-                channel.give(Lines().sent(texts_of("one"), BEGIN, 20))
+                channel.send("one")
             self.must(said, channel.said == [f"one  {said}"], channel.said)
             with open(self.path("out/one.json"), encoding="ascii") as file:
                 self.must("its object", [json.load(file)["verdict"]] == channel.results.verdicts)
@@ -164,8 +161,8 @@ class Steps(Programmes):
     def test_patience_of_another_call(self) -> None:
         """It counts from the end of the programme before, however much is heard once more."""
         spool, out = self.path("spool"), self.path("out")
-        channel, lines = Told(self, self.listed("one", "two"), out, spool=spool), Lines()
-        channel.give(lines.sent(texts_of("one"), BEGIN, 20))
+        channel = Told(self, self.listed("one", "two"), out, spool=spool)
+        channel.send("one")
         for back in (0, 60, 600):
             over = channel.queue.ended
             channel = Told(self, self.listed("one", "two"), out, spool=spool, back=back * SECOND)
@@ -230,20 +227,6 @@ class Steps(Programmes):
         channel.give(lines.sent(texts_of("two"), BEGIN + 10 ** 9 + SECOND // 5, 20))
         self.must("two", self.names() == ["two"], channel.said)
 
-    def test_said_before_a_loss(self) -> None:
-        """It is said behind it."""
-        channel, lines = Told(self, self.listed("one")), Lines()
-        channel.give([lines.pes(BEGIN)])
-        channel.hearing.by_page[0, 0x88].said.append("something")
-        channel.lose()
-        channel.give([lines.pes(BEGIN + SECOND)])
-        self.must("said", "something" in channel.said, channel.said)
-
-    def test_at_midnight(self) -> None:
-        """A first subtitle at 00:00:00:00 is one."""
-        path = make_subtitles(self, "midnight", 0, texts_of("one"))
-        self.must("first", Awaited(asked_for(path, None), 0, 10 ** 12).first == 0)
-
     def test_list_that_was_empty(self) -> None:
         """Patience begins once there is a line, and goes on in another call."""
         spool, out = self.path("spool"), self.path("out")
@@ -256,21 +239,23 @@ class Steps(Programmes):
 
     def test_loss(self) -> None:
         """What is sent is not judged, and the next one is heard behind it, at its time; what came
-        whole before it is judged, and what goes on is missing its beginning."""
+        whole before it is judged, and what goes on is missing its beginning. What was told before
+        it is said behind it."""
         for count, said in ((14, "one  not judged: something of the feed was not recorded at "
                              "11:06:49:00, in mid-programme"),
                             (16, f"one  accepted 5 frames; {FITTED_SHORT}"),
                             (4, "one  not judged: its beginning was missed: the feed was heard "
                              "from 11:06:45:00 on")):
-            channel, lines = Told(self, self.listed("one", "two")), Lines()
-            told = [*lines.sent(texts_of("one"), BEGIN, 20)]
+            channel = Told(self, self.listed("one", "two"))
+            told = [*channel.feed.sent(texts_of("one"), BEGIN, 20)]
             channel.give(told[:count])
+            channel.hearing.by_page[0, 0x88].said.append("something")
             channel.lose()
-            self.must("told", channel.said[0] ==
-                      "something of the feed was not recorded: it was recorded anew", channel.said)
             channel.give(told[count + 2 * (count == 4):])
-            self.must(f"{count}", channel.said[1] == said, channel.said)
-            channel.give(lines.sent(texts_of("two"), BEGIN + 60 * SECOND, 20))
+            self.must(f"{count}", channel.said[0] ==
+                      "something of the feed was not recorded: it was recorded anew" and
+                      {*channel.said[1:3]} == {"something", said}, channel.said)
+            channel.send("two", second=60)
             self.must("two", self.names()[-1] == "two" and Judging.made[-1].words.origin ==
                       (BEGIN + 60 * SECOND - TICKS * FIRST) % CLOCK, channel.said)
             self.must("time", channel.queue.ended == 60 * SECOND + TICKS * LAST)
@@ -342,7 +327,7 @@ class Steps(Programmes):
             channel = Told(self, self.listed("one"))
             channel.segments.between = lambda *_: None  # type: ignore[assignment]
             channel.segments.state[ERROR] = error
-            channel.give(Lines().sent(texts_of("one"), BEGIN, 20))
+            channel.send("one")
             self.must(why, not Judging.made and channel.said == [
                 f"one  not judged: the feed could not be kept: {why}"], channel.said)
 

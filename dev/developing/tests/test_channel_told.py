@@ -108,7 +108,7 @@ class Machine(Programmes):
         happens. A programme of that name has another file."""
         os.rename(self.files["one"], self.path("channel.stl"))
         channel = Told(self, f"{self.path('channel.stl')}\n", self.path("out"))
-        channel.give(Lines().sent(texts_of("one"), BEGIN, 20))
+        channel.send("one")
         self.must("its result", json.loads(self.read("out/%63hannel.json"))["verdict"] ==
                   "accepted" and self.look(channel)["format"] == 2)
         began = time.monotonic() + 99
@@ -130,9 +130,8 @@ class Folders(Programmes):
         one of the same name."""
         os.rmdir(self.path("out"))
         self.write("out", b"no folder")
-        channel, lines = Told(self, self.listed("one", "two", "three"), self.path("out")), Lines()
-        for number, name in enumerate(("one", "two")):
-            channel.give(lines.sent(texts_of(name), BEGIN + 60 * SECOND * number, 20))
+        channel = Told(self, self.listed("one", "two", "three"), self.path("out"))
+        channel.send("one", "two")
         for _ in range(2):
             channel.keep_now()
         again = [line for line in channel.said if "is tried again" in line]
@@ -144,7 +143,7 @@ class Folders(Programmes):
             json.loads(self.read(f"out/{name}.json"))["verdict"] == "accepted"
             for name in ("one", "two")))
         shutil.rmtree(self.path("out"))
-        channel.give(lines.sent(texts_of("three"), BEGIN + 120 * SECOND, 20))
+        channel.send("three", second=120)
         self.must("emptied", os.path.exists(self.path("out/three.json")), channel.said)
 
     def test_result_that_could_not_be_kept(self) -> None:
@@ -152,7 +151,7 @@ class Folders(Programmes):
         once that can be done."""
         channel = Told(self, self.listed("one"), self.path("out"))
         with mock.patch("os.fsync", side_effect=OSError(30, "Read-only")):
-            channel.give(Lines().sent(texts_of("one"), BEGIN, 20))
+            channel.send("one")
             why = "its record can't be written, and is tried again: "
             self.must("written", json.loads(self.read("out/one.json"))["verdict"] == "accepted"
                       and any(f"one: {why}" in line for line in channel.said), channel.said)
