@@ -2,18 +2,21 @@
 from __future__ import annotations
 
 import io
+import itertools
 import os
 import random
 import unittest
-from typing import Callable, Optional, Sequence
+from types import SimpleNamespace
+from typing import Any, Callable, Optional, Sequence
 from unittest import mock
 
 from developing.multiplex import ADAPTATION_ALONE, BEGINS, PACKET, PAYLOAD, head
 from developing.pes import pes_packet
 from subtitles.clock.start import Clock, Found, GIVEN, RECORDING, START
-from subtitles.common.times import CLOCK, TICKS
+from subtitles.common.times import CLOCK, TICKS, pts_of
 from subtitles.formats.listing import PICTURES_LEFT
-from subtitles.judging.timing import NOT_CHECKED, departures_in, left_by_pictures
+from subtitles.judging.timing import NOT_CHECKED, departures_in, late_jumps, left_by_pictures
+from subtitles.stream.gaps import Pace, REGULAR
 from subtitles.stream.packets import Packets, Run, announced_in, jumps_at, jumps_told, packets_in
 from subtitles.stream.survey import Departure, Distance, FEW, Line, Step, Survey, departures_of
 from .bench import Case, example_bytes
@@ -85,6 +88,11 @@ class Departures(unittest.TestCase):
         self.assertEqual(departures_of(lines, PID), [
             Departure(TICKS * 100, 3 * TICKS), Departure(TICKS * 200, -3 * TICKS)])
         self.assertEqual(departures_of(lines, 7), [])
+        # The fifty that are nearest to a step on either side tell it.
+        for before, after in ((100, 100), (49, 100), (100, 49), (50, 50)):
+            lines = [*distances(before, 9), *distances(50, 6, TICKS * 100), step(3),
+                     *distances(50, 3, TICKS * 200), *distances(after, 0, TICKS * 300)]
+            self.assertEqual(departures_of(lines, PID), [Departure(TICKS * 200, 3 * TICKS)])
         self.assertEqual(departures_of([], PID), [])
 
     def test_at_random(self) -> None:
@@ -319,6 +327,25 @@ class Announced(Case):
                                                  1) == [])
         os.remove(path)
         self.must("nothing is read", jumps_at(packets, (0, 7), 9, path, 188) == [])
+
+    def test_late_jumps(self) -> None:
+        """Of the jumps where a frame at least lies between, those count after which more time
+        passes than is usual; how many others there are. Wherever PTS begin anew."""
+        frames = [0, 1, 3, 4, 7, 8, 12, 13]
+        rows: list[tuple[int, list[tuple[int, int]], int]] = [
+            (0, [(1, 3), (3, 4), (4, 7), (7, 8), (8, 12)], 0),
+            (1, [(1, 3), (4, 7), (8, 12)], 0), (2, [(4, 7), (8, 12)], 1), (3, [(8, 12)], 2),
+            (4, [], 3)]
+        for origin, (apart, late, others) in itertools.product(
+                (0, *(CLOCK - frame * TICKS for frame in range(14))), rows):
+            packets = Packets(PID, [Run(at, 1, pts_of(frame, origin), 0, "-", "")
+                                    for at, frame in enumerate(frames)], seams=[2, 3, 4, 5, 6])
+            recording: Any = SimpleNamespace(is_stream=True, packets=packets,
+                                             survey=SimpleNamespace(tells_seams=True))
+            part: Any = SimpleNamespace(frames=SimpleNamespace(recording=recording), pes=(0, 7))
+            told = late_jumps(part, Pace(REGULAR, apart))
+            self.must(f"{origin} {apart}", told == ([
+                (pts_of(one, origin), pts_of(other, origin)) for one, other in late], others), told)
 
     def test_lines(self) -> None:
         """Those of a program that tells jumps; of another one the stream is looked at."""

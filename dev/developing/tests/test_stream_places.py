@@ -2,6 +2,7 @@
 from __future__ import annotations
 
 import argparse
+import itertools
 import os
 from typing import Tuple
 
@@ -17,7 +18,7 @@ from subtitles.request.request import request_of
 from subtitles.results.files import found, is_current
 from subtitles.results.schema import ASKED
 from subtitles.stream.gaps import (
-    ClockJump, MOST_LATE, Place, SECOND, jumps_of, late_of, places_of, reach_of, what_of,
+    ClockJump, MOST_LATE, Place, SECOND, jumps_of, late_of, overlap, places_of, reach_of, what_of,
     why_refused)
 from subtitles.stream.packets import Clocked, Mark, Packets, Run
 from subtitles.stream.survey import ProgramMap, Survey, survey
@@ -77,6 +78,20 @@ class Places(Case):
             self.must(f"{marks} {clocks} {jumps}", told == wanted, told)
         self.must("said", what_of(Place(1, 2, is_announced=True)) == "more time passes than usual, "
                   "and a jump of the counter is announced")
+
+    def test_which_are_one(self) -> None:
+        """Two places are one where both lack what is between the same PES packets: not where one
+        begins with the packet that ends the other. What is not known reaches on."""
+        ends = [None, *range(5)]
+        pairs = [(first, last) for first, last in itertools.product(ends, ends)
+                 if first is None or last is None or first < last]
+        for origin, pair, other in itertools.product((0, CLOCK - 2 * TICKS), pairs, pairs):
+            places = [Place(*(None if at is None else (origin + TICKS * at) % CLOCK for at in one))
+                      for one in (pair, other)]
+            (first, last), (begin, end) = ((-9 if one[0] is None else one[0],
+                                            9 if one[1] is None else one[1])
+                                           for one in (pair, other))
+            self.assertEqual(overlap(*places), max(first, begin) < min(last, end), places)
 
     def test_the_longest_hole(self) -> None:
         """Of two holes that the PCR tells at one mark the longer one counts, whichever comes first.

@@ -13,7 +13,8 @@ from subtitles.clock.alignment import MOST_BASES, Shown, bases_of
 from subtitles.clock.start import Clock, Found, RECORDING
 from subtitles.clock.stretches import LACKED, LEAST_BREAK, Stretch, by_breaks, find_row
 from subtitles.common.command_line import Unanswered
-from subtitles.common.times import CLOCK, Spans, TICKS, joined_spans
+from subtitles.common.times import (
+    CLOCK, FRAMES_OF_A_DAY, Spans, TICKS, joined_spans, ticks_within)
 from subtitles.judging.timing import last_time
 from subtitles.stream.gaps import (
     ClockJump, Place, SECOND, jumps_of, place_line, places_of, strange_of, what_of)
@@ -65,6 +66,17 @@ class Times(unittest.TestCase):
         falling = Spans([(7, 9), (1, 3), (4, 8)])
         self.assertEqual((list(falling), falling.is_rising()), ([(7, 9), (1, 8)], False))
         self.assertEqual(list(joined_spans([falling])), [(1, 9)])
+
+    def test_within_a_length(self) -> None:
+        """How much later a PTS is than a first one, where those that are asked for come up to so
+        much later: what is before the first has as much room as what is behind them."""
+        for length, first in itertools.product(
+                (0, TICKS, CLOCK // 2 - 1, CLOCK // 2 + TICKS, TICKS * FRAMES_OF_A_DAY),
+                (0, 5, CLOCK // 2, CLOCK - 1)):
+            room = (CLOCK - length) // 2
+            for later in (-room, -1, 0, 1, length // 2, length, length + room - 1):
+                self.assertEqual(ticks_within(first, length, (first + later) % CLOCK), later,
+                                 (length, first))
 
     def test_bases(self) -> None:
         """PTS may go on over 2^33; two in a row before the two that came before begin a base, also
@@ -299,6 +311,14 @@ class Times(unittest.TestCase):
             made = Packets(257, [Run(at, 1, TICKS * frame, 0, does, "")
                                  for at, (frame, does) in enumerate(sent)])
             self.assertEqual(cut_of(made, 0, 100, 0, 25, 2).range, (0, last), sent)
+        # Up to the longer of both bounds.
+        for (every, within), more in itertools.product(((25, 2), (25, 40), (2, 40)), (0, 1)):
+            last = 100 + max(every, within) + more
+            made = Packets(257, [Run(at, 1, TICKS * frame, 0, "heo", "") for at, frame in
+                                 enumerate((*range(80), last, last + 1, last + 2))])
+            found = cut_of(made, 0, 100, 0, every, within)
+            self.assertEqual((found.range, found.has_end), ((0, 80 - more), not more),
+                             (every, within, more))
 
     def test_jumps(self) -> None:
         """Where nothing is missing, and more packets than a tenth of those of that time would be
