@@ -23,7 +23,7 @@ from subtitles.common.command_line import shown
 from subtitles.common.files import SummedFile
 from subtitles.judging.verdict import Gap
 from subtitles.results.files import (
-    Row, TestCase, cell_words, junit_file as junit_of, modified, part_columns, said,
+    Row, TestCase, cell_words, column_rows, junit_file as junit_of, modified, part_columns, said,
     table_lines as csv_of, unjudged)
 from subtitles.results.schema import ASKED, GAP, JUDGED_PART, PartOf
 from subtitles.stream.gaps import Place
@@ -232,6 +232,9 @@ class Members(unittest.TestCase):
         for end, number, wanted in ((1, None, first), (2, None, nothing), (2, 1, first),
                                     (2, 2, second), (2, 3, nothing), (0, None, nothing)):
             self.assertEqual(part_columns(parts[:end], number), wanted)
+        known = result(parts=parts, faults=[{**FAULT, "part": number} for number in (1, 2, 1)])
+        self.assertEqual([{name: row.get(name) for name in first} for row in column_rows(known)],
+                         [dict.fromkeys(first), first, second, first])
         for code, letter, words in (("41", "A", "41 A"), ("00", "", "00")):
             self.assertEqual(cell_words({"code": code, "character": letter}), words)
         self.assertEqual(said("a\nb\x07"), "a\n" + shown("b\x07"))

@@ -2,14 +2,18 @@
 from __future__ import annotations
 
 import random
+import unittest
+from collections import Counter
 from typing import Sequence
 
 from developing.pes import MARK, data_field, packet, pes_packet, pts_in, teletext_packets
 from developing.stl import boxed, gsi_block, subtitle_blocks
+from subtitles.clock.alignment import Base, Edge, bases_of, delays_of
 from subtitles.clock.origin import Origin, Sought, find
 from subtitles.common.times import CLOCK, TICKS, time_of
 from .bench import Case, example, example_bytes, moved, packets, random_subtitles
 from .parts import CLOSING, HEADER, asked_for, packets_told, row
+from .test_clock_laws import packets_of
 
 FIRST, COUNT = 1_000_000, 12  # the frame of the first subtitle; how many there are
 Times = Sequence[tuple[int, int, bytes]]  # subtitles: when they come, when they go, their texts
@@ -269,3 +273,31 @@ class Origins(Case):
             lines = [line.replace("one.pes", "a.pes") for line in found.lines]
             self.must(name, all(line.startswith(begin) for line, begin in zip(lines, told)) and
                       len(lines) >= len(told) and (len(lines) > len(told)) == is_page, lines)
+
+
+class Delays(unittest.TestCase):
+    """How late cues are by a clock, of some edges of a time base."""
+
+    LATE = [(0, 0), (1, 0), (2, 1), (2, 0), (None, None), (2, 2)]  # frames; `None` comes nowhere
+    EDGES = [Edge(100 * at + 40 * is_end + at * at, b"" if is_end else b"%d" % at, not is_end)
+             for at in range(len(LATE)) for is_end in (False, True)]
+
+    def base(self) -> Base:
+        """The time base in which they are sent so late, of which nothing was asked."""
+        changes = [(TICKS * (edge.frame + by), edge.letters) for edge, by in zip(
+            self.EDGES, (by for pair in self.LATE for by in pair)) if by is not None]
+        return bases_of([], packets_of(changes), 3)[0].limited(self.EDGES, -1, 1 << 40)
+
+    def test_of_both_kinds(self) -> None:
+        """Begins and ends apart; what does not come is no delay."""
+        base = self.base()
+        self.assertEqual(delays_of(base, base.fit_at(0)), (
+            Counter({2: 3, 0: 1, 1: 1}), Counter({0: 3, 1: 1, 2: 1})))
+
+    def test_of_a_part(self) -> None:
+        """What the whole was asked before is not what a part of it answers."""
+        asked, other = self.base(), self.base()
+        whole = asked.fits
+        found = asked.limited(self.EDGES[4:8], 150, 400).fits
+        self.assertEqual(found, other.limited(self.EDGES[4:8], 150, 400).fits)
+        self.assertNotEqual(found, whole)

@@ -5,12 +5,14 @@ import itertools
 import json
 import os
 import re
+from collections import Counter
 from typing import Any, Sequence
 
 from developing.pes import data_field, pes_packet, pts_in, teletext_packets
 from developing.stl import gsi_block, subtitle_blocks
 from subtitles.cli.main import parser_of
-from subtitles.cli.measure import every_of, measure, never_words, pace_found
+from subtitles.cli.measure import (
+    Delays, Measured as Shown, every_of, measure, never_words, pace_found, profile_lines)
 from subtitles.common.program import TOP, read
 from subtitles.common.times import TICKS, time_of
 from subtitles.request.lines import profile_at, read_options
@@ -19,6 +21,7 @@ from subtitles.stream.gaps import PAUSED, Pace, REGULAR, Repeats
 from .bench import Case, example, packets, tool_path
 from .judged import Judged, ORIGIN, Sent, apart, in_pipe, joined, judged, programme, sendings, times
 from .muxed import AHEAD, Maker, Shape, TELETEXT_PID, components, multiplexed
+from .parts import asked_for
 from .results import wrong_choices
 from .test_judging_reasons import KEEPING_HEADER
 from .test_stream_moves import NEW, OLD, in_turn
@@ -420,6 +423,32 @@ class Measured(Case):
         self.must("both", "--every 50" in found and "--layout after=0A" in found, found)
         alone = self.proposed(*paths[:2])
         self.must("one", "--every 25" in alone and "--layout after=0A" not in alone, alone)
+
+    def test_what_one_shows(self) -> None:
+        """Of two recordings, in either order: what is the same, the longest, the sum, or nothing
+        where one of them has another or none."""
+        one = Shown("0x101", [], [Repeats(9, 25, 7, 25)], [Pace(REGULAR, 1, 3)], [Delays(
+            Counter({0: 3}), Counter({0: 3}), [], [])], (9, 0), True, {"english"}, [])
+        asked = asked_for("a.stl", "a.ts", "--origin", "0")
+        same = ["--page 888", "--pid 0x101", "--option english", "--every 25", "--pace 2"]
+        late = Delays(Counter({0: 1, 2: 1}), Counter({1: 4}), [], [])
+        rows: list[tuple[dict[str, Any], str, str]] = [
+            ({}, "", ""), ({"pid": "0x102"}, "--pid 0x101", ""), ({"pid": None}, "--pid 0x101", ""),
+            ({"options": {"german"}}, "--option english", ""),
+            ({"options": {"english", "german"}}, "--option english", ""),
+            ({"options": set()}, "", ""), ({"repeats": []}, "", ""),
+            ({"repeats": [Repeats(9, 50, 7, 25)]}, "--every 25", "--every 50"),
+            ({"paces": [Pace(REGULAR, 2, 5)]}, "--pace 2", "--pace 4"),
+            ({"paces": [Pace(PAUSED, 2, 5)]}, "--pace 2", ""),
+            ({"delays": [late]}, "", "--within 2|--late 0:4,2:1/0:3,1:4"),
+            ({"headers": (9, 4)}, "", "--keeping"),
+            ({"headers": (9, 4), "is_alone": False}, "", ""), ({"is_alone": False}, "", "")]
+        for changes, gone, new in rows:
+            wanted = {*same, *filter(None, new.split("|"))} - {gone}
+            for two in itertools.permutations((one, one._replace(**changes))):
+                lines = [*profile_lines([asked, asked], two)]
+                found = [line for line in lines if not line.startswith("#")]
+                self.must(f"{changes}", {*found} == wanted and len(found) == len(wanted), lines)
 
     def test_wrong_words(self) -> None:
         stl = self.file("one.stl")

@@ -21,9 +21,11 @@ from subtitles.report.pictures import (
     text_of_code)
 from subtitles.report.report import BETWEEN, DELAY, ROW_0, Report, Scope, Subject
 from subtitles.report.transmission import place_of_pts
+from subtitles.request.commands import CommandWords
 from subtitles.stream.receiver import BLANK_PAGE, HIT, OLD, Rows
 from .bench import Case, example
 from .parts import asked_for, fault_of, in_page, part_with
+from .test_judging_verdicts import verdict_of
 
 
 # Pages as a report draws them, in process: spacing attributes, rows, frames, what a cell holds.
@@ -330,6 +332,20 @@ class Bounds(unittest.TestCase):
 
 class Reports(Case):
     """A whole report, and what it is made of."""
+
+    def test_files(self) -> None:
+        """The subtitle file, what was judged of each part that has some, the recording, and the
+        program, each once."""
+        typed = CommandWords("tools/qc", self.bench.program)
+        for parts in ((), ("1",), ("1", "2"), (None, "2"), ("1", None, "3"), (None,)):
+            verdict = verdict_of([part_with(0, 9, 0, number=at, judged=name and SummedFile(
+                name, 5, "0" * 64)) for at, name in enumerate(parts, 1)])
+            verdict.stl, verdict.recording = (SummedFile(name, 5, "0" * 64)
+                                              for name in ("a.stl", "a.ts"))
+            found = [(kind, file.name) for kind, file in report_page.Made(verdict, typed).files()]
+            self.must(f"{parts}", found == [
+                ("STL", "a.stl"), *(("PES", name) for name in parts if name),
+                ("Recording", "a.ts"), ("Program", self.bench.program)], found)
 
     def test_foot(self) -> None:
         """What is made from files: each with its size and its sum, words by lines, the prover's."""

@@ -11,6 +11,7 @@ from typing import Any
 from subtitles.cli.channel.schedule import Queue
 from subtitles.common.command_line import Lateness, Stop, Words, late_text, late_word
 from subtitles.common.shapes import Flag, Text
+from subtitles.common.times import FRAMES_OF_A_DAY
 from subtitles.request.commands import CommandWords, again, profile_line
 from subtitles.request.lines import pairs_at, profile_at, request_of_line
 from subtitles.request.request import (
@@ -183,6 +184,18 @@ class Rows(Case):
         self.must("of a file", [one.name for one in OPTIONS if ALONE in one.modes] == [
             "--option", "--severity", "--strict", "--from", "--to", "--layout", "--open",
             "--profile"])
+
+    def test_times(self) -> None:
+        """In which frames subtitles come that are judged: from the first of a day, and up to the
+        last, by what is typed and as a part of a programme."""
+        day = FRAMES_OF_A_DAY
+        for words, first, end in (
+                ("", 0, day), ("--from 00:00:00:00", 0, day), ("--to 00:00:00:00", 0, 0),
+                ("--to 00:00:00:01", 0, 1), ("--from 23:59:59:24", day - 1, day),
+                ("--from 00:00:01:00 --to 23:59:59:24", 25, day - 1)):
+            asked = asked_for("a.stl", "a.ts", *words.split())
+            self.assertEqual(asked.between, (first, end), words)
+            self.assertEqual(asked.of_part(first, end).between, (first, end), words)
 
     def test_words_of_a_value(self) -> None:
         """None where it is what is taken without them."""

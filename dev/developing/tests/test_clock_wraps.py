@@ -1,0 +1,100 @@
+"""A recording whose PTS begin anew within it, at 2^33, is judged as one in which they do not."""
+from __future__ import annotations
+
+import json
+import re
+from typing import Any
+
+from developing.multiplex import BEGINS, PACKET
+from subtitles.common.times import CLOCK, TICKS
+from .bench import Case, packets
+from .judged import EACH, LASTS, joined, judged, one_late, programme, sendings, times
+from .muxed import Sent, Shape, multiplexed
+from .test_judging_paced import large, lost
+from .test_stream_moves import NEW, OLD, in_turn
+from .test_stream_pace import alone, filled
+
+# Members of a result, and words of its lines, that have a PTS or are of the very file.
+OF_FILE = {"inputs", "found", "program", "date", "seconds", "asked"}
+OF_PTS = re.compile(r'(--origin |PTS |origin": |_pts": |origin", "value": ")\d+( and \d+,)?')
+PCR_FLAG, FIELD, PTS_FLAG, DTS_FLAG = 0x10, 0x20, 0x80, 0x40
+
+
+def later(time: bytes, by: int) -> bytes:
+    """A PTS or a DTS, five bytes of a PES header, so many ticks later."""
+    value = time[0] >> 1 & 7
+    for high, low in (time[1:3], time[3:5]):
+        value = value << 15 | (high << 8 | low) >> 1
+    value = (value + by) % CLOCK
+    pairs = ((value >> shift & 0x7FFF) << 1 | 1 for shift in (15, 0))
+    return bytes([time[0] & 0xF1 | value >> 30 << 1]) + b"".join(
+        pair.to_bytes(2, "big") for pair in pairs)
+
+
+def clocked_anew(data: bytes, by: int) -> bytes:
+    """A transport stream with all its clocks so many ticks later."""
+    made = bytearray(data)
+    for at in range(0, len(made), PACKET):
+        begin = at + 4
+        if made[at + 3] & FIELD:
+            begin += 1 + made[at + 4]
+            if made[at + 4] and made[at + 5] & PCR_FLAG:
+                pcr = int.from_bytes(made[at + 6:at + 12], "big")
+                made[at + 6:at + 12] = (((pcr >> 15) + by) % CLOCK << 15 | pcr & 0x7FFF).to_bytes(
+                    6, "big")
+        if made[at + 1] & BEGINS and made[begin:begin + 3] == b"\0\0\1":
+            flags = made[begin + 7]
+            for flag, place in ((PTS_FLAG, begin + 9), (DTS_FLAG, begin + 14)):
+                if flags & flag:
+                    made[place:place + 5] = later(bytes(made[place:place + 5]), by)
+    return bytes(made)
+
+
+class Wraps(Case):
+    """Six subtitles, with a PES packet in each frame, or a page transmission a second."""
+
+    def setUp(self) -> None:
+        super().setUp()
+        self.stl = programme(self, times(6))
+        self.sent = filled(sendings(self, self.stl))
+
+    def told(self, data: bytes, *words: str) -> tuple[str, str]:
+        """The verdict, and all that is said of the recording but its PTS."""
+        found = judged(self, self.stl, self.write("one.ts", data), *words)
+        known: dict[str, Any] = {name: value for name, value in found.result.items()
+                                 if name not in OF_FILE}
+        return found.word, OF_PTS.sub(r"\1N", json.dumps([known, found.said, found.listed]))
+
+    def must_be_same(self, name: str, word: str, data: bytes, *words: str) -> None:
+        """Judges a stream, and with each of some places in it where PTS begin anew."""
+        plain = self.told(clocked_anew(data, CLOCK // 3), *words)
+        self.must(name, plain[0] == word, plain[0])
+        for frame in (3 * EACH, 3 * EACH + 21, 6 * EACH + LASTS):
+            anew = self.told(clocked_anew(data, CLOCK - frame * TICKS), *words)
+            self.must(f"{name}: {frame}", anew == plain, [
+                one for one in zip(plain[1].split(", "), anew[1].split(", ")) if one[0] != one[1]])
+
+    def multiplexed(self, size: int = 3) -> list[Sent]:
+        """A multiplex in which each PES packet takes so many TS packets."""
+        return multiplexed([large(joined([one]), size) for one in self.sent], Shape(200))
+
+    def test_losses(self) -> None:
+        """Nothing is lost; some TS packets, which the counter tells; some at a jump that is
+        announced; 16 of the PID alone."""
+        made, place = self.multiplexed(), 3 * EACH + 20 - EACH
+        for name, word, some in (
+                ("whole", "accepted", made), ("by the counter", "refused", lost(
+                    made, 5, frame=3 * EACH + 20)),
+                ("announced", "lost", lost(made, 3, True, 3 * EACH + 20)),
+                ("of the PID", "refused", alone(self.multiplexed(1), place, 16))):
+            self.must_be_same(name, word, b"".join(one.data for one in some))
+
+    def test_late(self) -> None:
+        """A subtitle is late, or all are by a clock that is given; the page moves to another PID,
+        and something is missing there."""
+        self.schedule(self.stl, "one.pes", "--every", "25")
+        pes = packets(self.read("one.pes"))
+        moved = [joined([one]) for one in one_late(3, 5)(sendings(self, self.stl))]
+        for name, word, some in (("late", "refused", moved), ("as it is due", "accepted", pes)):
+            self.must_be_same(name, word, in_turn(some, [(0, OLD)]))
+            self.must_be_same(f"{name}, moves", word, in_turn(some, [(0, OLD), (14, NEW)]))
