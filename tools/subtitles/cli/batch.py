@@ -192,13 +192,13 @@ def ended_of(calls: Collection[Forked], seconds: float) -> list[Forked]:
 # Many pairs: each judged by a call of its own, as many at a time as there are processors.
 
 WAIT = 0.2  # seconds between two looks at what is done
-# Seconds of the processor that a pair may take without --limit: what strangers send may take hours.
+# Seconds of the processor that a pair may take without --limit: a small file can take hours.
 LEAST_SECONDS, BYTES_A_SECOND = 60, 10_000_000  # one more for each so many bytes
 TO_WRITE = 10  # seconds in which it may write then what is known
 
 
 def limit_of(files: Mapping[str, Any]) -> int:
-    """The seconds that a pair may take, by what was found of its files."""
+    """The seconds of a pair, by its files. RLIMIT_CPU would not say which limit ended a program."""
     size: int = sum(about["size"] for about in files.values() if about)
     return LEAST_SECONDS + size // BYTES_A_SECOND
 

@@ -34,8 +34,9 @@ from ..results.files import found, object_text, unjudged
 from ..stream.gaps import first_lines
 
 
-# The files of a pair in a folder of results: they belong to one call at a time, and whatever else
-# stands under their names is left as it is.
+# The files of a pair in a folder of results: they belong to one call at a time. A call takes away
+# what an earlier one left, perhaps beside its inputs: so whatever else stands under these names is
+# left as it is.
 
 RESULT = re.compile(rb'\{\s*"format": [0-9]+,\s*"(verdict": "|status": )')
 ENOUGH = 4096  # bytes by which a file tells what it is

@@ -302,7 +302,8 @@ def most_changed(packets: Packets, inside: Range) -> list[tuple[range, Sequence[
 # Within N frames the clock of the earliest cue would take early subtitles for the others' delay,
 # and that of most cues would refuse an inserter that is late for some. So where the house does not
 # know its delays, a clock is one that is usual, of begins or of ends: rows need time, an erasure
-# none.
+# none. Few cues before it are early subtitles; many may mean an inserter that is late for all
+# others, so of these nothing is judged until the clock is given.
 
 COMMON = 2  # a delay is usual that one in so many have, compared with the commonest of its kind
 FEW_CUES = 3  # and so many, where the commonest has

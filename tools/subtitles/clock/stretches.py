@@ -243,8 +243,8 @@ def part_of(subtitles: Sequence[Shown], bases: Sequence[Base], row: Sequence[Str
 def by_breaks(row: Sequence[Stretch]) -> list[Stretch]:
     """The row as breaks part it: PTS have gone back, the origin is later by five seconds at least
     than that of the part before, and than just before, or the file's clock jumps on. Subtitles that
-    are late by less, and those that are early and come back, go with what was before: two delays of
-    three seconds are no break."""
+    are late by less, and those that are early and come back, go with what was before: a delay looks
+    as a break does, and two delays of three seconds are none."""
     parted = list(row[:1])
     for before, stretch in zip(row, row[1:]):
         track = stretch.track
@@ -269,8 +269,9 @@ class Airing(NamedTuple):
 def runs_of(bases: Sequence[Base], has_clock: bool = False) -> list[Airing]:
     """The runs of the programme, in their order: the one with which the most cues agree, and those
     outside of its time with which enough of them do; or as many by their times alone, whose texts
-    may all be wrong. These are not looked for where the clock is known, nor where the cues are like
-    a grid, of which any part looks like another."""
+    may all be wrong: else the other run would be judged, and nobody would hear of this one. These
+    are not looked for where the clock is known, nor where the cues are like a grid, of which any
+    part looks like another."""
     row = find_row(bases)
     has_times = not has_clock and not are_alike([edge.frame for edge in bases[0].edges])
     if len(row) > 1:  # the end of another run may be taken for the end of the first

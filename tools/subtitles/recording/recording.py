@@ -23,7 +23,8 @@ from ..stream.survey import Survey, survey
 from .notices import Notice, announcements_of, refuse_unsent, silent_beside
 
 
-# A recording that comes through a pipe: copied to a file, which is judged once all has come.
+# A recording that comes through a pipe: copied to a file, which is judged once all has come. To
+# judge it while it came took a rule of its own for when that was.
 
 MOST_PIPED = 32_000_000_000  # bytes: two hours of 35 Mbit/s
 

@@ -275,7 +275,10 @@ def repeats_in(pts: list[int], last: int | None, origin: int, times: Sequence[tu
 # these come often enough, the time between those that came tells it. One of Teletext has nine TS
 # packets at most, so 16 of these take two whole PES packets at least, whatever their lengths are:
 # the next one that comes is the third. One that is lost alone is told by the counter. A file of PES
-# packets has none, so there the next one may be the second.
+# packets has none, so there the next one may be the second. That nothing is lost unseen then is
+# proved of PES packets whose first TS packet holds the PTS: else 16 lost ones can join the start of
+# one to the middle of another. Of all paces that show each loss the longest is taken: a wrong
+# refusal costs more than a note.
 
 LEAST = 100  # PES packets: of fewer nothing is told
 FEW, PART = 3, 1000  # so many may be otherwise, or one in so many

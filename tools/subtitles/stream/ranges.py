@@ -227,7 +227,7 @@ def is_page_over(own: Sequence[SentPacket], first: int) -> bool:
 # A page that moves to another PID, as the PMT says: which PES packets of which PID are of it when.
 
 MOST_OVERLAP, MOST_PAUSE = 10 * SECOND, 3600 * SECOND  # ticks between two of them
-MOST_STAGES = 64  # of a page that moves
+MOST_STAGES = 64  # of a page that moves: each costs a look at all that came
 
 
 class Stage(NamedTuple):

@@ -209,7 +209,12 @@ class Segments:
         return False
 
 
-# A process of its own writes a feed into segments, and does nothing else.
+# Writes a feed into segments, and does nothing else: a process of its own, which may end at any
+# moment, and be begun again. With who judges it shares the segments, and the file `state`.
+#
+# A kill may leave half of a PES packet at the end of a segment, and nobody could tell where the
+# next one begins. So a file is read on from where a segment began: what stands in it is read once
+# more, and not written again.
 
 LONG, MOST = 5.0, 1 << 25  # seconds, and bytes, of a segment
 AHEAD = 8  # segments by which a file may be read before it is heard

@@ -16,7 +16,8 @@ from .spool import RECORD, KeptRoom, WORK, are, is_number, numbers_in, opened, p
 
 # A record is a file that stays: its first line says what is known of the programme, and behind that
 # stands its JSON result, from which that in the folder of results is made. `told` is written in
-# place, so that it needs no room.
+# place, so that it needs no room. Nothing else says what has its result: where five places did, a
+# line was judged twice or never. So results may be taken away, and a judge killed, at any moment.
 
 FORMAT = 2
 TOLD = b'{"told": %d, '
