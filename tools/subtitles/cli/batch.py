@@ -14,7 +14,7 @@ from typing import (
     Any, Callable, Collection, Iterable, Iterator, Mapping, NamedTuple, NoReturn, Sequence)
 
 from ..cli import collection
-from ..common.command_line import Stop, counted, ended, error_line, say, tell
+from ..common.command_line import Stop, counted, ended, error_line, tell
 from ..common.files import IsInput, NOTHING, temporary_folder
 from ..common.program import MadeWith, TOP, about_program
 from ..judging.status import NOT_JUDGED

@@ -12,7 +12,7 @@ from ..common.command_line import (
 from ..common.files import temporary_folder
 from ..common.times import FRAMES_OF_A_DAY, Span, time_of
 from ..formats.layout import (
-    PLAIN, Refused, SPACE, drawn, layout_of, layout_text, letters_of_text, letters_on, page_rows)
+    PLAIN, Refused, drawn, layout_of, layout_text, letters_of_text, letters_on, page_rows)
 from ..formats.stl import Subtitle
 from ..formats.teletext import BY_WORD, NationalOption, page_name
 from ..judging.check import Answer
@@ -30,7 +30,7 @@ from ..stream.gaps import Pace, Repeats, repeats_in
 from ..stream.layout import (
     Choice, FEWEST, FLASH, Left, MOST_MOVED, Sent, TENTHS, choices_of, draws, sent_in, taken_from)
 from ..stream.packets import HEADER
-from ..stream.receiver import Rows, Timeline, timeline_near
+from ..stream.receiver import Timeline, timeline_near
 from .single import now
 
 

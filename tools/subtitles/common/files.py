@@ -6,7 +6,6 @@ import errno
 import functools
 import hashlib
 import os
-import re
 import select
 import shutil
 import stat

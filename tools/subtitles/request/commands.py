@@ -50,11 +50,6 @@ class CommandWords:
         """A tool as it is typed."""
         return os.path.join(self.folder, INSTALLED + name if self.is_installed else name)
 
-    @staticmethod
-    def call(name: str) -> list[str]:
-        """The words that call a tool, whatever python3 is on the PATH."""
-        return [sys.executable, os.path.join(TOP, "tools", name)]
-
 
 def shell_line(*words: str) -> str:
     """A command line for a shell; `>` and `|` stay as they are."""

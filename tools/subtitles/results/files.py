@@ -7,7 +7,6 @@ import io
 import itertools
 import json
 import os
-import re
 import time
 import xml.etree.ElementTree as tree
 from typing import Any, Collection, Iterable, Iterator, NamedTuple, Sequence

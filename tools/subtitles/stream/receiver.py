@@ -8,7 +8,7 @@ import itertools
 from typing import Iterable, Iterator, NamedTuple, Sequence
 
 from ..common.times import FRAMES_OF_A_DAY, NO_FRAME, Span, frames_at, wrapped
-from ..formats.teletext import CONTROL_BITS, Page, has_bit, is_odd
+from ..formats.teletext import CONTROL_BITS, Page, has_bit
 from .packets import CLOSED, ERASE, HEADER, OPEN, Packets, Range, Run, STRAY, Texts
 from .ranges import cut_of
 
@@ -22,8 +22,6 @@ OLD, HIT = 0xBF, 0xA0
 
 Rows = tuple[bytes, ...]  # rows 1 to 24, a byte for each cell
 
-# A text byte as the receiver stores it: its code, or at even parity a space.
-STORED = bytes(byte & 0x7F if is_odd(byte) else HIT for byte in range(256))
 PRINTED = bytes(code & 0x7F if 0x20 <= code & 0x7F <= 0x7E else 0x2E for code in range(256))
 
 BLANK_PAGE: Rows = (b" " * 40,) * 24
