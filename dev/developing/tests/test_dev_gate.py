@@ -1,8 +1,10 @@
 """The gate's script, the second implementation, which tests run, and bugs that are planted."""
 from __future__ import annotations
 
+import contextlib
 import glob
 import importlib.util
+import io
 import os
 import re
 import shutil
@@ -10,6 +12,7 @@ import subprocess
 import unittest
 from random import Random
 from typing import Any
+from unittest import mock
 
 from developing.every_place.carried_laws import LAWS, random_packets
 from developing.every_place.recordings import UNSEEN
@@ -324,6 +327,22 @@ class Bugs(Case):
             answer = apart(lambda: {"failed": "" if seconds > 1 else os.read(os.pipe()[0], 1)},
                            seconds)
             self.must(f"{seconds}", answer["failed"] == wanted, answer)
+
+    def test_table(self) -> None:
+        """What passed is in the table; what fails, or takes too long, is said to be left out."""
+        made = script("plant").Planting([], self.path("calls"), None)
+        made.calls = {"test_dev_gate.Bugs.test_names": {
+            "calls": ["judging/status.py:decided"], "seconds": 1.0}}
+        made.failed = {"test_a.B.c": TOO_LONG, "test_a.B.d": "test_a.B.d"}
+        with mock.patch.object(table, "PATH", self.path("table")), \
+                contextlib.redirect_stdout(io.StringIO()) as said:
+            made.write_table()
+        rows = self.read("table").decode().splitlines()
+        self.must("rows", rows[0] == "judging/status.py\ttest_dev_gate.Bugs" and all(
+            not one.partition("\t")[0].endswith(".py") for one in rows[1:]), rows)
+        self.must("left out", said.getvalue().splitlines() == [
+            "left out of the table: test_a.B.c, which takes too long",
+            "left out of the table: test_a.B.d, which fails"], said.getvalue())
 
     def test_names(self) -> None:
         """A function without what has no name."""
