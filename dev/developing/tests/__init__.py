@@ -1,11 +1,18 @@
 """The tests of dev/check-tools, a module `test_..` for a tool or an idea; `runner` runs them.
 
-at_random  calls of qc at random, and all that is said of each
-bench      what they share: the program, folders, calls
-judged     pairs judged in process, and what is sent
-muxed      transport streams with video
-parts      values: parts with answers, carriers, sendings
-runner     finds them and runs them side by side
+What they share, each module on those above it alone:
+
+bench      the program, a folder for each test, calls of tools
+sent       subtitle files, page transmissions and feeds of them, and what may be wrong there
+muxed      transport streams: what is sent beside video
+judged     pairs judged in process by the words of a call, and all that is said of them
+parts      values between the tools' packages, without files: answers, parts, requests
+results    JSON results, and what is wrong in one by the schema
+channels   channels as processes
+listings   channels in process, that hear lines of `survey`
+scenario   pairs at random, by numbers: at_random calls qc with them
+strangers  folders at random that others have filled, and calls there
+at_random  all that is said of a call, as rows of dev/vectors/calls.tsv
+runner     finds tests and runs them side by side
 table      which of them are of which module of the tools
-scenario   pairs at random, by numbers
 """

@@ -11,9 +11,7 @@ import contextlib
 import functools
 import importlib.machinery
 import importlib.util
-import io
 import os
-import random
 import runpy
 import shutil
 import signal
@@ -25,10 +23,7 @@ import unittest
 from typing import Any, Callable, NamedTuple, NoReturn, Sequence
 
 from developing import DEV, TOOLS
-from developing.pes import pes_packets, pts_bytes, pts_in
-from developing.stl import gsi_block, subtitle_blocks
 from subtitles.common.program import TOP, built_program
-from subtitles.common.times import CLOCK
 
 EXAMPLES = os.path.join(TOP, "examples")
 SECONDS = 600  # for one call, or what is waited for, on a machine that does other things too
@@ -214,30 +209,3 @@ def example_bytes(name: str) -> bytes:
     """The bytes of an example."""
     with open(example(name), "rb") as file:
         return file.read()
-
-
-def packets(data: bytes) -> list[bytes]:
-    """The PES packets of a file's bytes."""
-    return list(pes_packets(io.BytesIO(data)))
-
-
-def moved(data: bytes, new_pts: Callable[[int, int], int]) -> bytes:
-    """The file with other PTS, by number and old PTS."""
-    return b"".join(one[:9] + pts_bytes(new_pts(number, pts_in(one)) % CLOCK) + one[14:]
-                    for number, one in enumerate(packets(data)))
-
-
-def random_subtitles(seed: int) -> tuple[bytes, list[int]]:
-    """A subtitle file at random, with touching subtitles and repeated texts; and its edges."""
-    chance = random.Random(seed)
-    made: list[bytes] = []
-    edges: list[int] = []
-    frame = chance.randrange(1_900_000)
-    for number in range(40):
-        begin = frame + chance.choice([0, chance.randrange(1, 200)])
-        end = begin + chance.randrange(12, 150)
-        text = b"Number %d" % chance.randrange(20)
-        made.append(subtitle_blocks(number, begin, end, chance.randrange(18, 23), 2, text))
-        edges += [begin, end]
-        frame = end
-    return gsi_block(b"At random", len(made), len(made), edges[0]) + b"".join(made), edges

@@ -2,7 +2,6 @@
 """
 from __future__ import annotations
 
-import argparse
 import contextlib
 import os
 import re
@@ -14,11 +13,9 @@ from typing import Callable, Iterator, NamedTuple, Sequence
 
 from developing.pes import pts_bytes
 from developing.stl import boxed, gsi_block, subtitle_blocks
-from subtitles.common.command_line import Words
 from subtitles.common.times import CLOCK, FRAMES_A_SECOND, TICKS
-from subtitles.request.lines import read_options
-from subtitles.request.request import add_options
-from .bench import SECONDS, Case, Done, loaded, packets, tool_path
+from .bench import Case, Done, SECONDS, loaded, tool_path
+from .sent import packets
 
 SECOND = TICKS * FRAMES_A_SECOND
 BEGIN = CLOCK - 30 * SECOND  # of a feed, so that PTS begin again soon
@@ -32,13 +29,6 @@ SHOWN, EACH = 50, 75  # frames of a subtitle, and from one to the next
 THREE = [f"one  {ACCEPTED}",
          "lost  not judged: not seen: two, which is behind it in the list, is sent",
          f"two  {WITH_BLANK}", f"three  {WITH_BLANK}"]  # what is said of those
-
-
-def defaults(*words: str) -> argparse.Namespace:
-    """The options of a call that has these."""
-    parser = Words("")
-    add_options(parser)
-    return read_options(parser, words, {}, {})
 
 
 def make_subtitles(case: Case, name: str, first: int, texts: Sequence[str]) -> str:

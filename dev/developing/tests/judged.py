@@ -1,34 +1,27 @@
 """Pairs judged in process: what is said of one, in its order, its verdict and its JSON result; and
-transmissions as the program makes them, of which something is changed.
-"""
+tests of what is sent of one programme."""
 from __future__ import annotations
 
 import json
 import os
 import shlex
 import tempfile
-import threading
-from typing import Any, Callable, NamedTuple, Sequence
+from typing import Any, Iterable, NamedTuple, Sequence
 
-from developing.pes import data_field, pes_packet, pts_in, teletext_packets
-from developing.stl import gsi_block, subtitle_blocks
 from subtitles.cli.main import parser_of
 from subtitles.cli.measure import Unprinted
 from subtitles.cli.single import Files, PairCall, claimed, end_pair, judge_pair, verdict_of
 from subtitles.common.program import MadeWith
-from subtitles.common.times import CLOCK, TICKS
-from subtitles.formats.stl import NEW_LINE
 from subtitles.judging.pair import Pair
 from subtitles.judging.verdict import Verdict
 from subtitles.request.commands import CommandWords, Listener, Names
 from subtitles.request.lines import read_options
 from subtitles.request.request import request_of
 from subtitles.results.files import found, object_of
-from .bench import Case, packets
-from .scenario import send
+from .bench import Case
+from .muxed import Packet, stream
+from .sent import Sent, joined, packets, programme, sendings, times
 
-Sent = list[tuple[int, list[bytes]]]  # PTS, and the Teletext packets then
-Change = Callable[[Sent], Sent]
 FEW = "are too few to measure a pace"  # the end of a note
 
 
@@ -103,67 +96,35 @@ def judged_by(program: str, *words: str, heard: Heard | None = None,
     return Judged(verdict, heard.lines, result, listed, known_files)
 
 
+class OfProgramme(Case):
+    """Tests of what is sent of one programme, whose subtitles are `due` in some frames: `stl` is
+    its file, `sent` the program's own transmission, and `pes` this as PES packets. What is made of
+    them is judged by the `words` of each call."""
+
+    due: Sequence[tuple[int, int]] = times(10)
+    words: Sequence[str] = ("--origin", "0")
+    text, lines, first = b"Number %d", 1, 1  # the line of each, how often, the number of the first
+    origin, every = 0, 25  # of the transmission, whose PTS do not wrap
+
+    def setUp(self) -> None:
+        super().setUp()
+        self.stl = programme(self, self.due, self.lines, self.text, self.first)
+        self.sent = sendings(self, self.stl, origin=self.origin, every=self.every)
+        self.pes = packets(joined(self.sent))
+
+    def judge(self, sent: Sent, *words: str) -> Judged:
+        """What is said of a file of PES packets."""
+        return judged(self, self.stl, self.write("one.pes", joined(sent)), *self.words, *words)
+
+    def judge_stream(self, made: bytes | Iterable[Packet], *words: str) -> Judged:
+        """What is said of a transport stream."""
+        data = made if isinstance(made, bytes) else stream(made)
+        return judged(self, self.stl, self.write("one.ts", data), *self.words, *words)
+
+
 def shown_files(line: str) -> list[str]:
     """The files that a printed command names: its words behind `check`, but for options with their
     values."""
     words = shlex.split(line)[2:]
     return [word for before, word in zip(["", *words], words) if not word.startswith("-")
             and (not before.startswith("-") or before in ("--all", "--complete"))]
-
-
-# What is sent.
-
-def programme(case: Case, times: Sequence[tuple[int, int]], lines: int = 1,
-              text: bytes = b"Number %d", first: int = 1, name: str = "one.stl") -> str:
-    """A subtitle file: a subtitle for each pair of frames, by numbers from a first one on."""
-    blocks = [subtitle_blocks(number, begin, end, 22, 2, NEW_LINE.join(
-        [text % number if b"%" in text else text] * lines))
-        for number, (begin, end) in enumerate(times, first)]
-    return case.write(name, gsi_block(b"Judged", len(times), len(times)) + b"".join(blocks))
-
-
-def sendings(case: Case, stl: str, origin: int = 0, every: int = 25) -> Sent:
-    """The program's own transmission of it; PTS do not wrap."""
-    case.schedule(stl, "planned.pes", "--every", str(every))
-    return [(origin + pts_in(one), teletext_packets(data_field(one)))
-            for one in packets(case.read("planned.pes"))]
-
-
-def joined(sent: Sent) -> bytes:
-    return b"".join(pes_packet(pts % CLOCK, some) for pts, some in sent)
-
-
-def late(by: int, first: int = 0, last: int = 1 << 40) -> Change:
-    """Those from a PTS to another one so many frames later."""
-    return lambda sent: [(pts + by * TICKS * (first <= pts <= last), some) for pts, some in sent]
-
-
-def in_pipe(case: Case, data: bytes, path: str = "") -> str:
-    """A pipe into which somebody writes these bytes."""
-    path = path or case.path(f"feed{len(os.listdir(case.folder))}")
-    os.mkfifo(path)
-    threading.Thread(target=send, args=(path, data), daemon=True).start()
-    return path
-
-
-# A programme of subtitles that are as far apart, some of them late, or sent in parts.
-
-EACH, LASTS = 100, 60  # frames from a TCI to the next one, and to its TCO
-ORIGIN = 20_000 * TICKS + 7
-PAUSES = 880, 1680  # frames before the 9th subtitle and the 17th, where the parts begin
-
-
-def times(count: int) -> list[tuple[int, int]]:
-    return [(EACH * number, EACH * number + LASTS) for number in range(1, count + 1)]
-
-
-def one_late(number: int, by: int) -> Change:
-    """The sendings of a subtitle so many frames late."""
-    begin = EACH * number * TICKS
-    return late(by, begin, begin + LASTS * TICKS - 1)
-
-
-def apart(sent: Sent, *shifts: int) -> Sent:
-    """What is sent from each pause on moved by so many frames."""
-    begun = [sum(pts >= pause * TICKS for pause in PAUSES[:len(shifts)]) for pts, _ in sent]
-    return [(ORIGIN + pts + TICKS * (0, *shifts)[at], some) for at, (pts, some) in zip(begun, sent)]

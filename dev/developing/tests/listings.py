@@ -18,7 +18,8 @@ from subtitles.common.times import CLOCK, TICKS
 from subtitles.formats.teletext import Page
 from subtitles.results.files import found_at, left_by_call, put_object
 from .bench import Case
-from .channels import EACH, FIRST, SECOND, SHOWN, defaults, make_subtitles
+from .channels import EACH, FIRST, SECOND, SHOWN, make_subtitles
+from .parts import defaults
 from .results import result
 
 TEXTS = ["Alpha", "Beta", "Gamma", "Delta"]

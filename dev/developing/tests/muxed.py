@@ -1,13 +1,13 @@
 """Transport streams of a programme with video and Teletext, made for tests."""
 from __future__ import annotations
 
-from typing import Iterator, NamedTuple
+from typing import Callable, Iterable, Iterator, NamedTuple, Sequence
 
-from developing.multiplex import BEGINS, PACKET, PAYLOAD, head, section
+from developing.multiplex import ADAPTATION_ALONE, BEGINS, PACKET, PAYLOAD, head, section
 from developing.pes import pts_bytes, pts_in
 from subtitles.common.times import CLOCK, TICKS, ticks_between, wrapped
 from subtitles.stream.gaps import SECOND
-from .bench import packets
+from .sent import packets
 
 RANDOM_ACCESS = 0x40
 PMT_PID, VIDEO_PID, AUDIO_PID, TELETEXT_PID = 0x100, 0x200, 0x201, 0x101
@@ -82,6 +82,10 @@ class Maker:
         made, self.packets = self.packets, []
         return made
 
+    def taken_of(self, pid: int) -> list[Packet]:
+        """The same, all of which are of one PID; tables are of PID 0."""
+        return [Packet(pid, one) for one in self.taken()]
+
     def put_tables(self) -> None:
         for pid, data in self.tables:
             self.put_packet(pid, BEGINS, data.ljust(PACKET - 4, b"\xff"))
@@ -118,14 +122,14 @@ def teletext_descriptor(language: bytes = b"eng", kind: int = 2, page: int = 0x8
     return b"\x56\x05" + language + bytes([kind << 3 | magazine, page])
 
 
-def components(kind: int = MPEG_2, descriptor: bytes = teletext_descriptor()) \
-        -> list[tuple[int, int, bytes]]:
+def components(kind: int = MPEG_2, descriptor: bytes = teletext_descriptor(),
+               pid: int = TELETEXT_PID) -> list[tuple[int, int, bytes]]:
     """Video of a kind, and Teletext."""
-    return [(VIDEO_PID, kind, b""), (TELETEXT_PID, PRIVATE, descriptor)]
+    return [(VIDEO_PID, kind, b""), (pid, PRIVATE, descriptor)]
 
 
-def programme(pes: bytes, first: int, kind: int = MPEG_2, picture: bytes = b"",
-              passed: int = 3, leading: int = 2) -> Maker:
+def with_pictures(pes: bytes, first: int, kind: int = MPEG_2, picture: bytes = b"",
+                  passed: int = 3, leading: int = 2) -> Maker:
     """A stream whose first picture has this PTS. Of the video `passed` pictures come before, and
     `leading` ones are sent after the one with the flag and shown before it: in a closed group,
     which H.264 has not."""
@@ -143,15 +147,10 @@ def programme(pes: bytes, first: int, kind: int = MPEG_2, picture: bytes = b"",
             maker.put(VIDEO_PID, video_packet(group + TICKS * place, made))
         for place in range(leading + 1, leading + 12):
             maker.put(VIDEO_PID, video_packet(group + TICKS * place, made))
-    put_teletext(maker, pes)
-    return maker
-
-
-def put_teletext(maker: Maker, pes: bytes, ahead: int = AHEAD) -> None:
-    """PES packets of Teletext, each behind a PCR."""
     for one in packets(pes):
-        maker.put_pcr(pts_in(one) - ahead)
+        maker.put_pcr(pts_in(one) - AHEAD)
         maker.put(TELETEXT_PID, one)
+    return maker
 
 
 def in_frames(pes: list[bytes], begin: int, count: int, rounds: int = 66,
@@ -180,7 +179,7 @@ def spaced(data: bytes, size: int) -> bytes:
                     for at in range(0, len(data), PACKET))
 
 
-class Sent(NamedTuple):
+class Packet(NamedTuple):
     """A TS packet: its PID, and its bytes."""
 
     pid: int
@@ -188,44 +187,40 @@ class Sent(NamedTuple):
 
 
 def stream_of(pes: list[bytes], begin: int, end: int, rate: int = 200, pid: int = TELETEXT_PID,
-              before: Maker | None = None) -> tuple[list[Sent], Maker]:
+              before: Maker | None = None) -> tuple[list[Packet], Maker]:
     """A multiplex from one PTS to another: so many TS packets of video and audio a second, a PCR
     each 40 ms, tables twice a second, and PES packets of Teletext on a PID when they are due. It
     goes on with the counters of another one."""
-    maker = Maker([(VIDEO_PID, MPEG_2, b""), (pid, PRIVATE, teletext_descriptor())])
+    maker = Maker(components(pid=pid))
     maker.counters = before.counters if before else maker.counters
-    made: list[Sent] = []
+    made: list[Packet] = []
     due = [*map(pts_in, pes), None]
-
-    def take(own: int) -> None:
-        made.extend(Sent(own, one) for one in maker.taken())
-
     second, at, clock = TICKS * 25, 0, 0
     for number in range((end - begin) * rate // second):
         now = begin + number * second // rate
         if number % (rate // 2) == 0:
             maker.put_tables()
-            take(0)
+            made += maker.taken_of(0)
         if now - begin >= clock:
             clock += TICKS
             maker.put_pcr(now - AHEAD)
-            take(VIDEO_PID)
+            made += maker.taken_of(VIDEO_PID)
         while (pts := due[at]) is not None and ticks_between(pts, wrapped(now)) >= 0:
             maker.put(pid, pes[at])
-            take(pid)
+            made += maker.taken_of(pid)
             at += 1
         own = AUDIO_PID if number % 9 == 0 else VIDEO_PID
         made.append(filler(own, maker.counters))
     return made, maker
 
 
-def filler(pid: int, counters: dict[int, int]) -> Sent:
+def filler(pid: int, counters: dict[int, int]) -> Packet:
     """The next TS packet of a PID, with nothing that is looked at."""
     counter = counters[pid] = counters.get(pid, 15) + 1 & 15
     return FILLERS[pid][counter]
 
 
-FILLERS = {pid: [Sent(pid, head(pid, 0, PAYLOAD | counter) + b"\x55" * (PACKET - 4))
+FILLERS = {pid: [Packet(pid, head(pid, 0, PAYLOAD | counter) + b"\x55" * (PACKET - 4))
                  for counter in range(16)] for pid in (VIDEO_PID, AUDIO_PID, NULL_PID)}
 
 
@@ -244,16 +239,11 @@ class Shape(NamedTuple):
     is_announced: bool = False
 
 
-def multiplexed(pes: list[bytes], shape: Shape) -> list[Sent]:
+def multiplexed(pes: list[bytes], shape: Shape) -> list[Packet]:
     """A multiplex of some PES packets, video with the PCR, and audio."""
-    maker = Maker([(VIDEO_PID, MPEG_2, b""), (TELETEXT_PID, PRIVATE, teletext_descriptor())])
-    made: list[Sent] = []
-
-    def take(pid: int) -> None:
-        made.extend(Sent(pid, one) for one in maker.taken())
-
+    maker = Maker(components())
     maker.put_tables()
-    take(0)
+    made = maker.taken_of(0)
     begin, end = (pts_in(pes[at]) for at in (0, -1))
     frames, due, waiting = (end - begin) // TICKS + 30, begin - SECOND, list(pes)
     for number in range(frames * shape.rate // 25):
@@ -264,17 +254,21 @@ def multiplexed(pes: list[bytes], shape: Shape) -> list[Sent]:
             due += shape.every
             if not shape.pause[0] <= frame < shape.pause[1]:
                 maker.put_pcr(now - AHEAD + later)
-                is_first = later and shape.is_announced
-                take(VIDEO_PID)
-                if is_first:
-                    made[-1] = Sent(VIDEO_PID, announced(made[-1].data))
+                made += maker.taken_of(VIDEO_PID)
+                if later and shape.is_announced:
+                    made[-1] = Packet(VIDEO_PID, announced(made[-1].data))
         if waiting and pts_in(waiting[0]) <= now:
             maker.put(TELETEXT_PID, waiting.pop(0))
-            take(TELETEXT_PID)
+            made += maker.taken_of(TELETEXT_PID)
         pid = NULL_PID if shape.has_null and number % 3 else \
             AUDIO_PID if number % 9 == 0 else VIDEO_PID
         made.append(filler(pid, maker.counters))
     return made
+
+
+def stream(made: Iterable[Packet]) -> bytes:
+    """The bytes of a multiplex."""
+    return b"".join(one.data for one in made)
 
 
 def announced(data: bytes) -> bytes:
@@ -282,16 +276,71 @@ def announced(data: bytes) -> bytes:
     return data[:5] + bytes([data[5] | 0x80]) + data[6:]
 
 
-def without(made: list[Sent], first: int, count: int) -> list[Sent]:
+def of_teletext(made: Sequence[Packet], pts: int) -> list[int]:
+    """The places of the TS packets of Teletext from the PES packet with a PTS on."""
+    begin = pts_bytes(pts)
+    first = next(at for at, one in enumerate(made)
+                 if one.pid == TELETEXT_PID and begin in one.data[4:40])
+    return [at for at in range(first, len(made)) if made[at].pid == TELETEXT_PID]
+
+
+def with_loss(made: Sequence[Packet], pts: int, count: int, is_announced: bool = False
+              ) -> list[Packet]:
+    """Without so many TS packets of Teletext from a PTS on; the jump of the counter may be
+    announced, by a packet without a payload."""
+    gone = of_teletext(made, pts)[:count]
+    field = bytes([PACKET - 5, 0x80]).ljust(PACKET - 4, b"\xff")
+    says = Packet(TELETEXT_PID, head(TELETEXT_PID, 0, ADAPTATION_ALONE) + field)
+    return [says if at in gone else one for at, one in enumerate(made)
+            if at not in gone or is_announced and at == gone[-1]]
+
+
+def without(made: list[Packet], first: int, count: int) -> list[Packet]:
     """All but what was sent from a packet of Teletext on to another one, so many behind it."""
     own = [at for at, one in enumerate(made) if one.pid == TELETEXT_PID]
     return made[:own[first]] + made[own[first + count]:]
 
 
+# PES packets behind PCR alone: on the PID that the PMT names, or on others.
+
+OLD, NEW, THIRD = TELETEXT_PID, 0x111, 0x121
+# The PES packets that come in the place of one, by its number, each with its PID.
+Carried = Callable[[int], Sequence[tuple[int, bytes]]]
+
+
+def in_turn(pes: Sequence[bytes], plan: Sequence[tuple[int, int]], carried: Carried | None = None,
+            descriptor: bytes = teletext_descriptor(), ahead: int | None = AHEAD) -> bytes:
+    """A stream whose PMT names a PID from the PES packet with a number on, for each of a plan; they
+    come on it, or on those that are said, each behind a PCR unless there is none."""
+    maker, pid = Maker([]), 0
+    for number, one in enumerate(pes):
+        for begin, named in plan:
+            if begin == number:
+                pid = named
+                maker.tables = Maker(components(MPEG_2, descriptor, pid)).tables
+                maker.put_tables()
+        if ahead is not None:
+            maker.put_pcr(pts_in(one) - ahead)
+        for each, data in carried(number) if carried else [(pid, one)]:
+            maker.put(each, data)
+    return maker.data
+
+
 def beside_video(pes: bytes, descriptor: bytes = teletext_descriptor(),
                  ahead: int = AHEAD) -> bytes:
-    """PES packets beside a video PID that has the PCR."""
-    maker = Maker([(VIDEO_PID, MPEG_2, b""), (TELETEXT_PID, PRIVATE, descriptor)])
+    """PES packets on one PID beside a video PID that has the PCR."""
+    return in_turn(packets(pes), [(0, TELETEXT_PID)], None, descriptor, ahead)
+
+
+def in_stream(*of_pids: tuple[int, bytes]) -> bytes:
+    """PES packets as a transport stream, in their time; each PID announces page 888."""
+    maker = Maker([(VIDEO_PID, MPEG_2, b""), *(
+        (pid, PRIVATE, teletext_descriptor()) for pid, _ in of_pids)])
     maker.put_tables()
-    put_teletext(maker, pes, ahead)
+    waiting = sorted((pts_in(one), pid, one) for pid, data in of_pids for one in packets(data))
+    for now in range(waiting[0][0], waiting[-1][0] + TICKS, TICKS):
+        maker.put_pcr(now - AHEAD)
+        while waiting and waiting[0][0] <= now:
+            _, pid, one = waiting.pop(0)
+            maker.put(pid, one)
     return maker.data

@@ -1,12 +1,12 @@
 """Values of tests in process: parts with answers, carriers, sendings."""
 from __future__ import annotations
 
+import argparse
 import itertools
 import os
 from types import SimpleNamespace
 from typing import Any, Sequence
 
-from developing.pes import packet
 from subtitles.cli.main import main
 from subtitles.clock.start import Clock, Found, GIVEN
 from subtitles.common.command_line import Words, ended
@@ -24,16 +24,9 @@ from subtitles.stream.packets import Packets
 from subtitles.stream.receiver import Timeline
 from subtitles.stream.survey import survey
 from .bench import Case
+from .sent import PAGE
 
-PAGE = (0, 0x88)
 MEANINGS = {number: Meaning("", f"it means `{number}`", f"do {number}") for number in range(93)}
-HEADER = packet(0, 0, [8, 8, 0, 8, 0, 8, 1, 0], b" " * 32)  # of page 888, which it erases
-CLOSING = packet(0, 0, [15, 15, 15, 7, 15, 3, 0, 0], b" " * 32)
-
-
-def row(number: int, text: bytes) -> bytes:
-    """A row of the magazine of page 888."""
-    return packet(0, number, (), b"\x0b\x0b" + text.ljust(38))
 
 
 def fault_of(line: str) -> FaultLine:
@@ -77,9 +70,14 @@ def part_with(begin: int | None, end: int | None, origin: int | None,
 
 def asked_for(stl: str, recording: str | None, *words: str) -> Request:
     """What is asked of two files, by the words of a command line."""
+    return request_with(stl, recording, defaults(*words))
+
+
+def defaults(*words: str) -> argparse.Namespace:
+    """The options of a call that has these."""
     parser = Words("")
     add_options(parser)
-    return request_with(stl, recording, read_options(parser, words, {}, {}))
+    return read_options(parser, words, {}, {})
 
 
 def call_words(asked: Request) -> list[str]:

@@ -2,12 +2,9 @@
 on the way, and the options of a call."""
 from __future__ import annotations
 
-import contextlib
 import os
 import random
 import subprocess
-import threading
-import time
 from typing import NamedTuple
 
 from developing.pes import (
@@ -18,6 +15,7 @@ from subtitles.formats.stl import NEW_LINE
 from .muxed import (
     AHEAD, MPEG_2, PRIVATE, TELETEXT_PID, VIDEO_PID, Maker, filler, mpeg_2_picture, spaced,
     teletext_descriptor, video_packet)
+from .sent import feed
 
 SECOND_PID = 0x102
 TEXTS = [b"Good evening.", b"Here is the news.", b"It costs \xa35, or \xa47.",
@@ -237,8 +235,7 @@ class Scenario:
             with open(name, "wb") as file:
                 file.write(data)
             return name
-        os.mkfifo("feed")
-        threading.Thread(target=send, args=(os.path.abspath("feed"), data), daemon=True).start()
+        feed(os.path.abspath("feed"), data)
         return "feed"
 
     # The options.
@@ -272,11 +269,3 @@ class Scenario:
     def tools(self, recording: str) -> list[list[str]]:
         """The words of other tools on the same files."""
         return [["ts2pes", recording, "-p", self.program]] * (recording == "one.ts")
-
-
-def send(path: str, data: bytes) -> None:
-    """Sends a feed, if somebody hears it, no faster than `survey` tells of it."""
-    with contextlib.suppress(OSError), open(os.open(path, os.O_WRONLY), "wb", 0) as file:
-        for at in range(0, len(data), 1 << 16):
-            file.write(data[at:at + (1 << 16)])
-            time.sleep(0.002)

@@ -22,9 +22,8 @@ from typing import NamedTuple
 
 from subtitles.cli.batch import Forked, ended_of
 from subtitles.cli.single import is_own
-from subtitles.common.program import TOP
 from subtitles.results.files import object_at
-from .bench import SECONDS
+from .bench import SECONDS, example, example_bytes
 from .parts import qc
 
 WATCHED = 3.0  # seconds for which a folder is watched
@@ -45,12 +44,6 @@ class Done(NamedTuple):
     status: int
     said: list[str]
     told: list[str]
-
-
-def example(name: str) -> bytes:
-    """The bytes of an example."""
-    with open(os.path.join(TOP, "examples", name), "rb") as file:
-        return file.read()
 
 
 def tree(top: str) -> dict[str, Entry]:
@@ -125,8 +118,8 @@ class World:
         name = self.chance.choice(["hello", "story"])
         recording = self.chance.choice([f"{name}.pes", f"{name}.pes", "no-erase.pes"])
         ending = self.chance.choice([".pes", ".pes", ".json.pes"])
-        for file, data in ((f"{stem}.stl", example(f"{name}.stl")),
-                           (f"{stem}{ending}", example(recording))):
+        for file, data in ((f"{stem}.stl", example_bytes(f"{name}.stl")),
+                           (f"{stem}{ending}", example_bytes(recording))):
             what = self.chance.randrange(14)
             if what == 0:
                 data = data[:self.chance.randrange(len(data))]
@@ -190,7 +183,7 @@ class World:
         if self.kind == "watch":
             return [*program, *out, "--settled", "0", "--jobs", "2", "--watch", "in"]
         return [*program, *out, "--channel", "list", self.path("in/none.pes")
-                if not self.chance.randrange(4) else os.path.join(TOP, "examples", "hello.pes")]
+                if not self.chance.randrange(4) else example("hello.pes")]
 
     def call(self) -> Done:
         """Does what the words ask."""

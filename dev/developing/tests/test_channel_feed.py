@@ -14,7 +14,8 @@ from subtitles.request.lines import Line
 from subtitles.stream.survey import Survey
 from .bench import Case
 from .channels import EACH, FIRST, SHOWN, make_subtitles
-from .parts import CLOSING, HEADER, asked_for, packets_told
+from .parts import asked_for, packets_told
+from .sent import CLOSING, HEADER
 
 
 # The time of a channel's feed, and programmes that are waited for: by the changes of a page, or by

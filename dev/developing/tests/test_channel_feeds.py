@@ -11,10 +11,11 @@ from typing import Iterable
 from subtitles.cli.channel.recorder import size_in
 from subtitles.cli.channel.spool import numbers_in
 from subtitles.common.times import CLOCK
-from .bench import Case, example, packets
+from .bench import Case, example
 from .channels import (
     BEGIN, SECOND, THREE, WITH_BLANK, Running, blank, fed, judged, make_programme, three)
 from .muxed import in_frames, spaced
+from .sent import packets
 
 MEMORY, HANDLES = 120_000, 20  # kilobytes of all processes, and open files of one, at most
 DAY, EACH = 86_400, 2160  # seconds, also from one programme to the next one

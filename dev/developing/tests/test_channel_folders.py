@@ -11,9 +11,10 @@ from typing import Any, Callable
 from subtitles.cli.channel.spool import MARK, claim
 from subtitles.common.command_line import Stop
 from subtitles.common.files import Inputs
-from .bench import Case, example, example_bytes, packets, tool_path
+from .bench import Case, example, example_bytes, tool_path
 from .channels import BEGIN, THREE, fed, judged, three, until
 from .muxed import in_frames
+from .sent import packets
 
 
 class Own(Case):

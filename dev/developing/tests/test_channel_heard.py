@@ -20,7 +20,7 @@ from subtitles.stream.survey import Announced, ProgramMap
 from .bench import Case
 from .channels import SECOND
 from .listings import Lines
-from .parts import CLOSING, HEADER, PAGE, row
+from .sent import CLOSING, HEADER, PAGE, row
 
 PID, OTHER, PCR = 0x101, 0x102, 0x200
 TABLE = [f"programme 1 {PCR}", f"stream {PCR} 2", f"stream {PID} 6", f"announce {PID} 888 656e67 2"]

@@ -18,7 +18,7 @@ from subtitles.common.command_line import Stop
 from subtitles.common.files import Input
 from .bench import Case
 from .channels import SECOND
-from .parts import CLOSING, HEADER
+from .sent import CLOSING, HEADER
 
 PES = [pes_packet(SECOND * at, [HEADER, CLOSING]) for at in range(9)] + [MARK]
 

@@ -13,9 +13,9 @@ from subtitles.common.times import TICKS
 from subtitles.results.files import found, unjudged
 from subtitles.results.schema import ASKED
 from .bench import Case
-from .channels import SECOND, defaults
+from .channels import SECOND
 from .listings import BEGIN, LAST, Judging, Lines, Programmes, Told, files_of, results_at, texts_of
-from .parts import asked_for
+from .parts import asked_for, defaults
 from .results import result
 
 

@@ -16,9 +16,10 @@ from typing import Any
 
 from subtitles.cli.single import InUse, locking
 from subtitles.common.times import CLOCK
-from .bench import SECONDS, Case, packets
+from .bench import Case, SECONDS
 from .channels import BEGIN, SECOND, Running, blank, family_of, make_programme, until
 from .muxed import in_frames
+from .sent import packets
 
 EACH, LASTS = 40, 12  # seconds from one programme to the next one, and of each
 SIGNALS = (signal.SIGTERM, signal.SIGINT, signal.SIGHUP)

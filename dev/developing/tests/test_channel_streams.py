@@ -7,9 +7,10 @@ import shutil
 from typing import Any, Iterator, NamedTuple, Sequence
 
 from subtitles.common.times import CLOCK, FRAMES_A_SECOND, TICKS
-from .bench import Case, packets
+from .bench import Case
 from .channels import EACH, FITTED, SECOND, SHOWN, blank, judged, make_subtitles, verdicts
-from .muxed import TELETEXT_PID, Sent, stream_of
+from .muxed import Packet, TELETEXT_PID, stream_of
+from .sent import packets
 
 BEGIN = CLOCK - 20 * SECOND  # of a feed: PTS begin again within it
 FIRST = 900_000  # the frame of the first subtitle, at 10:00:00:00
@@ -36,11 +37,11 @@ class Feed:
         """The PTS of a frame, from the first TCI on."""
         return (self.first + TICKS * frame) % CLOCK
 
-    def stream(self) -> list[Sent]:
+    def stream(self) -> list[Packet]:
         """It as a transport stream."""
         return stream_of(self.pes, self.begin, self.end)[0]
 
-    def moved(self, frame: int, gap: int = 0) -> list[Sent]:
+    def moved(self, frame: int, gap: int = 0) -> list[Packet]:
         """The same, where the page goes to another PID at a frame, and is there so many later."""
         number = BEFORE * FRAMES_A_SECOND + frame
         middle = self.begin + SECOND * BEFORE + TICKS * frame
@@ -50,11 +51,11 @@ class Feed:
         return before + after
 
 
-def bytes_of(sent: Sequence[Sent]) -> bytes:
+def bytes_of(sent: Sequence[Packet]) -> bytes:
     return b"".join(one.data for one in sent)
 
 
-def without(sent: Sequence[Sent], frame: int, count: int) -> list[Sent]:
+def without(sent: Sequence[Packet], frame: int, count: int) -> list[Packet]:
     """All but what was sent from the Teletext of a frame on to that of so many frames later."""
     own = [at for at, one in enumerate(sent) if one.pid == TELETEXT_PID]
     first = BEFORE * FRAMES_A_SECOND + frame
@@ -73,7 +74,7 @@ class Stream(NamedTuple):
 
     name: str
     programme: str
-    sent: Sequence[Sent]
+    sent: Sequence[Packet]
     words: Sequence[str]
     line: str
     verdict: str

@@ -24,8 +24,7 @@ from subtitles.results.files import (
     row_of_object, unjudged)
 from subtitles.results.schema import ASKED, FORMAT
 from .bench import Case, example, example_bytes
-from .channels import defaults
-from .parts import asked_for
+from .parts import asked_for, defaults
 from .results import FAULT, result, row
 
 PROGRAM = MadeWith("1", "ab" * 32, None)

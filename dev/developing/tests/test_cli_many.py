@@ -27,8 +27,8 @@ from subtitles.request.request import Request, request_of
 from subtitles.results.files import Row, found, object_at, put_object, unjudged
 from subtitles.results.schema import ASKED
 from .bench import Case, SECONDS
-from .channels import defaults, until
-from .parts import asked_for, call_words, qc
+from .channels import until
+from .parts import asked_for, call_words, defaults, qc
 from .results import result, row
 
 

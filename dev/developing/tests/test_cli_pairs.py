@@ -12,18 +12,17 @@ import xml.etree.ElementTree as tree
 from typing import Any
 from unittest import mock
 
-from developing.stl import gsi_block, subtitle_blocks
 from subtitles.cli.single import claimed_for_batch
 from subtitles.common.command_line import counted
 from subtitles.common.program import TOP
-from subtitles.common.times import TICKS
 from subtitles.formats.stl import MOST_STL
 from subtitles.recording import recording
 from .bench import Case, Done, SECONDS, example, example_bytes, tool_path
 from .channels import until
-from .judged import in_pipe, judged
+from .judged import judged
 from .muxed import beside_video, teletext_descriptor
 from .results import agrees
+from .sent import in_pipe
 
 
 # tools/qc on a pair: from a recording to a verdict.
@@ -49,19 +48,6 @@ def stream(case: Case, name: str, pes: bytes, pid: str = "0x101", page: str = "8
     done = case.tool("pes2ts", case.write(name + ".in.pes", pes), pid, "--page", page)
     assert done.status == 0, done
     return done.out
-
-
-def in_two_parts(case: Case) -> tuple[str, bytes]:
-    """A subtitle file, and PES packets that have a break of three minutes in its middle."""
-    blocks = [subtitle_blocks(number, begin, begin + 60, 20, 2, b"Subtitle %d" % number)
-              for number, begin in enumerate(range(900_000, 902_000, 100))]
-    data = b""
-    for number, origin in ((0, 1000), (10, 1000 + 4500 * TICKS)):
-        part = case.write("part.stl", gsi_block(b"Part", 10, 10) +
-                          b"".join(blocks[number:number + 10]))
-        case.schedule(part, "part.pes", "--every", "25", "--origin", str(origin))
-        data += case.read("part.pes")
-    return case.write("two.stl", gsi_block(b"Two parts", 20, 20) + b"".join(blocks)), data
 
 
 class Pairs(Case):

@@ -14,7 +14,8 @@ from subtitles.cli.single import claimed, claimed_for_batch
 from subtitles.common.command_line import Stop
 from .bench import Case, Done, example, example_bytes, tool_path
 from .muxed import beside_video, teletext_descriptor
-from .test_cli_pairs import ACCEPTED, RECORDING, STORY, in_two_parts, lines_of, qc
+from .sent import in_two_parts
+from .test_cli_pairs import ACCEPTED, RECORDING, STORY, lines_of, qc
 
 
 # tools/qc with names of files that are hostile, with folders that can't be written to, and with

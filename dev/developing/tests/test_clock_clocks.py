@@ -6,12 +6,13 @@ from __future__ import annotations
 import shutil
 import subprocess
 
-from developing.stl import boxed, gsi_block, subtitle_blocks
+from developing.stl import boxed
 from subtitles.common.times import CLOCK, TICKS, time_of
-from .bench import Case, example, example_bytes, moved
-from .judged import Judged, Sent, in_pipe, joined, judged, late, programme, sendings
-from .muxed import HEVC, H_264, MPEG_2, programme as stream_with
-from .test_cli_pairs import FITTED, TS, in_two_parts, lines_of, qc
+from .bench import Case, example, example_bytes
+from .judged import Judged, OfProgramme, judged
+from .muxed import HEVC, H_264, MPEG_2, with_pictures
+from .sent import Sent, in_pipe, in_two_parts, joined, late, moved, programme, sendings
+from .test_cli_pairs import FITTED, TS, lines_of, qc
 
 FIRST, EACH, LASTS = 900_000, 125, 60  # frames: of the first subtitle, from one to the next, of one
 WORDS = ["--every", "25", "--no-complete"]
@@ -25,17 +26,10 @@ def evenly(count: int) -> list[tuple[int, int]]:
     return [(FIRST + EACH * at, FIRST + EACH * at + LASTS) for at in range(count)]
 
 
-class Clocks(Case):
+class Clocks(OfProgramme):
     """Recordings that are late, as a whole or from somewhere on."""
 
-    def setUp(self) -> None:
-        super().setUp()
-        self.frames = evenly(20)
-        self.stl = programme(self, self.frames)
-        self.sent = sendings(self, self.stl)
-
-    def judge(self, sent: Sent, *words: str) -> Judged:
-        return judged(self, self.stl, self.write("one.pes", joined(sent)), *WORDS, *words)
+    due, words = evenly(20), WORDS
 
     def test_fitted(self) -> None:
         """All is late: accepted where nothing else knows the time, which is said; with an origin it
@@ -58,8 +52,8 @@ class Clocks(Case):
     def test_late_from_one_on(self) -> None:
         """All is judged with the clock of the first part, and it is said from when on it is late;
         of a feed too. By less than five seconds that is no break, whatever is said."""
-        line = f"from {time_of(self.frames[10][0])} on subtitles are "
-        at = self.frames[10][0] * TICKS
+        line = f"from {time_of(self.due[10][0])} on subtitles are "
+        at = self.due[10][0] * TICKS
         for by, words in ((250, "10.00 s (250 frames) late"), (130, "5.20 s (130 frames) late"),
                           (100, "4.00 s (100 frames) late"), (1, "0.04 s (1 frame) late")):
             for origin in (0, 5000)[by < 250:]:
@@ -77,10 +71,10 @@ class Clocks(Case):
         found = judged(self, self.stl, feed, *WORDS, "--origin", "0")
         self.must("a feed", found.word == "refused" and
                   found.told[0].startswith(f"{line}0.04 s (1 frame) late"), found.said)
-        both = late(50, at, self.frames[15][0] * TICKS - 1)(self.sent)
+        both = late(50, at, self.due[15][0] * TICKS - 1)(self.sent)
         self.must("on time again", self.judge(both).told == [
             line + "2.00 s (50 frames) late",
-            f"from {time_of(self.frames[15][0])} on subtitles are on time"])
+            f"from {time_of(self.due[15][0])} on subtitles are on time"])
         found = judged(self, self.stl, in_pipe(self, joined(self.sent)), *WORDS, "--origin", "7200")
         self.must("a feed that is early", found.told[0] == "all subtitles are 2 frames early")
 
@@ -89,7 +83,7 @@ class Clocks(Case):
         sent = self.sent
         for at in range(5, 20, 5):
             sent = late(frames, sent[next(number for number, (pts, _) in enumerate(self.sent)
-                                          if pts == self.frames[at][0] * TICKS)][0])(sent)
+                                          if pts == self.due[at][0] * TICKS)][0])(sent)
         return sent
 
     def test_later_and_later(self) -> None:
@@ -97,7 +91,7 @@ class Clocks(Case):
         sent = self.later_each(130)
         found = self.judge(sent)
         self.must("refused", found.word == "refused" and found.told[-1].startswith(
-            f"from {time_of(self.frames[15][0])} on subtitles are 15.60 s (390 frames) late"),
+            f"from {time_of(self.due[15][0])} on subtitles are 15.60 s (390 frames) late"),
             found.told)
         for count in (1, 2, 4):
             found = self.judge(sent, "--breaks", str(count))
@@ -111,29 +105,29 @@ class Clocks(Case):
             found = self.judge(self.later_each(75), "--breaks", str(count))
             self.must(f"{count}", found.word == "not judged" and found.told[0] ==
                       f"no break found, where --breaks {count} is said", found.told)
-        at = self.frames[10][0] * TICKS
-        found = self.judge(late(400, at)(late(3, self.frames[15][0] * TICKS)(self.sent)),
+        at = self.due[10][0] * TICKS
+        found = self.judge(late(400, at)(late(3, self.due[15][0] * TICKS)(self.sent)),
                            "--breaks", "2")
         self.must("a delay in place of the second", found.word == "not judged" and found.told[0] ==
                   "1 break found, where --breaks 2 is said", found.told)
 
     def test_shorter_junctions(self) -> None:
         """They are judged by two calls, as the manual shows; a delay of one side is refused."""
-        middle = time_of(self.frames[10][0])
+        middle = time_of(self.due[10][0])
         for by in (124, 25):
-            sent = late(by, self.frames[10][0] * TICKS)(self.sent)
+            sent = late(by, self.due[10][0] * TICKS)(self.sent)
             for words in (["--to", middle], ["--from", middle], ["--to", middle, "--origin", "0"]):
                 found = self.judge(sent, *words)
                 self.must(f"{by} {words}", found.word == "accepted" and
                           found.verdict.count == 10, found.said)
-            wrong = late(1, self.frames[15][0] * TICKS)(sent)
+            wrong = late(1, self.due[15][0] * TICKS)(sent)
             words = [self.judge(wrong, *way, middle).word for way in (["--to"], ["--from"])]
             self.must(f"{by}: late", words == ["accepted", "refused"], words)
 
     def test_parts_that_adjoin(self) -> None:
         """The last one is erased where the file's clock stops, and the next comes when it goes on.
         """
-        frames = [*self.frames[:9], (self.frames[9][0], self.frames[10][0]), *self.frames[10:]]
+        frames = [*self.due[:9], (self.due[9][0], self.due[10][0]), *self.due[10:]]
         stl = programme(self, frames)
         for first, second in ((0, 4500 * TICKS), (3_000_000_000, 77_000)):
             sent = [(pts + origin, some) for some_frames, number, origin in (
@@ -156,7 +150,7 @@ class Clocks(Case):
 
     def test_lines_that_can_be_typed(self) -> None:
         """Where PTS go back each line with a + answers the same."""
-        sent = [(pts + 3_000_000_000 * (pts < self.frames[10][0] * TICKS), some)
+        sent = [(pts + 3_000_000_000 * (pts < self.due[10][0] * TICKS), some)
                 for pts, some in self.sent]
         done = qc(self, self.stl, self.write("sent.pes", joined(sent)), *WORDS, "--breaks", "1",
                   "-o", "out")
@@ -173,7 +167,7 @@ class Clocks(Case):
         """The programme is there twice: neither is judged but one that is said; of a feed the
         first one is."""
         hour = 3600 * 25 * TICKS
-        wrong = late(10, self.frames[15][0] * TICKS)(self.sent)
+        wrong = late(10, self.due[15][0] * TICKS)(self.sent)
         for name, origin, second in (("later", hour, self.sent), ("the same PTS", 0, self.sent),
                                      ("wrong", hour, wrong)):
             both = [*self.sent, *((pts + origin, some) for pts, some in second)]
@@ -192,8 +186,8 @@ class Clocks(Case):
     def test_first_and_last(self) -> None:
         """A first subtitle and a last erasing that are late or early; 63 and 74 where a recording
         is short."""
-        begin, end = (self.frames[at][at] for at in (0, -1))
-        around = programme(self, [(begin - 1000, begin - 900), *self.frames, (end + 3000, end
+        begin, end = (self.due[at][at] for at in (0, -1))
+        around = programme(self, [(begin - 1000, begin - 900), *self.due, (end + 3000, end
                                                                               + 3100)], first=0,
                            name="sent.stl")
         data = sendings(self, around)
@@ -229,7 +223,7 @@ class Starts(Case):
             for shift in (0, CLOCK - (BEGIN - 40) * TICKS):
                 pes = moved(example_bytes("story.pes"), lambda _, pts: pts + shift)
                 first = (FIRST_PTS + shift) % CLOCK
-                data = stream_with(pes, first, kind, leading=0 if kind == H_264 else 2).data
+                data = with_pictures(pes, first, kind, leading=0 if kind == H_264 else 2).data
                 found = self.judge(data, "--start", STARTED)
                 self.must(f"{kind} {shift}", found.word == "accepted" and any(
                     line.startswith(f"the first picture has PTS {first}, ") and
@@ -243,11 +237,11 @@ class Starts(Case):
 
     def test_of_a_feed(self) -> None:
         """As soon as the first picture is known; and with a break, the first part."""
-        data = stream_with(example_bytes("story.pes"), FIRST_PTS).data
+        data = with_pictures(example_bytes("story.pes"), FIRST_PTS).data
         found = judged(self, STORY, in_pipe(self, data), "--start", STARTED)
         self.must("a feed", found.word == "accepted", found.said)
         stl, pes = in_two_parts(self)
-        data = stream_with(pes, 1000 + (900_000 - EARLIER) * TICKS).data
+        data = with_pictures(pes, 1000 + (900_000 - EARLIER) * TICKS).data
         found = self.judge(data, "--start", time_of(900_000 - EARLIER), "--breaks", "1", stl=stl)
         self.must("a break", found.word == "accepted" and [
             (part["clock"]["source"], part["clock"]["origin"]) for part in found.result["parts"]] ==
@@ -256,7 +250,7 @@ class Starts(Case):
     def test_what_there_is(self) -> None:
         """No picture, half a frame: not judged; PTS that are off are moved."""
         pes = example_bytes("story.pes")
-        half = stream_with(moved(pes, lambda _, pts: pts + 1800), FIRST_PTS).data
+        half = with_pictures(moved(pes, lambda _, pts: pts + 1800), FIRST_PTS).data
         for path, words, is_typed in (
                 (self.write("half.ts", half), "half a frame", False),
                 (example("story.pes"), "have no pictures", True)):
@@ -265,7 +259,7 @@ class Starts(Case):
                       ("--origin T" in found.told[-1]) == is_typed and
                       "--start" not in found.told[-1], found.told)
         for ticks, way in ((12, "forward"), (-12, "back"), (1799, "forward"), (-1799, "back")):
-            data = stream_with(moved(pes, lambda _, pts: pts + ticks), FIRST_PTS).data
+            data = with_pictures(moved(pes, lambda _, pts: pts + ticks), FIRST_PTS).data
             found = self.judge(data, "--start", STARTED)
             self.must(f"{ticks}", found.word == "accepted" and any(line.endswith(
                 f"moved by {abs(ticks)} ticks {way} to the PTS of the Teletext")
@@ -273,7 +267,7 @@ class Starts(Case):
 
     def test_start_of_the_programme(self) -> None:
         """The TCP of the GSI block; subtitles outside of the recording are told."""
-        data = stream_with(example_bytes("story.pes"), FIRST_PTS).data
+        data = with_pictures(example_bytes("story.pes"), FIRST_PTS).data
         stl = bytearray(example_bytes("story.stl"))
         for code, words in (
                 (STARTED.replace(":", ""), ""),
@@ -340,9 +334,8 @@ class OfFfprobe(Case):
         group; where no group needs the one before, that is the first which ffprobe shows."""
         if not (shutil.which("ffmpeg") and shutil.which("ffprobe")):
             self.skipTest("streams of MPEG-2, H.264 and HEVC, since there is no ffmpeg")
-        stl = self.write("own.stl", gsi_block(b"Own", 3, 3) + b"".join(
-            subtitle_blocks(number, begin, begin + 30, 20, 2, boxed(b"Number %d" % number))
-            for number, begin in enumerate(range(60, 161, 50))))
+        stl = programme(self, [(begin, begin + 30) for begin in range(60, 161, 50)],
+                        text=boxed(b"Number %d"), name="own.stl")
         self.schedule(stl, "own.pes", "--every", "25")
         self.write("own.ts", self.tool("pes2ts", self.path("own.pes"), "0x101").out)
         known = self.call(["ffmpeg", "-v", "quiet", "-encoders"]).out.decode()

@@ -10,7 +10,7 @@ from developing.multiplex import Multiplex, TENTH
 from subtitles.cli.channel.feed import FeedClock
 from subtitles.clock.alignment import (
     Agreed, Base, Drift, Early, Edge, FEW_TEXTS, RARE, Shown, UNSEEN_SHARE, back_at, bases_of,
-    drift_of, edges_of, likeliest, settled, usual_delay)
+    drift_of, edges_of, settled, usual_delay)
 from subtitles.clock.origin import Origin
 from subtitles.clock.start import Clock, Found, RECORDING
 from subtitles.clock.stretches import are_alike, is_again
@@ -18,12 +18,12 @@ from subtitles.common.command_line import Lateness, late_word
 from subtitles.common.times import CLOCK, FRAMES_OF_A_DAY, Span, TICKS
 from subtitles.judging.part import is_in, reach, unseen
 from subtitles.judging.verdict import place_time
-from subtitles.report.transmission import place_of_pts
 from subtitles.stream.gaps import Place, SECOND
 from subtitles.stream.packets import Change
-from .bench import Case, example
-from .judged import Judged, joined, judged, late, programme, sendings
+from .bench import Case
+from .judged import Judged, judged
 from .parts import part_with
+from .sent import joined, late, programme, sendings
 from .test_clock_clocks import FIRST, evenly
 from .test_clock_laws import found, packets_of, programme as random_programme, sent
 
@@ -468,19 +468,7 @@ class Losses(unittest.TestCase):
 
 
 class Printed(unittest.TestCase):
-    """What is printed and made of PTS."""
-
-    def test_place_of_a_pts(self) -> None:
-        """In frames of the day, within 0 and more."""
-        for shift, (ticks, within, words) in itertools.product(SHIFTS, (
-                (0, 0, "00:00:00:00"), (25 * TICKS, 0, "00:00:01:00"),
-                (25 * TICKS + 5, 0, "none: 00:00:01:00 is 5 ticks before"),
-                (-1, 0, "none: after the day's end"), (25 * TICKS + 5, 1,
-                                                       "00:00:01:00, 5 ticks later"),
-                (-5, 1, "00:00:00:00, 5 ticks earlier"),
-                (TICKS * FRAMES_OF_A_DAY, 1, "none: after the day's end"))):
-            with self.subTest(shift=shift, ticks=ticks, within=within):
-                self.assertEqual(place_of_pts(shifted(ticks, shift), shift, within), words)
+    """What is made of PTS."""
 
     def test_clock_of_a_multiplex(self) -> None:
         """A PCR each tenth of a second, up to a tenth before the PTS; over two minutes it jumps."""

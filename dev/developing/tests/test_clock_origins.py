@@ -7,19 +7,21 @@ from collections import Counter
 from typing import Sequence
 
 from developing.pes import MARK, data_field, packet, pes_packet, pts_in, teletext_packets
-from developing.stl import boxed, gsi_block, subtitle_blocks
+from developing.stl import boxed
 from subtitles.clock.alignment import Base, Edge, bases_of, delays_of
 from subtitles.clock.origin import Origin, Sought, find
 from subtitles.common.times import CLOCK, TICKS, time_of
-from .bench import Case, example, example_bytes, moved, packets, random_subtitles
-from .parts import CLOSING, HEADER, asked_for, packets_told, row
+from .bench import Case, example, example_bytes
+from .parts import asked_for, packets_told
+from .sent import (
+    CLOSING, HEADER, Shown, moved, packets, random_subtitles, row, scheduled, subtitle_file)
 from .test_clock_laws import packets_of
 
 FIRST, COUNT = 1_000_000, 12  # the frame of the first subtitle; how many there are
-Times = Sequence[tuple[int, int, bytes]]  # subtitles: when they come, when they go, their texts
 
 
-def each(count: int, step: int, lasts: int, text: bytes = b"Number %d", begin: int = 0) -> Times:
+def each(count: int, step: int, lasts: int, text: bytes = b"Number %d", begin: int = 0
+         ) -> list[Shown]:
     """Subtitles with the same time from one to the next."""
     return [(begin + step * at, begin + step * at + lasts, text % at if b"%" in text else text)
             for at in range(count)]
@@ -28,16 +30,10 @@ def each(count: int, step: int, lasts: int, text: bytes = b"Number %d", begin: i
 class Origins(Case):
     """What is found."""
 
-    def stl(self, times: Times, name: str = "one.stl") -> str:
+    def stl(self, times: Sequence[Shown], name: str = "one.stl") -> str:
         """A subtitle file."""
-        blocks = [subtitle_blocks(at, begin, end, 20, 2, boxed(text))
-                  for at, (begin, end, text) in enumerate(times)]
-        return self.write(name, gsi_block(b"One", len(blocks), len(blocks)) + b"".join(blocks))
-
-    def planned(self, stl: str, *words: str) -> list[bytes]:
-        """The program's own PES packets of a subtitle file."""
-        self.schedule(stl, "own.pes", *words)
-        return packets(self.read("own.pes"))
+        return subtitle_file(self, [(begin, end, boxed(text)) for begin, end, text in times],
+                             name, 0, 20)
 
     def find(self, stl: str, pes: Sequence[bytes], *words: str) -> Origin:
         """What is found of a subtitle file and PES packets."""
@@ -64,7 +60,7 @@ class Origins(Case):
             given = chance.choice([chance.randrange(CLOCK),
                                    -TICKS * edges[len(edges) // 2] % CLOCK])
             page = chance.choice(["888", "12A", "701"])
-            pes = self.planned(stl, "--page", page, "--origin", str(given), "--every",
+            pes = scheduled(self, stl, "--page", page, "--origin", str(given), "--every",
                                str(chance.randrange(5, 500)))
             lost = [one for one in pes if chance.random() < 0.67]
             shaken = [moved(one, lambda _, pts: pts + chance.randrange(-250, 251)) for one in pes]
@@ -81,7 +77,7 @@ class Origins(Case):
         for count in (1, 2, 3, 20):
             stl = self.stl(each(count, 100, 60))
             made = []
-            for one in self.planned(stl, "--every", "1500"):
+            for one in scheduled(self, stl, "--every", "1500"):
                 header, *rest = teletext_packets(data_field(one))
                 made.append(pes_packet(pts_in(one), [header]))
                 made += [pes_packet(pts_in(one) + TICKS, rest)] * (len(rest) > 1)
@@ -99,13 +95,13 @@ class Origins(Case):
             ([b"Other"], 0), ([b"Other", b"Another"], None), ([b"Own", b"Other"], 0),
             ([b"Other", b"Own"], 200 * TICKS), ([b"Own", b"Own"], None)]
         for texts, wanted in rows:
-            pes = self.planned(self.stl([(200 * at + 100, 200 * at + 150, text)
+            pes = scheduled(self, self.stl([(200 * at + 100, 200 * at + 150, text)
                                          for at, text in enumerate(texts)], "sent.stl"))
             found = self.find(one, pes)
             is_told = any("not unique" in line for line in found.lines)
             self.must(f"{texts}", ([part.origin for part in found.parts], is_told) == (
                 [wanted][:wanted is not None], wanted is None), found)
-        pes = self.planned(self.stl([(100, 150, b"Other"), (300, 350, b"Own")], "sent.stl"))
+        pes = scheduled(self, self.stl([(100, 150, b"Other"), (300, 350, b"Own")], "sent.stl"))
         for some, printed in ((pes[2:3], [f"--origin {200 * TICKS}"]), (pes[1:2], [])):
             found = self.find(one, some)
             self.must("one sending", found.printed == printed, found)
@@ -113,7 +109,7 @@ class Origins(Case):
         found = self.find(one, pes, "--page", "100")
         self.must(line, (found.status, found.lines, found.parts) == (1, [line], []), found)
         alike = self.stl(each(30, 100, 50, b"Again"))
-        pes = self.planned(alike)
+        pes = scheduled(self, alike)
         for some, printed in ((pes, ["--origin 0"]), (pes[10:20], [])):
             self.must("alike", self.find(alike, some).printed == printed)
 
@@ -123,13 +119,13 @@ class Origins(Case):
         and in two."""
         one, other = (100, 150, b"One"), (200, 260, b"Other")
         own = [(100 * at, 100 * at + 20 + 5 * at, b"Text %c" % (65 + at)) for at in range(12)]
-        rows: list[tuple[Times, int, Times, int, list[str], str]] = [
+        rows: list[tuple[list[Shown], int, list[Shown], int, list[str], str]] = [
             ([one], 0, [other], 100, [], "as good as --origin 0 are --origin 360000"),
             (own[6:], 0, own[:6], 2000, [], "as good as --origin 7200000 are --origin 0"),
             (own[6:], 1000, own[:6], 950, ["--pes 12-23 --origin 3420000"], "12 of 12 cues")]
         for some, by, later, by_too, printed, line in rows:
-            pes = [pes for times, frames in ((some, by), (later, by_too)) for pes in self.planned(
-                self.stl(times, "sent.stl"), "--origin", str(TICKS * frames))]
+            pes = [pes for times, frames in ((some, by), (later, by_too)) for pes in scheduled(
+                self, self.stl(times, "sent.stl"), "--origin", str(TICKS * frames))]
             found = self.find(self.stl(sorted([*some, *later])), pes)
             self.must(line, found.printed == printed and line in "".join(found.lines), found)
 
@@ -140,7 +136,7 @@ class Origins(Case):
             times = [*each(2 * count, 100, 60, begin=FIRST)]
             times[count - 1] = (*times[count - 1][:1], times[count][0], b"Last")
             stl, parts = self.stl(times), [times[:count], times[count:]]
-            pes = [one for at, part in enumerate(parts) for one in self.planned(
+            pes = [one for at, part in enumerate(parts) for one in scheduled(self, 
                 self.stl(part, "sent.stl"), "--origin", str(77_000 + at * frames * TICKS))]
             found = self.find(stl, pes, "--breaks", "1")
             self.must(f"{count} {frames}", found.printed == [
@@ -149,7 +145,7 @@ class Origins(Case):
                       not any("reaches into" in line for line in found.lines) and
                       found.lines[0] == f"2 parts: {4 * count} of {4 * count} cues agree", found)
         times = [*each(20, 70, 40), (1500, 1520, b"One"), (1600, 1650, b"Two")]
-        pes = self.planned(self.stl(times[:20], "sent.stl")) + self.planned(
+        pes = scheduled(self, self.stl(times[:20], "sent.stl")) + scheduled(self, 
             self.stl(times[20:], "sent.stl"), "--origin", str(900 * TICKS))
         found = self.find(self.stl(times), pes)
         self.must("two", found.printed == ["--origin 0"] and not found.shifts, found)

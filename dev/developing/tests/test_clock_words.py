@@ -8,15 +8,15 @@ from typing import Any, Sequence
 from developing.pes import packet
 from subtitles.clock.alignment import Early
 from subtitles.clock.origin import (
-    Origin, Sought, break_lines, frames_words, measure, part_lines, shift_lines, take_parts)
+    Origin, Sought, break_lines, measure, part_lines, shift_lines, take_parts)
 from subtitles.clock.start import Clock, First, NoFirst, START, first_picture, left_out
 from subtitles.clock.stretches import Stretch
 from subtitles.common.times import CLOCK, TICKS
 from subtitles.stream.receiver import control_text, national_option, printed_rows
 from subtitles.stream.survey import Survey
-from .bench import Case
-from .judged import Judged, Sent, joined, judged, late, programme, sendings
+from .judged import OfProgramme
 from .muxed import HEVC, H_264, MPEG_2
+from .sent import Sent, late, programme, sendings
 
 
 # What is said of an origin that was found, by tables: how a part agrees, from when on subtitles
@@ -49,22 +49,9 @@ class Words(unittest.TestCase):
                                points=lambda is_one=True: agree)
 
     def test_part(self) -> None:
-        """How many agree, the next best, what is late, where one does not agree, what is apart."""
+        """As good as the best are many; fewer than half agree; what is early, or apart. Rows of
+        calls have the others."""
         rows: list[tuple[Any, int, list[str]]] = [
-            (self.part(20, 20, 18), 20, ["20 of 20 cues agree, 18 with the letters that are due; "
-                                         "the file has 20; next best: none"]),
-            (self.part(1, 1, 0), 40, ["1 of 1 cue agrees, 0 with the letters that are due; this "
-                                      "part has 20; next best: none"]),
-            (self.part(9, 12, 9, others=[self.other(7, 8), self.other(5, 3)], exact=7,
-                       first_other=50), 20,
-             ["9 of 12 cues agree, 9 with the letters that are due; the file has 20; next best: "
-              "--origin 7 with 8", "the first cue that does not agree is 00:00:02:00",
-              "2 of them only to the nearest frame: PTS that are not whole frames apart are "
-              "refused as 61"]),
-            (self.part(9, 9, 9, others=[self.other(7, 9), self.other(5, 9)]), 20,
-             ["9 of 9 cues agree, 9 with the letters that are due; the file has 20; next best: "
-              "--origin 7 with 9",
-              "it is not unique: as good as --origin 9 are --origin 7, --origin 5"]),
             (self.part(9, 9, 9, others=[self.other(at, 9) for at in range(7)]), 20,
              ["9 of 9 cues agree, 9 with the letters that are due; the file has 20; next best: "
               "--origin 0 with 9", "it is not unique: as good as --origin 9 are --origin 0, "
@@ -73,12 +60,6 @@ class Words(unittest.TestCase):
              ["4 of 9 cues agree, 4 with the letters that are due; the file has 20; next best: "
               "none", "fewer than half of the cues agree with --origin 9: check that this is the "
               "right subtitle file"]),
-            (self.part(9, 9, 9, within=3, late=[2, 0, 1]), 20,
-             ["9 of 9 cues agree, 9 with the letters that are due; the file has 20; next best: "
-              "none", "cues are 0 to 2 frames late, 1 in the middle"]),
-            (self.part(9, 9, 9, within=3, late=[0, 0]), 20,
-             ["9 of 9 cues agree, 9 with the letters that are due; the file has 20; next best: "
-              "none", "no cue is late"]),
             (self.part(9, 10, 9, within=3, late=[0], early=Early(1, 30, 2), first_other=50), 20,
              ["9 of 10 cues agree, 9 with the letters that are due; the file has 20; next best: "
               "none", "no cue is late", "1 of 30 cues comes up to 2 frames before what is usual "
@@ -125,12 +106,6 @@ class Words(unittest.TestCase):
             measure(found, known, part)
             self.assertEqual(found.lines, [f"that is {words}"] * bool(words), (known, origin))
             self.assertEqual(found.away, None if known is None else origin - known)
-
-    def test_frames(self) -> None:
-        for ticks, words in ((TICKS, "1 frame late"), (-2 * TICKS, "2 frames early"),
-                             (TICKS + 7, "1 frame and 7 ticks late"), (-9, "0 frames and 9 ticks "
-                                                                           "early")):
-            self.assertEqual(frames_words(ticks), words)
 
     def test_breaks(self) -> None:
         """Of the second part and the third: what is longer, shorter, or goes back."""
@@ -301,19 +276,13 @@ NEXT = "unknown: the page that comes at the last TCO is the next programme's"
 OTHER = packet(0, 0, [9, 8, 0, 8, 0, 8, 1, 0], b" " * 32)  # a header of page 889
 
 
-class Pages(Case):
+class Pages(OfProgramme):
     """What is sent of the first programme, and of others behind it."""
 
-    def setUp(self) -> None:
-        super().setUp()
-        self.stl = programme(self, OWN)
-        self.sent = self.planned(OWN)
+    due = OWN
 
     def planned(self, times: list[tuple[int, int]], first: int = 1) -> Sent:
         return sendings(self, programme(self, times, first=first, name="sent.stl"))
-
-    def judge(self, sent: Sent, *words: str) -> Judged:
-        return judged(self, self.stl, self.write("one.pes", joined(sent)), "--origin", "0", *words)
 
     def test_what_comes_at_the_last_tco(self) -> None:
         """The next programme's page, our own text that stays, and our own text once more."""
@@ -349,11 +318,10 @@ class Pages(Case):
 
     def test_two_that_are_sent_as_one(self) -> None:
         """A subtitle that is not erased before one that is the same: up to that, not beyond it."""
-        stl = programme(self, OWN, text=b"The same")
+        programme(self, OWN, text=b"The same")
         sent = sendings(self, programme(self, [*OWN[:2], (OWN[2][0], OWN[3][1]), *OWN[4:]],
                                         text=b"The same", name="sent.stl"))
-        causes = judged(self, stl, self.write("one.pes", joined(sent)), "--origin",
-                        "0").lines("cause: ")
+        causes = self.judge(sent).lines("cause: ")
         self.must("its cause", len(causes) == 1 and causes[0].startswith("subtitle 3 at ") and
                   causes[0].endswith("it stays for 20 frames, up to subtitle 4, which is the same"),
                   causes)

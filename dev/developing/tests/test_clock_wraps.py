@@ -7,11 +7,11 @@ from typing import Any
 
 from developing.multiplex import BEGINS, PACKET
 from subtitles.common.times import CLOCK, TICKS
-from .bench import Case, packets
-from .judged import EACH, LASTS, joined, judged, one_late, programme, sendings, times
-from .muxed import Sent, Shape, multiplexed
+from .bench import Case
+from .judged import judged
+from .muxed import NEW, OLD, Packet, Shape, in_turn, multiplexed
+from .sent import EACH, LASTS, joined, one_late, packets, programme, sendings, times
 from .test_judging_paced import large, lost
-from .test_stream_moves import NEW, OLD, in_turn
 from .test_stream_pace import alone, filled
 
 # Members of a result, and words of its lines, that have a PTS or are of the very file.
@@ -74,7 +74,7 @@ class Wraps(Case):
             self.must(f"{name}: {frame}", anew == plain, [
                 one for one in zip(plain[1].split(", "), anew[1].split(", ")) if one[0] != one[1]])
 
-    def multiplexed(self, size: int = 3) -> list[Sent]:
+    def multiplexed(self, size: int = 3) -> list[Packet]:
         """A multiplex in which each PES packet takes so many TS packets."""
         return multiplexed([large(joined([one]), size) for one in self.sent], Shape(200))
 

@@ -78,7 +78,6 @@ class Words(Case):
         self.assertEqual([command_line.range_words(*one)
                           for one in ((0, 0), (1, 1), (0, 1), (0, 2))],
                          ["0 frames", "1 frame", "0 to 1 frame", "0 to 2 frames"])
-        self.assertEqual(command_line.pid_name(0x1A), "PID 0x1A")
         parser = command_line.Words("")
         command_line.add_page(parser)
         self.assertEqual(vars(parser.parse_args([])), {"page": (0, 0x88)})

@@ -14,7 +14,7 @@ from subtitles.common.command_line import page_in
 from subtitles.common.files import Damaged
 from subtitles.formats import teletext
 from subtitles.formats.teletext import begins_in
-from .parts import CLOSING, HEADER, row
+from .sent import CLOSING, HEADER, row
 
 CLOCK, DAY = 8_589_934_592, 2_160_000
 START = b"\0\0\1\xbd"

@@ -21,8 +21,9 @@ from subtitles.formats.teletext import (
 from subtitles.judging.subtitles import advice_of
 from subtitles.recording.notices import of_character_sets, of_option
 from subtitles.request.request import Request
-from .bench import Case, example_bytes, packets
+from .bench import Case, example_bytes
 from .parts import packets_told
+from .sent import packets
 from .test_cli_pairs import STORY, lines_of, qc, warnings
 
 

@@ -7,7 +7,7 @@ from types import SimpleNamespace
 from typing import Any
 
 from developing.pes import pes_packet
-from developing.stl import gsi_block, subtitle_blocks
+from developing.stl import gsi_block
 from subtitles.cli.channel.feed import Losses
 from subtitles.cli.channel.schedule import Queue, Queue
 from subtitles.clock.alignment import back_at
@@ -26,12 +26,11 @@ from subtitles.stream.gaps import Place
 from subtitles.stream.packets import Change
 from subtitles.stream.receiver import Timeline, pauses_in, timeline_near
 from .bench import Case, example, example_bytes
-from .judged import in_pipe, judged, programme
-from .muxed import TELETEXT_PID
-from .parts import CLOSING, HEADER, PAGE, answer, asked_for, in_page, packets_told, part_with, row
+from .judged import judged
+from .muxed import TELETEXT_PID, in_stream
+from .parts import answer, asked_for, defaults, in_page, packets_told, part_with
+from .sent import CLOSING, HEADER, PAGE, in_pipe, programme, row
 from .test_channel_feed import sent
-from .test_judging_decisions import defaults
-from .test_judging_recordings import in_stream
 
 
 # What `check --all` answered, line by line; what is advised of times that fall at midnight; what a
@@ -132,9 +131,7 @@ class Nights(Case):
         by its number alone, and for the block that is named."""
         day = FRAMES_OF_A_DAY
         times = [(100, 200), (day - 50, 20), (day - 40, day - 20), (10, 60), (5, 70)]
-        data = gsi_block(b"", 5, 5) + b"".join(
-            subtitle_blocks(at, *pair, 20, 2, b"a") for at, pair in enumerate(times, 1))
-        subtitles = SubtitleFile(self.write("one.stl", data))
+        subtitles = SubtitleFile(programme(self, times))
         for line, is_told in (
                 ("refused 21 Times block 1", False), ("refused 21 Times block 2", True),
                 ("refused 21 Times block 3", False), ("refused 56 Order block 4", True),
@@ -146,9 +143,7 @@ class Nights(Case):
             self.assertEqual(midnight_words(told, subtitles), AT_MIDNIGHT if is_told else "", line)
         told = fault_of_line("refused 56 Order block 2")
         for begin, wanted in ((day - 90_001, ""), (day - 90_000, AT_MIDNIGHT)):
-            data = gsi_block(b"", 2, 2) + subtitle_blocks(1, begin, day - 100, 20, 2, b"a") + \
-                subtitle_blocks(2, 10, 60, 20, 2, b"b")
-            subtitles = SubtitleFile(self.write("two.stl", data))
+            subtitles = SubtitleFile(programme(self, [(begin, day - 100), (10, 60)]))
             self.assertEqual(told and midnight_words(told, subtitles), wanted)
 
 
@@ -328,7 +323,7 @@ class Channels(Case):
         stl = programme(self, [(10, 60)])
         for more, is_other in (("", False), (" --within 3", True)):
             path = self.write("list", f"{stl}\n".encode())
-            queue = Queue(Queue(path, defaults()), 100)
+            queue = Queue(path, defaults())
             queue.fill(0)
             before = queue.waiting[0].awaited
             self.write("list", f"{stl}{more}\n".encode())

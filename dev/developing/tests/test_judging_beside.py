@@ -22,9 +22,10 @@ from subtitles.formats.stl import SubtitleFile
 from subtitles.judging.subtitles import Counts, beside_of, due_beside, is_judged_beside
 from subtitles.results.files import row_of_object
 from subtitles.stream.packets import Packets, Run
-from .bench import Case, example_bytes, packets
-from .judged import Judged, joined, judged, late, sendings, times
+from .bench import Case, example_bytes
+from .judged import Judged, judged
 from .parts import answer, part_with
+from .sent import Shown, joined, late, packets, sendings, times
 from .test_judging_pairs import UNREAD, broken
 
 
@@ -34,11 +35,10 @@ from .test_judging_pairs import UNREAD, broken
 BAD = b"no letter: \xe6"
 CURE = "it needs another region, or packets X/26, which are refused (70): write it otherwise"
 WORDS = "--origin", "0", "--every", "100"
-Block = tuple[int, int, bytes]  # TCI, TCO, text
 PAGE = 0, 0x88
 
 
-def stl_of(blocks: Sequence[Block], changes: dict[int, dict[int, int]] | None = None) -> bytes:
+def stl_of(blocks: Sequence[Shown], changes: dict[int, dict[int, int]] | None = None) -> bytes:
     """A subtitle file, of whose blocks some bytes are changed, by the number of the block."""
     made = []
     for number, (begin, end, text) in enumerate(blocks, 1):
@@ -54,7 +54,7 @@ class Beside(Case):
 
     def setUp(self) -> None:
         super().setUp()
-        self.blocks: list[Block] = [(begin, end, b"Number %d" % number)
+        self.blocks: list[Shown] = [(begin, end, b"Number %d" % number)
                                     for number, (begin, end) in enumerate(times(10), 1)]
         self.stl = self.write("good.stl", stl_of(self.blocks))
         self.sent = sendings(self, self.stl)
@@ -266,7 +266,7 @@ class AtRandom(Case):
 
     def random_file(self, chance: random.Random) -> bytes:
         """A few subtitles; times that overlap, fall, are empty or none; letters and bytes."""
-        blocks: list[Block] = []
+        blocks: list[Shown] = []
         frame = chance.randrange(1, 1000)
         for number in range(chance.randrange(1, 9)):
             begin = frame + chance.choice([0, 0, 5, 40, -60 if number else 0])

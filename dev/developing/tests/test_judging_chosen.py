@@ -4,12 +4,10 @@ from __future__ import annotations
 import itertools
 import json
 import os
-import re
 from collections import Counter
 from typing import Any, Sequence
 
 from developing.pes import data_field, pes_packet, pts_in, teletext_packets
-from developing.stl import gsi_block, subtitle_blocks
 from subtitles.cli.main import parser_of
 from subtitles.cli.measure import (
     Delays, Measured as Shown, every_of, measure, never_words, pace_found, profile_lines)
@@ -18,13 +16,14 @@ from subtitles.common.times import TICKS, time_of
 from subtitles.request.lines import profile_at, read_options
 from subtitles.request.request import CHOICES, option_line, request_of
 from subtitles.stream.gaps import PAUSED, Pace, REGULAR, Repeats
-from .bench import Case, example, packets, tool_path
-from .judged import Judged, ORIGIN, Sent, apart, in_pipe, joined, judged, programme, sendings, times
-from .muxed import AHEAD, Maker, Shape, TELETEXT_PID, components, multiplexed
+from .bench import Case, example, tool_path
+from .judged import Judged, OfProgramme, judged
+from .muxed import NEW, OLD, Shape, in_turn, multiplexed, stream
 from .parts import asked_for
 from .results import wrong_choices
+from .sent import (
+    ORIGIN, apart, in_pipe, joined, packets, programme, scheduled, sendings, subtitle_file, times)
 from .test_judging_reasons import KEEPING_HEADER
-from .test_stream_moves import NEW, OLD, in_turn
 
 
 # What `qc` chooses by itself stands in the JSON result, by the evidence that was printed; what was
@@ -91,10 +90,7 @@ class Chosen(Case):
     def test_moves(self) -> None:
         """Both PIDs are chosen, by what each of them has."""
         stl = programme(self, times(10))
-        self.schedule(stl, "sent.pes", "--every", "25")
-        data = self.read("sent.pes")
-        pes = [data[at.start():] for at in re.finditer(b"\0\0\1\xbd", data)]
-        pes = [one[:6 + int.from_bytes(one[4:6], "big")] for one in pes]
+        pes = scheduled(self, stl, "--every", "25")
         found = judged(self, stl, self.write("one.ts", in_turn(pes, [(0, OLD), (20, NEW)])),
                        "--origin", "0", "--every", "25")
         said = [one for one in told(found) if one[0] == "pid"]
@@ -117,7 +113,7 @@ class Chosen(Case):
              "the one before: --pace 1")] and pace[0][3] > 5_000, found.said)
         made = multiplexed([pes_packet(pts + TICKS * 250, some) for pts, some in every
                         if some or pts // TICKS % 60 < 25], Shape(100))
-        path = self.write("one.ts", b"".join(one.data for one in made))
+        path = self.write("one.ts", stream(made))
         for words in ((), ("--pace", "none")):
             found = judged(self, stl, path, "--origin", f"{TICKS * 250}", *words)
             pace = [one for one in told(found) if one[0] == "pace"]
@@ -196,29 +192,26 @@ class Pages(Case):
             self.must(f"{page}: not sent", found.word == "not judged", found.said)
 
 
-class Pids(Case):
+class Pids(OfProgramme):
     """What comes in the place of Teletext."""
+
+    words = WORDS
 
     def setUp(self) -> None:
         super().setUp()
-        self.stl = programme(self, times(10))
-        self.schedule(self.stl, "one.pes", "--every", "25")
-        self.pes = packets(self.read("one.pes"))
-        last = self.pes[-1]
-        self.pes += [pes_packet(pts_in(last) + 90_000 * at, teletext_packets(data_field(last)))
-                     for at in range(1, 5)]
+        last, blank = self.sent[-1]
+        self.pes += [pes_packet(last + 90_000 * at, blank) for at in range(1, 5)]
 
     def stream(self, first: int, number: int) -> bytes:
         """From a PES packet on of another kind, or of another length."""
-        made = Maker(components())
-        made.put_tables()
-        for at, one in enumerate(self.pes):
-            made.put_pcr(pts_in(one) - AHEAD)
+        def carried(at: int) -> list[tuple[int, bytes]]:
+            one = self.pes[at]
             if at >= first:
                 one = b"\0\0\1\xbf" + one[4:] if number == 31 else \
                     one[:4] + (len(one) + 4).to_bytes(2, "big") + one[6:] + b"\xff" * 10
-            made.put(TELETEXT_PID, one)
-        return made.data
+            return [(OLD, one)]
+
+        return in_turn(self.pes, [(0, OLD)], carried)
 
     def test_something_else(self) -> None:
         """What comes up to then is judged, and why it ends is told; after the programme it changes
@@ -240,7 +233,7 @@ class Pids(Case):
                               found.parts("pes") == [(f"0-{end}",)] and not any(
                                   one["kind"] == "cut" for one in found.result["warnings"]),
                               found.said)
-        found = judged(self, self.stl, self.write("one.ts", self.stream(0, 31)), *WORDS)
+        found = self.judge_stream(self.stream(0, 31))
         self.must("nothing", found.word == "not judged" and
                   "no PES packets of private_stream_1" in found.told[0], found.told)
 
@@ -263,15 +256,9 @@ class Measured(Case):
 
     def file(self, name: str, end: str = "", justify: int = 2, count: int = 12) -> str:
         """A subtitle file of so many; `end` stands at both ends of each line."""
-        blocks = [subtitle_blocks(number, FIRST + EACH * number, FIRST + EACH * number + LASTS, 20,
-                                  justify, text_of(number, end)) for number in range(count)]
-        return self.write(name, gsi_block(b"Measured", count, count) + b"".join(blocks))
-
-    def sent(self, stl: str, *words: str) -> Sent:
-        """What the program sends of it."""
-        self.schedule(stl, "planned.pes", "--every", "25", *words)
-        return [(pts_in(one), teletext_packets(data_field(one)))
-                for one in packets(self.read("planned.pes"))]
+        return subtitle_file(self, [(begin, begin + LASTS, text_of(number, end))
+                                    for number in range(count)
+                                    for begin in [FIRST + EACH * number]], name, 0, 20, justify)
 
     def profile(self, *words: str) -> list[str]:
         """What is printed of a call, which a profile may have."""
@@ -306,7 +293,7 @@ class Measured(Case):
         """What is measured of a house accepts what the house sends: layout, repeats that keep, late
         cues; read as it was printed."""
         stl = self.file("one.stl")
-        sent = self.sent(stl, "--layout", "fit,after=0A")
+        sent = sendings(self, stl, "--layout", "fit,after=0A")
         moved = []
         for pts, some in sent:
             frame = pts // TICKS - FIRST
@@ -325,7 +312,7 @@ class Measured(Case):
         """Begins and ends apart, where a clock is given; of the first begin nothing is known, since
         nothing came before. The early ones are named, and accepted by nothing."""
         stl = self.file("one.stl")
-        sent = self.sent(stl)
+        sent = sendings(self, stl)
         rows: list[tuple[str, dict[int, int], dict[int, int], tuple[str, str, list[str]]]] = [
                 ("none", {}, {}, ("0:11", "0:12", [])),
                 ("begins", {1: 3, 2: 1}, {}, ("0:9, 1:1, 3:1", "0:12", [
@@ -364,8 +351,8 @@ class Measured(Case):
                 ("before=0B", "receivers show a line behind two start boxes"),
                 ("row=-10", "no house moves all by more than 2 rows"), ("row=-1", ""),
                 ("before=0B0B06", ""), ("double,row=-1", ""), ("", "")):
-            pes = self.write("one.pes", joined(self.sent(
-                stl, *(["--layout", text] if text else []))))
+            pes = self.write("one.pes", joined(sendings(
+                self, stl, *(["--layout", text] if text else []))))
             lines = self.profile(stl, pes)
             found = [line for line in lines if line.startswith("--layout")]
             self.must(text, found == ([f"--layout {text}"] if text and not why else []), lines)
@@ -375,8 +362,8 @@ class Measured(Case):
                 ("spaces", " ", 2, (), "a space stands in the box in 12 of these 12 others"),
                 ("block", "", 1, ("--layout", "left=9"),
                  "lines are a block, aligned left, in ")):
-            pes = self.write("one.pes", joined(self.sent(
-                self.file(f"{name}.stl", end, justify), *words)))
+            pes = self.write("one.pes", joined(sendings(
+                self, self.file(f"{name}.stl", end, justify), *words)))
             lines = self.profile(stl, pes)
             self.must(name, not any(line.startswith("--layout") for line in lines) and
                       any(said in line for line in lines) and
@@ -387,7 +374,7 @@ class Measured(Case):
     def test_against(self) -> None:
         """A subtitle that the house drew otherwise is named beside what is proposed."""
         stl = self.file("one.stl")
-        one, other = self.sent(stl, "--layout", "after=0A"), self.sent(stl)
+        one, other = sendings(self, stl, "--layout", "after=0A"), sendings(self, stl)
         frame = (FIRST + 3 * EACH) * TICKS
         mixed = [second if frame <= first[0] < frame + LASTS * TICKS else first
                  for first, second in zip(one, other)]
@@ -401,7 +388,7 @@ class Measured(Case):
     def test_keeping(self) -> None:
         """Headers that keep the page, where nothing else of them is wrong."""
         stl = self.file("one.stl")
-        sent = self.sent(stl)
+        sent = sendings(self, stl)
         for name, changed, is_proposed in (("erase", None, False), ("keep", KEEPING_HEADER, True)):
             pes = self.write("one.pes", joined([
                 (pts, [changed if changed and at == 0 and (pts // TICKS - FIRST) % EACH in (25, 50)
@@ -452,7 +439,7 @@ class Measured(Case):
 
     def test_wrong_words(self) -> None:
         stl = self.file("one.stl")
-        pes = self.write("one.pes", joined(self.sent(stl)))
+        pes = self.write("one.pes", joined(sendings(self, stl)))
         for words, said in (
                 ([stl], f"--measure takes pairs, STL RECORDING: {stl} has no recording"),
                 ([stl, pes, stl, pes, "--origin", "0"], "--origin is the clock of one recording"),

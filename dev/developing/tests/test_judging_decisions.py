@@ -14,7 +14,6 @@ from subtitles.cli.batch import Sighting, Watch
 from subtitles.cli.channel.spool import spool_of
 from subtitles.clock.origin import Origin
 from subtitles.clock.start import Clock, Found, RECORDING, START
-from subtitles.common.command_line import Words
 from subtitles.common.times import Between, Span, TICKS
 from subtitles.formats.stl import NamedSubtitle, Subtitle, SubtitleFile
 from subtitles.judging.part import parted, refuse_others
@@ -22,14 +21,15 @@ from subtitles.judging.timing import unclear_origin, with_delay
 from subtitles.judging.verdict import frames_until
 from subtitles.recording.notices import of_page
 from subtitles.request.lines import of_folder, request_of_line
-from subtitles.request.request import Unclear, add_options
+from subtitles.request.request import Unclear
 from subtitles.results.files import hint_in
 from subtitles.results.schema import ASKED, total
 from subtitles.stream.packets import Packets
 from subtitles.stream.receiver import BLANK_PAGE, FEW, Rows, Timeline
 from subtitles.stream.survey import Announced
 from .bench import Case
-from .parts import CLOSING, HEADER, PAGE, asked_for, call_words, packets_told, row, timeline_of
+from .parts import asked_for, call_words, defaults, packets_told, timeline_of
+from .sent import CLOSING, HEADER, PAGE, row
 
 
 class Objects(Case):
@@ -62,13 +62,10 @@ class Objects(Case):
                    ["--within", "3"], ["--breaks", "2"], ["--pes", "2-9"], ["--pid", "0x101"],
                    ["--start", "10:00:00:00"], ["--severity", "file"], ["--no-complete"],
                    ["--allow-lost"]]
-        parser = Words("")
-        add_options(parser)
-        defaults = parser.parse_args([])
         every = [word for one in options if one[0] != "--start" for word in one]
         for words in [list[str](), *options, every]:
             asked = asked_for("one.stl", "one.pes", *words)
-            again = request_of_line(call_words(asked), defaults)
+            again = request_of_line(call_words(asked), defaults())
             self.must(f"{words}", ASKED.made(again) == ASKED.made(asked), again)
 
 
@@ -172,13 +169,6 @@ class Folders(Case):
 def subtitle(index: int, begin: int) -> Subtitle:
     """A subtitle of a frame."""
     return Subtitle(index, index, begin, begin + 1, 20, 2, b"text")
-
-
-def defaults() -> argparse.Namespace:
-    """The options of a call that has none."""
-    parser = Words("")
-    add_options(parser)
-    return parser.parse_args([])
 
 
 class Files(Case):

@@ -26,9 +26,9 @@ from subtitles.request.commands import CLEAR, Listener, Progress, Speech
 from subtitles.request.request import Unclear
 from subtitles.stream.receiver import BLANK_PAGE, Meeting, OLD
 from .bench import Case
-from .judged import Heard, ORIGIN
-from .parts import (
-    CLOSING, HEADER, answer, asked_for, packets_told, part_with, row, script, timeline_of)
+from .judged import Heard
+from .parts import answer, asked_for, packets_told, part_with, script, timeline_of
+from .sent import CLOSING, HEADER, ORIGIN, row
 from .test_judging_verdicts import verdict_of
 
 BEFORE = CLOCK - 60 * TICKS  # an origin whose frames go on over the wrap

@@ -6,8 +6,7 @@ import random
 import sys
 from typing import Callable, NamedTuple
 
-from developing.multiplex import ADAPTATION_ALONE, PACKET, head
-from developing.pes import data_field, pes_packet, pts_in, teletext_packets
+from developing.pes import pes_packet
 from developing.stl import gsi_block, subtitle_blocks
 from subtitles.common.command_line import quoted
 from subtitles.common.times import TICKS
@@ -16,10 +15,11 @@ from subtitles.formats.stl import Subtitle
 from subtitles.formats.teletext import ENGLISH
 from subtitles.judging.pages import cells_words
 from subtitles.stream.layout import sent_in
-from .bench import BENCH, Case, packets
-from .judged import Judged, Sent, joined, judged
-from .muxed import Sent as Packet, Shape, TELETEXT_PID, multiplexed
-from .parts import CLOSING, HEADER, row, timeline_of
+from .bench import BENCH, Case
+from .judged import Judged, judged
+from .muxed import Shape, multiplexed, stream, with_loss
+from .parts import timeline_of
+from .sent import CLOSING, HEADER, Sent, joined, row, sendings
 from .test_stream_layouts import HOUSES, line
 
 
@@ -285,15 +285,7 @@ def recorded(one: Programme, sent: Sent) -> bytes:
     if not one.is_stream:
         return joined(sent[:place] + sent[place + min(one.lost, 9):])
     made = multiplexed([pes_packet(pts, some) for pts, some in sent], Shape(150))
-    own = [at for at, packet in enumerate(made) if packet.pid == TELETEXT_PID]
-    begin = pes_packet(sent[place][0], [])[9:14]
-    first = next(number for number, at in enumerate(own) if begin in made[at].data[4:40])
-    gone = own[first:first + one.lost]
-    field = bytes([PACKET - 5, 0x80]).ljust(PACKET - 4, b"\xff")
-    says = Packet(TELETEXT_PID, head(TELETEXT_PID, 0, ADAPTATION_ALONE) + field)
-    made = [says if at in gone else packet for at, packet in enumerate(made)
-            if at not in gone or one.is_announced and at == gone[-1]]
-    return b"".join(packet.data for packet in made)
+    return stream(with_loss(made, sent[place][0], one.lost, one.is_announced))
 
 
 def judge(case: Case, seed: int) -> tuple[Programme, Judged]:
@@ -302,19 +294,12 @@ def judge(case: Case, seed: int) -> tuple[Programme, Judged]:
     stl = file_of(case, one.file, f"{seed}.stl")
     other = file_of(case, one.sent, f"{seed}.sent.stl")
     layout = ["--layout", one.text] if one.text else []
-    pes = case.schedule(other, "planned.pes", "--every", "25", *layout)
-    sent = filled(spoilt(one, sendings_of(case, pes)), one.step)
+    sent = filled(spoilt(one, sendings(case, other, *layout)), one.step)
     profile = case.write(f"{seed}.profile", (
         f"--layout {quoted(one.text)}\n" * bool(one.text) + one.profile).encode())
     name = f"{seed}.ts" if one.is_stream else f"{seed}.pes"
     path = case.write(name, recorded(one, sent))
     return one, judged(case, stl, path, "--profile", profile, *["--origin", "0"] * one.is_known)
-
-
-def sendings_of(case: Case, path: str) -> Sent:
-    """The PES packets of a file, each with its Teletext packets."""
-    with open(path, "rb") as file:
-        return [(pts_in(one), teletext_packets(data_field(one))) for one in packets(file.read())]
 
 
 def is_sound(one: Programme, told: Judged) -> bool:

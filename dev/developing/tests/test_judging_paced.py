@@ -2,13 +2,11 @@
 is of; and a note says where none is."""
 from __future__ import annotations
 
-from developing.multiplex import ADAPTATION_ALONE, PACKET, head
 from developing.pes import STUFFING_UNIT, pes_packet
 from subtitles.common.times import TICKS
-from .bench import Case
-from .judged import Judged, Sent, joined, judged, programme, sendings
-from .muxed import Sent as Packet, Shape, TELETEXT_PID, multiplexed
-from .parts import CLOSING, HEADER, row
+from .judged import OfProgramme, judged
+from .muxed import Packet, Shape, multiplexed, of_teletext, with_loss
+from .sent import CLOSING, HEADER, Sent, programme, row, sendings
 from .test_stream_pace import BEGIN, TIMES, filled
 
 WRONG = [HEADER, row(22, b"Wrong"), CLOSING]
@@ -22,35 +20,20 @@ def large(data: bytes, count: int) -> bytes:
     return made[:4] + (len(made) - 6).to_bytes(2, "big") + made[6:]
 
 
-def of_pid(made: list[Packet], frame: int) -> list[int]:
-    """The places of the TS packets of the PID from the PES packet of a frame on."""
-    begin = pes_packet(frame * TICKS, [])[9:14]  # its PTS
-    first = next(at for at, one in enumerate(made)
-                 if one.pid == TELETEXT_PID and begin in one.data[4:40])
-    return [at for at in range(first, len(made)) if made[at].pid == TELETEXT_PID]
-
-
 def lost(made: list[Packet], count: int, is_announced: bool = False, frame: int = AT
          ) -> list[Packet]:
-    """Without so many TS packets of the PID from the wrong page on; the jump of the counter may be
-    announced, by a packet without a payload."""
-    gone = of_pid(made, frame)[:count]
-    field = bytes([PACKET - 5, 0x80]).ljust(PACKET - 4, b"\xff")
-    says = Packet(TELETEXT_PID, head(TELETEXT_PID, 0, ADAPTATION_ALONE) + field)
-    return [says if at == gone[-1] else one for at, one in enumerate(made)
-            if at not in gone or is_announced and at == gone[-1]]
+    """Without so many TS packets of the PID from the wrong page on."""
+    return with_loss(made, frame * TICKS, count, is_announced)
 
 
-class Hidden(Case):
+class Hidden(OfProgramme):
     """A wrong page that nobody recorded."""
 
-    def judge(self, made: list[Packet], *words: str) -> Judged:
-        self.write("one.ts", b"".join(one.data for one in made))
-        return judged(self, self.path("one.stl"), self.path("one.ts"), "--origin", "0", *words)
+    due = TIMES
 
-    def sent(self, every: int = 25) -> Sent:
+    def with_wrong(self, every: int = 25) -> Sent:
         """A PES packet in each frame, of which one has a wrong page."""
-        sent = filled(sendings(self, programme(self, TIMES), every=every))
+        sent = filled(sendings(self, self.stl, every=every))
         return [*sent[:PLACE], (sent[PLACE][0], WRONG), *sent[PLACE + 1:]]
 
     def multiplexed(self, sent: Sent, first: int, count: int, size: int) -> list[Packet]:
@@ -61,21 +44,20 @@ class Hidden(Case):
 
     def test_two_large_ones(self) -> None:
         """16 TS packets of two PES packets, where most others take one."""
-        sent = self.sent()
-        whole = self.judge(self.multiplexed(sent, PLACE, 2, 8))
+        sent = self.with_wrong()
+        whole = self.judge_stream(self.multiplexed(sent, PLACE, 2, 8))
         self.must("it is wrong", whole.word == "refused" and
                   {one["number"] for one in whole.result["faults"]} == {72}, whole.listed)
         for count, size in ((2, 8), (4, 8), (4, 4), (16, 1)):
-            told = self.judge(lost(self.multiplexed(sent, PLACE, count, size), count * size))
+            told = self.judge_stream(lost(self.multiplexed(sent, PLACE, count, size), count * size))
             self.must(f"{count}", told.word == "refused" and told.parts("pace") == [(2,)] and
                       told.result["line"] == "refused 79 Silent frame 10:00:12:01", told.said)
 
     def test_files_of_pes_packets(self) -> None:
         """1 to 7 PES packets that are missing from a file of them."""
-        sent = self.sent()
+        sent = self.with_wrong()
         for count in (1, 2, 3, 5, 7):
-            self.write("one.pes", joined(sent[:PLACE] + sent[PLACE + count:]))
-            told = judged(self, self.path("one.stl"), self.path("one.pes"), "--origin", "0")
+            told = self.judge(sent[:PLACE] + sent[PLACE + count:])
             self.must(f"{count}", told.word == "refused" and told.parts("pace") == [(1,)] and
                       told.result["line"] == "refused 79 Silent frame 10:00:12:00"
                       and "--pace none" not in told.verdict.sentence, told.said)
@@ -85,10 +67,9 @@ class Hidden(Case):
     def test_files_that_come_closer(self) -> None:
         """Where one is as far from the second next one as from the next one elsewhere, that between
         them may be missing, and a note says so."""
-        sent = self.sent(50)
+        sent = self.with_wrong(50)
         each_other = [one for at, one in enumerate(sent) if at % 2 == 0 or at == PLACE + 1]
-        path = self.write("one.pes", joined(each_other))
-        told = judged(self, self.path("one.stl"), path, "--origin", "0")
+        told = self.judge(each_other)
         self.must("closer", told.parts("pace") == [(2,)] and "not checked: whether a PES packet of "
                   "this file is missing, at 1 place where they come closer" in
                   told.result["notes"], told.said)
@@ -106,52 +87,49 @@ class Hidden(Case):
         wrong = [*sent[:place], (sent[place][0], WRONG), *sent[place + 1:]]
         for name, some, word in (("it is wrong", wrong, "refused"),
                                  ("missing", sent[:place] + sent[place + 1:], "accepted")):
-            self.write("one.pes", joined(some))
-            told = judged(self, self.path("one.stl"), self.path("one.pes"), "--origin", "0",
-                          "--every", "25")
+            told = self.judge(some, "--every", "25")
             self.must(name, told.word == word and told.parts("pace") == [(25,)] and any(
                 "is missing, at " in note for note in told.result["notes"]), told.said)
 
     def test_announced(self) -> None:
         """A hole at which a jump of the counter is announced, which then tells nothing, is 45 where
         more time passes than usual."""
-        made = self.multiplexed(self.sent(), 0, 1 << 20, 3)
-        whole = self.judge(made)
+        made = self.multiplexed(self.with_wrong(), 0, 1 << 20, 3)
+        whole = self.judge_stream(made)
         self.must("it is wrong", whole.word == "refused" and whole.result["lost"] == [], whole.said)
         line = "between 10:00:11:24 and 10:00:12:01: more time passes than usual, and a jump of " \
             "the counter is announced"
         for words, word in (((), "lost"), (("--pace", "none"), "lost"),
                             (("--allow-lost",), "accepted")):
-            told = self.judge(lost(made, 3, True), *words)
+            told = self.judge_stream(lost(made, 3, True), *words)
             self.must(f"one, {words}", told.word == word and line in told.told and
                       [one["judged"] for one in told.result["lost"]] == [True]
                       and told.listed[-1].startswith("accepted"), told.said)
-        own, later, more = self.sent(), (BEGIN + 730) * TICKS, 400 * TICKS
+        own, later, more = self.with_wrong(), (BEGIN + 730) * TICKS, 400 * TICKS
         broken = [one for one in own if one[0] < later]
         broken += [(later + at * TICKS, []) for at in range(400)]
         broken += [(pts + more, some) for pts, some in own if pts >= later]
-        told = self.judge(lost(self.multiplexed(broken, 0, 1 << 20, 3), 3, True), "--breaks", "1")
+        told = self.judge_stream(lost(self.multiplexed(broken, 0, 1 << 20, 3), 3, True),
+                                 "--breaks", "1")
         self.must("before a break", told.word == "lost" and line in told.told
                   and [one["judged"] for one in told.result["lost"]] == [True], told.said)
-        told = self.judge(lost(made, 5, True))  # one, and the first two thirds of another
+        told = self.judge_stream(lost(made, 5, True))  # one, and the first two thirds of another
         self.must("five", told.word == "refused" and
                   told.result["line"] == "refused 45 Lost pes 300", told.said)
-        told = self.judge(lost(made, 6, True))
+        told = self.judge_stream(lost(made, 6, True))
         self.must("two", told.word == "refused" and
                   told.result["line"] == "refused 79 Silent frame 10:00:12:01", told.said)
 
     def test_few(self) -> None:
         """Of fewer than 101 PES packets no pace is measured: what is missing is not seen, and a
         note says so; a jump that is announced is 45 all the same, and what --every tells 73."""
-        sent = [one for at, one in enumerate(self.sent()) if at % 12 == 0 or one[1]]
+        sent = [one for at, one in enumerate(self.with_wrong()) if at % 12 == 0 or one[1]]
         sent = [one for one in sent if one[0] // TICKS < BEGIN + 600]
         place = [pts // TICKS for pts, _ in sent].index(AT)
         note = "not checked: whether PES packets of this file are missing: they are too few to " \
             "measure a pace"
         for some, word in ((sent, "refused"), (sent[:place] + sent[place + 1:], "accepted")):
-            self.write("one.pes", joined(some))
-            told = judged(self, self.path("one.stl"), self.path("one.pes"), "--origin", "0", "--to",
-                          "10:00:18:00")
+            told = self.judge(some, "--to", "10:00:18:00")
             known = [one.replace(self.folder + "/", "") for one in told.result["notes"]]
             self.must(f"a file, {word}", len(sent) < 101 and told.word == word and note in known
                       and told.parts("pace") == [(None,)], told.said)
@@ -160,14 +138,14 @@ class Hidden(Case):
             "are too few to measure a pace"
         for count, is_announced, word in ((0, False, "refused"), (16, False, "accepted"),
                                           (4, True, "lost")):
-            told = self.judge(lost(made, count, is_announced) if count else made, "--to",
+            told = self.judge_stream(lost(made, count, is_announced) if count else made, "--to",
                               "10:00:18:00")
             self.must(f"{count}", told.word == word and note in told.told, told.said)
 
     def test_announced_within_what_is_usual(self) -> None:
         """Where there is a frame for a PES packet that would not be missed at a jump that is
         announced, a note says so."""
-        sent = self.sent(50)
+        sent = self.with_wrong(50)
         sent = [one for at, one in enumerate(sent) if at % 2 == 0 or one[1]]
         wrong = sent.index((AT * TICKS, WRONG))
         frame = sent[wrong - 1][0] // TICKS + 1  # between two that stay
@@ -176,15 +154,16 @@ class Hidden(Case):
         note = "not checked: whether some of PID 0x101 is missing at 1 place where a jump of its " \
             "counter is announced"
         for words in ((), ("--pace", "3"), ("--pace", "none")):
-            whole, told = self.judge(made, *words), self.judge(lost(made, 3, True, frame), *words)
+            whole = self.judge_stream(made, *words)
+            told = self.judge_stream(lost(made, 3, True, frame), *words)
             self.must(f"{words}", whole.word == "refused" and note not in whole.told and
                       told.word == "accepted" and told.told.count(note) == 1 and
                       note in told.result["notes"] and told.result["lost"] == [], told.said)
 
     def test_announced_where_nothing_is_missing(self) -> None:
         """A jump in the distance that is usual is none of these, nor is one without a jump."""
-        made = self.multiplexed(self.sent(), 0, 0, 1)
-        at = of_pid(made, AT + 60)[0]
-        says = lost(made, 1, True)[of_pid(made, AT)[0]]
-        told = self.judge([*made[:at], says, *made[at:]])
+        made = self.multiplexed(self.with_wrong(), 0, 0, 1)
+        at = of_teletext(made, (AT + 60) * TICKS)[0]
+        says = lost(made, 1, True)[of_teletext(made, AT * TICKS)[0]]
+        told = self.judge_stream([*made[:at], says, *made[at:]])
         self.must("usual", told.word == "refused" and told.result["lost"] == [], told.said)

@@ -6,11 +6,13 @@ from __future__ import annotations
 from typing import Sequence
 
 from developing.pes import DATA, MARK, UNIT, mirrored, pes_packet, pts_bytes, pts_in
-from developing.stl import gsi_block, subtitle_blocks
 from subtitles.common.times import CLOCK, TICKS, time_of
-from .bench import Case, example, example_bytes, moved, packets, random_subtitles
-from .judged import FEW, Judged, ORIGIN, Sent, joined, judged, one_late, programme, sendings, times
+from .bench import example, example_bytes
+from .judged import FEW, OfProgramme, judged
 from .results import agrees
+from .sent import (
+    ORIGIN, Sent, joined, moved, one_late, packets, programme, random_subtitles, subtitle_file,
+    times)
 
 STORY, HELLO, ACCENT = example("story.stl"), example("hello.stl"), example("accent.stl")
 UNREAD = "nothing of the recording was read, and --severity leaves no fault an error"
@@ -29,14 +31,13 @@ def broken(packet: bytes, number: int) -> bytes:
     return packet[:at] + bytes([packet[at] ^ bits]) + packet[at + 1:]
 
 
-class Unread(Case):
+class Unread(OfProgramme):
     """Recordings of which some can't be read, or is lost: what follows is judged."""
+
+    due, every, origin = [(60 * at, 60 * at + 60) for at in range(2, 22)], 12, ORIGIN
 
     def setUp(self) -> None:
         super().setUp()
-        self.stl = programme(self, [(60 * at, 60 * at + 60) for at in range(2, 22)])
-        self.pes = [pes_packet(ORIGIN + pts, some)
-                    for pts, some in sendings(self, self.stl, 0, 12)]
         self.frames = [(pts_in(one) - ORIGIN) // TICKS for one in self.pes]
 
     def test_numbers(self) -> None:
@@ -126,16 +127,10 @@ class Unread(Case):
                       (UNREAD if is_unread else None), found.result)
 
 
-class Said(Case):
+class Said(OfProgramme):
     """What is said of a pair, of one part."""
 
-    def setUp(self) -> None:
-        super().setUp()
-        self.stl = programme(self, times(20), first=50)
-        self.sent = sendings(self, self.stl)
-
-    def judge(self, sent: Sent, *words: str) -> Judged:
-        return judged(self, self.stl, self.write("one.pes", joined(sent)), "--origin", "0", *words)
+    due, first = times(20), 50
 
     def test_sentences(self) -> None:
         """Of all but the first, of some in the middle, of one; of what is accepted and waived."""
@@ -294,10 +289,8 @@ class Said(Case):
 
     def test_options(self) -> None:
         """Complete pages, the page, the national option, severities."""
-        texts = (b"Gr\xc8u\xfbe", b"Ja")
-        stl = self.write("two.stl", gsi_block(b"Two", 2, 2, language=b"08") + b"".join(
-            subtitle_blocks(at, 90_000 + 100 * at, 90_050 + 100 * at, 20, 2, text)
-            for at, text in enumerate(texts)))
+        stl = subtitle_file(self, [(90_000, 90_050, b"Gr\xc8u\xfbe"), (90_100, 90_150, b"Ja")],
+                            "two.stl", language=b"08")
         self.schedule(stl, "two.pes", "--page", "1A9", "--option", "german", "--origin", "4242")
         two, no_end, five = self.path("two.pes"), example("no-end.pes"), example("five-faults.pes")
         faults = b"".join(b"%d warning\n" % number for number in (67, 68, 69, 72, 73))

@@ -10,11 +10,11 @@ from subtitles.clock.start import FITTED, FITTED_LATER, GIVEN, RECORDING
 from subtitles.common.command_line import counted
 from subtitles.common.times import CLOCK, EARLY, TICKS, time_of
 from subtitles.judging.timing import origin_in
-from .bench import Case, example
-from .judged import (
-    Change, EACH, FEW, Judged, LASTS, ORIGIN, Sent, apart, joined, judged, late, one_late,
-    programme, sendings, times)
+from .bench import example
+from .judged import FEW, Judged, OfProgramme, judged
 from .parts import packets_told
+from .sent import (
+    Change, EACH, LASTS, ORIGIN, Sent, apart, joined, late, one_late, programme, sendings, times)
 
 HELLO = example("hello.stl")
 WARNING = "! warning: the page is repeated each 25 frames; --every 25 would hold it to that"
@@ -25,17 +25,17 @@ def cause_of(number: int, begin: int, by: int) -> str:
         f'{counted(by, "frame")}'
 
 
-class Parts(Case):
+class Parts(OfProgramme):
     """Three parts of eight subtitles, after breaks and where PTS go back."""
+
+    due = times(24)
 
     def setUp(self) -> None:
         super().setUp()
-        self.stl = programme(self, times(24))
-        self.sent = sendings(self, self.stl)
         self.at = {pts // TICKS: number for number, (pts, _) in enumerate(self.sent)}
 
-    def judge(self, shifts: tuple[int, ...], changes: dict[int, int], *words: str,
-              marks: Sequence[int] = ()) -> Judged:
+    def judge_parts(self, shifts: tuple[int, ...], changes: dict[int, int], *words: str,
+                    marks: Sequence[int] = ()) -> Judged:
         """Some subtitles are so many frames late, and before some PES packets there is a mark."""
         sent = self.sent
         for number, by in changes.items():
@@ -54,7 +54,7 @@ class Parts(Case):
         rows: list[tuple[tuple[int, ...], list[str]]] = [
             ((1000, 3000), []), ((-5000, 2000), given), ((1000,), given), ((-1000,), [])]
         for shifts, words in rows:
-            found = self.judge(shifts, {}, *words)
+            found = self.judge_parts(shifts, {}, *words)
             count = len(shifts) + 1
             ends = [*(end for _, end in edges[:count - 1]), 2460]
             origins = [ORIGIN + TICKS * shift for shift in (0, *shifts)]
@@ -83,7 +83,7 @@ class Parts(Case):
                     for one in found.result["subtitles"]]
             self.must(f"{shifts}: each", each == [(1 + (at > 8) + (at > 16) * (count > 2), at, 0)
                                                   for at in range(1, 25)])
-            of_all = self.judge(shifts, {}, *words, "--pes", f"0-{len(self.sent) - 1}")
+            of_all = self.judge_parts(shifts, {}, *words, "--pes", f"0-{len(self.sent) - 1}")
             self.must(f"{shifts}: all PES packets", of_all.parts(
                 "part", "from", "to", "origin", "pes", "verdict") == members, of_all.said)
 
@@ -93,7 +93,7 @@ class Parts(Case):
             {3: 2}, {10: 3}, {19: 1}, {3: 2, 10: 4, 19: 3}, {3: 5, 19: 2}, {10: 2, 19: 6},
             {3: 7, 10: 1}]
         for changes in every:
-            found = self.judge((1000, 3000), changes, "--origin", str(ORIGIN))
+            found = self.judge_parts((1000, 3000), changes, "--origin", str(ORIGIN))
             refused = [(number - 1) // 8 for number in changes]
             self.must(f"{changes}: parts", [one[0] for one in found.parts("verdict")] == [
                 "refused" if at in refused else "accepted" for at in range(3)], found.said)
@@ -124,10 +124,10 @@ class Parts(Case):
 
     def test_within(self) -> None:
         """Where parts are judged within N: the sums."""
-        found = self.judge((1000, 3000), {10: 2, 19: 4}, "--within", "1")
+        found = self.judge_parts((1000, 3000), {10: 2, 19: 4}, "--within", "1")
         self.must("refused", "subtitles are whole after 0 to 4 frames, 0 in the middle" in
                   found.said[-5:], found.said)
-        found = self.judge((1000, 3000), {10: 2, 19: 4}, "--within", "4")
+        found = self.judge_parts((1000, 3000), {10: 2, 19: 4}, "--within", "4")
         self.must("accepted", found.word == "accepted")
 
     def test_losses(self) -> None:
@@ -138,7 +138,7 @@ class Parts(Case):
             ([3], [1]), ([self.at[1000]], [2]), ([self.at[885]], [1]), ([3, self.at[2000]], [1, 3]),
             ([len(self.sent)], [])]
         for at, (places, own) in enumerate(rows):
-            found = self.judge((1000, 3000), {}, *every, *clock, marks=places)
+            found = self.judge_parts((1000, 3000), {}, *every, *clock, marks=places)
             self.must(f"{at}: parts", [one[0] for one in found.parts("verdict")] == [
                 "refused" if number in own else "accepted" for number in (1, 2, 3)], found.said)
             lost = found.result["lost"]
@@ -148,7 +148,8 @@ class Parts(Case):
                 time_of(self.sent[place - 1][0] // TICKS) for place in places[:len(own)]], lost)
             self.must(f"{at}: lost", found.verdict.is_lost == bool(own) and
                       ("not recorded" in "".join(found.told)) == bool(own))
-            allowed = self.judge((1000, 3000), {}, *every, *clock, "--allow-lost", marks=places)
+            allowed = self.judge_parts((1000, 3000), {}, *every, *clock, "--allow-lost",
+                                       marks=places)
             self.must(f"{at}: allowed", allowed.word == ("waived" if own else "accepted"))
 
     def test_no_break(self) -> None:
@@ -198,16 +199,10 @@ def under_load(sent: Sent) -> Sent:
     return [(pts + TICKS * chance.randrange(3), some) for pts, some in sent]
 
 
-class Within(Case):
+class Within(OfProgramme):
     """Recordings in which pages come over several frames."""
 
-    def setUp(self) -> None:
-        super().setUp()
-        self.stl = programme(self, times(10), 2)
-        self.sent = [(ORIGIN + pts, some) for pts, some in sendings(self, self.stl)]
-
-    def judge(self, sent: Sent, *words: str) -> Judged:
-        return judged(self, self.stl, self.write("one.pes", joined(sent)), *words)
+    lines, origin, words = 2, ORIGIN, ()
 
     def test_ways(self) -> None:
         """Refused without, accepted within some frames, with the clock that is given and with one

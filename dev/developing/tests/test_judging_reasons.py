@@ -3,7 +3,7 @@ from __future__ import annotations
 
 from typing import Sequence
 
-from developing.pes import address_of, header_of, packet, pes_packet, pts_in
+from developing.pes import address_of, header_of, packet, pes_packet
 from subtitles.clock.origin import other_words
 from subtitles.common.times import Span, TICKS, time_of
 from subtitles.formats.listing import CONTENT
@@ -12,17 +12,18 @@ from subtitles.formats.teletext import CODE_WORDS
 from subtitles.judging.causes import EVEN, Faulty, IN_PARTS, Namer, REPEATED, UNSEEN
 from subtitles.judging.check import Answer
 from subtitles.judging.transmissions import (
-    DuePages, Headed, Kept, REPEATS, control_words, headed, kept_in, left_at, left_rows_words,
+    DuePages, Headed, REPEATS, control_words, headed, kept_in, left_at, left_rows_words,
     unerased_words)
 from subtitles.recording.recording import header_bytes, pes_header_words
 from subtitles.stream.gaps import Place, places_of, what_of
 from subtitles.stream.packets import Clocked, Mark, Packets, Run
 from subtitles.stream.receiver import BLANK_PAGE, Rows, TUNED, Timeline, subcode_of, turns_of
-from .bench import Case, packets
-from .judged import Judged, Sent, in_pipe, joined, judged, programme, sendings, times
-from .muxed import (
-    AHEAD, Maker, Shape, TELETEXT_PID, beside_video, components, multiplexed, put_teletext, without)
-from .parts import CLOSING, HEADER, PAGE, answer, asked_for, row, timeline_of
+from .bench import Case
+from .judged import Judged, OfProgramme, judged
+from .muxed import OLD, Shape, TELETEXT_PID, beside_video, in_turn, multiplexed, stream, without
+from .parts import answer, asked_for, timeline_of
+from .sent import (
+    CLOSING, HEADER, PAGE, Sent, in_pipe, joined, packets, programme, row, scheduled, times)
 
 
 # Why a recording is refused, or not judged: the reason that is told is the sender's fault.
@@ -45,19 +46,12 @@ def all_changed(sent: Sent, at: int, off: int, on: int) -> Sent:
     return [(pts, [changed(one, at, off, on) for one in some]) for pts, some in sent]
 
 
-class Reasons(Case):
+class Reasons(OfProgramme):
     """Ten subtitles, with a page transmission a second."""
-
-    def setUp(self) -> None:
-        super().setUp()
-        self.stl = programme(self, times(10))
-        self.sent = sendings(self, self.stl)
-        self.pes = packets(joined(self.sent))
 
     def test_erasing(self) -> None:
         """C4 is clear in all headers: that is told, and nothing of PES packets of one frame."""
-        path = self.write("one.pes", joined(all_changed(self.sent, 3, 8, 0)))
-        found = judged(self, self.stl, path, "--origin", "0", *WORDS)
+        found = self.judge(all_changed(self.sent, 3, 8, 0), *WORDS)
         words = "C4 (erase page) is clear in 49 of 49 headers: see --keeping in the profile"
         self.must("said", found.word == "refused" and found.verdict.sentence ==
                   'Refused: at 00:00:04:00 subtitle 1, "Number 1", may stand over old text on some '
@@ -89,8 +83,7 @@ class Reasons(Case):
         for wrong in (range(99), [0], [5]):
             sent = [(pts, [changed(one, 7, 14, 8) for one in some] if at in wrong else some)
                     for at, (pts, some) in enumerate(self.sent)]
-            found = judged(self, self.stl, self.write("one.pes", joined(sent)), "--origin", "0",
-                           *WORDS)
+            found = self.judge(sent, *WORDS)
             words = "the header is German, and english is asked for"
             self.must(f"{wrong}", found.word == "refused" and
                       found.result["hints"] == [f"67: {words}"] and all(
@@ -115,19 +108,14 @@ class Reasons(Case):
             of_length = [one[:4] + (len(one) - 6 + length - 36).to_bytes(2, "big") + one[6:8]
                          + bytes([length]) + one[9:14].ljust(length, b"\xff")[:length] + one[45:]
                          for one in self.pes]
-            made = Maker(components())
-            made.put_tables()
-            for one, own in zip(self.pes, of_length):
-                made.put_pcr(pts_in(one) - AHEAD)
-                made.put(TELETEXT_PID, own)
-            path = self.write("one.ts", made.data)
+            data = in_turn(self.pes, [(0, OLD)], lambda at: [(OLD, of_length[at])])
             words = f"the PES header of PID 0x101 has {9 + length} bytes (PES_header_data_length " \
                 f"{length:02X}), where Teletext has 45 (24): EN 300 472"
-            found = judged(self, self.stl, path, "--origin", "0")
+            found = self.judge_stream(data)
             self.must(f"{length}", words in found.verdict.sentence and
                       found.word == ("refused" if length > 99 else "not judged"), found.said)
-            self.must(f"{length}: asked for", words in judged(
-                self, self.stl, path, "--pid", "0x101", "--origin", "0").verdict.sentence)
+            self.must(f"{length}: asked for", words in self.judge_stream(
+                data, "--pid", "0x101").verdict.sentence)
             words = words.replace(" of PID 0x101", "")
             self.assertEqual(pes_header_words(of_length[0], 0), words)
         found = judged(self, self.stl, self.write("one.pes", b"".join(of_length)), "--origin", "0")
@@ -162,8 +150,7 @@ class Reasons(Case):
         blank = [(pts, [HEADER, CLOSING]) for pts, _ in self.sent]
         for name, sent, is_told in (("alternate", alternate, True), ("once", once, False),
                                     ("one", blank, False)):
-            found = judged(self, self.stl, self.write("one.pes", joined(sent)), "--origin", "0",
-                           *WORDS)
+            found = self.judge(sent, *WORDS)
             self.must(name, (words in found.verdict.sentence) == is_told and
                       any(words in one["words"] for one in found.result["causes"]) == is_told,
                       found.said)
@@ -187,14 +174,13 @@ class Reasons(Case):
         """Of more packets than a counter counts the PCR tells how long they took."""
         stl = programme(self, [(2000 + 25 * at, 2020 + 25 * at) for at in range(40)],
                         name="long.stl")
-        self.schedule(stl, "long.pes", "--every", "1")
-        made = multiplexed(packets(self.read("long.pes")), Shape(4000, 1800))
+        made = multiplexed(scheduled(self, stl, "--every", "1"), Shape(4000, 1800))
         for count, lost, words in (
                 (2, 2, "2 TS packets lost"), (16, 0, "TS packets of 0.64 s are missing, by the PCR "
                                               "and the counters of other PIDs"),
                 (50, 2, "TS packets of 2.00 s are missing, by the PCR; their counter tells 2 of "
                  "them")):
-            path = self.write("one.ts", b"".join(one.data for one in without(made, 200, count)))
+            path = self.write("one.ts", stream(without(made, 200, count)))
             found = judged(self, stl, path, "--origin", "0")
             self.must(f"{count}", [one["ts_packets"] for one in found.result["lost"]] == [lost] and
                       any(line.endswith(f": {words}") for line in found.told), found.said)
@@ -297,10 +283,6 @@ class Counted(Case):
         for headers, option, wanted in rows:
             found = kept_in(headers, option)
             self.must(f"{headers} {option}", (found and found[:2]) == wanted, found)
-
-    def test_words(self) -> None:
-        for kept, count in ((Kept(10, 3), "3 of 10 headers"), (Kept(1, 1), "1 of 1 header")):
-            self.assertEqual(kept.words(), f"{CLEAR} in {count}: see --keeping in the profile")
 
     def test_rows(self) -> None:
         """No row came, one is told, one is not; and how many more are left out."""
@@ -428,17 +410,13 @@ def as_houses(sent: Sent, way: str = "", frames: int = 0) -> Sent:
     return made
 
 
-class Pairs(Case):
+class Pairs(OfProgramme):
     """Three subtitles of two seconds and more, with a page transmission a second."""
 
-    def setUp(self) -> None:
-        super().setUp()
-        self.stl = programme(self, times(3))
-        self.sent = sendings(self, self.stl)
+    due = times(3)
 
     def judged(self, way: str, *words: str, frames: int = 0) -> Judged:
-        path = self.write("one.pes", joined(as_houses(self.sent, way, frames)))
-        return judged(self, self.stl, path, "--origin", "0", *words)
+        return self.judge(as_houses(self.sent, way, frames), *words)
 
     def test_whole(self) -> None:
         """Accepted where repeats may keep the page, which is typed and stands in the result; else

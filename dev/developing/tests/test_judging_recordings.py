@@ -9,26 +9,13 @@ import re
 
 from developing.pes import pes_packet, pts_in
 from subtitles.common.times import TICKS
-from .bench import Case, example_bytes, moved, packets, random_subtitles
-from .judged import ORIGIN, apart, in_pipe, joined, judged, programme, sendings, times
-from .muxed import (
-    MPEG_2, Maker, PRIVATE, TELETEXT_PID, VIDEO_PID, put_teletext, spaced, teletext_descriptor)
-from .parts import HEADER
+from .bench import Case, example_bytes
+from .judged import judged
+from .muxed import TELETEXT_PID, beside_video, in_stream, spaced, teletext_descriptor
+from .sent import (
+    HEADER, ORIGIN, apart, in_pipe, joined, moved, packets, programme, random_subtitles, sendings,
+    times)
 from .test_judging_pairs import ACCENT, EVERY, HELLO, STORY, broken
-
-
-def in_stream(*of_pids: tuple[int, bytes]) -> bytes:
-    """PES packets as a transport stream, in their time; each PID announces page 888."""
-    maker = Maker([(VIDEO_PID, MPEG_2, b""), *(
-        (pid, PRIVATE, teletext_descriptor()) for pid, _ in of_pids)])
-    maker.put_tables()
-    waiting = sorted((pts_in(one), pid, one) for pid, data in of_pids for one in packets(data))
-    for now in range(waiting[0][0], waiting[-1][0] + TICKS, TICKS):
-        maker.put_pcr(now - 18_000)
-        while waiting and waiting[0][0] <= now:
-            _, pid, one = waiting.pop(0)
-            maker.put(pid, one)
-    return maker.data
 
 
 class Recordings(Case):
@@ -92,10 +79,7 @@ class Recordings(Case):
             (STORY, teletext_descriptor(b"\x1b[2"), -1, ["pts_behind", "language"]),
             (french, teletext_descriptor(b"fre"), 9, ["option"])]
         for stl, descriptor, ahead, kinds in rows:
-            maker = Maker([(VIDEO_PID, MPEG_2, b""), (TELETEXT_PID, PRIVATE, descriptor)])
-            maker.put_tables()
-            put_teletext(maker, pes, ahead)
-            path = self.write("one.ts", maker.data)
+            path = self.write("one.ts", beside_video(pes, descriptor, ahead))
             found = judged(self, stl, path, "--origin", "0")
             warned = found.result["warnings"]
             self.must(f"{descriptor!r} {ahead}", [one["kind"] for one in warned] == kinds and

@@ -21,8 +21,9 @@ from subtitles.judging.status import ACCEPTED, LOST, NOT_JUDGED, REFUSALS, REFUS
 from subtitles.judging.transmissions import control_words
 from subtitles.request.request import Unclear
 from .bench import Case
-from .judged import Sent, joined, judged, programme, sendings
-from .parts import CLOSING, HEADER, row, script
+from .judged import OfProgramme, judged
+from .parts import script
+from .sent import CLOSING, HEADER, Sent, joined, programme, row, sendings
 from .test_formats_letters import ANY_SUBCODE, CHARACTER, LEVEL_1, Receiver, TEXT_AT
 from .test_judging_faults import cause, causes_of
 
@@ -158,18 +159,18 @@ def joined_rows(packets: list[bytes]) -> bytes:
     return b"".join(bytes(byte & 0x7F for byte in one[2:]) for one in packets[1:2])
 
 
-class First(Case):
+class First(OfProgramme):
     """A recording whose first fault by time nobody sees, and that has a wrong text."""
+
+    due = TIMES
 
     def setUp(self) -> None:
         super().setUp()
-        sent = sendings(self, programme(self, TIMES))
-        self.write("one.pes", joined(changed(sent)))
+        self.told = self.judge(changed(self.sent), "-o", self.path("out"))
 
     def test_a_pair(self) -> None:
         """The sentence names the text; report, JSON result and JUnit begin with it."""
-        told = judged(self, self.path("one.stl"), self.path("one.pes"), "--origin", "0", "-o",
-                      self.path("out"))
+        told = self.told
         lead = told.result["lead"]
         self.must("lead", told.result["line"].startswith("refused 67 ") and
                   lead.startswith("refused 72 ") and "has a wrong text" in told.result["sentence"]
@@ -190,13 +191,14 @@ class First(Case):
                   self.read("many.xml").decode()[:900])
 
 
-class Places(Case):
+class Places(OfProgramme):
     """What is said of headers and letters: of which subtitle, and what a viewer sees."""
+
+    due, text = TIMES, b"Number %d, Oslo"
 
     def test_headers_and_letters(self) -> None:
         """The first of them; in a pause behind which subtitle; where old text is left in which."""
-        stl = programme(self, TIMES, text=b"Number %d, Oslo")
-        sent = sendings(self, stl)
+        sent = self.sent
         name = 'subtitle 3, "Number 3, Oslo"'
 
         def header(c4: int = 8, c5: int = 8, c7: int = 1, option: int = 0) -> bytes:
@@ -234,25 +236,24 @@ class Places(Case):
             made = [(pts, change(some) if pts == 3600 * frame % CLOCK else some)
                     for pts, some in sent]
             self.assertNotEqual(made, sent)
-            told = judged(self, stl, self.write("one.pes", joined(made)), "--origin", "0")
+            told = self.judge(made)
             self.must(wanted, told.result["sentence"].startswith(f"Refused: {wanted}"),
                       told.result["sentence"])
-        self.must("a hint", any(line.startswith("68: the letter ") for line in judged(
-            self, stl, self.write("one.pes", joined([
-                (pts, rows[0][2](some)) for pts, some in sent])), "--origin", "0").said))
+        self.must("a hint", any(line.startswith("68: the letter ") for line in self.judge(
+            [(pts, rows[0][2](some)) for pts, some in sent]).said))
 
 
-class Ranges(Case):
+class Ranges(OfProgramme):
     """`--pes` of a recording that has fewer."""
+
+    due, words = TIMES, ()
 
     def test_none_of_them(self) -> None:
         """It is said how many there are, whether an origin is given or not."""
-        sent = sendings(self, programme(self, TIMES))[:7]
-        path = self.write("one.pes", joined(sent))
         for words in ((), ("--origin", "0")):
             for pes, is_none in (("100-200", True), ("7-7", True), ("6-200", False)):
-                told = judged(self, self.path("one.stl"), path, "--pes", pes, *words)
-                said = f"{path} has 7 PES packets, 0-6: --pes {pes} is none of them"
+                told = self.judge(self.sent[:7], "--pes", pes, *words)
+                said = f"{self.path('one.pes')} has 7 PES packets, 0-6: --pes {pes} is none of them"
                 self.must(f"{pes} {words}", (said in told.told) == is_none and
                           (told.word == "not judged") >= is_none, told.told)
 

@@ -13,7 +13,7 @@ from unittest import mock
 from developing.pes import pes_packet
 from developing.stl import gsi_block, subtitle_blocks, tti_block
 from subtitles.clock.origin import OfPart, Origin
-from subtitles.clock.start import Clock, Found, GIVEN, RECORDING, most_off, off_words, start_frame
+from subtitles.clock.start import Clock, Found, GIVEN, RECORDING, most_off, start_frame
 from subtitles.common.command_line import HIDDEN
 from subtitles.common.times import CLOCK, TICKS
 from subtitles.formats.stl import SubtitleFile
@@ -31,13 +31,14 @@ from subtitles.request.commands import (
     CommandWords, Names, NamesOfList, again, files_in, pair_name, part_name, shell_line)
 from subtitles.request.request import Selection, Unclear
 from subtitles.stream import gaps
-from subtitles.stream.gaps import ClockJump, FEWEST, longest_gap, repeat_distance
+from subtitles.stream.gaps import ClockJump, longest_gap, repeat_distance
 from subtitles.stream.packets import Packets
 from subtitles.stream.ranges import Cut
 from subtitles.stream.receiver import BLANK_PAGE
 from subtitles.stream.survey import Announced
 from .bench import Case
-from .parts import CLOSING, HEADER, PAGE, asked_for, packets_told
+from .parts import asked_for, packets_told
+from .sent import CLOSING, HEADER, PAGE
 from .test_formats_letters import naming
 
 
@@ -191,9 +192,6 @@ class Grids(Case):
             for offs, most in of_offs:
                 several = [(origin + TICKS * (5 + at) + off) % CLOCK for at, off in enumerate(offs)]
                 self.assertEqual(most_off(several, origin), most, offs)
-        for most, words in ((0, ""), (9, "PTS are up to 0.1 ms off the frame"),
-                            (900, "PTS are up to 10.0 ms off the frame")):
-            self.assertEqual(off_words(most), words)
 
     def test_start_frames(self) -> None:
         """As it is given, and as the GSI block has it; what is none there."""
@@ -449,7 +447,6 @@ class Repeats(unittest.TestCase):
         with mock.patch.object(gaps, "sum", side_effect=sum, create=True) as summed:
             self.assertEqual(repeat_distance(range(1000), []), 1)
         self.assertLess(summed.call_count, 3)  # not once for each sending
-        self.assertEqual(FEWEST, 3)
         of_gaps: list[tuple[list[int], int]] = [([], 0), ([5], 0), ([5, 5], 0), ([9, 5, 30], 21)]
         for frames, gap in of_gaps:
             self.assertEqual(longest_gap(frames), gap)

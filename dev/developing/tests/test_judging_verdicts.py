@@ -9,15 +9,15 @@ from typing import Any, Sequence
 from developing.pes import pes_packet
 from subtitles.clock.start import FITTED, FITTED_LATER, GIVEN, RECORDING
 from subtitles.common.times import CLOCK, TICKS, time_of
-from subtitles.formats.listing import ENDS_READING
 from subtitles.judging.check import Answer, NO_END
 from subtitles.judging.part import Explanation, Part
-from subtitles.judging.status import ERROR, OTHERS, REFUSALS, Severity, WARNING
+from subtitles.judging.status import ERROR, REFUSALS, Severity, WARNING
 from subtitles.judging.verdict import (
     Gap, MOVED, Spread, Unjudged, Verdict, gap_of, gaps_in, gaps_of, lacks, spread_of)
 from subtitles.stream.gaps import Place
 from .bench import Case
-from .parts import CLOSING, HEADER, answer, asked_for, packets_told, part_with
+from .parts import answer, asked_for, packets_told, part_with
+from .sent import CLOSING, HEADER
 
 REFUSED = ("refused 72 Content frame 00:00:05:00 row 20 column 1", "1 faults")
 OTHER = ("refused 38 UnitLength pes 7", "refused 70 Repeat frame 00:00:09:00", "2 faults")
@@ -223,7 +223,6 @@ class Severities(Case):
     def test_what_ends_reading(self) -> None:
         """Whatever a file says, it is an error; each other number is what the file says."""
         ends, lost = {30, 31, 32, 44}, 45
-        self.must("those", ENDS_READING == ends, ENDS_READING)
         lines = "".join(f"{number} warning\n" for number in REFUSALS)
         for name, text, errors in (("each", lines, ends), ("others", "others warning\n",
                                                            {*ends, lost})):
@@ -246,7 +245,6 @@ class Severities(Case):
             found = {number: severity.of(number) for number in numbers}
             self.must(repr(text), found == numbers, found)
         self.must("no file", Severity(None).of(72) == ERROR and Severity(None).others == ERROR)
-        self.must("a word", OTHERS == "others")
 
     def test_sets_of_numbers(self) -> None:
         """Where pages are moved."""

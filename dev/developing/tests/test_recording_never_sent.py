@@ -11,9 +11,10 @@ from subtitles.recording.notices import (
     Announcement, announcements_of, is_due_in, silent_beside, unsent_by)
 from subtitles.stream.gaps import SECOND
 from subtitles.stream.survey import Survey
-from .bench import Case, packets
-from .judged import Judged, judged, programme, times
-from .test_stream_moves import NEW, OLD, Sent, in_turn
+from .bench import Case
+from .judged import Judged, OfProgramme, judged
+from .muxed import Carried, NEW, OLD, in_turn
+from .sent import programme
 
 PAGE = (0, 0x88)
 ONE, TWO, THREE = 257, 258, 259
@@ -109,19 +110,14 @@ class Announced(Case):
         self.must("no subtitle", not is_due_in((0, CLOCK // 2), [], 0))
 
 
-class Judgements(Case):
+class Judgements(OfProgramme):
     """Ten subtitles, with a page transmission a second."""
 
-    def setUp(self) -> None:
-        super().setUp()
-        self.stl = programme(self, times(10))
-        self.schedule(self.stl, "sent.pes", "--every", "25")
-        self.pes = packets(self.read("sent.pes"))
+    words = ()
 
-    def judge(self, plan: Sequence[tuple[int, int]], sent: Sent, *words: str,
-              count: int | None = None) -> Judged:
-        data = in_turn(self.pes[:count], plan, sent)
-        return judged(self, self.stl, self.write("one.ts", data), *words)
+    def judge_plan(self, plan: Sequence[tuple[int, int]], sent: Carried, *words: str,
+                   count: int | None = None) -> Judged:
+        return self.judge_stream(in_turn(self.pes[:count], plan, sent), *words)
 
     def on_old(self, at: int) -> Sequence[tuple[int, bytes]]:
         return [(OLD, self.pes[at])]
@@ -142,17 +138,18 @@ class Judgements(Case):
     def test_elsewhere(self) -> None:
         """On a PID that no PMT announces, from the beginning or from some time on; not where that
         is behind the subtitles, nor where the PID that has the page is typed."""
-        self.must("sent", self.judge([(0, OLD)], self.on_old, "--every", "25").word == "accepted")
+        told = self.judge_plan([(0, OLD)], self.on_old, "--every", "25")
+        self.must("sent", told.word == "accepted")
         words = "page 888 is announced in PID 0x111, never sent (no TS packet of PID 0x111); " \
             "PID 0x101 has it"
-        self.is_never_sent("announced elsewhere", self.judge([(0, NEW)], self.on_old), words)
+        self.is_never_sent("announced elsewhere", self.judge_plan([(0, NEW)], self.on_old), words)
         half = len(self.pes) // 2
-        self.is_never_sent("moved", self.judge([(0, OLD), (half, NEW)], self.on_old), words)
+        self.is_never_sent("moved", self.judge_plan([(0, OLD), (half, NEW)], self.on_old), words)
         rows: list[tuple[str, list[tuple[int, int]], list[str]]] = [
             ("typed", [(0, NEW)], ["--pid", f"0x{OLD:X}"]),
             ("at the end", [(0, OLD), (len(self.pes) - 1, NEW)], [])]
         for name, plan, more in rows:
-            told = self.judge(plan, self.on_old, "--every", "25", *more)
+            told = self.judge_plan(plan, self.on_old, "--every", "25", *more)
             self.must(name, told.word == "accepted", told.said)
 
     def test_nowhere(self) -> None:
@@ -165,7 +162,7 @@ class Judgements(Case):
                 ("at another time", None, ["--origin", f"{CLOCK // 2}"], False),
                 ("typed", None, ["--pid", f"0x{NEW:X}"], True)]
         for name, count, more, is_due in rows:
-            told = self.judge([(0, NEW)], self.bare, *more, count=count)
+            told = self.judge_plan([(0, NEW)], self.bare, *more, count=count)
             if is_due:
                 self.is_never_sent(name, told, words)
             else:
@@ -174,13 +171,13 @@ class Judgements(Case):
     def test_severity(self) -> None:
         """A file may name it a warning: then nothing is judged."""
         path = self.write("severity", b"never sent warning\n")
-        told = self.judge([(0, NEW)], self.bare, "--severity", path)
+        told = self.judge_plan([(0, NEW)], self.bare, "--severity", path)
         self.must("a warning", told.word == "not judged", told.said)
 
     def test_pages(self) -> None:
         """Its report and its result in a folder."""
         out = self.path("out")
-        self.judge([(0, NEW)], self.bare, "-o", out)
+        self.judge_plan([(0, NEW)], self.bare, "-o", out)
         page = self.read("out/one.html").decode()
         self.must("report", "is announced in PID 0x111, never sent" in page and
                   json.loads(self.read("out/one.json"))["status"] == 1, page[:2000])

@@ -322,12 +322,15 @@ class Bounds(unittest.TestCase):
         day = TICKS * FRAMES_OF_A_DAY
         for pts, within, words in (
                 (0, 0, "00:00:00:00"), (5 * TICKS, 0, "00:00:00:05"), (5 * TICKS, 1, "00:00:00:05"),
+                (-1, 0, "none: after the day's end"), (-5, 1, "00:00:00:00, 5 ticks earlier"),
                 (TICKS + 1, 0, "none: 00:00:00:01 is 1 ticks before"),
                 (TICKS + 5, 1, "00:00:00:01, 5 ticks later"),
                 (TICKS - 5, 1, "00:00:00:01, 5 ticks earlier"),
                 (day - 1, 0, "none: 23:59:59:24 is 3599 ticks before"),
                 (day, 0, "none: after the day's end"), (day, 1, "none: after the day's end")):
-            self.assertEqual(place_of_pts((pts - 7) % CLOCK, CLOCK - 7, within), words)
+            for origin in (0, 5 * TICKS, *(CLOCK - one for one in (
+                    150 * TICKS, 10 * TICKS, TICKS // 2, 7, 1))):
+                self.assertEqual(place_of_pts((origin + pts) % CLOCK, origin, within), words)
 
 
 class Reports(Case):

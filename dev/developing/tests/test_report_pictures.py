@@ -137,9 +137,6 @@ class Seen(unittest.TestCase):
         for frames, within, wanted in ((0, 0, 25), (1, 0, 25), (None, 0, 25), (2, 2, 27),
                                        (3, 2, 27), (None, 3, 28), (None, 99, 49)):
             self.assertEqual(looked_at(one, frames, within), Looked(frames, wanted))
-        self.assertEqual([Looked(one, 0).words() for one in (None, 0, 1, 2)], [
-            "not seen whole while it is due", "whole after 0 frames", "whole after 1 frame",
-            "whole after 2 frames"])
 
 
     def test_fault_of_a_frame(self) -> None:

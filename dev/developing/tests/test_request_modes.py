@@ -24,7 +24,7 @@ from subtitles.request.request import (
     ALONE, BATCH, CHANNEL, CHANNEL_LINE, COLLECT, LINE, MEASURE, MODES, Mode, PAIR, RECORDER, WATCH)
 from subtitles.results.files import FORMULA
 from .bench import Case, example, tool_path
-from .channels import defaults
+from .parts import defaults
 
 
 # Which option of tools/qc goes with what: the parser and the refusals say the same.

@@ -20,9 +20,8 @@ from subtitles.request.request import (
 from subtitles.results.schema import ASKED
 from .. import DEV
 from .bench import Case, example
-from .channels import defaults
 from .judged import judged
-from .parts import asked_for, call_words
+from .parts import asked_for, call_words, defaults
 
 
 # The table of options: a row that is added is found wherever an option stands, and what each row
@@ -41,7 +40,7 @@ options.OPTIONS = (*options.OPTIONS, options.Option(
 options.Request = dataclasses.make_dataclass("Request", [
     ("new_one", object, None), ("newer", bool, False)], bases=(options.Request,))
 from developing import pages
-from developing.tests.channels import defaults
+from developing.tests.parts import defaults
 from developing.tests.parts import call_words
 from subtitles.cli.channel.schedule import Queue
 from subtitles.cli.main import parser_of

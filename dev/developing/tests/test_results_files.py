@@ -27,10 +27,9 @@ from subtitles.results.schema import FAULT as ROWS_OF_FAULT, FORMAT, LISTS, VERD
 from .. import DEV
 from ..pages import SCHEMA, laid_out
 from .bench import Case, example_bytes
-from .channels import defaults
 from .judged import judged
 from .listings import results_in
-from .parts import asked_for
+from .parts import asked_for, defaults
 from .results import FAULT, result, row, schema as read_schema, second_reader, wrong_in
 
 

@@ -17,10 +17,10 @@ from developing.multiplex import section
 from developing.pes import pes_packet
 from subtitles.common.times import TICKS, time_of
 from .bench import BENCH, Case
-from .judged import Judged, Sent, joined, judged, programme, sendings
+from .judged import Judged, judged
 from .muxed import (
     AHEAD, MPEG_2, PMT_PID, PRIVATE, TELETEXT_PID, VIDEO_PID, Maker, teletext_descriptor)
-from .parts import CLOSING, HEADER
+from .sent import CLOSING, HEADER, Sent, joined, programme, sendings
 
 FIRST, EACH, LASTS = 900_000, 100, 60  # frames: of the first TCI, from one to the next, of each
 SILENT_PID, OTHER_PID, LATER_PMT = 0x121, 0x111, 0x110

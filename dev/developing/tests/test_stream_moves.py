@@ -6,11 +6,12 @@ import random
 import select
 import subprocess
 import time
-from typing import Callable, Sequence
+from typing import Sequence
 
 from developing.multiplex import Multiplex
 from developing.pes import packet, pes_packet, pts_in
 from subtitles.clock.start import Clock, Found, RECORDING
+from subtitles.common.command_line import Unanswered
 from subtitles.common.times import Between, CLOCK, TICKS
 from subtitles.formats.stl import Subtitle
 from subtitles.judging.part import found_on, moves_told
@@ -19,40 +20,16 @@ from subtitles.stream.gaps import SECOND, marks_told, why_refused
 from subtitles.stream.packets import Change, Mark, Packets, Run
 from subtitles.stream.ranges import (
     MOST_STAGES, Stage, joined_stages, part_inside, stages_of, up_to)
-from subtitles.stream.survey import Survey, names_of, survey
-from .bench import Case, SECONDS, moved, packets
-from .judged import in_pipe, judged, programme, times
-from .muxed import (
-    MPEG_2, Maker, PRIVATE, Sent as Packet, Shape, TELETEXT_PID, VIDEO_PID, multiplexed,
-    teletext_descriptor)
-from .parts import CLOSING, HEADER, PAGE, row
+from subtitles.stream.survey import Survey, VERSION, names_of, survey
+from .bench import Case, SECONDS
+from .judged import OfProgramme, judged
+from .muxed import Carried, NEW, OLD, Packet, Shape, TELETEXT_PID, THIRD, in_turn, multiplexed
+from .sent import CLOSING, HEADER, PAGE, in_pipe, moved, packets, programme, row, scheduled, times
 
 
 # A page that moves to another PID while it is recorded: judged on both, each for its time.
 
-OLD, NEW, THIRD = 0x101, 0x111, 0x121
 WORDS = "--every", "100"
-# The PES packets that come in the place of one, by its number, each with its PID.
-Sent = Callable[[int], Sequence[tuple[int, bytes]]]
-
-
-def in_turn(pes: Sequence[bytes], plan: Sequence[tuple[int, int]], sent: Sent | None = None,
-            is_announced: bool = True, is_clocked: bool = True) -> bytes:
-    """A stream whose PMT names a PID from the PES packet with a number on, for each of a plan; they
-    come on it, or on those that are said."""
-    made, pid = Maker([]), 0
-    for number, one in enumerate(pes):
-        for begin, named in plan:
-            if begin == number:
-                pid = named
-                descriptor = teletext_descriptor() if is_announced else b""
-                made.tables = Maker([(VIDEO_PID, MPEG_2, b""), (pid, PRIVATE, descriptor)]).tables
-                made.put_tables()
-        if is_clocked:
-            made.put_pcr(pts_in(one) - 18_000)
-        for each, data in sent(number) if sent else [(pid, one)]:
-            made.put(each, data)
-    return made.data
 
 
 def moved_to(pid: int, one: Packet) -> bytes:
@@ -60,15 +37,33 @@ def moved_to(pid: int, one: Packet) -> bytes:
     return one.data[:1] + bytes([one.data[1] & 0xE0 | pid >> 8, pid & 255]) + one.data[3:]
 
 
-class Moves(Case):
+class Answered(Case):
+    """Whether a program's `survey` told all."""
+
+    def test_answered(self) -> None:
+        """By its last line and its status; whatever else it says, of another version too."""
+        begin, over = f"survey {VERSION}", "over 0 9"
+        for lines, status, why in (
+                ([begin, over], 0, None), ([begin], 0, "it did not end, status 0"),
+                ([begin, over], 1, "it did not end, status 1"), (["survey 2", over], 0,
+                                                                 "survey 2, status 0"),
+                ([begin, "fault 2 Read", over], 2, "fault 2 Read, status 2"),
+                (["usage 0 Words"], 2, "usage 0 Words, status 2"),
+                ([begin, "refused 60 Empty", over], 0, "refused 60 Empty, status 0")):
+            heard = Survey()
+            for line in lines:
+                heard.take(line)
+            if why is None:
+                heard.refuse(status)
+            else:
+                with self.subTest(why), self.assertRaisesRegex(Unanswered, f": {why}$"):
+                    heard.refuse(status)
+
+
+class Moves(OfProgramme):
     """Ten subtitles, with a page transmission a second."""
 
-    def setUp(self) -> None:
-        super().setUp()
-        self.stl = programme(self, times(10))
-        self.schedule(self.stl, "sent.pes", "--every", "25")
-        self.pes = packets(self.read("sent.pes"))
-        self.path_of = self.path("one.ts")
+    words = WORDS
 
     def stages(self, data: bytes) -> list[tuple[int, tuple[int, int]]]:
         found = survey(self.bench.program, self.write("one.ts", data), (0, 0x88))
@@ -88,7 +83,7 @@ class Moves(Case):
 
     def test_stages(self) -> None:
         """By what the PMT names when, with what may have come in that time."""
-        def on(*pids: int) -> Sent:
+        def on(*pids: int) -> Carried:
             return lambda at: [(pid, self.pes[at]) for pid in pids]
 
         for name, plan, sent, wanted in (
@@ -107,10 +102,9 @@ class Moves(Case):
                 ("named, and never sent", [(0, OLD), (20, NEW)], on(OLD), [])):
             found = self.stages(in_turn(self.pes, plan, sent))
             self.must(name, found == wanted, found)
-        found = self.stages(in_turn(self.pes, [(0, OLD), (20, NEW)], None, False))
+        found = self.stages(in_turn(self.pes, [(0, OLD), (20, NEW)], None, b""))
         self.must("not announced", found == [(OLD, (0, 19)), (NEW, (0, 28))], found)
-        found = self.stages(in_turn(self.pes, [(0, OLD), (20, NEW)], on(OLD, NEW),
-                                    is_clocked=False))
+        found = self.stages(in_turn(self.pes, [(0, OLD), (20, NEW)], on(OLD, NEW), ahead=None))
         self.must("no clock", found == [], found)
         elsewhere = [*self.pes[:20], *packets(moved(b"".join(self.pes[20:]), lambda _, pts: pts
                                                     + 7200 * 90_000))]
@@ -124,15 +118,15 @@ class Moves(Case):
         other = [packet(1, 0, [0, 5, 0, 8, 0, 8, 1, 0], b" " * 32),
                  packet(1, 20, (), b"\x0b\x0bAnother page".ljust(40)), CLOSING]
         at = next(number for number, one in enumerate(self.pes)
-                  if pts_in(one) == times(10)[4][0] * TICKS)
+                  if pts_in(one) == self.due[4][0] * TICKS)
         for move in (at - 1, at, at + 1):
             def sent(number: int) -> Sequence[tuple[int, bytes]]:
                 pts = pts_in(self.pes[number])
                 return [(OLD, self.pes[number])] if number < move else [
                     (NEW, self.pes[number]), (OLD, pes_packet(pts + TICKS, other))]
 
-            path = self.write("one.ts", in_turn(self.pes, [(0, OLD), (move, NEW)], sent))
-            told = judged(self, self.stl, path, "--origin", "0", *WORDS)
+            told = self.judge_stream(in_turn(self.pes, [(0, OLD), (move, NEW)], sent), "--origin",
+                                     "0")
             is_due = move > at  # on neither it is whole
             self.must(f"{move}", told.word == ("refused" if is_due else "accepted") and [
                 part["pid"] for part in told.result["parts"]] == [OLD, NEW], told.said)
@@ -142,8 +136,7 @@ class Moves(Case):
     def test_wrong_on_the_new_one(self) -> None:
         """Another text on the new PID, while a subtitle is judged on the old one: that is said to
         be not judged; from the out cue on it is refused."""
-        self.schedule(self.stl, "each.pes", "--every", "1")
-        pes, out = packets(self.read("each.pes")), times(10)[4][1]
+        pes, out = scheduled(self, self.stl, "--every", "1"), self.due[4][1]
         wrong = [HEADER, row(20, b"Nobody wrote this"), CLOSING]
         for frames, until, word, begun in ((9, out, "accepted", "00:00:22:01"),
                                            (3, out, "accepted", "00:00:22:07"),
@@ -159,8 +152,7 @@ class Moves(Case):
                 return old + new if pts <= out * TICKS else new
 
             at = next(at for at, one in enumerate(pes) if pts_in(one) == (out - frames) * TICKS)
-            path = self.write("one.ts", in_turn(pes, [(0, OLD), (at, NEW)], sent))
-            told = judged(self, self.stl, path, "--origin", "0", *WORDS)
+            told = self.judge_stream(in_turn(pes, [(0, OLD), (at, NEW)], sent), "--origin", "0")
             line = "at 00:00:22:10, where both carry it" + (
                 f"; what PID 0x111 carries from {begun} up to then is not judged" if begun else "")
             self.must(f"{frames} {until}", told.word == word and any(
@@ -189,9 +181,8 @@ class Moves(Case):
         """Accepted where each PID has what is due: two calls, and what is said of the move."""
         for at, last, first in ((20, "00:00:19:10", "00:00:20:00"),
                                 (24, "00:00:22:10", "00:00:23:10")):
-            path = self.write("one.ts", in_turn(self.pes, [(0, OLD), (at, NEW)]))
-            out = self.path(f"out{at}")
-            found = judged(self, self.stl, path, *WORDS, "-o", out, "--keep")
+            data, out = in_turn(self.pes, [(0, OLD), (at, NEW)]), self.path(f"out{at}")
+            found = self.judge_stream(data, "-o", out, "--keep")
             self.must(f"{at}: kept", self.read(f"{out}/one.recording.pes") == b"".join(self.pes))
             self.must(f"{at}", found.word == "accepted" and
                       found.parts("pid", "from", "to", "verdict") == [
@@ -207,13 +198,12 @@ class Moves(Case):
                         for one in found.result["warnings"] if one["kind"] == "pid"]
             self.must(f"{at}: said", warnings == [("pid", moved, first)] and
                       f"warning: {moved}" in found.told, found.told)
-            strict = judged(self, self.stl, path, *WORDS, "--strict")
+            strict = self.judge_stream(data, "--strict")
             self.must(f"{at}: strict", strict.word == "warned")
 
     def test_while_a_subtitle_is_due(self) -> None:
         """On neither PID it is whole, and both say so."""
-        path = self.write("one.ts", in_turn(self.pes, [(0, OLD), (22, NEW)]))
-        found = judged(self, self.stl, path, *WORDS)
+        found = self.judge_stream(in_turn(self.pes, [(0, OLD), (22, NEW)]))
         faults = [one for one in found.listed if one.startswith("refused ")]
         self.must("refused", found.word == "refused" and faults == [
             "refused 74 Late frame 00:00:21:00", "refused 63 Early frame 00:00:22:00"], faults)
@@ -224,31 +214,27 @@ class Moves(Case):
     def test_faults_of_each(self) -> None:
         """What is wrong on the one or on the other is told of it, and of no PID at a time at which
         the PMT does not name it."""
-        other = packets(self.read(self.schedule(
-            programme(self, times(10), text=b"Nummer %d", name="other.stl"), "other.pes",
-            "--every", "25")))
+        other = scheduled(self, programme(self, self.due, text=b"Nummer %d", name="other.stl"),
+                          "--every", "25")
         plan = [(0, OLD), (24, NEW)]
         for number, word, place in ((10, "refused", "00:00:12:00"), (30, "refused", "00:00:28:00"),
                                     (None, "accepted", "")):
             sent = [other[at] if at == number else one for at, one in enumerate(self.pes)]
-            path = self.write("one.ts", in_turn(sent, plan))
-            found = judged(self, self.stl, path, *WORDS)
+            found = self.judge_stream(in_turn(sent, plan))
             self.must(f"{number}", found.word == word and place in (found.verdict.line or ""),
                       found.said)
-        path = self.write("one.ts", in_turn(self.pes, plan, lambda at: [
+        found = self.judge_stream(in_turn(self.pes, plan, lambda at: [
             (OLD, other[at] if at > 40 else self.pes[at]),
-            (NEW, other[at] if at < 10 else self.pes[at])]))
-        found = judged(self, self.stl, path, *WORDS, "--origin", "0")
+            (NEW, other[at] if at < 10 else self.pes[at])]), "--origin", "0")
         self.must("at other times", found.word == "accepted", found.said)
 
     def test_there_and_back(self) -> None:
         """Three parts, of two PIDs; what is before all subtitles is none."""
-        path = self.write("one.ts", in_turn(self.pes, [(0, OLD), (20, NEW), (30, OLD)]))
-        found = judged(self, self.stl, path, *WORDS)
+        found = self.judge_stream(in_turn(self.pes, [(0, OLD), (20, NEW), (30, OLD)]))
         self.must("back", found.word == "accepted" and [
             one for one, in found.parts("pid")] == [OLD, NEW, OLD] and
             sum(one["kind"] == "pid" for one in found.result["warnings"]) == 2, found.said)
-        late = programme(self, times(10)[5:], first=6, name="late.stl")
+        late = programme(self, self.due[5:], first=6, name="late.stl")
         found = judged(self, late, self.write("one.ts", in_turn(
             self.pes, [(0, OLD), (20, NEW)])), *WORDS, "--origin", "0")
         self.must("before all", found.parts("pid", "from") == [(NEW, "00:00:24:00")] and
@@ -264,21 +250,20 @@ class Moves(Case):
         tables = in_turn(self.pes[24:25], [(0, NEW)])[:2 * 188]
         for lost, word in ((0, "accepted"), (400, "lost")):
             before = [one.data for one in made[:at - lost]]
-            path = self.write("one.ts", b"".join([*before, tables, *after]))
-            found = judged(self, self.stl, path, *WORDS, "--origin", "0")
+            found = self.judge_stream(b"".join([*before, tables, *after]), "--origin", "0")
             self.must(f"{lost}", found.word == word and len(found.parts("pid")) == 2 and
                       [one["judged"] for one in found.result["lost"]] == [True] * bool(lost),
                       found.said)
 
     def test_one_that_is_asked_for(self) -> None:
         """With --pid its PES packets alone are judged; with --pes it has to be said of which."""
-        path = self.write("one.ts", in_turn(self.pes, [(0, OLD), (24, NEW)]))
-        found = judged(self, self.stl, path, *WORDS, "--pid", "0x101", "--origin", "0")
+        data = in_turn(self.pes, [(0, OLD), (24, NEW)])
+        found = self.judge_stream(data, "--pid", "0x101", "--origin", "0")
         self.must("one", found.word == "refused" and found.parts("pid") == [(OLD,)], found.said)
-        found = judged(self, self.stl, path, *WORDS, "--pes", "0-9")
+        found = self.judge_stream(data, "--pes", "0-9")
         self.must("numbers", found.word == "not judged" and
                   "page 888 is sent on 2 PIDs of " in found.told[0], found.told)
-        found = judged(self, self.stl, in_pipe(self, self.read("one.ts")), *WORDS)
+        found = judged(self, self.stl, in_pipe(self, data), *WORDS)
         self.must("a feed", found.word == "accepted" and found.parts("pid") == [(OLD,), (NEW,)],
                   found.said)
 

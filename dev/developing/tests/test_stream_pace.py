@@ -8,12 +8,13 @@ from typing import NamedTuple, Sequence
 from developing.pes import pes_packet
 from subtitles.common.times import CLOCK, TICKS
 from subtitles.stream.gaps import (
-    BY_EVERY, FEW, IRREGULAR, LEAST, PAUSED, Pauses, REGULAR, TOO_FEW, each_of, frame_rows, pace_of,
+    BY_EVERY, FEW, IRREGULAR, PAUSED, Pauses, REGULAR, TOO_FEW, each_of, frame_rows, pace_of,
     pauses_of, unseen_from, usual_in)
 from subtitles.stream.packets import Packets, Run
 from .bench import Case
-from .judged import Judged, Sent, in_pipe, joined, judged, programme, sendings
-from .muxed import Sent as Packet, Shape, TELETEXT_PID, multiplexed, without
+from .judged import Judged, OfProgramme, judged
+from .muxed import Packet, Shape, TELETEXT_PID, multiplexed, stream, without
+from .sent import Sent, in_pipe, programme, sendings
 
 BEGIN = 900_000  # the first frame
 LONG = range(5000)  # frames, of which five may be otherwise
@@ -72,8 +73,8 @@ def of_pes(name: str, *rows: Sequence[int], frames: int = 1, every: int = 250, p
 
 TABLE = [
     Row("none", [], TOO_FEW), Row("an empty one", [[]], TOO_FEW), Row("one", [[7]], TOO_FEW),
-    Row("one too few", [range(LEAST)], TOO_FEW), regular("just enough", range(LEAST + 1)),
-    regular("as a list", list(range(LEAST + 1))), regular("late in the day", range(9000, 9500)),
+    Row("one too few", [range(100)], TOO_FEW), regular("just enough", range(101)),
+    regular("as a list", list(range(101))), regular("late in the day", range(9000, 9500)),
     regular("a row for each mark", *[range(50 * at, 50 * at + 40) for at in range(9)]),
     regular("short rows", *[range(50 * at, 50 * at + 4) for at in range(99)]),
     Row("rows of three", [range(50 * at, 50 * at + 3) for at in range(99)], TOO_FEW),
@@ -187,7 +188,7 @@ TABLE = [
     of_pes("a file, all in one frame", [5] * 400, frames=2, closer=398),
     Row("a file with a pause", [holed(LONG, (999, 100))], PAUSED, pauses=[(999, 1100)],
         is_stream=False),
-    Row("a file, too few", [range(LEAST)], TOO_FEW, is_stream=False),
+    Row("a file, too few", [range(100)], TOO_FEW, is_stream=False),
     Row("a file, few, up to the bound", [range(0, 990, 10)], TOO_FEW, every=20, is_stream=False),
     Row("a file, few, over the bound", [range(0, 990, 10)], BY_EVERY, every=19, is_stream=False),
 ]
@@ -204,7 +205,6 @@ class Told(Case):
                 row.kind, row.frames, row.closer), pace)
         self.must("words", pace_of([holed(LONG, (9, 20))], 2, 250)[:3] == (REGULAR, 1, 3) and
                   pace_of([holed(LONG, (9, 300))], 1, 999, [(0, 9)])[:3] == (PAUSED, 301, 3))
-        self.must("few", FEW == 3 and LEAST == 100)
         closest: list[tuple[list[list[int]], int]] = [
             ([], 0), ([[7]], 0), ([[0, 2, 9]], 7), ([[0, 1, 3], [9, 13, 18]], 1),
             ([[0, 9, 17, 24, 30, 31]], 6)]
@@ -304,19 +304,16 @@ PACE_LINE = "a PES packet comes within 1 frame of the one before, and in 3 at be
     "packets are lost: --pace 2"
 
 
-class Holes(Case):
+class Holes(OfProgramme):
     """Holes of 1 to 48,000 TS packets of the PID alone, and of all."""
+
+    due = TIMES
 
     def multiplexed(self, sent: Sent, rate: int = 100) -> list[Packet]:
         return multiplexed([pes_packet(pts, some) for pts, some in sent], Shape(rate))
 
     def in_bursts(self, times: Sequence[tuple[int, int]]) -> list[Packet]:
         return self.multiplexed(in_bursts(sendings(self, programme(self, times), every=1), times))
-
-    def judge(self, made: list[Packet], *words: str) -> Judged:
-        """What is said of a multiplex."""
-        self.write("one.ts", b"".join(one.data for one in made))
-        return judged(self, self.path("one.stl"), self.path("one.ts"), "--origin", "0", *words)
 
     def is_told(self, name: str, told: Judged, word: str, *lines: str) -> None:
         """Whether a verdict is one, and which faults are in its list."""
@@ -326,8 +323,8 @@ class Holes(Case):
 
     def test_regular(self) -> None:
         """A PES packet in each frame: what the counter does not show is 79, at its time."""
-        made = self.multiplexed(filled(sendings(self, programme(self, TIMES))))
-        whole = self.judge(made)
+        made = self.multiplexed(filled(self.sent))
+        whole = self.judge_stream(made)
         self.is_told("whole", whole, "accepted")
         self.must("said", whole.lines("pace: ") == [PACE_LINE] and whole.parts("pace") == [(2,)]
                   and " --complete --pace 2 --all" in whole.verdict.commands[-1] and
@@ -335,17 +332,18 @@ class Holes(Case):
         first, lost, silent = 660, "45 Lost pes 660", "79 Silent frame 10:00:26:11"
         for count in (1, 2, 14, 15, 16, 17):
             faults = [*([lost] if count % 16 else []), *([silent] if count > 1 else [])]
-            self.is_told(f"{count}", self.judge(alone(made, first, count)), "refused", *faults)
+            told = self.judge_stream(alone(made, first, count))
+            self.is_told(f"{count}", told, "refused", *faults)
         for count in (1, 15, 16, 17):
             faults = [*([lost] if count % 16 else []), *([silent] if count > 1 else [])]
-            self.is_told(f"all of {count}", self.judge(without(made, first, count)), "refused",
-                         *faults)
+            told = self.judge_stream(without(made, first, count))
+            self.is_told(f"all of {count}", told, "refused", *faults)
         for cut, count in ((alone, 32), (alone, 160), (without, 160)):
-            told = self.judge(cut(made, first, count))
+            told = self.judge_stream(cut(made, first, count))
             self.must(f"{cut.__name__} {count}", told.word == "refused" and
                       f"refused {silent}" in told.listed and not any(
                           line.startswith("refused 45") for line in told.listed), told.listed)
-        told = self.judge(alone(made, first, 16))
+        told = self.judge_stream(alone(made, first, 16))
         self.must("how long", told.verdict.sentence ==
                   "Refused: at 10:00:26:11 no PES packet has come for as many frames as --pace "
                   "allows: none for 16 frames from 10:00:26:10 on.", told.verdict.sentence)
@@ -354,42 +352,39 @@ class Holes(Case):
         """A PES packet for each field: a frame more than is usual is asked for. A hole of 16 TS
         packets and more is 79, and what a frame without them has is not; one that is shorter may be
         unseen, which is said."""
-        sent = filled(sendings(self, programme(self, TIMES)))
+        sent = filled(self.sent)
         none: list[bytes] = []
         both = [one for pts, some in sent for one in ((pts, some), (pts + TICKS // 2, none))]
         made = self.multiplexed(both, 400)
         note = "not checked: whether up to 0.08 s of this PID alone is missing, at "
         for count in (0, 16, 32, 48, 160):
-            told = self.judge(alone(made, 1320, count), "--within", "1")
+            told = self.judge_stream(alone(made, 1320, count), "--within", "1")
             self.must(f"{count}", told.word == ("refused" if count else "accepted") and bool(
                 count) == ("refused 79 Silent frame 10:00:26:11" in told.listed), told.listed)
             self.must(f"{count}: said", told.lines("pace: ") == ["a PES packet comes within 1 "
                       "frame of the one before, and so may three: --pace 2"] and sum(
                           line.startswith(note) for line in told.told) == 1, told.said)
         without_one = [one for at, one in enumerate(both) if at // 2 not in (510, 610)]
-        self.is_told("frames without", self.judge(self.multiplexed(without_one, 400), "--within",
-                                                  "1"), "accepted")
+        told = self.judge_stream(self.multiplexed(without_one, 400), "--within", "1")
+        self.is_told("frames without", told, "accepted")
 
     def test_asked(self) -> None:
         """None, one that a hole of 16 keeps, one that it does not, and where losses are allowed;
         of a feed, and of PES packets."""
-        made = self.multiplexed(filled(sendings(self, programme(self, TIMES))))
+        made = self.multiplexed(filled(self.sent))
         holed_then, silent = alone(made, 660, 16), "79 Silent frame 10:00:26:11"
         for words, word, pace, lines in (
                 ("--pace=none", "accepted", None, []), ("--pace=17", "accepted", 17, []),
                 ("--pace=16", "refused", 16, []), ("--allow-lost", "waived", 2, [PACE_LINE])):
-            told = self.judge(holed_then, words)
+            told = self.judge_stream(holed_then, words)
             self.must(words, told.word == word and told.lines("pace: ") == lines and
                       told.parts("pace") == [(pace,)], told.said)
             self.must(f"{words}: asked", told.result["asked"]["pace"] == (
                 words[7:] if words.startswith("--pace") else None))
-        feed = in_pipe(self, b"".join(one.data for one in holed_then))
-        self.is_told("a feed", judged(self, self.path("one.stl"), feed, "--origin", "0"),
-                     "refused", silent)
-        sent = filled(sendings(self, self.path("one.stl")))
-        self.write("one.pes", joined(sent[:660] + sent[676:]))
-        self.is_told("PES packets", judged(self, self.path("one.stl"), self.path("one.pes"),
-                                           "--origin", "0"), "refused",
+        feed = in_pipe(self, stream(holed_then))
+        self.is_told("a feed", judged(self, self.stl, feed, *self.words), "refused", silent)
+        sent = filled(self.sent)
+        self.is_told("PES packets", self.judge(sent[:660] + sent[676:]), "refused",
                      "79 Silent frame 10:00:26:10")
 
     def test_irregular(self) -> None:
@@ -401,16 +396,16 @@ class Holes(Case):
                 (alone, 0, "accepted"), (alone, 1, "refused"), (alone, 15, "refused"),
                 (alone, 16, "accepted"), (alone, 17, "refused"), (without, 16, "lost"),
                 (without, 17, "refused")):
-            told = self.judge(cut(made, first, count))
+            told = self.judge_stream(cut(made, first, count))
             self.is_told(f"{cut.__name__} {count}", told, word,
                          *["45 Lost pes 155"] * (word == "refused"))
             self.must(f"{cut.__name__} {count}: said", IRREGULAR_NOTE in told.told and
                       IRREGULAR_NOTE in told.result["notes"] and
                       not told.lines("pace: ") and told.parts("pace") == [(None,)], told.said)
         for words in ("--pace=none", "--pace=180"):
-            told = self.judge(alone(made, first, 16), words)
+            told = self.judge_stream(alone(made, first, 16), words)
             self.must(words, told.word == "accepted" and IRREGULAR_NOTE not in told.told)
-        self.is_told("given", self.judge(made, "--pace=100"), "refused", *(
+        self.is_told("given", self.judge_stream(made, "--pace=100"), "refused", *(
             f"79 Silent frame 10:00:{10 * at + 4:02}:24" for at in range(6)))
 
     def test_long_irregular(self) -> None:
@@ -420,7 +415,7 @@ class Holes(Case):
         for count, line in ((0, ""), (14, "45 Lost pes 155"), (32, content), (160, content),
                             (320, content)):
             for cut in (alone, without):
-                told = self.judge(cut(made, 155, count))
+                told = self.judge_stream(cut(made, 155, count))
                 faults = [one for one in told.listed if one.startswith("refused")]
                 self.must(f"{cut.__name__} {count}", faults[:1] == [f"refused {line}"] * bool(line)
                           and told.word == ("refused" if line else "accepted") and
@@ -433,7 +428,7 @@ class Holes(Case):
         times = [(BEGIN + 1000 * at, BEGIN + 1000 * at + 500) for at in range(11)]
         made = self.multiplexed(sendings(self, programme(self, times), every=100), 50)
         for count, word in ((0, "accepted"), (16, "refused"), (32, "refused")):
-            told = self.judge(alone(made, 40, count))
+            told = self.judge_stream(alone(made, 40, count))
             self.must(f"{count}", told.word == word and bool(count) == any(
                 line.startswith("refused 73 Gap") for line in told.listed), told.listed)
             self.must(f"{count}: said", not told.lines("pace: ") and not [
@@ -445,7 +440,7 @@ class Holes(Case):
         sent = filled(sendings(self, programme(self, times), every=125))
         made = self.multiplexed(sent, 25)
         for name, cut in (("alone", alone), ("all", without)):
-            told = self.judge(cut(made, 1000, 48_000))
+            told = self.judge_stream(cut(made, 1000, 48_000))
             self.must(name, told.word == "refused" and {
                 "refused 79 Silent frame 10:00:40:01", "refused 73 Gap frame 10:00:48:00"} <=
                 {*told.listed}, told.listed)
@@ -458,7 +453,7 @@ class Holes(Case):
             times = [(BEGIN + 2000 * at, BEGIN + 2000 * at + 200) for at in range(count)]
             sent = filled(sendings(self, programme(self, times), every=25))
             sent = [one for one in sent if (one[0] // TICKS - BEGIN) % 2000 < 300]
-            told = self.judge(self.multiplexed(sent, 25), "--every", "1800")
+            told = self.judge_stream(self.multiplexed(sent, 25), "--every", "1800")
             self.is_told(f"{count}", told, "accepted")
             self.must(f"{count}: said", note in told.told and told.parts("pace") == [(None,)],
                       told.said)

@@ -21,7 +21,7 @@ from subtitles.stream.packets import Packets, Run, announced_in, jumps_at, jumps
 from subtitles.stream.survey import Departure, Distance, FEW, Line, Step, Survey, departures_of
 from .bench import Case, example_bytes
 from .judged import judged
-from .muxed import programme as stream_with
+from .muxed import with_pictures
 from .test_clock_clocks import BEGIN, FIRST_PTS, STORY
 
 
@@ -221,7 +221,7 @@ class Pairs(Case):
 
     def test_refused(self) -> None:
         """By a name of its own, with the time; another programme's video says nothing."""
-        data = stream_with(example_bytes("story.pes"), FIRST_PTS).data
+        data = with_pictures(example_bytes("story.pes"), FIRST_PTS).data
         path, end = self.write("one.ts", data), Survey.take_over
         rows: list[tuple[int, list[str], str]] = [
             (12, [], "refused"), (-3, [], "refused"), (-3, ["--within", "3"], "accepted"),

@@ -8,7 +8,7 @@ from typing import Tuple
 
 from developing.multiplex import PACKET
 from developing.pes import pts_in
-from developing.stl import boxed, gsi_block, subtitle_blocks
+from developing.stl import boxed
 from subtitles.cli.main import parser_of
 from subtitles.common.command_line import Stop
 from subtitles.common.program import MadeWith
@@ -25,10 +25,11 @@ from subtitles.stream.survey import ProgramMap, Survey, survey
 from ..cited import too_long
 from ..definitions import Library, counts
 from ..promises import clauses_in, unknown_clauses
-from .bench import Case, packets
+from .bench import Case
 from .judged import judged
-from .muxed import Sent, Shape, TELETEXT_PID, announced, in_frames, multiplexed, without
+from .muxed import Packet, Shape, TELETEXT_PID, in_frames, multiplexed, stream, without
 from .parts import asked_for, call_words
+from .sent import packets, programme, scheduled
 
 
 # Why nothing of a PID is given, or nothing more; where something is missing, and how late PTS are.
@@ -86,8 +87,9 @@ class Places(Case):
         pairs = [(first, last) for first, last in itertools.product(ends, ends)
                  if first is None or last is None or first < last]
         for origin, pair, other in itertools.product((0, CLOCK - 2 * TICKS), pairs, pairs):
-            places = [Place(*(None if at is None else (origin + TICKS * at) % CLOCK for at in one))
-                      for one in (pair, other)]
+            places = [Place(begin, end) for begin, end in (
+                [None if at is None else (origin + TICKS * at) % CLOCK for at in one]
+                for one in (pair, other))]
             (first, last), (begin, end) = ((-9 if one[0] is None else one[0],
                                             9 if one[1] is None else one[1])
                                            for one in (pair, other))
@@ -137,15 +139,13 @@ class Holes(Case):
 
     def programme(self, every: int = 1) -> list[bytes]:
         """PES packets of a programme of eight seconds."""
-        blocks = [subtitle_blocks(number, begin, begin + 20, 20, 2, boxed(b"Number %d" % number))
-                  for number, begin in enumerate(range(BEGIN, BEGIN + 25 * COUNT, 25))]
-        stl = self.write("story.stl", gsi_block(b"Holes", COUNT, COUNT) + b"".join(blocks))
-        self.schedule(stl, "story.pes", "--every", str(every))
-        return packets(self.read("story.pes"))
+        stl = programme(self, [(begin, begin + 20) for begin in range(
+            BEGIN, BEGIN + 25 * COUNT, 25)], text=boxed(b"Number %d"), name="story.stl")
+        return scheduled(self, stl, "--every", str(every))
 
-    def heard(self, made: list[Sent]) -> tuple[list[Place], list[ClockJump]]:
+    def heard(self, made: list[Packet]) -> tuple[list[Place], list[ClockJump]]:
         """The places at which something is missing of a multiplex, and the jumps of its clock."""
-        path = self.write("heard.ts", b"".join(one.data for one in made))
+        path = self.write("heard.ts", stream(made))
         found = survey(self.bench.program, path, PAGE).by_pid[TELETEXT_PID]
         return places_of(found), list(jumps_of(found))
 
@@ -162,7 +162,7 @@ class Holes(Case):
                if made[at + 1] & 0x1F == TELETEXT_PID >> 8 and made[at + 2] == TELETEXT_PID & 255]
         torn = made[:own[40]] + made[own[56] - 5 * PACKET:]
         for name, data, count in (("whole", made, 0), ("torn", torn, 1)):
-            places, jumps = self.heard([Sent(0, data)])
+            places, jumps = self.heard([Packet(0, data)])
             self.must(name, (len(places), len(jumps)) == (count, 0), (places, jumps))
 
     def test_of_holes(self) -> None:
@@ -209,7 +209,7 @@ class Holes(Case):
                 ("alone", own, "accepted", "--pid=0x101", ""),
                 ("not asked", own, "accepted", "--pace=none",
                  "there is no PCR of the programme of ")):
-            self.write("one.ts", b"".join(one.data for one in sent))
+            self.write("one.ts", stream(sent))
             found = judged(self, *words, more)
             told = [one for one in found.told if one.startswith("warning: the clock") or
                     one.startswith("there is no PCR") or hole in one]

@@ -3,7 +3,7 @@ from __future__ import annotations
 
 import os
 
-from developing.stl import gsi_block, subtitle_blocks, tti_block
+from developing.stl import gsi_block, tti_block
 from subtitles.cli.channel.feed import Awaited
 from subtitles.cli.channel.schedule import Queue
 from subtitles.common.times import Between, FRAMES_OF_A_DAY, TICKS, time_of
@@ -12,9 +12,9 @@ from subtitles.judging.pair import pauses_near
 from subtitles.judging.subtitles import HOUR, title_words
 from subtitles.judging.transmissions import subtitles_in
 from .bench import Case
-from .judged import Change, Judged, Sent, joined, judged, programme, sendings, shown_files
-from .parts import CLOSING, HEADER, row
-from .channels import defaults
+from .judged import OfProgramme, judged, shown_files
+from .parts import defaults
+from .sent import CLOSING, HEADER, joined, late, programme, row, sendings, subtitle_file
 
 MINUTE = 1500  # frames
 EARLIER, LATER = ("--to", "00:01:00:00"), ("--from", "00:01:00:00")
@@ -31,10 +31,9 @@ class Ranges(Case):
 
     def day(self, *texts: bytes, name: str = "day.stl") -> str:
         """Three subtitles in the first minute, and three in the second, with these texts."""
-        times = [*three(0), *three(MINUTE)]
-        blocks = [subtitle_blocks(number, *one, 22, 2, texts[number - 1] if texts else
-                                  b"Number %d" % number) for number, one in enumerate(times, 1)]
-        return self.write(name, gsi_block(b"day", 6, 6) + b"".join(blocks))
+        texts = texts or tuple(b"Number %d" % number for number in range(1, 7))
+        return subtitle_file(self, [(begin, end, text) for (begin, end), text in zip(
+            [*three(0), *three(MINUTE)], texts)], name)
 
     def sent(self, *words: str) -> str:
         """The second programme as it was sent, or what the words take of the day."""
@@ -204,46 +203,37 @@ class Read(Case):
                     "00:00:00:00" in one for one in found.told), found.said)
 
 
-class Adjoining(Case):
+class Adjoining(OfProgramme):
     """--to at the TCI of a subtitle that adjoins the one before."""
 
-    TIMES = [(100, 150), (200, 250), (250, 300), (300, 350), (400, 450), (500, 550)]
-
-    def judge(self, change: Change = lambda sent: sent, *words: str) -> Judged:
-        stl = programme(self, self.TIMES)
-        sent = change(sendings(self, stl))
-        return judged(self, stl, self.write("one.pes", joined(sent)), "--origin", "0", *words)
+    due = [(100, 150), (200, 250), (250, 300), (300, 350), (400, 450), (500, 550)]
 
     def test_middle(self) -> None:
         """Where the next subtitle comes, as it does, nobody can judge the end: the pauses around
         are to type. Where another page comes, or something else is wrong too, it is refused; at a
         pause it is judged."""
         for frame, near in ((250, (151, 351)), (300, (151, 351))):
-            told = self.judge(lambda sent: sent, "--to", time_of(frame))
+            told = self.judge(self.sent, "--to", time_of(frame))
             self.must(f"{frame}", told.word == "not judged" and told.result["parts"] == [] and [
                 word.rpartition(" ")[2] for word in told.verdict.to_type] == [*map(time_of, near)],
                 (told.said, told.verdict.to_type))
             for end in near:
-                told = self.judge(lambda sent: sent, "--to", time_of(end))
+                told = self.judge(self.sent, "--to", time_of(end))
                 self.must(f"{frame}, {end}", told.word == "accepted", told.said)
-        told = self.judge(lambda sent: sent, "--to", time_of(500))
+        told = self.judge(self.sent, "--to", time_of(500))
         self.must("a pause", told.word == "accepted", told.said)
 
-        def other(sent: Sent) -> Sent:
-            return [(pts, [HEADER, row(22, b"Other"), CLOSING]) if pts == 250 * TICKS else
-                    (pts, some) for pts, some in sent]
-
-        def late(sent: Sent) -> Sent:
-            return [(pts + TICKS if pts == 200 * TICKS else pts, some) for pts, some in sent]
-
-        for name, change in (("another page", other), ("another fault", late)):
-            told = self.judge(change, "--to", time_of(250))
+        other = [(pts, [HEADER, row(22, b"Other"), CLOSING]) if pts == 250 * TICKS else
+                 (pts, some) for pts, some in self.sent]
+        one_late = late(1, 200 * TICKS, 200 * TICKS)(self.sent)
+        for name, sent in (("another page", other), ("another fault", one_late)):
+            told = self.judge(sent, "--to", time_of(250))
             self.must(name, told.word == "refused", told.said)
 
     def test_pauses(self) -> None:
         """Before a frame and behind it; the end of the file is one."""
         subtitles = [Subtitle(at, at, begin, end, 22, 2, b"")
-                     for at, (begin, end) in enumerate(self.TIMES)]
+                     for at, (begin, end) in enumerate(self.due)]
         for count, frame, wanted in ((6, 300, [150, 350]), (6, 100, [150]), (6, 500, [450, 550]),
                                      (4, 300, [150, 350]), (0, 300, [])):
             self.assertEqual(pauses_near(subtitles[:count], frame), wanted, (count, frame))

@@ -7,7 +7,6 @@ import random
 import resource
 import select
 import subprocess
-import sys
 import time
 from typing import Any, NamedTuple, Sequence
 
@@ -15,9 +14,9 @@ from developing.pes import MARK, pes_packet
 from subtitles.common.times import CLOCK, TICKS, frame_of
 from subtitles.stream.ranges import cut_of
 from ..every_place.recordings import carried
-from .bench import SECONDS, Case, Done, example, example_bytes, moved, packets, tool_path
-from .muxed import spaced
-from .parts import CLOSING, HEADER, packets_told, row
+from .bench import Case, Done, SECONDS, example, example_bytes, tool_path
+from .parts import packets_told
+from .sent import CLOSING, HEADER, moved, packets, row
 
 PES = example("story.pes")
 STORY = packets(example_bytes("story.pes"))  # at the seconds 0, 3, 5.5, 7 and 9
