@@ -3,6 +3,8 @@ from __future__ import annotations
 
 import os
 import re
+import shlex
+import shutil
 import subprocess
 import tempfile
 from typing import IO, Any, Callable, NamedTuple, Sequence, Union
@@ -14,6 +16,8 @@ ANOTHER_USER = 65534
 SECONDS = 2  # of the processor, for one run
 LONGEST = 600  # seconds for it, on a machine that does other things too
 LONG_LOG = 1 << 20  # bytes of strace's log: a run with more of them does not end
+ENDED = "\\0ended\\0"  # for printf, behind what a run prints: no text has a zero byte
+AT_ONCE = 16  # runs that one shell begins
 
 CALL = re.compile(r"^\d+ +(\w+)\((.*)\) += (-?\w+)(.*)$")
 CALLS = "trace=openat,read,write,fsync,close,statx,mmap,brk,rt_sigaction"
@@ -141,6 +145,36 @@ def calls_of(log: bytes) -> list[Call]:
     return found
 
 
+class Way(NamedTuple):
+    """How a run differs from others: what its shell does before it, and the words before it."""
+
+    setup: str
+    before: Sequence[str] = ()
+
+
+def ends_of(printed: bytes, errors: bytes, count: int) -> list[tuple[int, bytes, bytes]]:
+    """Of runs that one shell began the status, below 0 by a signal, and what each printed and told.
+    """
+    end = ENDED.replace("\\0", "\0").encode()
+    texts, told = printed.split(end), errors.split(end)
+    if (len(texts), len(told)) != (2 * count + 1, count + 1):
+        raise ValueError("the shell that begins runs ended before them")
+    return [(128 - status if status > 128 else status, text, one)
+            for text, status, one in zip(texts[::2], map(int, texts[1::2]), told)]
+
+
+def ran_in(place: str, command: Command, before: dict[str, bytes | None], status: int,
+           printed: bytes | None, errors: bytes) -> Ran:
+    """What a run in a folder did, which had some files before."""
+    calls = calls_of(read(os.path.join(place, "calls")) or b"")
+    written = read(os.path.join(place, command.out)) if command.out else None
+    after, told = files_of(place, command), errors.decode("utf-8", "replace")
+    names = sorted(before.keys() | after.keys())
+    return Ran(status, printed, written, calls,
+               "\n".join(line for line in told.splitlines() if not OTHERS.match(line)),
+               tuple(name for name in names if before.get(name) != after.get(name)))
+
+
 class Trial:
     """The program, its inputs, its commands, and what of the machine can be tried."""
 
@@ -191,21 +225,37 @@ class Trial:
                                       **more)
             except (OSError, subprocess.SubprocessError) as error:
                 return Ran(str(error), b"", None, [])
-            calls = calls_of(read(os.path.join(place, "calls")) or b"")
-            written = read(os.path.join(place, command.out)) if command.out else None
-            after, told = files_of(place, command), done.stderr.decode("utf-8", "replace")
-            names = sorted(before_it.keys() | after.keys())
-            return Ran(done.returncode, done.stdout, written, calls,
-                       "\n".join(line for line in told.splitlines() if not OTHERS.match(line)),
-                       tuple(name for name in names if before_it.get(name) != after.get(name)))
+            return ran_in(place, command, before_it, done.returncode, done.stdout, done.stderr)
 
-    def traced(self, command: Command, *more: str) -> Ran:
-        """Runs a command under strace, with more of strace's words."""
-        return self.run(command, before=[*STRACE, "-o", "calls", *more])
+    def run_each(self, command: Command, ways: Sequence[Way]) -> list[Ran]:
+        """Runs the program in each of some ways, in a new folder each, one after another: one shell
+        begins them all, which takes a third less time than a shell for each."""
+        places = [tempfile.mkdtemp(dir=self.folder) for _ in ways]
+        script = f"ulimit -c 0; ulimit -t {SECONDS}\n" + "".join(
+            f"(cd {shlex.quote(place)} && {{ {way.setup} exec "
+            f"{shlex.join([*way.before, self.program, *command.words])}; }})\n"
+            f"printf '{ENDED}%d{ENDED}' $?; printf '{ENDED}' >&2\n"
+            for place, way in zip(places, ways))
+        try:
+            done = subprocess.run(["sh", "-c", script], stdout=subprocess.PIPE,
+                                  stderr=subprocess.PIPE, stdin=subprocess.DEVNULL,
+                                  timeout=LONGEST, check=False)
+            return [ran_in(place, command, {}, *ended) for place, ended in zip(
+                places, ends_of(done.stdout, done.stderr, len(ways)))]
+        except (OSError, ValueError, subprocess.SubprocessError) as error:
+            return [Ran(str(error), b"", None, []) for _ in ways]
+        finally:
+            for place in places:
+                shutil.rmtree(place)
+
+    def traced(self, command: Command, injections: Sequence[str]) -> list[Ran]:
+        """Runs a command under strace, once for each of some injections."""
+        return self.run_each(command, [
+            Way("", [*STRACE, "-o", "calls", *(["-e", one] if one else [])]) for one in injections])
 
     def own_calls(self, command: Command) -> list[Call]:
         """The system calls of the program itself, those of the loader before it left out."""
-        calls = self.traced(command).calls
+        calls = self.traced(command, [""])[0].calls
         start = next(at for at, call in enumerate(calls) if call.name == "rt_sigaction")
         return calls[start + 1:]
 

@@ -7,14 +7,14 @@ import os
 import shutil
 import subprocess
 from functools import partial
-from typing import Iterator
+from typing import Callable, Iterable, Iterator
 
 from subtitles.common.program import TOP
 from subtitles.formats.stl import TTI
 
 from .stl import boxed, gsi_block, tti_block
 from .trial import (
-    REFUSER, Case, Command, Found, Trial, as_before, whole_or_no_memory)
+    AT_ONCE, REFUSER, Case, Command, Found, Ran, Trial, Way, as_before, whole_or_no_memory)
 from .trial_inputs import HEADER
 
 KIBIBYTES = [96 * 1024, 64 * 1024, 32 * 1024, 16 * 1024, *range(8192, 1024, -48)]
@@ -52,12 +52,19 @@ check german.stl german.pes --option german --pes 0-
 listen recording.ts --pid 257 --at 10:00:00:10""".strip().split("\n")]
 
 
+def in_turn(trial: Trial, command: Command, numbers: Iterable[int], setup: Callable[[int], str]
+            ) -> Iterator[tuple[int, Ran]]:
+    """Runs a command for each of some numbers, some more at once than are asked for."""
+    waiting = iter(numbers)
+    while some := list(itertools.islice(waiting, AT_ONCE)):
+        yield from zip(some, trial.run_each(command, [Way(setup(one)) for one in some]))
+
+
 def less_memory(trial: Trial) -> Iterator[Case]:
     def shrink(command: Command) -> list[Found]:
         found: list[Found] = []
-        for size in KIBIBYTES:
+        for size, ran in in_turn(trial, command, KIBIBYTES, lambda size: f"ulimit -v {size};"):
             name = f"{command.name} in {size} KiB"
-            ran = trial.run(command, setup=f"ulimit -v {size};")
             # Under that the loader ends it, with 127 or a signal, before its first own call.
             if ran.status in (127, -9, -11) and not ran.printed:
                 found.append((name, ran, [] if size < MUCH else ["not started"]))
@@ -94,22 +101,21 @@ def refused_memory(trial: Trial) -> Iterator[Case]:
     subprocess.run(["cc", "-O2", "-shared", "-fPIC", "-o", library, library[:-2] + "c", "-ldl"],
                    check=True)
 
-    def in_turn(number: int, words: list[str]) -> list[Found]:
+    def refused(number: int, words: list[str]) -> list[Found]:
         name, mark = " ".join(words)[:60], os.path.join(trial.folder, f"refused-{number}")
         command = trial.command(name, with_examples(words))
         found: list[Found] = []
-        for call in itertools.count(1):
-            ran = trial.run(command, setup=f"export LD_PRELOAD={library} REFUSE_AT={call} "
-                            f"REFUSED={mark};")
-            if not os.path.exists(mark):
+        for call, ran in in_turn(
+                trial, command, itertools.count(1), lambda call: f"export LD_PRELOAD={library} "
+                f"REFUSE_AT={call} REFUSED={mark}-{call};"):
+            if not os.path.exists(f"{mark}-{call}"):
                 break
-            os.remove(mark)
             found.append((f"{name}: call {call}", ran, whole_or_no_memory(command, ran)))
         faults = as_before(command, ran) if found else ["no call is seen: is it linked to libc?"]
         return [*found, (f"{name}: no more calls", ran, faults)]
 
     for number, words in enumerate(REFUSED):
-        yield partial(in_turn, number, words)
+        yield partial(refused, number, words)
 
 
 def many_subtitles(trial: Trial) -> Iterator[Case]:
