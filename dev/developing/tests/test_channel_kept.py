@@ -4,7 +4,7 @@ from __future__ import annotations
 import contextlib
 import errno
 import os
-from typing import Iterator
+from typing import Iterator, Tuple
 from unittest import mock
 
 from developing.pes import MARK, pes_packet
@@ -13,7 +13,7 @@ from subtitles.cli.channel import recorder
 from subtitles.cli.channel.recorder import (
     AHEAD, Begin, LEAST, MANY, NotWanted, PART, Recorder, Segments)
 from subtitles.cli.channel.spool import (
-    ERROR, Exchange, FILE, HEARD, Journal, RESTARTS, are, numbers_in, path_of)
+    ERROR, Exchange, FILE, HEARD, Journal, RESTARTS, numbers_in, path_of)
 from subtitles.common.command_line import Stop
 from subtitles.common.files import Input
 from .bench import Case
@@ -166,7 +166,7 @@ class Read(Folders):
     def test_journal(self) -> None:
         """Half of an entry is none, and those behind it are there."""
         def journal(folder: str = self.folder) -> Journal:
-            return Journal(folder, "index", lambda entry: are(entry, str, int))
+            return Journal(folder, "index", Tuple[str, int])
 
         self.must("none", journal().entries() == [])
         journal().add("one", 1)
@@ -174,8 +174,8 @@ class Read(Folders):
         for count in range(len(whole) + 1):
             self.write("index", whole[:count])
             journal().add("two", 2)
-            self.must(f"{count}", journal().entries() == [["one", 1]] * (
-                count >= len(whole) - 1) + [["two", 2]], self.read("index"))
+            self.must(f"{count}", journal().entries() == [("one", 1)] * (
+                count >= len(whole) - 1) + [("two", 2)], self.read("index"))
         journal(self.path("none")).add("one", 1)
         with mock.patch("os.replace", side_effect=OSError):
             journal().replace([])

@@ -7,7 +7,7 @@ import os
 import select
 import stat
 import time
-from typing import Any, BinaryIO, Iterator, Mapping, NamedTuple
+from typing import Any, BinaryIO, Dict, Iterator, Mapping, NamedTuple, Optional, Tuple, Union
 
 from ...common.command_line import Stop, say
 from ...common.files import Input, Inputs
@@ -17,7 +17,7 @@ from ..batch import beside, signals_held
 from ..single import InUse, heed_signals, ignore_signals, locked, locking
 from .records import Read
 from .spool import (
-    ERROR, Exchange, FILE, HEARD, Journal, are, claim, is_number, numbers_in, opened, path_of)
+    ERROR, Exchange, FILE, HEARD, Journal, claim, numbers_in, opened, path_of)
 
 
 # A feed on disk: segments with numbers in a folder. A number that is left out is a loss.
@@ -58,12 +58,9 @@ class Begin(NamedTuple):
     pids: Mapping[str, int] = {}
 
 
-def is_begin(entry: list[Any]) -> bool:
-    """Whether an entry of the index is the begin of a segment; version 1.9 knew no PID."""
-    pids = entry[4] if len(entry) == 5 else {}
-    return len(entry) in (4, 5) and all(map(is_number, entry[:2])) and (
-        entry[2] is None or is_number(entry[2])) and are(entry[3:4], bool) and \
-        isinstance(pids, dict) and all(map(is_number, pids.values()))
+# An entry of the index: a number with that; version 1.9 knew no PID.
+OLD_ENTRY = Tuple[int, int, Optional[int], bool]
+ENTRY = Union[OLD_ENTRY, Tuple[int, int, Optional[int], bool, Dict[str, int]]]
 
 
 class Segments:
@@ -77,7 +74,7 @@ class Segments:
 
     def __init__(self, folder: str) -> None:
         self.folder, self.state = folder, Exchange(folder)
-        self.index = Journal(folder, "index", is_begin)
+        self.index = Journal(folder, "index", ENTRY)
         self.begins = {number: Begin(*rest) for number, *rest in self.index.entries()}
         self.known, self.count = max(self.begins, default=-1), len(self.begins)
         self.file: BinaryIO | None = None

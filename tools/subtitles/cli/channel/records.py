@@ -6,18 +6,20 @@ import dataclasses
 import json
 import os
 import shutil
-from typing import Any, NamedTuple, Sequence
+from typing import Any, Dict, NamedTuple, Optional, Sequence, Union, get_type_hints
 
 from ...common.files import BEGIN, result_file
 from ...judging.status import NOT_JUDGED
 from ...results.files import ENDING, MOST_READ, Row, found_at, object_text, row_of_object
 from . import spool
-from .spool import RECORD, KeptRoom, WORK, are, is_number, numbers_in, opened, path_of
+from .spool import RECORD, KeptRoom, WORK, numbers_in, opened, path_of, read_as
 
 # A record is a file that stays: its first line says what is known of the programme, and behind that
 # stands its JSON result, from which that in the folder of results is made. `told` is written in
 # place, so that it needs no room. Nothing else says what has its result: where five places did, a
 # line was judged twice or never. So results may be taken away, and a judge killed, at any moment.
+#
+# What stands in files is read by the hints of its type, in which Python 3.9 knows no `int | None`.
 
 FORMAT = 2
 TOLD = b'{"told": %d, '
@@ -41,7 +43,7 @@ class Due(NamedTuple):
 
     words: Sequence[str]
     origin: int
-    pid: int | None
+    pid: Optional[int]
     is_fitted: bool
     parts: Sequence[Read]
     moved: str = ""
@@ -98,15 +100,15 @@ class Outcome:
     name: str
     out: str
     stl: str
-    found: dict[str, Any] | None
+    found: Optional[Dict[str, Union[int, str]]]
     over: int
     since: int
-    due: Due | None = None
-    row: Row | None = None
+    due: Optional[Due] = None
+    row: Optional[Row] = None
     size: int = 0  # bytes of the JSON result
     is_told: bool = False
     tries: Tries = dataclasses.field(default_factory=Tries, compare=False)
-    unkept: bytes | None = None
+    unkept: Optional[bytes] = None
     is_mended: bool = False
 
     def is_of(self, stl: str) -> bool:
@@ -121,27 +123,12 @@ class Outcome:
 
 
 def record_of(number: int, head: bytes) -> Outcome:
-    """The record that a first line is; `ValueError` where it is none."""
-    known = json.loads(head)
-    if not isinstance(known, dict) or known.get("format") != FORMAT:
-        raise ValueError
-    record = Outcome(number, *(known[name] for name in MEMBERS))
+    """The record that a first line is; `ValueError` or `TypeError` where it is none."""
+    known, hints = json.loads(head), get_type_hints(Outcome)
+    record = Outcome(number, *(read_as(hints[name], known[name]) for name in MEMBERS))
     record.is_told = bool(known["told"])
-    is_right = is_name(record.name) and are((record.out, record.stl), str, str) and \
-        all(map(is_number, (record.over, record.since, record.size))) and \
-        (record.due is None) != (record.row is None) and \
-        (record.found is None or are(record.found.values(), int, str))
-    if record.due is not None:
-        words, origin, pid, is_fitted, parts, moved = record.due
-        record.due = Due(words, origin, pid, bool(is_fitted), [Read(*part) for part in parts],
-                         str(moved))
-        is_right &= are(words, *[str] * len(words)) and is_number(origin) and \
-            all(map(is_number, sum(record.due.parts, ())))
-    if record.row is not None:
-        record.row = Row(*record.row)
-        row = record.row._replace(seconds=float(record.row.seconds))
-        is_right &= are(row, str, str, str, int, str, int, dict, list, float, str, str)
-    if not is_right:
+    if known["format"] != FORMAT or not is_name(record.name) or \
+            (record.due is None) == (record.row is None):
         raise ValueError
     return record
 
@@ -172,7 +159,7 @@ class Records:
         try:
             with opened(path) as file:
                 return record_of(number, file.readline(MOST_OF_HEAD))
-        except (OSError, ValueError, TypeError, KeyError, AttributeError, RecursionError):
+        except (OSError, ValueError, TypeError, KeyError, RecursionError):
             self.said.append(spool.set_aside(self.folder, os.path.basename(path)))
             return None
 

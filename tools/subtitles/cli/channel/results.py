@@ -13,7 +13,7 @@ import signal
 import subprocess
 import tempfile
 import time
-from typing import Any, Callable, Sequence
+from typing import Any, Callable, Sequence, Tuple
 
 from ...clock.start import FITTED_SHORT
 from ...common.command_line import Stop, counted, ended, error_line, tell
@@ -30,7 +30,7 @@ from ..batch import Forked, ended_of, signals_held
 from ..single import now, refuse_file
 from .records import Due, Judged, Outcome, Records
 from .recorder import pieces_of
-from .spool import Journal, OLD_FOLDER, are, path_of
+from .spool import Journal, OLD_FOLDER, path_of
 
 # What came of a programme is judged by a process of its own, which makes one file of the segments.
 # What it says is final where the program said it; what the machine did to it is not, and it is
@@ -84,8 +84,8 @@ class Results:
         done, journal = (os.path.join(self.folder, name) for name in ("done", "journal"))
         if not os.path.isdir(done) and not os.path.isfile(journal):
             return
-        old = Journal(self.folder, "journal", lambda entry: are(entry, str, int))
-        self.old_overs.update((name, max(over, 0)) for name, over in old.entries())
+        old = Journal(self.folder, "journal", Tuple[str, int])
+        self.old_overs.update(old.entries())
         for name in sorted(os.listdir(done)) if os.path.isdir(done) else ():
             folder = os.path.join(done, name)
             record = self.record_in(folder, name, "", self.old_overs.get(name, 0))

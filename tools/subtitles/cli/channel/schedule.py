@@ -6,7 +6,7 @@ import collections
 import dataclasses
 import os
 import time
-from typing import Any, Callable, NamedTuple, Sequence
+from typing import Any, Callable, NamedTuple, Optional, Sequence, Tuple, Union
 
 from ...common.command_line import Stop, Words, error_line
 from ...common.times import FRAMES_OF_A_DAY, TICKS, frame_in, time_of
@@ -23,7 +23,7 @@ from ..main import refuse_options
 from .feed import Awaited, MINUTE
 from .hearing import Heard, Hearing
 from .records import Outcome, is_name
-from .spool import Journal, are, is_number
+from .spool import Journal
 
 
 # The programmes of a channel, by the entries of a list that is edited while the channel runs.
@@ -101,6 +101,10 @@ def edits_of(known: Sequence[Programme], lines: Sequence[Line]) -> Edits:
                  [programme for programme in known if programme in gone], changed)
 
 
+# What is kept of a list: whose results its records are of, and since when a line has none; each
+# programme, whether it is gone, and its line.
+DAY = Tuple[str, str, Optional[int]]
+KEPT = Tuple[str, bool, int, Sequence[str], str]
 AT_ONCE = 4  # programmes that are looked for at the same time
 LOOK = 1.0  # seconds between two looks into the list
 
@@ -122,7 +126,7 @@ class Queue:
                  out: str = "",
                  known: Callable[[str, str], Outcome | None] = lambda name, stl: None) -> None:
         self.path, self.defaults, self.known = path, defaults, known
-        self.journal = Journal(folder, "list", is_entry)
+        self.journal = Journal(folder, "list", Union[DAY, KEPT])
         self.programmes: list[Programme] = []
         self.waiting: list[Programme] = []
         self.gone: list[Programme] = []
@@ -142,7 +146,7 @@ class Queue:
         self.take_kept(self.journal.entries())
         self.is_known = bool(self.programmes)
 
-    def take_kept(self, entries: list[list[Any]]) -> None:
+    def take_kept(self, entries: list[Any]) -> None:
         """Takes the list as an earlier call knew it, unless that was another day's."""
         self.said += self.journal.said
         if entries and len(entries[0]) == 3:
@@ -154,6 +158,8 @@ class Queue:
                 return
             self.open_since = since
         for name, is_gone, number, words, fault in entries:
+            if not is_name(name):
+                continue
             line = Line(number, tuple(words), fault)
             has_ended = self.known(self.names.take(name), "") is not None
             request, reason = (None, None) if has_ended else self.read_line(line)
@@ -337,14 +343,6 @@ class Queue:
         file may have come meanwhile. What an earlier call has judged may be heard once more, and is
         over all the same: `ended` never goes back."""
         self.since, self.ended, self.waiting = since, max(self.ended, ended), []
-
-
-def is_entry(entry: list[Any]) -> bool:
-    """Whether an entry of what is kept is the day, or a programme by its name and its line."""
-    if len(entry) == 3:
-        return are(entry[:2], str, str) and (entry[2] is None or is_number(entry[2]))
-    return are(entry, str, bool, int, list, str) and is_name(entry[0]) and all(
-        isinstance(word, str) for word in entry[3])
 
 
 def line_parser() -> Words:

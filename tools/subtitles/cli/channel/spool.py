@@ -2,6 +2,7 @@
 from __future__ import annotations
 
 import argparse
+import collections.abc
 import contextlib
 import errno
 import json
@@ -10,7 +11,8 @@ import re
 import shutil
 import stat
 import struct
-from typing import Any, BinaryIO, Callable, Iterable
+from typing import (
+    Any, BinaryIO, Callable, Iterable, Tuple, Union, get_args, get_origin, get_type_hints)
 
 from ...common.command_line import Stop
 from ...common.files import BEGIN, Inputs, kind_of, result_file
@@ -152,38 +154,56 @@ class KeptRoom:
             does()
 
 
-# Values in a file that only grows, an entry in each line: half of one, as a crash leaves it, is
-# none.
+# Values in files, and in one that only grows, an entry in each line: half of one, as a crash leaves
+# it, is none.
 
 MOST_OF_JOURNAL = 64 << 20  # bytes of one that is read
+MOST = 1 << 62  # of which no number is
+
+
+def read_as(kind: Any, value: Any) -> Any:
+    """A value of JSON as one of a type, by its hints; `TypeError` where it is none. No number is
+    below 0."""
+    origin, inner = get_origin(kind), get_args(kind)
+    if hasattr(kind, "_fields"):
+        return kind(*read_as(Tuple[tuple(get_type_hints(kind).values())], value))
+    if origin is Union:
+        for one in inner:
+            with contextlib.suppress(TypeError):
+                return read_as(one, value)
+    elif origin is tuple and isinstance(value, list) and len(value) == len(inner):
+        return tuple(map(read_as, inner, value))
+    elif origin is collections.abc.Sequence and isinstance(value, list):
+        return [read_as(inner[0], one) for one in value]
+    elif origin is dict and isinstance(value, dict):
+        return {name: read_as(inner[1], one) for name, one in value.items()}
+    elif type(value) is kind and (kind is not int or 0 <= value < MOST):
+        return value
+    raise TypeError
 
 
 class Journal:
-    """A file of entries, each a list that `fits`. What can't be written to it now is left out:
-    whoever reads it has to do with what is there. A whole entry that does not fit says that the
-    file is damaged: it is set aside, and `said` says so."""
+    """A file of entries of a type. What can't be written to it now is left out: whoever reads it
+    has to do with what is there. A whole entry that is none says that the file is damaged: it is
+    set aside, and `said` says so."""
 
-    def __init__(self, folder: str, name: str, fits: Callable[[list[Any]], bool]) -> None:
-        self.folder, self.name, self.fits = folder, name, fits
+    def __init__(self, folder: str, name: str, kind: object) -> None:
+        self.folder, self.name, self.kind = folder, name, kind
         self.path = os.path.join(folder, name)
         self.said: list[str] = []
 
-    def entries(self) -> list[list[Any]]:
-        """All of them; none where one does not fit."""
-        entries = list[list[Any]]()
+    def entries(self) -> list[Any]:
+        """All of them; none where one is none."""
+        entries = []
         with contextlib.suppress(OSError), opened(self.path) as file:
-            for line in file.read(MOST_OF_JOURNAL).splitlines():
+            for line in filter(None, file.read(MOST_OF_JOURNAL).splitlines()):
                 try:
-                    entry = json.loads(line or b"[]")
-                    is_right = isinstance(entry, list) and (not entry or self.fits(entry))
-                except ValueError:
+                    entries.append(read_as(self.kind, json.loads(line)))
+                except ValueError:  # half of one
                     continue
                 except (TypeError, RecursionError):
-                    is_right = False
-                if not is_right:
                     self.said.append(set_aside(self.folder, self.name))
                     return []
-                entries += [entry] * bool(entry)
         return entries
 
     def add(self, *values: Any) -> None:
@@ -236,15 +256,3 @@ class Exchange:
         """Writes numbers, all at once."""
         with contextlib.suppress(OSError), opened(self.path, os.O_WRONLY | os.O_CREAT) as file:
             os.pwrite(file.fileno(), struct.pack(f">{len(values)}Q", *values), at)
-
-
-def is_number(value: object) -> bool:
-    """Whether a value of JSON is a number of something."""
-    return type(value) is int and 0 <= value < 1 << 62
-
-
-def are(values: Iterable[object], *kinds: type) -> bool:
-    """Whether values of JSON are of some kinds, one after another."""
-    values = list(values)
-    return len(values) == len(kinds) and all(
-        type(value) is kind for value, kind in zip(values, kinds))
