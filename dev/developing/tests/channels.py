@@ -90,29 +90,22 @@ def until(holds: Callable[[], object]) -> bool:
 
 
 class Used(NamedTuple):
-    """What a process and its children take: kilobytes, of what they share each its part, those of
-    the process alone, and the most files that one of them has open."""
+    """What a process and its children take: kilobytes, of what they share each its part, and the
+    most files that one of them has open."""
 
     kilobytes: int
-    own: int
     handles: int
 
 
 def used_by(pid: int) -> Used:
     """What is used by now; of children that end meanwhile nothing."""
-    found = [one for one in map(used_alone, family_of(pid)) if one]
-    return Used(sum(one.kilobytes for one in found), found[0].own if found else 0,
-                max((one.handles for one in found), default=0))
-
-
-def used_alone(pid: int) -> Used | None:
-    """What one process takes."""
-    try:
-        with open(f"/proc/{pid}/smaps_rollup", encoding="ascii") as file:
-            sizes = dict(re.findall(r"(\w+): +(\d+) kB", file.read()))
-        return Used(int(sizes["Pss"]), int(sizes["Rss"]), len(os.listdir(f"/proc/{pid}/fd")))
-    except (OSError, KeyError):
-        return None
+    kilobytes = handles = 0
+    for one in family_of(pid):
+        with contextlib.suppress(OSError), open(f"/proc/{one}/smaps_rollup",
+                                                encoding="ascii") as file:
+            handles = max(handles, len(os.listdir(f"/proc/{one}/fd")))
+            kilobytes += sum(map(int, re.findall(r"^Pss: +(\d+) kB", file.read(), re.MULTILINE)))
+    return Used(kilobytes, handles)
 
 
 def family_of(pid: int) -> Iterator[int]:
@@ -141,7 +134,7 @@ class Running:
         with open(case.path(log), "ab") as file:
             self.process = subprocess.Popen(command, cwd=case.folder, stdin=stdin, stdout=file,
                                             stderr=file, preexec_fn=loaded(command))
-        self.most = Used(0, 0, 0)  # kilobytes, also of the process alone, and open files
+        self.most = Used(0, 0)
         self.watching = threading.Thread(target=self.watch, daemon=True)
 
     def watch(self) -> None:

@@ -16,10 +16,11 @@ from subtitles.cli.channel.records import Due, Judged, Outcome, Read
 from subtitles.cli.channel.results import PASSING, Results
 from subtitles.common.times import CLOCK, TICKS
 from subtitles.formats.teletext import Page
-from subtitles.results.files import found_at, left_by_call, put_object
+from subtitles.results.files import found, found_at, left_by_call, put_object
+from subtitles.results.schema import ASKED
 from .bench import Case
 from .channels import EACH, FIRST, SECOND, SHOWN, make_subtitles
-from .parts import defaults
+from .parts import asked_for, defaults
 from .results import result
 
 TEXTS = ["Alpha", "Beta", "Gamma", "Delta"]
@@ -163,6 +164,12 @@ class Told(Channel):
         for _ in range(2):
             self.queue.next_look = 0.0
             self.go_on()
+
+
+def result_of(stl: str, verdict: str = "refused") -> dict[str, Any]:
+    """The result of a programme, whose subtitle file is as it is now."""
+    asked = asked_for(stl, None)
+    return result(verdict, asked=ASKED.made(asked), found=found(asked))
 
 
 def results_in(case: Case, folder: str, out: str) -> Results:

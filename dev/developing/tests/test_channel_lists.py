@@ -10,13 +10,12 @@ from subtitles.cli.channel.channel import BEFORE_IT
 from subtitles.cli.channel.schedule import AT_ONCE, MISSING, Queue, Programme, edits_of
 from subtitles.request.lines import Line, lines_in
 from subtitles.common.times import TICKS
-from subtitles.results.files import found, unjudged
-from subtitles.results.schema import ASKED
+from subtitles.results.files import unjudged
 from .bench import Case
 from .channels import SECOND
-from .listings import BEGIN, LAST, Judging, Lines, Programmes, Told, files_of, results_at, texts_of
-from .parts import asked_for, defaults
-from .results import result
+from .listings import (
+    BEGIN, LAST, Judging, Lines, Programmes, Told, files_of, result_of, results_at, texts_of)
+from .parts import defaults
 
 
 def programmes(text: str) -> list[Programme]:
@@ -208,8 +207,7 @@ class WhileItRuns(Programmes):
         for kept in range(4):
             # The last line has no end.
             for name in names[:kept]:
-                asked = asked_for(self.files[name], None)
-                known = result(asked=ASKED.made(asked), found=found(asked))
+                known = result_of(self.files[name])
                 self.write(f"out/{name}.json", json.dumps(known).encode())
             channel = Told(self, self.listed(*names).rstrip(), self.path("out"))
             self.must(f"{kept}", channel.results.verdicts == ["refused"] * kept and channel.said ==

@@ -19,13 +19,12 @@ from subtitles.cli.channel.results import PASSING
 from subtitles.cli.channel.spool import Journal, claim, path_of
 from subtitles.common.files import Inputs
 from subtitles.common.times import CLOCK, TICKS
-from subtitles.results.files import found, put_object, unjudged
-from subtitles.results.schema import ASKED, FORMAT
+from subtitles.results.files import put_object, unjudged
+from subtitles.results.schema import FORMAT
 from .bench import SECONDS
 from .channels import FIRST, SECOND
 from .listings import (
-    BEGIN, LAST, Judging, Lines, Programmes, Told, results_at, results_in, texts_of)
-from .parts import asked_for
+    BEGIN, LAST, Judging, Lines, Programmes, Told, result_of, results_at, results_in, texts_of)
 from .results import result
 
 ACCEPTED, REFUSED = Judged(result("accepted")), Judged(result("refused"))
@@ -220,13 +219,12 @@ class Kept(Programmes):
         other = self.write("b.stl", b"1")
         for path in (stl, other):  # alike but for the name
             os.utime(path, ns=(5, 1_700_000_000_123_456_789))
-        asked = asked_for(stl, None)
-        one = result(asked=ASKED.made(asked), found=found(asked))
-        longer = {**found(asked), "stl": {"size": 2, "modified": "2023-11-14T22:13:20.123456789Z"}}
+        one = result_of(stl)
+        longer, none = ({**one, "found": {**one["found"], "stl": stl}} for stl in (
+            {"size": 2, "modified": "2023-11-14T22:13:20.123456789Z"}, None))
         for name, known, line, is_one in (
                 ("judged", one, stl, True), ("of another file", one, other, False),
-                ("nothing found", {**one, "found": {**found(asked), "stl": None}}, stl, False),
-                ("another size", {**one, "found": longer}, stl, False),
+                ("nothing found", none, stl, False), ("another size", longer, stl, False),
                 ("another version", {**one, "format": FORMAT - 1}, stl, True),
                 ("no pair", unjudged("a", "why"), stl, True),
                 ("open", unjudged("a", "why", True), stl, None), ("none", None, stl, None)):
@@ -234,7 +232,8 @@ class Kept(Programmes):
             os.mkdir(self.path("out"))
             if known is not None:
                 self.write("out/a.json", json.dumps(known).encode())
-            made = results_in(self, self.new_folder(name), self.path("out"))
+            os.mkdir(self.path(f"spool {name}"))
+            made = results_in(self, self.path(f"spool {name}"), self.path("out"))
             record = made.adopt("a", stl)
             self.must(name, (record and record.is_of(line)) == is_one, record)
             if record:
@@ -242,20 +241,14 @@ class Kept(Programmes):
                 self.must(f"{name} stays", not record.is_mended and json.loads(self.read(
                     "out/a.json")) == known)
 
-    def new_folder(self, name: str) -> str:
-        os.mkdir(self.path(f"spool {name}"))
-        return self.path(f"spool {name}")
-
     def test_of_the_version_before(self) -> None:
         """What it has left is taken over once, which is said: results with their files, times, and
         the list."""
-        spool = self.new_folder("old")
+        spool = self.path("spool old")
         os.makedirs(f"{spool}/done/two")
         os.makedirs(f"{spool}/work-0123456789abcdef")
         for name in ("one", "two"):
-            asked = asked_for(self.files[name], None)
-            known = json.dumps(result("accepted", asked=ASKED.made(asked),
-                                      found=found(asked))).encode()
+            known = json.dumps(result_of(self.files[name], "accepted")).encode()
             self.write("out/one.json" if name == "one" else "spool old/done/two/two.json", known)
         self.write("spool old/done/two/two.html", b"page")
         self.write("spool old/state", bytes(48))

@@ -232,20 +232,21 @@ class Channel:
         self.look()
         if not queue.waiting:
             return False
-        first = queue.waiting[0]
-        if first.why_not is not None:
-            self.leave(first.why_not, queue.since)
-            return True
-        place, midnight = queue.first_sent(self.hearing) or (None, 0)
-        if place is not None:
-            self.begin_seen(place, midnight)
-        elif self.now <= queue.until:
-            return False
-        else:
-            origin = first.request and first.request.origin
+        first, since = queue.waiting[0], queue.since
+        reason = first.why_not
+        if reason is None:
+            sent = queue.first_sent(self.hearing)
+            if sent:
+                self.begin_sent(*sent)
+                return True
+            if self.now <= queue.until:
+                return False
+            origin, since = first.request and first.request.origin, queue.until
             what = "its first five cues were not seen" if origin is None else \
                 f"its first TCI did not come, by --origin {origin},"
-            self.leave(f"{what} within {counted(self.words.patience, 'minute')}", queue.until)
+            reason = f"{what} within {counted(self.words.patience, 'minute')}"
+        self.unjudged(queue.leave(), reason, since)
+        queue.wait_anew(since)
         return True
 
     def look(self) -> None:
@@ -262,7 +263,7 @@ class Channel:
         self.hearing.turn_to(programme.request.page for programme in queue.waiting
                              if programme.request)
 
-    def begin_seen(self, place: int, midnight: int) -> None:
+    def begin_sent(self, place: int, midnight: int) -> None:
         """Begins with a programme that is there; those before it in the list were not."""
         name = self.queue.waiting[place].name
         for _ in range(place):
@@ -276,12 +277,6 @@ class Channel:
         self.running = OnAir(
             programme, dataclasses.replace(programme.request, origin=origin, pid=None), midnight,
             programme.awaited.first, programme.awaited.last)
-
-    def leave(self, reason: str, since: int) -> None:
-        """The first programme that is waited for is not judged; the next one is waited for, since
-        a time."""
-        self.unjudged(self.queue.leave(), reason, since)
-        self.queue.wait_anew(since)
 
     # ---- its verdict
 
