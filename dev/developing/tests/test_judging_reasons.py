@@ -16,8 +16,8 @@ from subtitles.judging.transmissions import (
     unerased_words)
 from subtitles.recording.recording import header_bytes, pes_header_words
 from subtitles.stream.gaps import Place, places_of, what_of
-from subtitles.stream.packets import Clocked, Mark, Packets, Run
-from subtitles.stream.receiver import BLANK_PAGE, Rows, TUNED, Timeline, subcode_of, turns_of
+from subtitles.stream.packets import Clocked, Mark, Packets, Run, subcode_of, turns_of
+from subtitles.stream.receiver import BLANK_PAGE, Rows, TUNED, Timeline
 from .bench import Case
 from .judged import Judged, OfProgramme, judged
 from .muxed import OLD, Shape, TELETEXT_PID, beside_video, in_turn, multiplexed, stream, without

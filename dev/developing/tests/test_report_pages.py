@@ -308,7 +308,7 @@ class Bounds(unittest.TestCase):
             made: Any = Report.__new__(Report)
             made.faults = SimpleNamespace(leading=line and Entry(3, fault_of(line)))
             made.asked, made.subtitles = asked_for("a.stl", "a.pes"), []
-            made.looked, made.page = [], "888"
+            made.looked, made.page = list, "888"
             made.part, made.reasons = mock.MagicMock(), SimpleNamespace(drawn=None)
             others = {name: mock.DEFAULT for name in (
                 "Figures", "Entries", "FaultList", "Strip", "mark_unheard", "end_of_knowledge")}

@@ -10,8 +10,7 @@ from ..common.times import (
     ticks_within, time_of)
 from ..formats.stl import letters_on_page, readable, stl_bytes, subtitle_times
 from ..formats.teletext import Page, page_name
-from ..stream.packets import Packets, Range, STRAY
-from ..stream.receiver import subcode_words, turns_of
+from ..stream.packets import Packets, Range, STRAY, subcode_words, turns_of
 from .alignment import Base, Drift, Early, Fit, MOST_APART, MOST_BASES, Shown, bases_of, drift_of
 from .stretches import Airing, FittedPart, IN_A_ROW, Stretch, by_breaks, find_row, parts_of, runs_of
 

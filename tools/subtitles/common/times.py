@@ -4,6 +4,7 @@ from __future__ import annotations
 import array
 import bisect
 import heapq
+import operator
 import re
 from typing import Iterable, Iterator, NamedTuple, Sequence
 
@@ -101,15 +102,16 @@ def frame_at(pts: int, origin: int, within: int = 0) -> int | None:
     return None if frame == NO_FRAME else frame
 
 
-def frames_at(several: list[int], origin: int, within: int = 0) -> Sequence[int]:
+def frames_at(several: Sequence[int], origin: int, within: int = 0) -> Sequence[int]:
     """The frame of the day of each of several PTS, `NO_FRAME` where it has none."""
     early = EARLY * (within > 0)
     end, count = TICKS * FRAMES_OF_A_DAY, len(several)
-    if several and several == list(range(several[0], several[0] + TICKS * count, TICKS)):
+    if count and several[-1] == several[0] + TICKS * (count - 1) and all(
+            map(operator.eq, several, range(several[0], several[-1] + 1, TICKS))):
         ticks = wrapped(several[0] - origin + early)
         if (within or ticks % TICKS == 0) and ticks // TICKS + count <= FRAMES_OF_A_DAY:
             return range(ticks // TICKS, ticks // TICKS + count)  # as of most recordings
-    distances = [(pts - origin + early) % CLOCK for pts in several]
+    distances = ((pts - origin + early) % CLOCK for pts in several)
     if within:
         return [ticks // TICKS if ticks < end else NO_FRAME for ticks in distances]
     return [NO_FRAME if ticks % TICKS or ticks >= end else ticks // TICKS for ticks in distances]

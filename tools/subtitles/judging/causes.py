@@ -11,8 +11,8 @@ from ..common.times import Span, time_of
 from ..formats.listing import BEGIN, CONTENT, END
 from ..formats.stl import Subtitle
 from ..formats.teletext import BY_WORD, page_name
-from ..stream.packets import HEADER
-from ..stream.receiver import BLANK_PAGE, HIT, LEAST, Rows, Timeline, subcode_words, turns_of
+from ..stream.packets import HEADER, subcode_words, turns_of
+from ..stream.receiver import BLANK_PAGE, HIT, LEAST, Rows, Timeline
 from .check import Answer
 from .pages import (
     attribute_words, beside_words, is_moved, is_part, moved_words, page_text, words_on)

@@ -221,7 +221,8 @@ class Pair:
         request, file = self.request, SubtitleFile(self.names.given)
         if not may_hide(subtitles_read(file.data), bool(request.layout)):
             return
-        due = self.due_of(request, [])
+        due = self.due_of(request, subtitles_in(self.typed.program_path, self.names.given,
+                                                request.between, request.is_open))
         hidden = hidden_rows(due.subtitles, due.pages, file, request.option)
         self.verdict.named += hidden.faults
         self.verdict.warn(hidden.warnings)
@@ -396,8 +397,9 @@ class Pair:
         if at is None or part.held is None:
             return
         request, program, given = self.request, self.typed.program_path, self.names.given
-        due = due_pages_of(program, given, request.page, request.option, Between(at, at + 1),
-                           request.words_of_pages(), request.is_open)
+        between = Between(at, at + 1)
+        due = due_pages_of(program, given, subtitles_in(program, given, between, request.is_open),
+                           request.page, request.option, between, request.words_of_pages())
         fault = part.answer.first
         if not due.pages or not fault or part.held.page_at(fault.frame or at) != due.pages[0]:
             return
@@ -422,8 +424,8 @@ class Pair:
         if self.verdict.beside:
             layout = layout_of(request.layout or "") or PLAIN
             return due_beside(subtitles, request.page, request.option, layout)
-        return due_pages_of(self.typed.program_path, self.names.given, request.page, request.option,
-                            request.between, request.words_of_pages(), request.is_open)
+        return due_pages_of(self.typed.program_path, self.names.given, subtitles, request.page,
+                            request.option, request.between, request.words_of_pages())
 
     def tell_losses(self, recording: Recording, is_shifted: bool) -> None:
         """Takes where something of the recording is missing, and that it grew meanwhile."""

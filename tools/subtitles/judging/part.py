@@ -1,6 +1,7 @@
 """A part of a pair: what is judged by itself, which subtitles it has, and why they are refused."""
 from __future__ import annotations
 
+import array
 import collections
 import dataclasses
 import functools
@@ -209,9 +210,9 @@ class Part:
         return self.answer.trusted.without(
             unseen(holes, self.alignment.origin, self.request.within, False))
 
-    def pts(self, does: str = "") -> list[int]:
+    def pts(self, does: str = "") -> array.array[int]:
         """The PTS of its PES packets, of those that do something."""
-        return [*self.packets.pts(self.pes, does)] if self.pes else []
+        return array.array("q", self.packets.pts(self.pes, does) if self.pes else ())
 
     def options_sent(self) -> set[str]:
         """The national options of its headers of the page."""

@@ -2,6 +2,7 @@
 from __future__ import annotations
 
 import bisect
+import functools
 import os
 import subprocess
 from typing import Mapping, NamedTuple, Sequence
@@ -15,9 +16,9 @@ from ..formats.teletext import (
     BY_BITS, BY_WORD, ERASE, INHIBIT, NEWSFLASH, Page, RESERVED, SUBTITLE, SUPPRESS, has_bit,
     letters, page_name)
 from ..request.request import Request, Unclear, Unsaid
-from ..stream.packets import CLOSED, HEADER, PES, Packets, Run
-from ..stream.receiver import BLANK_PAGE, LEAST, Rows, State, Timeline, national_option, subcode_of
-from ..stream.survey import survey
+from ..stream.packets import CLOSED, HEADER, PES, Packets, Run, headers_in, subcode_of
+from ..stream.receiver import BLANK_PAGE, Held, LEAST, Rows, State, Timeline, national_option
+from ..stream.survey import runs_told
 from .check import Answer
 from .pages import is_part, words_on
 
@@ -56,7 +57,7 @@ class Headed(NamedTuple):
 
 def headers_of(run: Run) -> list[bytes]:
     """The eight numbers of each header of the page in a PES packet."""
-    return [bytes(int(digit, 16) for digit in one) for one in run.control.split("+") if one]
+    return [*headers_in(run.control)]
 
 
 def headed(run: Run, state: State) -> list[Headed]:
@@ -196,14 +197,25 @@ class DuePages(SubtitleList):
     `timeline` is what a receiver holds of it, `None` where there is no subtitle."""
 
     def __init__(self, subtitles: list[Subtitle], pages: list[Rows],
-                 timeline: Timeline | None = None) -> None:
+                 timeline: Held | None = None) -> None:
         super().__init__(subtitles)
         self.pages, self.timeline = pages, timeline
-        self.by_page: dict[Rows, list[int]] = {}
-        self.by_words: dict[str, list[int]] = {}
-        for place, page in enumerate(pages):
-            self.by_page.setdefault(page, []).append(place)
-            self.by_words.setdefault(words_on(page), []).append(place)
+
+    @functools.cached_property
+    def by_page(self) -> dict[Rows, list[int]]:
+        """The places of the subtitles with a page."""
+        by_page: dict[Rows, list[int]] = {}
+        for place, page in enumerate(self.pages):
+            by_page.setdefault(page, []).append(place)
+        return by_page
+
+    @functools.cached_property
+    def by_words(self) -> dict[str, list[int]]:
+        """The places of the subtitles with some words."""
+        by_words: dict[str, list[int]] = {}
+        for place, page in enumerate(self.pages):
+            by_words.setdefault(words_on(page), []).append(place)
+        return by_words
 
     def of_page(self, page: Rows, frame: int) -> int | None:
         """The subtitle with a page that begins nearest to a frame; none has a blank one."""
@@ -241,20 +253,22 @@ def subtitles_in(program: str, stl: str, between: Between = ALL_DAY,
     return [subtitle for subtitle in subtitles if between.has(subtitle.begin)]
 
 
-def due_pages_of(program: str, stl: str, page: Page, option: str, between: Between = ALL_DAY,
-                 words: Sequence[str] = (), is_open: bool = False) -> DuePages:
-    """Those of a file that come in some frames, by the program at a path and the options that say
-    how pages are drawn."""
-    subtitles = subtitles_in(program, stl, between, is_open)
+def due_pages_of(program: str, stl: str, subtitles: list[Subtitle], page: Page, option: str,
+                 between: Between = ALL_DAY, words: Sequence[str] = ()) -> DuePages:
+    """Those of the subtitles of a file that come in some frames, by the program at a path and the
+    options that say how pages are drawn. What the schedule sends is heard as it is told, and not
+    kept."""
     if not subtitles:
         return DuePages([], [])
     with temporary_folder("subttx-qc-") as folder:
         path = os.path.join(folder, "due.pes")
         program_answer(program, "schedule", "--page", page_name(*page), "--option", option,
                        "--every", EVERY, *between.words(), *words, "--", stl, path)
-        packets = survey(program, path, page).by_pid.get(PES, Packets(PES))
-    due = Timeline(packets, page, 0)
-    return DuePages(subtitles, [due.page_at(subtitle.begin) for subtitle in subtitles], due)
+        due = Timeline(Packets(PES), page, 0)
+        for run, texts in runs_told(program, path, page):
+            due.hear_run(run, texts)
+    return DuePages(subtitles, [due.page_at(subtitle.begin) for subtitle in subtitles],
+                    due.alone())
 
 
 # Which page transmission is of which subtitle.

@@ -1,7 +1,9 @@
 """What is strange of a recording: warnings that break no rule, and a page that is never sent."""
 from __future__ import annotations
 
+import array
 import contextlib
+import itertools
 from typing import Collection, Iterator, NamedTuple, Sequence
 
 from ..clock.start import NoFirst, began
@@ -166,9 +168,10 @@ def there_are(count: int) -> str:
 
 def of_pauses(pts: Sequence[int], request: Request, origin: int) -> Iterator[Notice]:
     """Where no PES packet came for some frames, of what else sends one in each frame but few."""
-    frames = [frame for frame in frames_at([*pts], origin, request.within) if frame != NO_FRAME]
-    pauses = [(first + 1, second) for first, second in zip(frames, frames[1:])
-              if second - first - 1 > PAUSE]
+    frames = array.array("i", (frame for frame in frames_at(pts, origin, request.within)
+                               if frame != NO_FRAME))
+    pauses = [(first + 1, second) for first, second in zip(
+        frames, itertools.islice(frames, 1, None)) if second - first - 1 > PAUSE]
     if len(pauses) * FEW <= len(frames):
         for first, second in pauses:
             yield Notice("pause", f"no PES packet for {counted(second - first, 'frame')} from "

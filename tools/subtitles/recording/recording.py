@@ -211,7 +211,7 @@ class Recording:
 
     def say_chosen(self, packets: Packets, why: str) -> None:
         """Says which PID is chosen, and by what."""
-        begun = sum(1 for _ in packets.pts(does=HEADER))
+        begun = sum(run.length for run in packets.timed() if HEADER in run.does)
         line = f"{pid_name(packets.pid)}: page {self.request.page_name} has a header in {begun} " \
             f"of {counted(packets.count, 'PES packet')}, and {why}"
         self.listener.chosen(Selection(PID_CHOICE, f"0x{packets.pid:X}", line, begun,

@@ -471,7 +471,8 @@ class Looks:
         pes = leading.first.pes if leading else None
         broken = seen.last_before(pes) if pes is not None else \
             leading.first.frame if leading else None
-        self.entries: Entries = Entries(self.figures, seen, report.subtitles, report.looked, faults)
+        self.entries: Entries = Entries(self.figures, seen, report.subtitles, report.looked(),
+                                        faults)
         if report.reasons:
             report.reasons.drawn = self.entries.drawn
         self.fault_list = FaultList(report, self.entries, seen)

@@ -3,7 +3,6 @@ from __future__ import annotations
 
 import bisect
 import collections
-import itertools
 from typing import Iterable, NamedTuple
 
 from ..common.command_line import counted
@@ -142,12 +141,15 @@ class Entries:
     """The entries of subtitles that are not held as they are due, with their pictures."""
 
     def __init__(self, figures: Figures, held: Seen, subtitles: list[Subtitle],
-                 looked: list[Looked], faults: Faults) -> None:
+                 looked: Iterable[Looked], faults: Faults) -> None:
         self.figures, self.held, self.faults = figures, held, faults
         self.subtitles = subtitles
-        self.looked = {one.index: look for one, look in zip(subtitles, looked)}
-        self.kinds = {one.index: figures.kind_at(look.frame)
-                      for one, look in zip(subtitles, looked)}
+        self.kinds: dict[int, str] = {}
+        pictured: list[tuple[Subtitle, Looked]] = []
+        for one, look in zip(subtitles, looked):
+            kind = self.kinds[one.index] = figures.kind_at(look.frame)
+            if kind in (DIFFERENT, NOTHING) and len(pictured) < MOST_DRAWN:
+                pictured.append((one, look))
         self.odd = {index for index, kind in self.kinds.items() if kind in (DIFFERENT, NOTHING)}
         self.unknown = {index for index, kind in self.kinds.items()
                         if kind not in (SAME, DIFFERENT, NOTHING)}
@@ -155,8 +157,7 @@ class Entries:
                   if (frame := self.frame_of(entry)) is not None]
         self.entry_frames = sorted(frame for frame, _ in listed)
         self.entry_at = dict(reversed(listed))
-        odd = (one for one in subtitles if one.index in self.odd)
-        self.drawn = {one.index: self.entry(one) for one in itertools.islice(odd, MOST_DRAWN)}
+        self.drawn = {one.index: self.entry(one, look) for one, look in pictured}
 
     def frame_of(self, entry: Entry) -> int | None:
         """The frame whose pictures belong to an entry, `None` where there is none."""
@@ -178,9 +179,8 @@ class Entries:
         is_one = at < len(self.entry_frames) and self.entry_frames[at] < end
         return self.entry_at[self.entry_frames[at]] if is_one else None
 
-    def entry(self, subtitle: Subtitle) -> Markup:
+    def entry(self, subtitle: Subtitle, looked: Looked) -> Markup:
         """A subtitle with its pictures."""
-        looked = self.looked[subtitle.index]
         first, end = time_of(subtitle.begin), time_of(subtitle.end)
         sent = self.held.sendings_between(subtitle.begin, subtitle.end)
         words = f"sent {counted(sent, 'time')} while it is due, {looked.words()}"

@@ -12,7 +12,7 @@ from ..common.markup import Markup, NO_MARKUP, Value, joined, markup
 from ..common.times import time_of
 from ..formats.teletext import NEWSFLASH, SUBTITLE, has_bit, letters, option_name
 from ..stream.receiver import (
-    BLANK_PAGE, HIT, OLD, Rows, State, Timeline, control_bits, national_option, printed_rows)
+    BLANK_PAGE, HIT, Held, OLD, Rows, State, control_bits, national_option, printed_rows)
 from .transmission import Seen
 
 
@@ -274,7 +274,7 @@ class Figures:
     and `held` what is seen of the PES file. `header` is that of a page that nobody sent.
     """
 
-    def __init__(self, due: Timeline | None, held: Seen, header: bytes, page: str,
+    def __init__(self, due: Held | None, held: Seen, header: bytes, page: str,
                  is_complete: bool) -> None:
         self.due, self.held, self.header = due, held, header
         self.page, self.is_complete = page, is_complete

@@ -5,7 +5,7 @@ from __future__ import annotations
 import bisect
 import functools
 import itertools
-from typing import Collection, Iterable, NamedTuple, Sequence
+from typing import Collection, Iterable, Iterator, NamedTuple, Sequence
 
 from ..clock.start import START, TCP
 from ..common.command_line import counted, shown
@@ -21,7 +21,7 @@ from ..judging.part import Part
 from ..judging.verdict import Verdict
 from ..stream.gaps import first_lines
 from ..stream.receiver import Timeline
-from .faults import Faults, fault_place_words, heads, looked_at, table_row
+from .faults import Faults, Looked, fault_place_words, heads, looked_at, table_row
 from .transmission import Seen
 
 
@@ -180,14 +180,17 @@ class Report:
         self.notes = [*(self.pair_notes() if subject.parts == 1 else []),
                       *filter(None, [self.part.explanation.otherwise])]
         self.reasons = Reasons(self.part.causes, self.asked.option) if self.part.causes else None
-        self.looked = [looked_at(one, frames, self.asked.within)
-                       for one, frames in zip(self.subtitles, self.part.delays)]
         held = self.part.held
         if ORDER in answer.counts and held and self.part.pes:
             held = Timeline(self.part.packets, self.asked.page, self.origin, self.asked.within,
                             self.part.pes, is_single=True)
         self.seen: Seen | None = Seen(held, answer.passed, self.faults.ending()) if held else None
         self.drawn = None if self.is_refused_file else self.seen
+
+    def looked(self) -> Iterator[Looked]:
+        """After how many frames each subtitle was whole."""
+        return (looked_at(one, frames, self.asked.within)
+                for one, frames in zip(self.subtitles, self.part.delays))
 
     def pair_notes(self) -> list[str]:
         """What stands beside the verdict on the pair."""

@@ -13,7 +13,7 @@ from ..common.times import (
     wrapped)
 from ..formats.listing import FaultLine
 from ..formats.teletext import page_name
-from ..stream.packets import HEADER
+from ..stream.packets import HEADER, headers_in
 from ..stream.receiver import State, Timeline, control_text
 
 # What is seen of a transmission: what a receiver holds when, and what stands around places that it
@@ -105,8 +105,8 @@ class Seen:
         if runs:
             bits: collections.Counter[str] = collections.Counter()
             for run in runs:
-                for control in run.control.split("+"):
-                    bits[control_text(bytes(int(digit, 16) for digit in control))] += run.length
+                for header in headers_in(run.control):
+                    bits[control_text(header)] += run.length
             found[self.page] = PageCount(sum(bits.values()), runs[0].pts, runs[-1].last, bits)
         for name, count in sorted(packets.sent.items(), key=lambda item: -item[1]):
             page = page_in(name)

@@ -1,6 +1,7 @@
 """Where something is missing, how late PTS are, how often a page comes, which pace tells a loss."""
 from __future__ import annotations
 
+import array
 import bisect
 import collections
 import dataclasses
@@ -220,27 +221,30 @@ def edges_of(times: Iterable[tuple[int, int]]) -> list[int]:
     return sorted({frame for pair in times for frame in pair})
 
 
-def repeats_of(frames: Iterable[int], edges: Sequence[int]) -> list[int]:
-    """The frames from one repeat to the next, the fewest first.
+def repeats_of(frames: Iterable[int], edges: Sequence[int]) -> collections.Counter[int]:
+    """The frames from one repeat to the next, and how often it is as many.
 
     A repeat is a sending since whose forerunner nothing became due: `edges` are the frames, rising,
     at which that is so. The first repeat after an edge tells nothing: it may come at once; nor does
     what comes just before one, which may be its own sending.
     """
-    known = sorted(set(frames))
-    return sorted(second - first for before, first, second in zip(known, known[1:], known[2:])
-                  if bisect.bisect_right(edges, before)
-                  == bisect.bisect_right(edges, second + NEAR))
+    known = array.array("i", frames)
+    if any(map(operator.ge, known, itertools.islice(known, 1, None))):
+        known = array.array("i", sorted({*known}))
+    return collections.Counter(second - first for before, first, second in zip(
+        known, itertools.islice(known, 1, None), itertools.islice(known, 2, None))
+        if bisect.bisect_right(edges, before) == bisect.bisect_right(edges, second + NEAR))
 
 
 def repeat_distance(frames: Iterable[int], edges: Sequence[int]) -> int | None:
     """The frames from one repeat to the next at most times, `None` where there are too few. Where
     each is sent twice in a row, most of the time lies between two pairs of them."""
     repeats = repeats_of(frames, edges)
-    if len(repeats) < FEWEST:
+    if sum(repeats.values()) < FEWEST:
         return None
-    totals = [*itertools.accumulate(repeats)]
-    return repeats[bisect.bisect_left(totals, -(-totals[-1] // 2))]
+    rising = sorted(repeats)
+    totals = [*itertools.accumulate(distance * repeats[distance] for distance in rising)]
+    return rising[bisect.bisect_left(totals, -(-totals[-1] // 2))]
 
 
 class Repeats(NamedTuple):
@@ -253,7 +257,7 @@ class Repeats(NamedTuple):
     usual: int | None
 
 
-def repeats_in(pts: list[int], last: int | None, origin: int, times: Sequence[tuple[int, int]]) \
+def repeats_in(pts: Sequence[int], last: int | None, origin: int, times: Sequence[tuple[int, int]]) \
         -> Repeats | None:
     """Those of the headers at some PTS, of a recording with a last PES packet; `None` where there
     are fewer than two."""
@@ -441,14 +445,14 @@ def silences_in(row: Sequence[int], lost: int, steps: int) -> Iterator[Lull]:
 def frame_rows(packets: Packets, inside: Range, origin: int, within: int) -> list[Sequence[int]]:
     """The frames of those of some PES packets that `check` hears: a row up to each mark, each one
     that is refused or has no frame, and wherever frames go back."""
-    rows, pts = [], list[int]()
+    rows, pts = [], array.array("q")
     for run in itertools.chain(packets.inside(*inside), [None]):
         if run is not None and run.pts is not None and not run.fault:
-            pts += [run.pts] if run.length == 1 else [
-                wrapped(run.pts + run.step * at) for at in range(run.length)]
+            pts.extend([run.pts] if run.length == 1 else [
+                wrapped(run.pts + run.step * at) for at in range(run.length)])
         elif pts:
             rows += rising(frames_at(pts, origin, within))
-            pts = []
+            pts = array.array("q")
     return rows
 
 

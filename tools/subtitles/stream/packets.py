@@ -1,9 +1,12 @@
 """PES packets of a PID with Teletext: what each does, and announced jumps of its counter."""
 from __future__ import annotations
 
+import array
 import bisect
 import dataclasses
-from typing import BinaryIO, Iterable, Iterator, NamedTuple
+import functools
+import itertools
+from typing import BinaryIO, Iterable, Iterator, NamedTuple, Sequence
 
 from ..common.times import TICKS, ticks_between, wrapped
 
@@ -45,6 +48,12 @@ class Run(NamedTuple):
     def last(self) -> int | None:
         """The PTS of the last of them."""
         return self.pts_of(self.end - 1)
+
+
+@functools.lru_cache(maxsize=1 << 10)
+def headers_in(control: str) -> tuple[bytes, ...]:
+    """The eight numbers of each header of the page, by what is told of them."""
+    return tuple(bytes(int(digit, 16) for digit in one) for one in control.split("+") if one)
 
 
 class Change(NamedTuple):
@@ -160,6 +169,35 @@ def ends_of(run: Run) -> Iterable[int]:
     return numbers if run.length < 5 or run.step < 0 else [*numbers[:2], *numbers[-2:]]
 
 
+# Sub-pages of a page: a receiver shows each of them in its turn.
+
+FEWEST = 4  # turns from one sub-page to another, of which they alternate
+
+
+def subcode_of(header: bytes) -> str:
+    """The subcode of a header's eight numbers, S4 first, as it is written (EN 300 706, 9.3.1.2)."""
+    return f"{header[5] & 3:X}{header[4]:X}{header[3] & 7:X}{header[2]:X}"
+
+
+def turns_of(packets: Packets, inside: Range | None = None) -> list[str]:
+    """The subcodes of the headers of the page, rising, where they alternate: a sub-page comes again
+    after another one; else none."""
+    subcodes, last, again = set[str](), "", 0
+    for run in packets.inside(*inside) if inside else packets.runs:
+        codes = [*map(subcode_of, headers_in(run.control))]
+        for code in codes * min(run.length, FEWEST):  # of which each is sent as often
+            again += code != last and code in subcodes
+            subcodes.add(code)
+            last = code
+    return sorted(subcodes) if again >= FEWEST else []
+
+
+def subcode_words(subcodes: Sequence[str], page: str) -> str:
+    """That they alternate."""
+    return f"sub-pages of {page} alternate, by the sub-codes {', '.join(subcodes[:-1])} and " \
+        f"{subcodes[-1]}"
+
+
 # Jumps of a counter that a transport stream announces (ISO/IEC 13818-1, discontinuity_indicator).
 #
 # There the counter of a PID tells no loss. A later `survey` tells the PES packets behind each; of
@@ -176,8 +214,8 @@ PTS_AT = slice(9, 14)  # in a PES header
 def late_pairs(packets: Packets, inside: Range, usual: int) -> dict[int, int]:
     """Of each PES packet that comes more frames after the one before than is usual the PTS, with
     that of the one before."""
-    pts = [*packets.pts(inside)]
-    return {after: before for before, after in zip(pts, pts[1:])
+    pts = array.array("q", packets.pts(inside))
+    return {after: before for before, after in zip(pts, itertools.islice(pts, 1, None))
             if ticks_between(before, after) > usual * TICKS}
 
 

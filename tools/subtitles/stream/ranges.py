@@ -1,12 +1,14 @@
 """Which PES packets are of some frames, and of a page that moves to another PID."""
 from __future__ import annotations
 
+import array
 import dataclasses
 import itertools
 from typing import Iterator, NamedTuple, Sequence
 
 from ..common.command_line import counted, pid_name
-from ..common.times import FRAMES_OF_A_DAY, TICKS, frame_in, pts_of, ticks_between, time_of, wrapped
+from ..common.times import (
+    FRAMES_OF_A_DAY, NO_FRAME, TICKS, frame_in, pts_of, ticks_between, time_of, wrapped)
 from ..formats.teletext import Page
 from .gaps import SECOND
 from .packets import BLANK, CLOSED, ERASE, HEADER, OPEN, Packets, Range, Run
@@ -26,6 +28,33 @@ class SentPacket(NamedTuple):
     frame: int | None
     does: str
     changes: bool
+
+
+class SentPackets:
+    """PES packets in their order. A day has millions, so each is made when it is asked for."""
+
+    def __init__(self) -> None:
+        self.numbers, self.frames = array.array("q"), array.array("i")
+        self.does, self.changes = list[str](), bytearray()
+
+    def add(self, number: int, frame: int | None, does: str, changes: bool) -> None:
+        """One more, by what a `SentPacket` is made of."""
+        self.numbers.append(number)
+        self.frames.append(NO_FRAME if frame is None else frame)
+        self.does.append(does)
+        self.changes.append(changes)
+
+    def at(self, place: int) -> SentPacket:
+        """The one at a place, from 0."""
+        frame = self.frames[place]
+        return SentPacket(self.numbers[place], None if frame == NO_FRAME else frame,
+                          self.does[place], bool(self.changes[place]))
+
+    def __len__(self) -> int:
+        return len(self.numbers)
+
+    def __iter__(self) -> Iterator[SentPacket]:
+        return map(self.at, range(len(self)))
 
 
 class CutTime(NamedTuple):
@@ -92,13 +121,13 @@ def cut_of(packets: Packets, begin: int, end: int, origin: int, every: int | Non
     high = end if every is None else min(end + max(every, within), FRAMES_OF_A_DAY - 1)
     time = CutTime(begin, end, max(begin - (every or 0), 0), high, within, every is not None)
     own, read, is_over = in_time(packets, time, origin, inside)
-    came = own[0].frame if own else None
+    came = own.at(0).frame if own else None
     at, first = beginning_in(own, time)
     if first is None:
         return Cut(None, read, came=came, is_over=is_over)
     last = ending_in(own, at, first, time)
     if last.over_at is not None:
-        read, is_over = own[last.over_at].number + 1, True
+        read, is_over = own.at(last.over_at).number + 1, True
     frame = next((packet.frame for packet in own
                   if packet.number >= first and packet.frame is not None), None)
     return Cut((first, last.number), read, frame, last.frame, came, last.has_come, is_over)
@@ -107,12 +136,12 @@ def cut_of(packets: Packets, begin: int, end: int, origin: int, every: int | Non
 # Which PES packets lie in the time.
 
 def in_time(packets: Packets, time: CutTime, origin: int, inside: Range | None) \
-        -> tuple[list[SentPacket], int, bool]:
+        -> tuple[SentPackets, int, bool]:
     """The PES packets from the first that comes in the time on, to the second in a row that comes
     behind it; how many were read up to there, and whether there are two such: one alone may have a
     wrong PTS."""
     changed = {change.number for change in packets.changes}
-    own: list[SentPacket] = []
+    own = SentPackets()
     behind = read = 0
     for number, pts, does in from_time_on(packets, *(
             pts_of(frame, origin) for frame in (time.low, time.high))):
@@ -122,7 +151,7 @@ def in_time(packets: Packets, time: CutTime, origin: int, inside: Range | None) 
         frame = None if pts is None else frame_in(pts, origin, time.within)
         if inside and number < inside[0] or not own and not time.has(frame):
             continue
-        own.append(SentPacket(number, frame, does, number in changed))
+        own.add(number, frame, does, number in changed)
         if frame is not None:
             behind = behind + 1 if frame > time.high else 0
             if behind == AFTER:
@@ -149,12 +178,12 @@ def is_outside(run: Run, low: int, high: int) -> bool:
 
 # Where what is judged begins.
 
-def beginning_in(own: Sequence[SentPacket], time: CutTime) -> tuple[int, int | None]:
+def beginning_in(own: SentPackets, time: CutTime) -> tuple[int, int | None]:
     """The place of the first PES packet of the subtitles' time with which it is known where a cut
     begins, and the number with which it does; `None` where nothing tells it."""
     for at, packet in enumerate(own):
         if time.has(packet.frame) and packet.frame is not None and packet.frame >= time.begin:
-            first = begin_of(own[:at + 1], time.begin, time.within)
+            first = begin_of([*map(own.at, range(at + 1))], time.begin, time.within)
             if first is not None:
                 return at, first
     return 0, None
@@ -185,13 +214,13 @@ def begin_of(own: Sequence[SentPacket], begin: int, within: int) -> int | None:
 
 # Where it ends.
 
-def ending_in(own: Sequence[SentPacket], at: int, first: int, time: CutTime) -> CutEnd:
+def ending_in(own: SentPackets, at: int, first: int, time: CutTime) -> CutEnd:
     """Where a cut ends that begins with the number `first`, as the PES packet at a place tells.
     What comes in the last frame is taken too."""
     number, last, high, behind = first, -1, time.high, 0
     has_come = not time.is_bound
     for place in range(at, len(own)):
-        packet = own[place]
+        packet = own.at(place)
         frame = packet.frame
         if frame is not None:
             if has_come and time.within and time.is_bound and frame > last:
@@ -205,23 +234,22 @@ def ending_in(own: Sequence[SentPacket], at: int, first: int, time: CutTime) -> 
         if frame is not None and time.low <= frame <= high:
             last = frame
             if not has_come and frame >= time.end:
-                has_come = is_last(own[:place + 1], first, frame, time)
+                has_come = is_last(own, place, first, time)
                 high = frame if has_come and not time.within else high
     return CutEnd(number, last, has_come, None)
 
 
-def is_last(own: Sequence[SentPacket], first: int, frame: int, time: CutTime) -> bool:
-    """Whether a cut ends with the last of these, which comes at the last TCO or later."""
+def is_last(own: SentPackets, place: int, first: int, time: CutTime) -> bool:
+    """Whether a cut ends with the one at a place, which comes at the last TCO or later."""
     if not time.within:
-        return HEADER in own[-1].does
-    return frame >= time.end + time.within or is_page_over(own, first)
+        return HEADER in own.does[place]
+    return own.frames[place] >= time.end + time.within or is_page_over(own, place, first)
 
 
-def is_page_over(own: Sequence[SentPacket], first: int) -> bool:
-    """Whether the page is blank, and has ended where it did before."""
-    taken = [packet for packet in own if packet.number >= first]
-    return BLANK in taken[-1].does and not (
-        OPEN in taken[-1].does and any(CLOSED in packet.does for packet in taken))
+def is_page_over(own: SentPackets, place: int, first: int) -> bool:
+    """Whether the page is blank behind the one at a place, and has ended where it did before."""
+    return BLANK in own.does[place] and not (OPEN in own.does[place] and any(
+        CLOSED in own.does[at] for at in range(place + 1) if own.numbers[at] >= first))
 
 
 # A page that moves to another PID, as the PMT says: which PES packets of which PID are of it when.

@@ -9,7 +9,8 @@ from typing import Iterable, Iterator, NamedTuple, Sequence
 
 from ..common.times import FRAMES_OF_A_DAY, NO_FRAME, Span, frames_at, wrapped
 from ..formats.teletext import CONTROL_BITS, Page, has_bit
-from .packets import CLOSED, ERASE, HEADER, OPEN, Packets, Range, Run, STRAY, Texts
+from .packets import (
+    CLOSED, ERASE, HEADER, OPEN, Packets, Range, Run, STRAY, Texts, headers_in)
 from .ranges import cut_of
 
 
@@ -70,18 +71,11 @@ def printed_rows(rows: Rows) -> list[str]:
 CLEARED = bytes(0x20 if code in (OLD, HIT) else code for code in range(256))
 
 
-class Stored(NamedTuple):
-    """What a receiver holds from the end of a frame on, after a PES packet with a number."""
-
-    frame: int
-    number: int
-    state: State
-
-
 class Held:
     """The pages, each with the frame from whose end on it is held; frames rise. `states` are all
-    that a receiver holds, each after a PES packet; `turns` the frames at whose ends the page turns
-    open, or closed."""
+    that a receiver holds, each after a PES packet: `stored` are their frames, and `behind` the
+    numbers of the PES packets. `turns` are the frames at whose ends the page turns open, or closed.
+    """
 
     def __init__(self) -> None:
         self.forget()
@@ -89,9 +83,30 @@ class Held:
     def forget(self) -> None:
         """Holds nothing."""
         self.frames, self.pages = array.array("i"), list[Rows]()
-        self.when: dict[Rows, array.array[int]] = {}  # the frames at which a page came
-        self.states: list[Stored] = []
+        self.states, self.stored, self.behind = list[State](), array.array("i"), array.array("q")
         self.turns = array.array("i")
+        self.__dict__.pop("when", None)
+
+    @functools.cached_property
+    def when(self) -> dict[Rows, array.array[int]]:
+        """The frames at which a page came."""
+        when: dict[Rows, array.array[int]] = {}
+        for frame, page in zip(self.frames, self.pages):
+            when.setdefault(page, array.array("i")).append(frame)
+        return when
+
+    def store(self, frame: int, number: int, state: State) -> None:
+        """That is held from the end of a frame on, after a PES packet with a number."""
+        self.stored.append(frame)
+        self.behind.append(number)
+        self.states.append(state)
+
+    def alone(self) -> Held:
+        """The same without what it was heard of."""
+        held = Held()
+        held.frames, held.pages, held.turns = self.frames, self.pages, self.turns
+        held.states, held.stored, held.behind = self.states, self.stored, self.behind
+        return held
 
     def turn(self, frame: int) -> None:
         """The page is open from the end of a frame on, or no more."""
@@ -102,13 +117,13 @@ class Held:
 
     def change(self, frame: int, page: Rows) -> None:
         """Another page is held from a frame on, unless it is the same once more."""
+        self.__dict__.pop("when", None)
         if self.frames and self.frames[-1] == frame:
             self.frames.pop()
-            self.when[self.pages.pop()].pop()
+            self.pages.pop()
         if not self.pages or self.pages[-1] != page:
             self.frames.append(frame)
             self.pages.append(page)
-            self.when.setdefault(page, array.array("i")).append(frame)
 
     def number_at(self, frame: int) -> int:
         """The number of the page that is held at the end of a frame; -1 before the first."""
@@ -122,13 +137,13 @@ class Held:
 
     def state_at(self, frame: int) -> State:
         """All that is held at the end of a frame."""
-        at = bisect.bisect_right(self.states, frame, key=lambda stored: stored.frame) - 1
-        return self.states[at].state if at >= 0 else TUNED
+        at = bisect.bisect_right(self.stored, frame) - 1
+        return self.states[at] if at >= 0 else TUNED
 
     def state_after(self, number: int) -> State:
         """All that is held after the PES packet with a number."""
-        at = bisect.bisect_right(self.states, number, key=lambda stored: stored.number) - 1
-        return self.states[at].state if at >= 0 else TUNED
+        at = bisect.bisect_right(self.behind, number) - 1
+        return self.states[at] if at >= 0 else TUNED
 
     def numbers(self, begin: int, end: int) -> Iterator[int]:
         """The numbers of the pages that are held at frames from `begin` to the one before `end`."""
@@ -185,7 +200,9 @@ class Meeting:
 
 
 class Order:
-    """The PES packets that are heard; `first` and `last` are the frames of the first and the last.
+    """The PES packets that are heard, with the frame of the first and the last of each run: `begins`
+    and `ends`; `first` and `last` are those of all. `uneven` are the frames of a run, by its place,
+    that are not one after another.
 
     `doubts` are frames of which not all is known that was sent: from the PES packet before one that
     is not heard, as a mark is, to the next one; `lost` others. `halt` is the number of the first
@@ -201,7 +218,9 @@ class Order:
 
     def forget(self) -> None:
         """Has heard nothing."""
-        self.heard: list[HeardRun] = []
+        self.heard: list[Run] = []
+        self.begins, self.ends = array.array("i"), array.array("i")
+        self.uneven: dict[int, Sequence[int]] = {}
         self.count = 0  # PES packets that are heard
         self.first = self.last = self.before = NO_FRAME
         self.halt: int | None = None
@@ -226,10 +245,18 @@ class Order:
         if self.first == NO_FRAME:
             self.first = first
         self.pauses += pauses_in(self.last, heard.frames)
-        self.heard.append(heard)
+        if not isinstance(heard.frames, range):
+            self.uneven[len(self.heard)] = heard.frames
+        self.heard.append(heard.run)
+        self.begins.append(first)
+        self.ends.append(heard.frames[-1])
         self.count += len(heard.frames)
         self.last = heard.frames[-1]
         return True
+
+    def frames_heard(self, at: int) -> Sequence[int]:
+        """The frames of the PES packets of a run, by its place."""
+        return self.uneven.get(at, range(self.begins[at], self.ends[at] + 1))
 
     def pause_at(self, frame: int) -> Span | None:
         """The frames around one in which no PES packet came, of what else sends one in each frame
@@ -250,11 +277,11 @@ class Order:
 
     def members(self, frame: int) -> list[Run]:
         """The PES packets of a frame, each as a run of its own."""
-        at = bisect.bisect_right(self.heard, frame, key=lambda heard: heard.frames[0])
+        at = bisect.bisect_right(self.begins, frame)
         runs: list[Run] = []
-        while at and self.heard[at - 1].frames[-1] >= frame:
+        while at and self.ends[at - 1] >= frame:
             at -= 1
-            run, frames = self.heard[at]
+            run, frames = self.heard[at], self.frames_heard(at)
             places = range(bisect.bisect_left(frames, frame), bisect.bisect_right(frames, frame))
             runs[:0] = [run._replace(first=run.first + place, length=1,
                                      pts=run.pts_of(run.first + place)) for place in places]
@@ -262,19 +289,18 @@ class Order:
 
     def frame_before(self, number: int) -> int | None:
         """The frame that was heard last before a PES packet with a number."""
-        at = bisect.bisect_left(self.heard, number, key=lambda heard: heard.run.first) - 1
+        at = bisect.bisect_left(self.heard, number, key=lambda run: run.first) - 1
         if at < 0:
             return None
-        run, frames = self.heard[at]
-        return frames[min(number - run.first, run.length) - 1]
+        run = self.heard[at]
+        return self.frames_heard(at)[min(number - run.first, run.length) - 1]
 
     def frame_after(self, number: int) -> int | None:
         """The frame that was heard next after a PES packet with a number."""
-        at = bisect.bisect_right(self.heard, number, key=lambda heard: heard.run.end - 1)
+        at = bisect.bisect_right(self.heard, number, key=lambda run: run.end - 1)
         if at == len(self.heard):
             return None
-        run, frames = self.heard[at]
-        return frames[max(number + 1 - run.first, 0)]
+        return self.frames_heard(at)[max(number + 1 - self.heard[at].first, 0)]
 
 
 def pauses_in(before: int, frames: Sequence[int]) -> Iterator[Span]:
@@ -310,6 +336,7 @@ class Timeline(Order, Held):
         self.inside = (0, packets.count - 1) if inside is None else inside
         self.begin, self.came = begin, came
         self.told: Rows = OLD_PAGE  # what is held by all that was told, of the whole recording
+        self.is_erased = False  # some time
         Order.__init__(self, int(is_single and not within), lost)
         self.hear_all(dict(packets.held), dict(packets.strays))
 
@@ -326,25 +353,29 @@ class Timeline(Order, Held):
     def hear_all(self, held: dict[int, Texts], strays: dict[int, Texts]) -> None:
         """Hears the PES packets, with what is told behind each."""
         first, last = self.inside
-        is_erased = any(ERASE in run.does for run in self.packets.inside(0, first - 1))
+        self.is_erased = any(ERASE in run.does for run in self.packets.inside(0, first - 1))
         earlier = [texts for number, texts in self.packets.held if number < first]
         if earlier:
-            self.told = held_rows(earlier[-1], is_erased)
+            self.told = held_rows(earlier[-1], self.is_erased)
         stray: Texts = ()
         for run in self.packets.inside(first, last):
-            is_erased = is_erased or ERASE in run.does
             stray = strays.get(run.first, stray)
-            is_told = run.first in held
-            if is_told:
-                self.told = held_rows(held[run.first], is_erased)
-            if run.pts is None or run.fault:
-                self.pass_over(run, is_told)
-                continue
-            for heard in heard_of(run, frames_of(run, self.origin, self.within), self.least):
-                if heard.frames[0] == NO_FRAME:
-                    self.pass_over(heard.run, is_told)
-                else:
-                    self.hear(heard, is_told, stray)
+            self.hear_run(run, held.get(run.first), stray)
+
+    def hear_run(self, run: Run, texts: Texts | None, stray: Texts = ()) -> None:
+        """Hears PES packets that do the same, with the rows that are told behind the first."""
+        is_told = texts is not None
+        self.is_erased = self.is_erased or ERASE in run.does
+        if texts is not None:
+            self.told = held_rows(texts, self.is_erased)
+        if run.pts is None or run.fault:
+            self.pass_over(run, is_told)
+            return
+        for heard in heard_of(run, frames_of(run, self.origin, self.within), self.least):
+            if heard.frames[0] == NO_FRAME:
+                self.pass_over(heard.run, is_told)
+            else:
+                self.hear(heard, is_told, stray)
 
     def pass_over(self, run: Run, is_told: bool) -> None:
         """Does not hear PES packets: what is told after them need not be what is held."""
@@ -378,10 +409,10 @@ class Timeline(Order, Held):
         rows = before.rows if self.is_behind else self.told
         is_open = before.is_open if self.is_behind and not is_of_page else OPEN in run.does
         header, screen, held = before.header, before.screen, before.rows
-        controls = iter(run.control.split("+"))
+        headers = iter(headers_in(run.control))
         for at, letter in enumerate(run.does):
             if letter == HEADER:
-                header = bytes(int(digit, 16) for digit in next(controls))
+                header = next(headers, b"")
             elif letter == ERASE:
                 held = BLANK_PAGE
             elif letter == CLOSED and header:
@@ -389,7 +420,7 @@ class Timeline(Order, Held):
         self.state = State(True, is_open, header, rows, screen)
         if self.state == before:
             return
-        self.states.append(Stored(frame, run.first, self.state))
+        self.store(frame, run.first, self.state)
         if is_open != len(self.turns) % 2:
             self.turn(frame)
         if rows != before.rows:
@@ -422,7 +453,10 @@ def frames_of(run: Run, origin: int, within: int) -> Sequence[int]:
 def heard_of(run: Run, frames: Sequence[int], least: int) -> Iterator[HeardRun]:
     """A run in parts: in each all have a frame, at least so many after the one before, or none."""
     begin = 0
-    for at in range(1, len(frames)) if not isinstance(frames, range) else ():
+    if isinstance(frames, range):
+        yield HeardRun(run, frames)
+        return
+    for at in range(1, len(frames)):
         before, frame = frames[at - 1], frames[at]
         if NO_FRAME in (before, frame) and before != frame or frame < before + least > NO_FRAME:
             yield part_of(run, frames, begin, at)
@@ -439,37 +473,10 @@ def part_of(run: Run, frames: Sequence[int], begin: int, end: int) -> HeardRun:
 
 def held_rows(texts: Texts, is_erased: bool) -> Rows:
     """A page by the rows that are told; of others nobody sent a cell before the page was erased."""
-    rows = list(BLANK_PAGE if is_erased else OLD_PAGE)
+    blank: Rows = BLANK_PAGE if is_erased else OLD_PAGE
+    if not texts:
+        return blank
+    rows = list(blank)
     for row, cells in texts:
         rows[row - 1] = cells
     return tuple(rows)
-
-
-# Sub-pages of a page: a receiver shows each of them in its turn.
-
-FEWEST = 4  # turns from one sub-page to another, of which they alternate
-
-
-def subcode_of(header: bytes) -> str:
-    """The subcode of a header's eight numbers, S4 first, as it is written (EN 300 706, 9.3.1.2)."""
-    return f"{header[5] & 3:X}{header[4]:X}{header[3] & 7:X}{header[2]:X}"
-
-
-def turns_of(packets: Packets, inside: Range | None = None) -> list[str]:
-    """The subcodes of the headers of the page, rising, where they alternate: a sub-page comes again
-    after another one; else none."""
-    subcodes, last, again = set[str](), "", 0
-    for run in packets.inside(*inside) if inside else packets.runs:
-        codes = [subcode_of(bytes(int(digit, 16) for digit in control))
-                 for control in run.control.split("+") if control]
-        for code in codes * min(run.length, FEWEST):  # of which each is sent as often
-            again += code != last and code in subcodes
-            subcodes.add(code)
-            last = code
-    return sorted(subcodes) if again >= FEWEST else []
-
-
-def subcode_words(subcodes: Sequence[str], page: str) -> str:
-    """That they alternate."""
-    return f"sub-pages of {page} alternate, by the sub-codes {', '.join(subcodes[:-1])} and " \
-        f"{subcodes[-1]}"

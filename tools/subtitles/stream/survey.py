@@ -5,6 +5,7 @@ import dataclasses
 import os
 import statistics
 import subprocess
+import sys
 from typing import Callable, IO, Iterable, Iterator, NamedTuple, Sequence, Union
 
 from ..common.command_line import Unanswered, page_in, pid_name, shown, stream_words
@@ -254,20 +255,21 @@ class Survey:
 
     def take_pes(self, pid: str, first: str, count: str, pts: str, step: str, does: str,
                  units: str, fault: str, *_: str) -> None:
-        flags, control = does.split("/")
+        flags, control = map(sys.intern, does.split("/"))  # of a day most are the same
         self.of(pid).runs.append(Run(int(first), int(count), number_of(pts), int(step), flags,
                                      control, int(units), int(fault)))
 
     def take_rows(self, pid: str, number: str, rows: str, *_: str) -> None:
-        packets, texts = self.of(pid), texts_of(rows)
+        packets, texts, behind = self.of(pid), texts_of(rows), int(number)
         pts = packets.runs[-1].last
         assert pts is not None
-        packets.held.append((int(number), texts))
+        packets.held.append((behind, texts))
         plain = tuple((row, cells) for row, cells in (
             (row, cells.replace(HIT, b" ")) for row, cells in texts) if cells.strip(b" "))
         if not packets.changes or packets.changes[-1].rows != plain:
             letters = b"".join(cells for _, cells in plain).translate(None, NO_LETTERS)
-            packets.changes.append(Change(pts, letters, int(number), plain))
+            rows_held = texts if plain == texts else plain  # most often one object
+            packets.changes.append(Change(pts, letters, behind, rows_held))
 
     def take_strays(self, pid: str, number: str, rows: str, *_: str) -> None:
         self.of(pid).strays.append((int(number), texts_of(rows)))
@@ -378,15 +380,40 @@ def survey(program: str, name: str, page: Page, pid: int | None = None,
            packet_size: int | None = None, look: Callable[[], None] = lambda: None) -> Survey:
     """A recording that is a file, or standard input; after each line there is a look around."""
     answer = Survey()
-    words = survey_call(program, name, page, pid, packet_size)
+    for _ in taken(answer, survey_call(program, name, page, pid, packet_size)):
+        look()
+    return answer
+
+
+def taken(answer: Survey, words: list[str]) -> Iterator[None]:
+    """Takes what a call tells, line by line; `Unanswered` where that is not all."""
     with subprocess.Popen(words, stdout=subprocess.PIPE, encoding="ascii",
                           errors="replace") as process:
         assert process.stdout
         for line in process.stdout:
             answer.take(line.rstrip("\n"))
-            look()
+            yield
     answer.refuse(process.returncode)
-    return answer
+
+
+def runs_told(program: str, name: str, page: Page) -> Iterator[tuple[Run, Texts | None]]:
+    """The PES packets of a file, each run with the rows that are told behind it, where some are.
+    They are given as they are told, and not kept."""
+    answer = Survey()
+    packets = answer.of(str(PES))
+    for _ in taken(answer, survey_call(program, name, page)):
+        if len(packets.runs) > 1:
+            yield first_run(packets)
+    if packets.runs:
+        yield first_run(packets)
+
+
+def first_run(packets: Packets) -> tuple[Run, Texts | None]:
+    """Takes away the first run, and the rows that were told behind it."""
+    run, held = packets.runs.pop(0), dict(packets.held)
+    packets.held.clear()
+    del packets.changes[:-1]
+    return run, held.get(run.first)
 
 
 class Lines:
