@@ -24,7 +24,7 @@ What is known:
 
 known              pairs of files whose lines are known, and stand in no test of the crates
 within             such pairs where a page may be some frames late, or is kept
-one_file           such pairs for each field of a subtitle file and each kind of text
+one_file           such pairs for bounds of subtitle files that no pair at random is near to
 one_rule           pairs of files that break one rule
 recorded           such calls about transport streams and ranges of PES packets
 carried_laws       what is promised of a recording, tried at random

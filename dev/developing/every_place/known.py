@@ -106,8 +106,7 @@ OF_EIGHT = ["refused 51 Control block 1 at 0", "refused 50 Character block 2 at 
             "refused 54 DoubleRow block 5 at 0", "refused 55 Hidden block 6 at 1",
             "refused 57 Overlap block 7", "refused 51 Control block 7 at 0",
             "refused 56 OutOfOrder block 8"]
-NINTH = subtitle_blocks(8, FIRST, FIRST + 50, 22, 2, HI)
-OPEN_NINTH = poked(NINTH, {3: 0})  # the first block of a subtitle of more
+OPEN_NINTH = poked(subtitle_blocks(8, FIRST, FIRST + 50, 22, 2, HI), {3: 0})  # the first of more
 
 
 def after_eight(name: str, blocks: bytes, *last: str) -> KnownCall:
@@ -115,22 +114,8 @@ def after_eight(name: str, blocks: bytes, *last: str) -> KnownCall:
     return pair(f"eight subtitles and {name}", SENT, *OF_EIGHT, *last, stl=EIGHT + blocks)
 
 
-TEXTS = [
-    after_eight("no more", b""),
-    after_eight("EBN", poked(NINTH, {3: 0xF0}), "refused 15 Extension block 9"),
-    after_eight("CS", poked(NINTH, {4: 1}), "refused 16 Cumulative block 9"),
-    after_eight("CF", poked(NINTH, {15: 2}), "refused 17 CommentFlag block 9"),
-    after_eight("JC", poked(NINTH, {14: 4}), "refused 18 Justify block 9"),
-    after_eight("VP", poked(NINTH, {13: 0}), "refused 19 Row block 9"),
-    after_eight("the hours of TCI", poked(NINTH, {5: 24}), "refused 20 Time block 9"),
-    after_eight("a TCO that is TCI", poked(NINTH, {11: 0}), "refused 21 EmptyTime block 9"),
-    after_eight("a first block", OPEN_NINTH, "refused 24 Unfinished block 9"),
-    after_eight("two first blocks", OPEN_NINTH + poked(OPEN_NINTH, {1: 9}),
-                "refused 22 Sequence block 10"),
-    after_eight("ten first blocks", OPEN_NINTH * 10, "refused 23 TooLong block 18"),
-    after_eight("comments up to the last block and after it", poked(NINTH, {15: 1}) * 99_992,
-                "refused 25 TooManyBlocks block 100000"),
-]
+TEXTS = [after_eight("no more", b""),
+         after_eight("ten first blocks", OPEN_NINTH * 10, "refused 23 TooLong block 18")]
 
 
 # Transmissions

@@ -257,8 +257,8 @@ class Repeats(NamedTuple):
     usual: int | None
 
 
-def repeats_in(pts: Sequence[int], last: int | None, origin: int, times: Sequence[tuple[int, int]]) \
-        -> Repeats | None:
+def repeats_in(pts: Sequence[int], last: int | None, origin: int,
+               times: Sequence[tuple[int, int]]) -> Repeats | None:
     """Those of the headers at some PTS, of a recording with a last PES packet; `None` where there
     are fewer than two."""
     frames = [frame for frame in frames_at(pts, origin, 1) if frame != NO_FRAME]

@@ -200,9 +200,9 @@ class Meeting:
 
 
 class Order:
-    """The PES packets that are heard, with the frame of the first and the last of each run: `begins`
-    and `ends`; `first` and `last` are those of all. `uneven` are the frames of a run, by its place,
-    that are not one after another.
+    """The PES packets that are heard, run by run: `begins` and `ends` are the frames of the first
+    and the last of each run, `first` and `last` those of all. `uneven` are all frames of a run, by
+    its place, where these are not one after another.
 
     `doubts` are frames of which not all is known that was sent: from the PES packet before one that
     is not heard, as a mark is, to the next one; `lost` others. `halt` is the number of the first
