@@ -135,13 +135,6 @@ def of_every_rule() -> bytes:
                    (1, [header, row, OTHER_ROW, PACKET_26]), (50, PAGE))
 
 
-def after_even(name: str, changes: dict[int, int], *told_too: str) -> KnownCall:
-    """The second PES packet can't be read after an even byte in the first."""
-    second = {184 + at: byte for at, byte in changes.items()}
-    return pair(f"an even byte, then {name}", poked(SENT, {**EVEN_H, **second}),
-                refused("68 Parity", "00:00", "packet 1"), *told_too)
-
-
 def of_ends() -> bytes:
     """A page that stays open, and gets a wrong row 20 and later a wrong row 19; then a PES packet
     whose PTS is no frame's."""
@@ -192,17 +185,6 @@ KNOWN = [
                              ("another data_identifier", 45, 0x11), ("another last byte", 183, 5))],
     pair("an even byte in a data field that is sent again", poked(SENT_25, {184 + 117: 0x12}),
          trusted("00:00", "00:24"), refused("68 Parity", "01:00", "packet 1"), LAST),
-    after_even("another start code", {0: 1}, "refused 31 Start pes 1"),
-    after_even("another length", {5: 0xB1}, "refused 32 Length pes 1"),
-    *[after_even(name, changes, f"refused {fault} pes 1", LATE) for name, changes, fault in (
-        ("other flags", {6: 0x44}, "33 Flags"), ("no PTS", {7: 0}, "34 NoTime"),
-        ("another header length", {8: 0x25}, "35 HeaderLength"),
-        ("a marker bit of the PTS", {9: 0x26}, "36 Time"),
-        ("a PTS of no frame", {12: 0x73}, "61 OffFrame"),
-        ("another data_identifier", {45: 0x20}, "37 DataId"),
-        ("a unit's length", {47: 0x2D}, "38 UnitLength"),
-        ("another framing code", {49: 0xE5}, "39 Framing"),
-        ("two units on one line", {94: 0xE7}, "40 LineOrder"))],
     pair("an even byte in the first PES packet alone", poked(SENT, EVEN_H)[:184],
          refused("68 Parity", "00:00", "packet 1"), LATE),
     pair("each rule of packets after another", of_every_rule(), refused("63 Early", "00:01"),
