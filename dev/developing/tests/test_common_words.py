@@ -4,6 +4,7 @@ from __future__ import annotations
 import argparse
 import ast
 import contextlib
+import io
 import os
 import random
 import shlex
@@ -19,8 +20,8 @@ from unittest import mock
 from subtitles.common import command_line
 from subtitles.common.command_line import Stop
 from subtitles.common.files import (
-    Input, Inputs, bounded_bytes, first_bytes, is_replaced, naming, plain_name, result_file,
-    temporary_folder, whole_file)
+    Input, Inputs, Sums, bounded_bytes, first_bytes, is_replaced, is_utf_8, naming, plain_name,
+    result_file, temporary_folder, whole_file)
 from subtitles.common.markup import joined, markup
 from subtitles.formats import listing
 from subtitles.request.lines import MOST_BYTES, MOST_OF_LINE, lines_in, list_at, split
@@ -37,7 +38,8 @@ class Words(Case):
         none: Any = None
         many = "9" * 5000
         of_words: list[tuple[Callable[[str], object], dict[str, object]]] = [
-            (command_line.page_word, {"888": (0, 0x88), "8FF": none, "": none}),
+            (command_line.page_word, {"888": (0, 0x88), "8FF": none, "": none, "8GG": none,
+                                      "1aA": (1, 0xAA), "988": none, "8 8": none}),
             (command_line.time_word, {"00:00:00:00": 0, "23:59:59:24": 2_159_999,
                                       "24:00:00:00": none}),
             (command_line.origin_word, {"0": 0, "8589934591": 8_589_934_591, "8589934592": none,
@@ -118,6 +120,19 @@ class Words(Case):
         for name, wanted in (("a", "a"), ("-", "./-"), ("-a", "./-a"), ("=a", "./=a"),
                              ("+a", "./+a"), ("@a", "./@a"), ("a-", "a-"), ("/-a", "/-a")):
             self.assertEqual(plain_name(name), wanted)
+
+    def test_what_is_not_there(self) -> None:
+        """A version that no file has, an output that is closed, an input that is gone."""
+        with mock.patch.object(command_line, "HOME", self.folder):
+            self.assertEqual(command_line.version(), "of an unknown version")
+        with mock.patch.object(sys, "stdout", None), mock.patch.object(command_line, "silence"), \
+                contextlib.redirect_stderr(io.StringIO()) as told:
+            self.assertEqual(command_line.ended(lambda words: 0, []), 2)
+        self.assertIn(": standard output is closed\n", told.getvalue())
+        with self.assertRaises(FileNotFoundError):
+            Sums([self.path("none")]).all()
+        self.assertEqual([is_utf_8(name) for name in ("", "a", "\u00e9", "\udce9")],
+                         [True, True, True, False])
 
     def test_inputs(self) -> None:
         """An error names what was typed alone; a pipe that answers at once is waited for."""

@@ -174,11 +174,6 @@ class NamedFault(NamedTuple):
         return f"{REFUSED} {self.name}{place}"
 
 
-def name_in(line: str) -> str | None:
-    """The name of a fault that a line has in the place of a number."""
-    return next((name for name in FAULT_NAMES if f"{line} ".startswith(f"{REFUSED} {name} ")), None)
-
-
 # What the manual says that a refusal means, and what to do: read from its tables.
 
 CHAPTER = os.path.join(TOP, "docs", "manual", "refusals.md")
@@ -234,16 +229,8 @@ def marked_up(text: str) -> Markup:
                   for at, one in enumerate(pieces))
 
 
-def anchor_of(name: str) -> str:
-    """The anchor of a fault without a number, in the manual and in a report."""
-    return name.replace(" ", "-")
-
-
 def number_link(line: str) -> Markup:
-    """A line `refused NUMBER Name place` without its word; number and name lead to what it means.
-    """
-    if (fault := name_in(line)) is not None:
-        place = line[len(f"{REFUSED} {fault}"):].split()
-        return joined([markup('<a href="#{}">{}</a>', anchor_of(fault), fault), *place], " ")
+    """A line of `check`, `refused NUMBER Name place`, without its word; number and name lead to
+    what it means."""
     _, number, name, *place = line.split(" ")
     return joined([markup('<a href="#n{}">{} {}</a>', number, number, name), *place], " ")

@@ -423,12 +423,10 @@ def distances(rows: Sequence[Sequence[int]], steps: int) -> collections.Counter[
 
 
 def at_rank(counts: collections.Counter[int], rank: int, is_from_above: bool) -> int:
-    """The number with so many before it, the least or the greatest first."""
-    for number in sorted(counts, reverse=is_from_above):
-        rank -= counts[number]
-        if rank < 0:
-            return number
-    raise ValueError("there are fewer")
+    """The number with so many before it, the least or the greatest first, of more than so many."""
+    numbers = sorted(counts, reverse=is_from_above)
+    totals = itertools.accumulate(counts[number] for number in numbers)
+    return next(number for number, total in zip(numbers, totals) if total > rank)
 
 
 def silences_in(row: Sequence[int], lost: int, steps: int) -> Iterator[Lull]:
