@@ -9,8 +9,9 @@ from typing import Sequence
 from developing.pes import MARK, data_field, packet, pes_packet, pts_in, teletext_packets
 from developing.stl import boxed
 from subtitles.clock.alignment import Base, Edge, bases_of, delays_of
-from subtitles.clock.origin import Origin, Sought, find
-from subtitles.common.times import CLOCK, TICKS, time_of
+from subtitles.clock.origin import Origin, Sought, find, subtitles_between
+from subtitles.common.command_line import Stop
+from subtitles.common.times import ALL_DAY, CLOCK, TICKS, time_of
 from .bench import Case, example, example_bytes
 from .parts import asked_for, packets_told
 from .sent import (
@@ -40,6 +41,24 @@ class Origins(Case):
         asked = asked_for(stl, "one.pes", *words)
         return find(Sought(stl, "one.pes", asked.page, asked.option, asked.origin, asked.within,
                            asked.breaks, asked.pes), packets_told(self, b"".join(pes), asked.page))
+
+    def test_of_nothing(self) -> None:
+        """PES packets in which the page does not change, files that end within the first one or
+        have none with a PTS, and subtitles of which none is left."""
+        pes = [*self.sent(5000), pes_packet(CLOCK // 2, [])]
+        last = len(pes) - 1
+        for some, words, line in (
+                (pes, ["--pes", f"{last}-{last}"], "no cue agrees with any origin"),
+                ([b"\0\0\1\xbd\0\5abcde"], [], "none of 1 PES packet in one.pes has a PTS: check "
+                 "refuses them as 34"),
+                ([], [], "none of 0 PES packets in one.pes has a PTS: check refuses them as 34")):
+            found = self.find(self.own(), some, *words)
+            self.must(line, (found.status, found.lines) == (1, [line]), found)
+        for data in (pes[0][:-1], b"\0\0\1\xbd"):
+            with self.assertRaisesRegex(Stop, "^one.pes: PES packet 0 is cut$"):
+                self.find(self.own(), [data])
+        with self.assertRaisesRegex(Stop, "has no subtitle that comes and goes within a day$"):
+            subtitles_between(self.own(), "english", ALL_DAY, range(COUNT + 1))
 
     def test_of_the_examples(self) -> None:
         """Of each origin, also where PTS begin again."""
