@@ -145,6 +145,11 @@ NAMED = {
     "a wrong profile": "in/b.stl in/b.pes --profile wrong",
     "measured": "--measure in/a.stl in/a.pes --origin 0",
     "measured, two": "--measure in/a.stl in/a.pes in/b.stl in/b.pes",
+    "measured, a stream": "--measure in/b.stl in/d.ts",
+    "measured, a PID": "--measure in/b.stl in/d.ts --pid 0x101",
+    "measured, another programme": "--measure in/a.stl in/b.pes",
+    "measured, at another time": "--measure in/a.stl in/a.pes --origin 900000000",
+    "a line of no list": "--batch in --line 2",
     "another PID": "in/d.stl in/d.ts --pid 0x100 --json one.json",
     "a PID with nothing": "in/d.stl in/d.ts --pid 0x1234 --json one.json"}
 
