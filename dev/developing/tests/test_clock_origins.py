@@ -47,11 +47,12 @@ class Origins(Case):
         have none with a PTS, and subtitles of which none is left."""
         pes = [*self.sent(5000), pes_packet(CLOCK // 2, [])]
         last = len(pes) - 1
-        for some, words, line in (
-                (pes, ["--pes", f"{last}-{last}"], "no cue agrees with any origin"),
-                ([b"\0\0\1\xbd\0\5abcde"], [], "none of 1 PES packet in one.pes has a PTS: check "
-                 "refuses them as 34"),
-                ([], [], "none of 0 PES packets in one.pes has a PTS: check refuses them as 34")):
+        rows: list[tuple[list[bytes], list[str], str]] = [
+            (pes, ["--pes", f"{last}-{last}"], "no cue agrees with any origin"),
+            ([b"\0\0\1\xbd\0\5abcde"], [], "none of 1 PES packet in one.pes has a PTS: check "
+             "refuses them as 34"),
+            ([], [], "none of 0 PES packets in one.pes has a PTS: check refuses them as 34")]
+        for some, words, line in rows:
             found = self.find(self.own(), some, *words)
             self.must(line, (found.status, found.lines) == (1, [line]), found)
         for data in (pes[0][:-1], b"\0\0\1\xbd"):
