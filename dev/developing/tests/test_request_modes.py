@@ -2,12 +2,17 @@
 from __future__ import annotations
 
 import argparse
+import contextlib
 import csv
+import functools
+import io
 import json
 import os
+import sys
 import unittest
 import xml.etree.ElementTree as tree
 from types import ModuleType
+from typing import Any, Sequence
 from unittest import mock
 
 from subtitles.cli import batch, collection, main, measure, single
@@ -16,14 +21,14 @@ from subtitles.cli.channel.schedule import Queue
 from subtitles.cli.main import (
     TAKEN_BY, file_in, jobs_word, line_word, minutes_word, mode_of, name_in, parser_of,
     refuse_options, seconds_word)
-from subtitles.common.command_line import Stop
+from subtitles.common.command_line import Stop, ended
 from subtitles.common.program import TOP
 from subtitles.request.commands import CommandWords
 from subtitles.request.lines import request_of_line
 from subtitles.request.request import (
     ALONE, BATCH, CHANNEL, CHANNEL_LINE, COLLECT, LINE, MEASURE, MODES, Mode, PAIR, RECORDER, WATCH)
 from subtitles.results.files import FORMULA
-from .bench import Case, example, tool_path
+from .bench import Case, Done, example, is_python, script, tool_path
 from .parts import defaults
 
 
@@ -255,14 +260,33 @@ def names() -> list[str]:
             if os.access(tool_path(name), os.X_OK) and os.path.isfile(tool_path(name))]
 
 
+@functools.lru_cache(None)
+def loaded(name: str) -> Any:
+    """A tool as a module, which is made once for all calls in this process."""
+    return script(name)
+
+
+def called_here(name: str, words: Sequence[str]) -> Done:
+    """How a call of a tool in Python ends in this process."""
+    module, out, told = loaded(name), io.StringIO(), io.StringIO()
+    with mock.patch.object(sys, "argv", [tool_path(name), *words]), \
+            contextlib.redirect_stdout(out), contextlib.redirect_stderr(told):
+        status = ended(module.called if name == "qc" else module.main, words)
+    return Done(status, out.getvalue().encode(), told.getvalue().splitlines())
+
+
 class WrongWords(Case):
     """Calls that are wrong."""
 
     def test_refuses_wrong_words(self) -> None:
+        """In this process, but for scripts of the shell."""
+        self.addCleanup(os.chdir, os.getcwd())
+        os.chdir(self.folder)
         for name in names():
             for words in [*WRONG.get(name, []), ["--colour"], ["---"]]:
                 before = sorted(os.listdir(self.folder))
-                done = self.tool(name, *words)
+                done = called_here(name, words) if is_python(tool_path(name)) else \
+                    self.tool(name, *words)
                 self.must(f"{name} {' '.join(words)}", done.status == 2 and not done.out
                           and len(done.told) == 1 and done.told[0].startswith(name + ": ")
                           and sorted(os.listdir(self.folder)) == before, done)

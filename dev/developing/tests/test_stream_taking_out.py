@@ -272,8 +272,8 @@ class Streams(Case):
         own = sent(STORY)
         video = bytes([0x47, 2, 0, 0x10]) + bytes(range(PAYLOAD))
         mixed = b"".join(one[:3] + bytes([0x10 | at & 15]) + one[4:] + 9 * video
-                         for at, one in enumerate(own * (15_000 // len(own))))
-        pes = self.write("long.pes", example_bytes("story.pes") * 10_000)
+                         for at, one in enumerate(own * (7_500 // len(own))))
+        pes = self.write("long.pes", example_bytes("story.pes") * 5_000)
         path = self.write("mixed.ts", mixed)
         program = ["-p", self.bench.program]
         for name, *words in (("a tenth of it", "ts2pes", path, PID, *program),
@@ -291,9 +291,9 @@ class Streams(Case):
                   f"{plain:.0f} in a plain loop")
             self.must(name, speed / plain >= least / PLAIN, (speed, plain))
             self.must(f"{name}: its bytes", {
-                "a tenth of it": done.out == b"".join(STORY) * 2_500,
+                "a tenth of it": done.out == b"".join(STORY) * 1_250,
                 "a list of it": done.out.startswith(b"PID 0x101: announced nothing; subtitle page"),
-                "pes2ts": done.out[2::188].count(1) == 60_000}[name])
+                "pes2ts": done.out[2::188].count(1) == 30_000}[name])
 
 
 def sent(pes: Sequence[bytes]) -> list[bytes]:

@@ -1,12 +1,10 @@
 """The built program: where it is, what PROVED says of it, and what is installed with it."""
 from __future__ import annotations
 
-import compileall
 import functools
 import glob
 import hashlib
 import os
-import py_compile
 import re
 import shutil
 import subprocess
@@ -173,6 +171,8 @@ def copy_tools(prefix: str) -> None:
 def compile_tools(prefix: str) -> None:
     """Compiles what the tools share, so that no call does so again. Nobody looks at the times of
     these files, since what stands under PREFIX may be moved, copied and restored."""
+    import compileall  # here alone: each call of any tool would wait for it
+    import py_compile
     sys.pycache_prefix = None  # beside the tools, wherever those of this call are
     compileall.compile_dir(os.path.join(prefix, HOME, "tools", "subtitles"), quiet=1,
                            invalidation_mode=py_compile.PycInvalidationMode.UNCHECKED_HASH)
