@@ -8,12 +8,14 @@ from typing import Any, Sequence
 
 from developing.pes import pes_packet
 from subtitles.clock.start import FITTED, FITTED_LATER, GIVEN, RECORDING
+from subtitles.common.program import MadeWith
 from subtitles.common.times import CLOCK, TICKS, time_of
 from subtitles.judging.check import Answer, NO_END
 from subtitles.judging.part import Explanation, Part
 from subtitles.judging.status import ERROR, REFUSALS, Severity, WARNING
 from subtitles.judging.verdict import (
     Gap, MOVED, Spread, Unjudged, Verdict, gap_of, gaps_in, gaps_of, lacks, spread_of)
+from subtitles.results.schema import Writing, trusted_of
 from subtitles.stream.gaps import Place
 from .bench import Case
 from .parts import answer, asked_for, packets_told, part_with
@@ -152,6 +154,22 @@ class Verdicts(Case):
             parts = [part_with(0, 9, 0, source=source) for source in sources]
             found = verdict_of(parts).fitted
             self.must(f"{sources}", found == wanted, found)
+
+    def test_trusted(self) -> None:
+        """Of each part, in the result as on its page, without the frames of a hole that the PCR
+        alone tells."""
+        said = ["trusted frames 00:00:04:00 00:00:07:24", "accepted 10 frames 2 transmissions"]
+        hole, mark = Place(TICKS * 150, TICKS * 160, missing=9), Place(TICKS * 170, TICKS * 180, 1,
+                                                                       mark=7)
+        for places, wanted in (([], [(100, 199)]), ([mark], [(100, 199)]),
+                               ([hole], [(100, 149), (160, 199)]),
+                               ([mark, hole], [(100, 149), (160, 199)])):
+            parts = [part_with(100, 199, 0, answer(said), number, places=some)
+                     for number, some in ((1, []), (2, places))]
+            known = Writing(verdict_of(parts), MadeWith("1", "0" * 64, None))
+            found = [(one["part"], one["from"], one["to"]) for one in trusted_of(known)]
+            self.must(f"{places}", found == [(1, time_of(100), time_of(199)), *(
+                (2, time_of(first), time_of(last)) for first, last in wanted)], found)
 
     def test_delays(self) -> None:
         of_spreads: list[tuple[list[int | None], Spread | None]] = [

@@ -6,9 +6,11 @@ import contextlib
 import csv
 import functools
 import io
+import itertools
 import json
 import os
 import sys
+import tempfile
 import unittest
 import xml.etree.ElementTree as tree
 from types import ModuleType
@@ -22,7 +24,7 @@ from subtitles.cli.main import (
     TAKEN_BY, file_in, jobs_word, line_word, minutes_word, mode_of, name_in, parser_of,
     refuse_options, seconds_word)
 from subtitles.common.command_line import Stop, ended
-from subtitles.common.program import TOP
+from subtitles.common.program import TOP, read
 from subtitles.request.commands import CommandWords
 from subtitles.request.lines import request_of_line
 from subtitles.request.request import (
@@ -212,15 +214,33 @@ class Words(unittest.TestCase):
         for line, name in names:
             self.assertEqual(name_in(line), name, line)
 
+    def test_left(self) -> None:
+        """Of a call that ends early each file that is asked for says why; whichever of the others
+        can't be written, or holds what no call wrote."""
+        with tempfile.TemporaryDirectory() as folder:
+            for at, kinds in enumerate(itertools.product(("new", "none", "other"), repeat=3)):
+                paths: dict[str, str | None] = {}
+                for option, kind in zip(main.WRITERS, kinds):
+                    path = os.path.join(folder, "none" * (kind == "none"), f"{at}{option}")
+                    paths[option] = path
+                    if kind == "other":
+                        with open(path, "wb") as file:
+                            file.write(b"other")
+                main.leave("one", paths, "the reason")
+                for path, kind in zip(paths.values(), kinds):
+                    data = read(path or "") or ""
+                    self.assertEqual(("the reason" in data, data == "other"),
+                                     (kind == "new", kind == "other"), (kinds, path))
+
     def test_numbers(self) -> None:
-        for read, good, bad in (
+        for taken, good, bad in (
                 (line_word, ("1", "9999999"), ("0", "10000000", "-1", "", "x", "\u00b2")),
                 (jobs_word, ("1", "9999"), ("0", "10000", "-1", "", "x", "\u00b2")),
                 (seconds_word, ("0", "99999"), ("100000", "-1", "", "1.5", "\u0663")),
                 (minutes_word, ("1", "1440"), ("0", "1441", "", "10000", "00001", "-1"))):
-            self.assertEqual([read(word) for word in good], list(map(int, good)))
+            self.assertEqual([taken(word) for word in good], list(map(int, good)))
             for word in bad:
-                self.assertRaises(argparse.ArgumentTypeError, read, word)
+                self.assertRaises(argparse.ArgumentTypeError, taken, word)
 
 
 # Words and files that are wrong: one line on standard error, status 2, nothing written.
