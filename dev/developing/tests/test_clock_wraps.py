@@ -3,14 +3,18 @@ from __future__ import annotations
 
 import json
 import re
-from typing import Any
+from typing import Any, Sequence
 
 from developing.multiplex import BEGINS, PACKET
-from subtitles.common.times import CLOCK, TICKS
-from .bench import Case
+from developing.pes import pts_in
+from subtitles.common.times import CLOCK, TICKS, time_of
+from .bench import Case, example_bytes
 from .judged import judged
-from .muxed import NEW, OLD, Packet, Shape, in_turn, multiplexed
-from .sent import EACH, LASTS, joined, one_late, packets, programme, sendings, times
+from .muxed import (
+    NEW, OLD, Packet, Shape, TELETEXT_PID, in_frames, in_turn, multiplexed, with_pictures)
+from .sent import (
+    EACH, LASTS, ORIGIN, apart, joined, one_late, packets, programme, sendings, times)
+from .test_clock_clocks import EARLIER, FIRST_PTS, STARTED, STORY
 from .test_judging_paced import large, lost
 from .test_stream_pace import alone, filled
 
@@ -58,19 +62,20 @@ class Wraps(Case):
         self.stl = programme(self, times(6))
         self.sent = filled(sendings(self, self.stl))
 
-    def told(self, data: bytes, *words: str) -> tuple[str, str]:
+    def told(self, stl: str, data: bytes, *words: str) -> tuple[str, str]:
         """The verdict, and all that is said of the recording but its PTS."""
-        found = judged(self, self.stl, self.write("one.ts", data), *words)
+        found = judged(self, stl, self.write("one.ts", data), *words)
         known: dict[str, Any] = {name: value for name, value in found.result.items()
                                  if name not in OF_FILE}
         return found.word, OF_PTS.sub(r"\1N", json.dumps([known, found.said, found.listed]))
 
-    def must_be_same(self, name: str, word: str, data: bytes, *words: str) -> None:
-        """Judges a stream, and with each of some places in it where PTS begin anew."""
-        plain = self.told(clocked_anew(data, CLOCK // 3), *words)
-        self.must(name, plain[0] == word, plain[0])
-        for frame in (3 * EACH, 3 * EACH + 21, 6 * EACH + LASTS):
-            anew = self.told(clocked_anew(data, CLOCK - frame * TICKS), *words)
+    def must_be_same(self, name: str, word: str, data: bytes, *words: str, stl: str = "",
+                     frames: Sequence[int] = (3 * EACH, 3 * EACH + 21, 6 * EACH + LASTS)) -> None:
+        """Judges a stream, and the same where PTS begin anew at some of its frames."""
+        plain = self.told(stl or self.stl, clocked_anew(data, CLOCK // 3), *words)
+        self.must(name, plain[0] == word, plain)
+        for frame in frames:
+            anew = self.told(stl or self.stl, clocked_anew(data, CLOCK - frame * TICKS), *words)
             self.must(f"{name}: {frame}", anew == plain, [
                 one for one in zip(plain[1].split(", "), anew[1].split(", ")) if one[0] != one[1]])
 
@@ -88,6 +93,36 @@ class Wraps(Case):
                 ("announced", "lost", lost(made, 3, True, 3 * EACH + 20)),
                 ("of the PID", "refused", alone(self.multiplexed(1), place, 16))):
             self.must_be_same(name, word, b"".join(one.data for one in some))
+
+    def test_losses_by_the_clock(self) -> None:
+        """16 TS packets of the PID are lost with what lies between, so that the PCR alone tells."""
+        pes = [joined([one]) for one in self.sent]
+        made = b"".join(in_frames(pes, pts_in(pes[0]), len(pes) + 9, 1))
+        own = [at for at in range(0, len(made), PACKET)
+               if int.from_bytes(made[at + 1:at + 3], "big") & 0x1FFF == TELETEXT_PID]
+        place = 3 * EACH + 20 - EACH
+        torn = made[:own[place]] + made[own[place + 16] - 5 * PACKET:]
+        self.must_be_same("whole", "accepted", made, "--pace", "none")
+        self.must_be_same("torn", "lost", torn, "--pace", "none")
+
+    def test_first_picture(self) -> None:
+        """The clock is that of the first picture, in whose group PTS begin anew, or later."""
+        data = with_pictures(example_bytes("story.pes"), FIRST_PTS).data
+        for words, word in ((("--start", STARTED), "accepted"), ((), "accepted"),
+                            (("--start", time_of(FIRST_PTS // TICKS - 2)), "refused")):
+            self.must_be_same(f"{words}", word, data, *words, stl=STORY, frames=[
+                FIRST_PTS // TICKS + more for more in (1, 5, EARLIER, EARLIER + 100)])
+
+    def test_breaks(self) -> None:
+        """Two parts, in the second of which a subtitle is late."""
+        stl = programme(self, times(24), name="many.stl")
+        for change, words, word in ((one_late(10, 0), (), "accepted"),
+                                    (one_late(10, 3), (), "refused"),
+                                    (one_late(10, 3), ("--within", "3"), "accepted")):
+            sent = apart(change(sendings(self, stl)), 1000)
+            self.must_be_same(f"{words} {word}", word, in_turn(
+                [joined([one]) for one in sent], [(0, OLD)]), "--breaks", "1", *words, stl=stl,
+                frames=[ORIGIN // TICKS + more for more in (500, 1200, 2000, 2050)])
 
     def test_late(self) -> None:
         """A subtitle is late, or all are by a clock that is given; the page moves to another PID,
