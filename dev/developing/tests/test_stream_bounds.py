@@ -189,7 +189,8 @@ class Clear(unittest.TestCase):
     def fit(agree: int, letters: int, texts: int = 0, among: int = 5, start: int = 0) -> Fit:
         return Fit(9, agree, letters, texts, agree, among, None, None, start)
 
-    def part(self, best: Fit, *others: Fit, early: Early | None = None, apart: object = None) -> Any:
+    def part(self, best: Fit, *others: Fit, early: Early | None = None,
+             apart: object = None) -> Any:
         return SimpleNamespace(best=best, others=others, early=early,
                                sent=SimpleNamespace(apart=lambda _: apart))
 
