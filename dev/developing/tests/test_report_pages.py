@@ -340,7 +340,9 @@ class Reports(Case):
         """The subtitle file, what was judged of each part that has some, the recording, and the
         program, each once."""
         typed = CommandWords("tools/qc", self.bench.program)
-        for parts in ((), ("1",), ("1", "2"), (None, "2"), ("1", None, "3"), (None,)):
+        several: list[list[str | None]] = [
+            [], ["1"], ["1", "2"], [None, "2"], ["1", None, "3"], [None]]
+        for parts in several:
             verdict = verdict_of([part_with(0, 9, 0, number=at, judged=name and SummedFile(
                 name, 5, "0" * 64)) for at, name in enumerate(parts, 1)])
             verdict.stl, verdict.recording = (SummedFile(name, 5, "0" * 64)

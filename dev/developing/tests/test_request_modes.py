@@ -227,10 +227,10 @@ class Words(unittest.TestCase):
                         with open(path, "wb") as file:
                             file.write(b"other")
                 main.leave("one", paths, "the reason")
-                for path, kind in zip(paths.values(), kinds):
-                    data = read(path or "") or ""
+                for option, kind in zip(main.WRITERS, kinds):
+                    data = read(paths[option] or "") or ""
                     self.assertEqual(("the reason" in data, data == "other"),
-                                     (kind == "new", kind == "other"), (kinds, path))
+                                     (kind == "new", kind == "other"), (kinds, option))
 
     def test_numbers(self) -> None:
         for taken, good, bad in (

@@ -103,8 +103,10 @@ class Silences(unittest.TestCase):
                                  (first, last, pauses))
         # In most of those that are as long: shorter ones tell nothing.
         silence = Lull(begin + 400, end, False)
-        for others, wanted in (([], True), ([500], False), ([499], True), ([499, 499], True),
-                               ([500, 499], False), ([600, 700], False)):
+        of_others: list[tuple[list[int], bool]] = [
+            ([], True), ([500], False), ([499], True), ([499, 499], True), ([500, 499], False),
+            ([600, 700], False)]
+        for others, wanted in of_others:
             pauses = [(begin, end), *((5000 * at, 5000 * at + length)
                                       for at, length in enumerate(others, 1))]
             self.assertEqual(idle_of([silence], 50, pauses), [silence] * wanted, others)
