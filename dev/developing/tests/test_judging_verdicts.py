@@ -161,11 +161,12 @@ class Verdicts(Case):
         said = ["trusted frames 00:00:04:00 00:00:07:24", "accepted 10 frames 2 transmissions"]
         hole, mark = Place(TICKS * 150, TICKS * 160, missing=9), Place(TICKS * 170, TICKS * 180, 1,
                                                                        mark=7)
-        for places, wanted in (([], [(100, 199)]), ([mark], [(100, 199)]),
-                               ([hole], [(100, 149), (160, 199)]),
-                               ([mark, hole], [(100, 149), (160, 199)])):
-            parts = [part_with(100, 199, 0, answer(said), number, places=some)
-                     for number, some in ((1, []), (2, places))]
+        cases: list[tuple[list[Place], list[tuple[int, int]]]] = [
+            ([], [(100, 199)]), ([mark], [(100, 199)]), ([hole], [(100, 149), (160, 199)]),
+            ([mark, hole], [(100, 149), (160, 199)])]
+        for places, wanted in cases:
+            parts = [part_with(100, 199, 0, answer(said), 1),
+                     part_with(100, 199, 0, answer(said), 2, places=places)]
             known = Writing(verdict_of(parts), MadeWith("1", "0" * 64, None))
             found = [(one["part"], one["from"], one["to"]) for one in trusted_of(known)]
             self.must(f"{places}", found == [(1, time_of(100), time_of(199)), *(
