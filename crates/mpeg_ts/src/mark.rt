@@ -1,4 +1,7 @@
 //! What stands where something is missing.
+//!
+//! It is a PES packet of its own, so that no reader needs a second way to learn of it. From byte 6
+//! on it is FF, as no PES packet of EN 300 472 is: a reader refuses it as 45, `Lost`.
 ghost use Rattle.std.specs.Prelude.{◌≡◌};
 ghost use Rattle.mpeg_ts.specs.Carried.{mark};
 

@@ -71,7 +71,8 @@ abbrev pub text_code : National → ℕ → TextCode
 text_code national byte = unwrap_or (option_map Cell (cell_of national byte)) (code_of_other byte)
 
 -- The cell of a byte together with the next: of a diacritical mark and its letter, where the option
--- has the character of the two.
+-- has the character of the two. Where it lacks that, the mark is refused: without its accent the
+-- letter would show a word that nobody wrote.
 unfoldable pub cell_of_pair : National → ℕ → Option ℕ → Option ℕ
 cell_of_pair national byte next =
     if is_diacritical byte

@@ -1,4 +1,5 @@
--- What may be written behind `check STL PES`, in any order, and the options that it makes.
+-- What may be written behind `check STL PES`, in any order, and the options that it makes. How
+-- `clap` reads words is 700 lines: this list spares them, and that words ask for it is proved.
 use Rattle.std.specs.Prelude.{◌≡◌, ◌<◌, ◌^◌, ℕ, Bool, true, List, [], ◌∷◌, Some, codes, fold}
 use Rattle.std.specs.List.{flat_map}
 use Rattle.clap.specs.Words.{Text}

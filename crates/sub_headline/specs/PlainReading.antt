@@ -1,6 +1,7 @@
 -- What the bytes of both files say at the places of their formats: the subtitles of the one, the
 -- frames and packets of the other. Nothing is tested here. That the bytes are of these formats, and
--- hold nothing else, is `AreFilesOf`.
+-- hold nothing else, is `AreFilesOf`. Fixed places spare a reader of the headline the grammars of
+-- both formats, which were two fifths of all that had to be read.
 use Rattle.std.specs.Prelude.{ℕ, zero, suc, ◌+◌, ◌-◌, ◌*◌, ◌/◌, ◌%◌, ◌^◌, Bool, not, ◌==◌, ◌||◌}
 use Rattle.std.specs.Prelude.{List}
 use Rattle.std.specs.Prelude.{[], ◌∷◌, length, take, drop, map, filter, slice_index, slice_index_or}

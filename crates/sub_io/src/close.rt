@@ -1,4 +1,8 @@
 //! Sinks that are stored, and closed before their value ends.
+//!
+//! A network disk may report only at the end that a file is lost, and std drops what closing a file
+//! answers. So a command asks the system to store its file, and closes it, before it prints its
+//! line. Pipes and devices store nothing.
 
 ghost use Rattle.std.specs.Prelude.{◌≡◌, Bool, OnOk, true};
 ghost use Rattle.std.specs.Io.KnownBytes.{Keeps};

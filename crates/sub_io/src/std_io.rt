@@ -1,4 +1,7 @@
 //! Devices over std's readers and writers: files, standard input and output.
+//!
+//! No call that failed is tried again, an interrupted one neither: a retry would hide a device that
+//! never recovers, and would need a bound.
 
 ghost use Rattle.std.specs.Prelude.{◌≡◌, ◌+◌, ◌<◌, ◌≤◌, [], ◌++◌, IfOk, OnOk, Some, length, take};
 ghost use Rattle.std.specs.Prelude.{IsErr};

@@ -3,6 +3,9 @@
 -- they begin to be broken, and up to which frame they stood so. This is the order in which all that
 -- is asked is looked at: a refusal is what is told first.
 --
+-- Both are told since a wrong page stays until something else is sent: one line with both frames
+-- would come only then.
+--
 -- The ends are looked at in this order: for each PES packet first the frames of the day that lie
 -- after every PES packet before it, and before its own frame, and then its own frame. At an end the
 -- PES packets up to there count: those before, for a frame without one; with its own, for its own.

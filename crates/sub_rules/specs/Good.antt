@@ -1,4 +1,7 @@
 -- The seven rules of a good transmission. All are read on the packets as they are sent.
+--
+-- That pages are complete is no eighth rule: the headline is true without it, and transmissions on
+-- air break it. So an option, `--complete`, asks for it.
 use Rattle.std.specs.Prelude.{◌≡◌, ℕ, ◌+◌, ◌<◌, ◌≤◌, List, Some, length, take}
 use Rattle.std.specs.Prelude.{All, IfSome, IsTrue, IsFalse, Option}
 use Rattle.ttx_packet.specs.declared.header.Header.{Header}

@@ -1,5 +1,9 @@
 //! The packets of a transport stream, found in bytes that come bit by bit; bytes that belong to
 //! none are skipped and counted.
+//!
+//! `Stream` of `mpeg_ts` finds the packets of one PID by its own walk. A walk for both would look
+//! at the byte behind a packet without taking it, and break the clause that what `extract` took
+//! gives what came.
 ghost use Rattle.std.specs.Prelude.{◌≡◌, ◌≤◌, ◌<◌, ◌+◌, ◌-◌, List, [], ◌++◌, ℕ, length};
 ghost use Rattle.std.specs.Prelude.{IfNone, IfSome, drop, false, replicate, take, true};
 ghost use Rattle.mpeg_ts.specs.PacketSize.{bytes_of};

@@ -1,4 +1,7 @@
 //! Reading PES packets that are mostly the one before, sent again.
+//!
+//! `check`, `listen` and `packets` each have their own loop over this reader: one loop for all
+//! three was proved, and took more lemmas than it saved.
 ghost use Rattle.std.specs.Prelude.{◌≡◌, ℕ, ◌+◌, ◌≤◌, ◌≢◌, true, false, [], None, Ok, IfErr};
 ghost use Rattle.sub_io.specs.Device.{CanFail, CountsIf, failed};
 ghost use Rattle.ttx_pes.specs.Comparing.{as_given, behind_after, passed_over, TakesDataField};
