@@ -1,3 +1,4 @@
+pub mod ApartLemmas
 pub mod CarrierLemmas
 pub mod CounterLemmas
 pub mod EndingsLemmas

@@ -1,6 +1,8 @@
 //! How far PES packets of Teletext are ahead of the pictures: those near a step of these are told.
-ghost use Rattle.std.specs.Prelude.{◌≡◌};
-ghost use Rattle.ts_survey.specs.Aparts.{apart_line, aparts_words};
+ghost use Rattle.std.specs.Prelude.{◌≡◌, [], ◌∷◌, ◌++◌, None, Some};
+ghost use Rattle.ts_survey.specs.Aparts.{TakesApart, TakesStep, apart_line, apart_of, aparts_words};
+ghost use Rattle.ts_survey.specs.Aparts.{due_beside, is_beside, kept_beside, last_fifty};
+ghost use Rattle.ts_survey.specs.Aparts.{told_at_once, told_at_step};
 ghost use Rattle.ts_survey.specs.Lines.{AddsWords};
 
 use crate::text::{Text, forward};
@@ -29,7 +31,11 @@ pub struct Aparts {
 
 impl Aparts {
     /// None.
-    pub fn new() -> Aparts {
+    pub fn new() -> Aparts
+        ensures video { result.video ≡ None }
+        ensures kept { result.kept.items ≡ [] }
+        ensures due { result.due ≡ 0 }
+    {
         Aparts {
             video: None,
             kept: ArrayVec::new(),
@@ -38,12 +44,12 @@ impl Aparts {
     }
 
     /// A PES packet of the PID began, with that PTS, behind a decoding time of the video PID.
-    pub fn take(&mut self, pid: u16, pts: u64, video: u16, time: u64, text: &mut Text) {
-        if self.video != Some(video) {
-            self.video = Some(video);
-            self.kept.clear();
-            self.due = 0;
-        }
+    pub fn take(&mut self, pid: u16, pts: u64, video: u16, time: u64, text: &mut Text)
+        ensures told { AddsWords text.old
+            (told_at_once pid video (apart_of pts time) self.old) text.new }
+        ensures state { TakesApart video (apart_of pts time) self.old self.new }
+    {
+        self.go_to(video);
         let one = Apart {
             pts,
             ticks: forward(time, pts),
@@ -53,6 +59,40 @@ impl Aparts {
             tell_apart(pid, video, &one, text);
             return;
         }
+        self.keep(one);
+    }
+
+    // The pictures are those of that PID.
+    fn go_to(&mut self, video: u16)
+        ensures video { self.new.video ≡ Some video }
+        ensures kept { self.new.kept.items ≡ kept_beside video self.old }
+        ensures due { self.new.due ≡ due_beside video self.old }
+    {
+        if self.is_beside(video) {
+            return;
+        }
+        self.video = Some(video);
+        self.kept.clear();
+        self.due = 0;
+    }
+
+    // Whether the pictures before were those of that PID.
+    fn is_beside(&self, video: u16) -> bool
+        ensures { result ≡ is_beside video self.now.video }
+    {
+        match self.video {
+            Some(last) => last == video,
+            None => false,
+        }
+    }
+
+    // Keeps one more: the last fifty.
+    #[tactic(auto, using(crate::proofs::ApartLemmas::keeping))]
+    fn keep(&mut self, one: Apart)
+        ensures kept { self.new.kept.items ≡ last_fifty (self.old.kept.items ++ one ∷ []) }
+        ensures video { self.new.video ≡ self.old.video }
+        ensures due { self.new.due ≡ self.old.due }
+    {
         if self.kept.len() == KEPT {
             let _ = self.kept.remove(0);
         }
@@ -61,8 +101,11 @@ impl Aparts {
 
     /// A step of a video PID came: what was not told before it is told, and the next are as they
     /// come.
-    pub fn note_step(&mut self, pid: u16, video: u16, text: &mut Text) {
-        if self.video != Some(video) {
+    pub fn note_step(&mut self, pid: u16, video: u16, text: &mut Text)
+        ensures told { AddsWords text.old (told_at_step pid video self.old) text.new }
+        ensures state { TakesStep video self.old self.new }
+    {
+        if !self.is_beside(video) {
             return;
         }
         self.tell(pid, video, text);

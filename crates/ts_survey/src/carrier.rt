@@ -4,6 +4,8 @@ ghost use Rattle.std.specs.Prelude.{None, codes, false, if◌then◌else◌, is_
 ghost use Rattle.mpeg_ts.specs.GoodPackets.{Hole};
 ghost use Rattle.mpeg_ts.specs.Joining.{after_note};
 ghost use Rattle.mpeg_ts.specs.TransportPacket.{announces_jump, counter, has_payload, is_wrong};
+ghost use Rattle.ts_survey.specs.Aparts.{TakesApart, TakesStep, apart_of, told_at_once};
+ghost use Rattle.ts_survey.specs.Aparts.{told_at_step};
 ghost use Rattle.ts_survey.specs.Endings.{carrier_line, carrier_words};
 ghost use Rattle.ts_survey.specs.Holes.{after_pcr, kept_with, known_after, pcr_told, pending_of};
 ghost use Rattle.ts_survey.specs.Holes.{told_for_room};
@@ -239,12 +241,22 @@ impl Carrier {
     }
 
     /// A PTS began in a packet, behind a decoding time of the pictures of its programme.
-    pub fn hold_against(&mut self, pts: u64, video: u16, time: u64, text: &mut Text) {
+    pub fn hold_against(&mut self, pts: u64, video: u16, time: u64, text: &mut Text)
+        ensures told { AddsWords text.old
+            (told_at_once self.old.pid video (apart_of pts time) self.old.aparts) text.new }
+        ensures aparts { TakesApart video (apart_of pts time) self.old.aparts self.new.aparts }
+        ensures same { self.new ≡ record self.old { aparts = self.new.aparts } }
+    {
         self.aparts.take(self.pid, pts, video, time, text);
     }
 
     /// The decoding times of a video PID stepped otherwise than they do.
-    pub fn note_step(&mut self, video: u16, text: &mut Text) {
+    pub fn note_step(&mut self, video: u16, text: &mut Text)
+        ensures told { AddsWords text.old (told_at_step self.old.pid video self.old.aparts)
+            text.new }
+        ensures aparts { TakesStep video self.old.aparts self.new.aparts }
+        ensures same { self.new ≡ record self.old { aparts = self.new.aparts } }
+    {
         self.aparts.note_step(self.pid, video, text);
     }
 
