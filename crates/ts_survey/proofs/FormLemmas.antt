@@ -7,8 +7,9 @@ use Rattle.std.proofs.lemmas.Bool.Decides.{nat_tests}
 use Rattle.std.proofs.lemmas.Option.{none-some}
 use Rattle.std.specs.Prelude.{slice_index, ◌&&◌, ◌||◌, not, nat_le, nat_lt, if◌then◌else◌, is_some}
 use Rattle.mpeg_ts.proofs.StreamLemmas.{index-append}
-use Rattle.ts_survey.specs.Forms.{HasRead, IsWindow, first_form, form_at, form_in, form_or}
-use Rattle.ts_survey.specs.Forms.{group_at, has_prefix, known_form, no_bytes, nal_at}
+use Rattle.ts_survey.specs.FormWindow.{HasRead, IsWindow, form_at, no_bytes}
+use Rattle.ts_survey.specs.Forms.{first_form, form_in, form_or, group_at, has_prefix}
+use Rattle.ts_survey.specs.Forms.{known_form, nal_at}
 use Rattle.ts_survey.specs.declared.forms.Form.{Form}
 use Rattle.ts_survey.specs.declared.forms.FormReader.{FormReader}
 

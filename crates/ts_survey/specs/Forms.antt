@@ -8,12 +8,11 @@
 --   00 00 01 00   picture_start_code (ISO/IEC 13818-2)
 --   00 00 01      in HEVC (ISO/IEC 23008-2), and then nal_unit_header: forbidden_zero_bit (1 bit),
 --                 nal_unit_type (6), nuh_layer_id (6), nuh_temporal_id_plus1 (3)
-use Rattle.std.specs.Prelude.{◌≡◌, ℕ, ◌/◌, ◌%◌, ◌==◌, ◌&&◌, ◌||◌, not, nat_le, nat_lt, Bool}
-use Rattle.std.specs.Prelude.{if◌then◌else◌, List, [], ◌∷◌, ◌++◌, length, replicate, slice_index}
+use Rattle.std.specs.Prelude.{ℕ, ◌/◌, ◌%◌, ◌==◌, ◌&&◌, ◌||◌, not, nat_le, nat_lt, Bool}
+use Rattle.std.specs.Prelude.{if◌then◌else◌, List, [], ◌∷◌, length, slice_index}
 use Rattle.std.specs.Prelude.{Option, Some, None, codes}
 use Rattle.ts_survey.specs.declared.forms.Form.{Form}
 use Rattle.ts_survey.specs.declared.forms.Form.TheVariants.{Closed, Open, Unknown}
-use Rattle.ts_survey.specs.declared.forms.FormReader.{FormReader}
 
 -- What stream_type alone tells (ISO/IEC 13818-1, table 2-34): of MPEG-1, MPEG-2 and HEVC nothing
 -- yet; in H.264 no header says that a group is closed; of others nothing is known.
@@ -69,30 +68,6 @@ abbrev pub form_in : ℕ → List ℕ → Option Form
 form_in kind bytes =
     form_or (known_form kind)
     (if kind == 0x24 then first_form nal_at bytes else first_form group_at bytes)
-
--- What the last eight bytes say, of a header that ends there.
-abbrev pub form_at : ℕ → List ℕ → Option Form
-form_at kind window =
-    if kind == 0x24
-    then nal_at (slice_index window 4 ∷ slice_index window 5 ∷ slice_index window 6
-    ∷ slice_index window 7 ∷ [])
-    else group_at window
-
--- Eight bytes that are of no header.
-abbrev pub no_bytes : List ℕ
-no_bytes = replicate 8 0xFF
-
--- The last eight bytes, of eight of no header and then these.
-pub record IsWindow (window bytes : List ℕ) : Type 0 where
-  pub before : List ℕ
-  pub size : length window ≡ 8
-  pub ends : no_bytes ++ bytes ≡ before ++ window
-
--- Of a picture of that stream_type these bytes were read, and no others.
-pub record HasRead (kind : ℕ) (bytes : List ℕ) (reader : FormReader) : Type 0 where
-  pub is_kind : reader.kind ≡ kind
-  pub form : reader.form ≡ form_in kind bytes
-  pub window : reader.form ≡ None → IsWindow reader.window bytes
 
 -- What was found.
 abbrev pub form_read : Option Form → Form

@@ -5,6 +5,7 @@ pub mod Clocks
 pub mod Counters
 pub mod Endings
 pub mod Following
+pub mod FormWindow
 pub mod Forms
 pub mod Groups
 pub mod Heard

@@ -2,6 +2,8 @@
 //! the group before it, by the first bytes of the flagged one.
 ghost use Rattle.std.specs.Prelude.{◌≡◌, ◌≤◌, ℕ, List, [], ◌∷◌, ◌++◌, length};
 ghost use Rattle.ts_survey.specs.Forms as specs;
+// What the reader keeps, not the standard's.
+ghost use Rattle.ts_survey.specs.FormWindow as kept;
 
 /// stream_type (ISO/IEC 13818-1, table 2-34) of MPEG-1, MPEG-2, H.264 and HEVC.
 const MPEG_1: u8 = 0x01;
@@ -36,7 +38,7 @@ pub struct FormReader {
 impl FormReader {
     /// Before the first byte of a picture of that stream_type: 0 where none is known.
     pub fn new(kind: u8) -> FormReader
-        ensures { specs.HasRead kind [] result }
+        ensures { kept.HasRead kind [] result }
     {
         FormReader {
             kind,
@@ -47,7 +49,9 @@ impl FormReader {
 
     /// The form.
     pub fn form(&self) -> Form
-        ensures { result ≡ specs.form_read self.now.form }
+        ensures value { result ≡ specs.form_read self.now.form }
+        ensures read { (kind : ℕ) (read : List ℕ) → kept.HasRead kind read self.now
+            → result ≡ specs.form_read (specs.form_in kind read) }
     {
         match self.form {
             Some(form) => form,
@@ -57,8 +61,8 @@ impl FormReader {
 
     /// Reads on.
     pub fn read(&mut self, bytes: &[u8])
-        ensures { (kind : ℕ) (read : List ℕ) → specs.HasRead kind read self.old
-            → specs.HasRead kind (read ++ bytes.now) self.new }
+        ensures { (kind : ℕ) (read : List ℕ) → kept.HasRead kind read self.old
+            → kept.HasRead kind (read ++ bytes.now) self.new }
     {
         for byte in bytes {
             *self = reader_after(self, *byte);
@@ -79,8 +83,8 @@ fn known_form(kind: u8) -> Option<Form>
 
 // The reader after one more byte: nothing more is read once the form is found.
 fn reader_after(reader: &FormReader, byte: u8) -> FormReader
-    ensures { (kind : ℕ) (read : List ℕ) → specs.HasRead kind read reader.now
-        → specs.HasRead kind (read ++ byte ∷ []) result }
+    ensures { (kind : ℕ) (read : List ℕ) → kept.HasRead kind read reader.now
+        → kept.HasRead kind (read ++ byte ∷ []) result }
 {
     if reader.form.is_some() {
         return *reader;
@@ -98,7 +102,7 @@ fn reader_after(reader: &FormReader, byte: u8) -> FormReader
 
 // The form that the last eight bytes tell.
 fn form_at(kind: u8, window: &[u8; 8]) -> Option<Form>
-    ensures { result ≡ specs.form_at kind window.now }
+    ensures { result ≡ kept.form_at kind window.now }
 {
     if kind == HEVC {
         form_of_unit(&[window[4], window[5], window[6], window[7]])

@@ -1,6 +1,6 @@
 -- What was read before, and those so far.
 use Rattle.std.proofs.Common.{ℕ, List, ◌++◌, take}
-use Rattle.ts_survey.specs.Forms.{HasRead}
+use Rattle.ts_survey.specs.FormWindow.{HasRead}
 use Rattle.ts_survey.proofs.forms.FormReader.read.Given as goal
 
 abbrev pub invariant-loop-byte : goal.invariant-loop-byte
