@@ -8,5 +8,6 @@ pub mod HeardLemmas
 pub mod InStepLemmas
 pub mod PendingLemmas
 pub mod RoomLemmas
+pub mod StepLemmas
 pub mod SurveyLemmas
 pub mod TextLemmas

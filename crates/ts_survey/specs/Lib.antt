@@ -20,6 +20,7 @@ pub mod Rows
 pub mod Seams
 pub mod Section
 pub mod Steps
+pub mod StepsKept
 pub mod Stream
 pub mod Survey
 pub mod Text

@@ -1,8 +1,9 @@
 -- The steps of the decoding times of a video PID (ISO/IEC 13818-1: the DTS of a PES packet, or else
 -- its PTS), and which of them are not as the others are (own).
-use Rattle.std.specs.Prelude.{ℕ, ◌-◌, ◌==◌, ◌&&◌, nat_le, nat_lt, Bool, if◌then◌else◌}
-use Rattle.std.specs.Prelude.{List, [], ◌∷◌, Option, Some, None, codes}
-use Rattle.ts_survey.specs.InStep.{counted_on}
+--
+-- Times and steps are listed with the last one first: all are ticks of 90 kHz.
+use Rattle.std.specs.Prelude.{◌≡◌, ℕ, suc, ◌-◌, ◌==◌, ◌&&◌, min, nat_le, nat_lt, Bool}
+use Rattle.std.specs.Prelude.{if◌then◌else◌, List, [], ◌∷◌, length, Option, Some, None, codes}
 use Rattle.ts_survey.specs.Lines.{line_end, number_word}
 use Rattle.ts_survey.specs.Text.{forward_ticks}
 use Rattle.ts_survey.specs.declared.steps.Alike.{Alike}
@@ -17,16 +18,51 @@ half_frame = 1800
 abbrev pub is_alike : ℕ → ℕ → Bool
 is_alike one other = nat_lt (one - other) half_frame && nat_lt (other - one) half_frame
 
--- The steps in a row that are like the first of them, after one more.
-abbrev pub alike_after : Alike → ℕ → Alike
-alike_after alike step =
-    if is_alike alike.first step
-    then record { first = alike.first; count = counted_on alike.count 1 }
-    else record { first = step; count = 1 }
+-- ---- what is usual
 
--- Five in a row tell the usual step; else it stays.
-abbrev pub usual_after : Option ℕ → Alike → Option ℕ
-usual_after usual alike = if nat_le 5 alike.count then Some alike.first else usual
+-- The first of the row in which a step stands, behind others: a row goes on as long as its steps
+-- are like its first one.
+abbrev pub first_of_row : ℕ → List ℕ → ℕ
+first_of_row step [] = step
+first_of_row step (last ∷ earlier) =
+    if is_alike (first_of_row last earlier) step then first_of_row last earlier else step
+
+-- How many steps the row has, up to that one.
+abbrev pub row_length : ℕ → List ℕ → ℕ
+row_length step [] = 1
+row_length step (last ∷ earlier) =
+    if is_alike (first_of_row last earlier) step then suc (row_length last earlier) else 1
+
+-- The usual step: the first of the last row of five or more.
+abbrev pub usual_of : List ℕ → Option ℕ
+usual_of [] = None
+usual_of (step ∷ earlier) =
+    if nat_le 5 (row_length step earlier) then Some (first_of_row step earlier)
+    else usual_of earlier
+
+-- ---- the steps of decoding times
+
+-- Decoding times, of which each differs from the one before it. The same time again is no step,
+-- since a packet may be sent twice.
+abbrev pub with_time : ℕ → List ℕ → List ℕ
+with_time time [] = time ∷ []
+with_time time (last ∷ earlier) =
+    if last == time then last ∷ earlier else time ∷ last ∷ earlier
+
+abbrev pub times_of : List ℕ → List ℕ
+times_of [] = []
+times_of (time ∷ came) = with_time time (times_of came)
+
+-- The steps from each to the next.
+abbrev pub steps_behind : ℕ → List ℕ → List ℕ
+steps_behind time [] = []
+steps_behind time (last ∷ earlier) = forward_ticks last time ∷ steps_behind last earlier
+
+abbrev pub steps_of : List ℕ → List ℕ
+steps_of [] = []
+steps_of (time ∷ earlier) = steps_behind time earlier
+
+-- ---- which of them are strange
 
 -- The step from a decoding time to the next, where a usual one is known and it is not like that.
 abbrev pub strange_step : ℕ → ℕ → Option ℕ → Option Step
@@ -35,52 +71,68 @@ strange_step before after (Some usual) =
     if is_alike usual (forward_ticks before after) then None
     else Some (record { before = before; after = after; usual = usual })
 
--- A number of such steps, and the next one, if it is such.
-abbrev pub counted_step : ℕ → Option Step → ℕ
-counted_step count None = count
-counted_step count (Some step) = counted_on count 1
+-- One more, if there is one.
+abbrev pub with_step : Option Step → List Step → List Step
+with_step None steps = steps
+with_step (Some step) steps = step ∷ steps
+
+-- Those that are: each is held against what is usual of the steps before it.
+abbrev pub strange_behind : ℕ → List ℕ → List Step
+strange_behind time [] = []
+strange_behind time (last ∷ earlier) =
+    with_step (strange_step last time (usual_of (steps_behind last earlier)))
+    (strange_behind last earlier)
+
+abbrev pub strange_steps : List ℕ → List Step
+strange_steps [] = []
+strange_steps (time ∷ earlier) = strange_behind time earlier
 
 -- The first 1,000 are told.
 abbrev pub first_steps : ℕ → Option Step → Option Step
 first_steps count step = if nat_lt count 1000 then step else None
 
--- The step to a decoding time, if it is told. The same time again is no step, since a packet may be
--- sent twice.
-abbrev pub step_from : Option ℕ → Steps → ℕ → Option Step
-step_from None s time = None
-step_from (Some last) s time =
+-- The step to a decoding time behind others, if it is told.
+abbrev pub told_step : ℕ → List ℕ → Option Step
+told_step time [] = None
+told_step time (last ∷ earlier) =
     if last == time then None
-    else first_steps s.strange (strange_step last time s.usual)
+    else first_steps (length (strange_behind last earlier))
+    (strange_step last time (usual_of (steps_behind last earlier)))
 
--- So by the last decoding time that came: all are ticks of 90 kHz.
-abbrev pub told_step : Steps → ℕ → Option Step
-told_step s time = step_from s.last s time
+-- So to that of a PES packet, if it says one, behind those that came; and all that came then.
+abbrev pub told_to : Option ℕ → List ℕ → Option Step
+told_to None came = None
+told_to (Some time) came = told_step time (times_of came)
 
--- What is kept after it.
-abbrev pub steps_behind : Option ℕ → Steps → ℕ → Steps
-steps_behind None s time = record s { last = Some time }
-steps_behind (Some last) s time =
-    if last == time then s
-    else record {
-      last = Some time;
-      alike = alike_after s.alike (forward_ticks last time);
-      usual = usual_after s.usual (alike_after s.alike (forward_ticks last time));
-      strange = counted_step s.strange (strange_step last time s.usual);
-    }
+abbrev pub came_with : Option ℕ → List ℕ → List ℕ
+came_with None came = came
+came_with (Some time) came = time ∷ came
 
--- So by the last decoding time that came.
-abbrev pub steps_after : Steps → ℕ → Steps
-steps_after s time = steps_behind s.last s time
+-- ---- what is kept of them
 
--- So with that of a PES packet, if it says one.
-abbrev pub step_to : Option ℕ → Steps → Option Step
-step_to None s = None
-step_to (Some time) s = told_step s time
+-- The last one.
+abbrev pub last_of : List ℕ → Option ℕ
+last_of [] = None
+last_of (time ∷ earlier) = Some time
 
--- And what is kept after it: it stays where the PES packet says none.
-abbrev pub steps_to : Option ℕ → Steps → Steps
-steps_to None s = s
-steps_to (Some time) s = steps_after s time
+-- The row in which the last step stands: numbers of 64 bits stay at their last one.
+abbrev pub last_row : List ℕ → Option Alike
+last_row [] = None
+last_row (step ∷ earlier) = Some (record {
+  first = first_of_row step earlier;
+  count = min (row_length step earlier) 0xFFFF_FFFF_FFFF_FFFF;
+})
+
+-- These are the decoding times of which it is known.
+pub record AreKept (times : List ℕ) (s : Steps) : Type 0 where
+  pub last : s.last ≡ last_of times
+  pub alike : s.alike ≡ last_row (steps_of times)
+  pub usual : s.usual ≡ usual_of (steps_of times)
+  pub strange : s.strange ≡ min (length (strange_steps times)) 0xFFFF_FFFF_FFFF_FFFF
+
+-- These have come.
+abbrev pub HaveCome : List ℕ → Steps → Type 0
+HaveCome came s = AreKept (times_of came) s
 
 -- `step PID BEFORE AFTER USUAL`.
 abbrev pub step_line : ℕ → Step → List (List ℕ)

@@ -1,12 +1,12 @@
 //! The pictures of a video PID: the first ones, from one that can be shown alone to the next such
 //! one, and the steps of all their decoding times.
-ghost use Rattle.std.specs.Prelude.{◌≡◌, Some};
+ghost use Rattle.std.specs.Prelude.{◌≡◌, ℕ, List, [], Some};
 ghost use Rattle.ts_survey.specs.Adaptation.{decoding_time, payload_in, pts_said};
 ghost use Rattle.ts_survey.specs.Endings.{group_line, pictures_line, pictures_words, reach_words};
 ghost use Rattle.ts_survey.specs.Endings.{is_group_over, steps_line, steps_words};
 ghost use Rattle.ts_survey.specs.Forms as forms;
 ghost use Rattle.ts_survey.specs.Groups.{least_of, least_with};
-ghost use Rattle.ts_survey.specs.Steps.{step_to, steps_to};
+ghost use Rattle.ts_survey.specs.Steps.{HaveCome, came_with, told_to};
 ghost use Rattle.ts_survey.specs.Lines.{AddsWords};
 
 use crate::adaptation::{
@@ -50,7 +50,9 @@ pub struct Pictures {
 
 impl Pictures {
     /// Of this PID, before the first.
-    pub fn new(pid: u16) -> Pictures {
+    pub fn new(pid: u16) -> Pictures
+        ensures { HaveCome [] result.steps }
+    {
         Pictures {
             pid,
             reach: Reach::Before,
@@ -104,11 +106,11 @@ impl Pictures {
     /// A packet came in which a PES packet begins. The step of the decoding times, where it is to
     /// be told.
     pub fn step(&mut self, packet: &[u8; PACKET]) -> Option<Step>
-        ensures told { result
-            ≡ step_to (decoding_time (payload_in packet.now)) self.old.steps }
-        ensures state { self.new ≡ record self.old {
-          steps = steps_to (decoding_time (payload_in packet.now)) self.old.steps;
-        } }
+        ensures told { (came : List ℕ) → HaveCome came self.old.steps
+            → result ≡ told_to (decoding_time (payload_in packet.now)) came }
+        ensures state { (came : List ℕ) → HaveCome came self.old.steps
+            → HaveCome (came_with (decoding_time (payload_in packet.now)) came) self.new.steps }
+        ensures same { self.new ≡ record self.old { steps = self.new.steps } }
     {
         let time = decoding_time(payload_in(packet))?;
         self.steps.take(time)

@@ -1,6 +1,8 @@
 //! The steps of the decoding times of a video PID, and which of them are not as the others are.
-ghost use Rattle.std.specs.Prelude.{◌≡◌};
+ghost use Rattle.std.specs.Prelude.{◌≡◌, ℕ, List, [], ◌∷◌};
 ghost use Rattle.ts_survey.specs.Steps as specs;
+// What is kept, not what is meant.
+ghost use Rattle.ts_survey.specs.StepsKept as kept;
 
 use crate::text::forward;
 
@@ -32,7 +34,8 @@ pub struct Alike {
 #[derive(Drop)]
 pub struct Steps {
     last: Option<u64>,
-    alike: Alike,
+    // None before the first step.
+    alike: Option<Alike>,
     usual: Option<u64>,
     // Steps that are not usual.
     strange: u64,
@@ -46,25 +49,24 @@ fn is_alike(one: u64, other: u64) -> bool
 }
 
 // The steps in a row that are alike, after one more.
-fn alike_after(alike: Alike, step: u64) -> Alike
-    ensures { result ≡ specs.alike_after alike step }
+fn alike_after(alike: Option<Alike>, step: u64) -> Alike
+    ensures { result ≡ kept.alike_after alike step }
 {
-    if is_alike(alike.first, step) {
-        Alike {
+    match alike {
+        Some(alike) if is_alike(alike.first, step) => Alike {
             first: alike.first,
             count: alike.count.saturating_add(1),
-        }
-    } else {
-        Alike {
+        },
+        _ => Alike {
             first: step,
             count: 1,
-        }
+        },
     }
 }
 
 // The usual step, where so many in a row were alike; else it stays.
 fn usual_after(usual: Option<u64>, alike: Alike) -> Option<u64>
-    ensures { result ≡ specs.usual_after usual alike }
+    ensures { result ≡ kept.usual_after usual alike }
 {
     if alike.count >= ALIKE {
         Some(alike.first)
@@ -94,10 +96,12 @@ fn strange_step(before: u64, after: u64, usual: Option<u64>) -> Option<Step>
 
 impl Steps {
     /// Before the first.
-    pub fn new() -> Steps {
+    pub fn new() -> Steps
+        ensures { specs.HaveCome [] result }
+    {
         Steps {
             last: None,
-            alike: Alike { first: 0, count: 0 },
+            alike: None,
             usual: None,
             strange: 0,
         }
@@ -127,8 +131,18 @@ impl Steps {
     /// A PES packet begins with that decoding time. The step to it, where it is to be told. A
     /// packet may be sent twice, so that the same time again is no step.
     pub fn take(&mut self, time: u64) -> Option<Step>
-        ensures told { result ≡ specs.told_step self.old time }
-        ensures state { self.new ≡ specs.steps_after self.old time }
+        ensures told { (came : List ℕ) → specs.HaveCome came self.old
+            → result ≡ specs.told_step time (specs.times_of came) }
+        ensures state { (came : List ℕ) → specs.HaveCome came self.old
+            → specs.HaveCome (time ∷ came) self.new }
+    {
+        self.step_on(time)
+    }
+
+    // So by what is kept of the times before it.
+    fn step_on(&mut self, time: u64) -> Option<Step>
+        ensures told { result ≡ kept.step_on self.old time }
+        ensures state { self.new ≡ kept.kept_on self.old time }
     {
         let Some(last) = self.last else {
             self.last = Some(time);
@@ -139,8 +153,9 @@ impl Steps {
         }
         self.last = Some(time);
         let step = strange_step(last, time, self.usual);
-        self.alike = alike_after(self.alike, forward(last, time));
-        self.usual = usual_after(self.usual, self.alike);
+        let alike = alike_after(self.alike, forward(last, time));
+        self.alike = Some(alike);
+        self.usual = usual_after(self.usual, alike);
         step?;
         let is_told = self.strange < MOST;
         self.strange = self.strange.saturating_add(1);
