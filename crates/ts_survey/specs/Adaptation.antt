@@ -9,10 +9,12 @@
 -- And the times of a PES packet's header (ISO/IEC 13818-1, PES_packet):
 --
 --   7      PTS_DTS_flags (2 bits): the first says that there is a PTS, the second beside it a DTS
+--   8      PES_header_data_length: the bytes of the header behind this one
 --   9..13  four bits, PTS 32..30, a marker bit, PTS 29..15, a marker bit, PTS 14..0, a marker bit
 --   14..18 the DTS, in the same way
 use Rattle.std.specs.Prelude.{ℕ, ◌+◌, ◌*◌, ◌/◌, ◌%◌, ◌==◌, ◌&&◌, ◌||◌, not, nat_lt, Bool}
-use Rattle.std.specs.Prelude.{if◌then◌else◌, List, [], length, slice_index, Option, Some, None}
+use Rattle.std.specs.Prelude.{if◌then◌else◌, List, [], drop, length, slice_index, Option, Some}
+use Rattle.std.specs.Prelude.{None}
 use Rattle.mpeg_ts.specs.TransportPacket.{has_adaptation, has_payload, is_wrong, payload}
 
 -- random_access_indicator.
@@ -62,3 +64,7 @@ time_beside pes (Some pts) =
 -- So of a PES packet: none where it says no PTS.
 abbrev pub decoding_time : List ℕ → Option ℕ
 decoding_time pes = time_beside pes (pts_said pes)
+
+-- What follows the header of a PES packet: nothing where these bytes end within it.
+abbrev pub behind_header : List ℕ → List ℕ
+behind_header pes = if nat_lt (length pes) 9 then [] else drop (9 + slice_index pes 8) pes

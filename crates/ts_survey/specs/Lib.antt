@@ -14,6 +14,7 @@ pub mod InStep
 pub mod Intervals
 pub mod Lines
 pub mod Missing
+pub mod Noted
 pub mod Payload
 pub mod Room
 pub mod Rows

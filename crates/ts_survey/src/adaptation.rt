@@ -1,8 +1,8 @@
 //! What an adaptation field says (ISO/IEC 13818-1, adaptation_field), and the PTS of a PES packet
 //! that begins.
 ghost use Rattle.std.specs.Prelude.{◌≡◌, ◌<◌, ◌^◌, IfSome};
-ghost use Rattle.ts_survey.specs.Adaptation.{begins_access, decoding_time, is_scrambled, pcr_base};
-ghost use Rattle.ts_survey.specs.Adaptation.{payload_in, pts_said};
+ghost use Rattle.ts_survey.specs.Adaptation.{begins_access, behind_header, decoding_time};
+ghost use Rattle.ts_survey.specs.Adaptation.{is_scrambled, payload_in, pcr_base, pts_said};
 
 use mpeg_ts::{PACKET, has_adaptation, has_payload, is_wrong, payload_of};
 
@@ -90,7 +90,9 @@ pub fn decoding_time(pes: &[u8]) -> Option<u64>
 
 /// What follows the header of a PES packet that begins; nothing where the header does not end in
 /// these bytes.
-pub fn behind_header(pes: &[u8]) -> &[u8] {
+pub fn behind_header(pes: &[u8]) -> &[u8]
+    ensures { result.now ≡ behind_header pes.now }
+{
     if pes.len() < 9 {
         return &[];
     }

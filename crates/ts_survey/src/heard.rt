@@ -1,6 +1,7 @@
 //! What was heard in a PES packet: letters, and the numbers of its headers.
 ghost use Rattle.std.specs.Prelude.{◌≡◌};
 ghost use Rattle.ts_survey.specs.Lines.{AddsWords, heard_words, told_letters};
+ghost use Rattle.ts_survey.specs.Noted.{with_letter, with_letter_if};
 
 use crate::text::Text;
 use arrayvec::ArrayVec;
@@ -62,8 +63,22 @@ impl Heard {
     }
 
     /// A letter.
-    pub fn add(&mut self, letter: u8) {
+    pub fn add(&mut self, letter: u8)
+        ensures letters { self.new.letters.items ≡ with_letter self.old.letters.items letter }
+        ensures same { self.new ≡ record self.old { letters = self.new.letters } }
+    {
         let _ = self.letters.try_push(letter);
+    }
+
+    /// A letter, where that is so.
+    pub fn add_if(&mut self, is_so: bool, letter: u8)
+        ensures letters { self.new.letters.items
+            ≡ with_letter_if is_so self.old.letters.items letter }
+        ensures same { self.new ≡ record self.old { letters = self.new.letters } }
+    {
+        if is_so {
+            self.add(letter);
+        }
     }
 
     /// A Teletext packet.

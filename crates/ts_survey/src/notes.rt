@@ -1,7 +1,9 @@
 //! What is told of the packets that a receiver of the page hears.
-ghost use Rattle.std.specs.Prelude.{◌≡◌, ◌≤◌, ◌<◌};
+ghost use Rattle.std.specs.Prelude.{◌≡◌, ◌≤◌, ◌<◌, ◌↔◌, IsTrue};
+ghost use Rattle.ttx_page.specs.Page.{blank};
 ghost use Rattle.ts_survey.specs.Endings.{count_words, counts_words, subs_line};
 ghost use Rattle.ts_survey.specs.Lines.{AddsWords};
+ghost use Rattle.ts_survey.specs.Noted.{NotesEnd};
 
 use crate::character_set::CharacterSets;
 use crate::heard::Heard;
@@ -62,16 +64,13 @@ impl Notes {
     }
 
     /// A PES packet is over: what is told of the receiver behind it.
-    pub fn end(&self, receiver: &Blank, heard: &mut Heard) {
-        if receiver.open() {
-            heard.add(b'o');
-        }
-        if receiver.page().first_difference(&Page::blank()).is_none() {
-            heard.add(b'b');
-        }
-        if self.has_stray {
-            heard.add(b's');
-        }
+    pub fn end(&self, receiver: &Blank, heard: &mut Heard)
+        ensures { NotesEnd receiver.now.state self.now.has_stray heard.old heard.new }
+    {
+        let is_blank = is_blank(receiver.page());
+        heard.add_if(receiver.open(), b'o');
+        heard.add_if(is_blank, b'b');
+        heard.add_if(self.has_stray, b's');
     }
 
     /// A packet comes, which the receiver has not heard yet.
@@ -194,6 +193,13 @@ impl Notes {
             tell_count(pid, place, counts[place], text);
         }
     }
+}
+
+// Whether a page is blank.
+fn is_blank(page: &Page) -> bool
+    ensures { IsTrue result ↔ (page.now ≡ blank) }
+{
+    page.first_difference(&Page::blank()).is_none()
 }
 
 // Tells how many headers with the subtitle bit came of a page, where any did.
