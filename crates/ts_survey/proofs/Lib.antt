@@ -8,6 +8,7 @@ pub mod HeardLemmas
 pub mod InStepLemmas
 pub mod PendingLemmas
 pub mod RoomLemmas
+pub mod RowLemmas
 pub mod StepLemmas
 pub mod SurveyLemmas
 pub mod TextLemmas

@@ -1,9 +1,10 @@
 //! What is told of the packets that a receiver of the page hears.
-ghost use Rattle.std.specs.Prelude.{◌≡◌, ◌≤◌, ◌<◌, ◌↔◌, IsTrue};
+ghost use Rattle.std.specs.Prelude.{◌≡◌, ◌≤◌, ◌<◌, ◌↔◌, IsTrue, Some};
 ghost use Rattle.ttx_page.specs.Page.{blank};
 ghost use Rattle.ts_survey.specs.Endings.{count_words, counts_words, subs_line};
 ghost use Rattle.ts_survey.specs.Lines.{AddsWords};
 ghost use Rattle.ts_survey.specs.Noted.{NotesEnd};
+ghost use Rattle.ts_survey.specs.Rows.{held_words, page_words};
 
 use crate::character_set::CharacterSets;
 use crate::heard::Heard;
@@ -173,13 +174,20 @@ impl Notes {
     }
 
     /// Tells the page that the receiver holds.
-    pub fn tell_rows(&mut self, receiver: &Blank, text: &mut Text) {
+    pub fn tell_rows(&mut self, receiver: &Blank, text: &mut Text)
+        ensures told { AddsWords text.old
+            (held_words receiver.now.state.page self.old.rows.cells) text.new }
+        ensures state { self.new ≡ record self.old { told = Some self.old.rows } }
+    {
         self.told = Some(self.rows);
         self.rows.tell_held(receiver.page(), text);
     }
 
     /// Tells the strays.
-    pub fn tell_strays(&mut self, text: &mut Text) {
+    pub fn tell_strays(&mut self, text: &mut Text)
+        ensures told { AddsWords text.old (page_words self.old.strays.cells) text.new }
+        ensures state { self.new ≡ record self.old { told_strays = self.old.strays } }
+    {
         self.told_strays = self.strays;
         self.strays.tell(text);
     }

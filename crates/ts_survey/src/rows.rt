@@ -1,7 +1,10 @@
 //! Rows of a page with the cells that were hit.
-ghost use Rattle.std.specs.Prelude.{◌≡◌, ◌≤◌, ◌<◌, slice_index, ℕ};
+ghost use Rattle.std.specs.Prelude.{◌≡◌, ◌-◌, ◌≤◌, ◌<◌, slice_index, slice_set, ℕ};
 ghost use Rattle.ttx_page.specs.Page.{AreCodes, IsCode};
-ghost use Rattle.ts_survey.specs.Rows.{as_held};
+ghost use Rattle.ts_survey.specs.Lines.{AddsWords};
+ghost use Rattle.ts_survey.specs.Rows as specs;
+ghost use Rattle.ts_survey.specs.Rows.{as_held, cells_words, held_words, page_words, row_words};
+ghost use Rattle.ts_survey.specs.Rows.{sign_behind, told_row};
 
 use crate::text::Text;
 use ttx_packet::{Packet, is_odd};
@@ -41,27 +44,32 @@ impl Rows {
     pub fn set(&mut self, row: u8, cells: [u8; 40])
         requires first { 1 ≤ row }
         requires last { row ≤ 24 }
+        ensures { self.new.cells ≡ slice_set self.old.cells (row - 1) cells }
     {
         self.cells[row as usize - 1] = cells;
     }
 
     /// Tells them.
-    pub fn tell(&self, text: &mut Text) {
+    pub fn tell(&self, text: &mut Text)
+        ensures { AddsWords text.old (page_words self.now.cells) text.new }
+    {
         let mut sign = b' ';
         for row in 0..24usize {
             sign = tell_row(sign, row, &self.cells[row], text);
         }
-        end_rows(sign, text);
+        text.put(end_word(sign));
     }
 
     /// Tells the page that a receiver holds, which heard these rows.
-    pub fn tell_held(&self, page: &Page, text: &mut Text) {
+    pub fn tell_held(&self, page: &Page, text: &mut Text)
+        ensures { AddsWords text.old (held_words page.now self.now.cells) text.new }
+    {
         let mut sign = b' ';
         for row in 0..24usize {
             let cells = told_cells(page.row(row as u8 + 1), &self.cells[row]);
             sign = tell_row(sign, row, &cells, text);
         }
-        end_rows(sign, text);
+        text.put(end_word(sign));
     }
 }
 
@@ -71,6 +79,7 @@ fn told_cells(held: &[u8; 40], heard: &[u8; 40]) -> [u8; 40]
     requires codes { AreCodes held.now }
     ensures held { (column : ℕ) → column < 40
         → as_held (slice_index result column) ≡ slice_index held.now column }
+    ensures told { result ≡ told_row held.now heard.now }
 {
     let mut cells = *held;
     for column in 0..40usize {
@@ -83,7 +92,8 @@ fn told_cells(held: &[u8; 40], heard: &[u8; 40]) -> [u8; 40]
 // hit.
 fn told_cell(held: u8, heard: u8) -> u8
     requires { IsCode held }
-    ensures { as_held result ≡ held }
+    ensures held { as_held result ≡ held }
+    ensures told { result ≡ specs.told_cell held heard }
 {
     if held == 0x20 && heard == HIT {
         HIT
@@ -95,20 +105,36 @@ fn told_cell(held: u8, heard: u8) -> u8
 // Tells a row, behind a sign, if it is not blank; answers the sign for the next one.
 fn tell_row(sign: u8, row: usize, cells: &[u8; 40], text: &mut Text) -> u8
     requires { row < 24 }
+    ensures sign { result ≡ sign_behind sign cells.now }
+    ensures told { AddsWords text.old (row_words sign row cells.now) text.new }
 {
-    if *cells == SPACES {
+    if is_blank(cells) {
         return sign;
     }
-    text.number_behind(sign, row as u64 + 1);
-    text.put(b":");
-    text.hex(cells);
+    tell_cells(sign, row, cells, text);
     b','
 }
 
-// Rows end where that sign would be next.
-fn end_rows(sign: u8, text: &mut Text) {
-    if sign == b' ' {
-        text.put(b" -");
-    }
-    text.put(b"\n");
+// Whether a row is blank.
+fn is_blank(cells: &[u8; 40]) -> bool
+    ensures { result ≡ specs.is_blank cells.now }
+{
+    *cells == [0x20; 40]
+}
+
+// Tells the cells of a row, behind a sign.
+fn tell_cells(sign: u8, row: usize, cells: &[u8; 40], text: &mut Text)
+    requires { row < 24 }
+    ensures { AddsWords text.old (cells_words sign row cells.now) text.new }
+{
+    text.number_behind(sign, row as u64 + 1);
+    text.put(b":");
+    text.hex(cells);
+}
+
+// How the line ends, where that sign would come next.
+fn end_word(sign: u8) -> &'static [u8]
+    ensures { result.now ≡ specs.end_word sign }
+{
+    if sign == b' ' { b" -\n" } else { b"\n" }
 }
