@@ -1,11 +1,13 @@
 //! The pictures of a video PID: the first ones, from one that can be shown alone to the next such
 //! one, and the steps of all their decoding times.
-ghost use Rattle.std.specs.Prelude.{◌≡◌, ℕ, List, [], Some};
-ghost use Rattle.ts_survey.specs.Adaptation.{decoding_time, payload_in, pts_said};
+ghost use Rattle.std.specs.Prelude.{◌≡◌, ℕ, List, [], ◌++◌, Some, true};
+ghost use Rattle.ts_survey.specs.Adaptation.{behind_header, decoding_time, payload_in, pts_said};
 ghost use Rattle.ts_survey.specs.Endings.{group_line, pictures_line, pictures_words, reach_words};
 ghost use Rattle.ts_survey.specs.Endings.{is_group_over, steps_line, steps_words};
 ghost use Rattle.ts_survey.specs.Forms as forms;
-ghost use Rattle.ts_survey.specs.Groups.{least_of, least_with};
+// What the reader keeps, not the standard's.
+ghost use Rattle.ts_survey.specs.FormWindow.{HasRead};
+ghost use Rattle.ts_survey.specs.Groups.{KeepsTimes, least_of, least_with};
 ghost use Rattle.ts_survey.specs.Steps.{HaveCome, came_with, told_to};
 ghost use Rattle.ts_survey.specs.Lines.{AddsWords};
 
@@ -96,7 +98,11 @@ impl Pictures {
 
     /// A packet of the PID came, which the PMT says is of that stream_type.
     #[inline(always)]
-    pub fn take(&mut self, packet: &[u8; PACKET], kind: u8, text: &mut Text) {
+    pub fn take(&mut self, packet: &[u8; PACKET], kind: u8, text: &mut Text)
+        ensures over { is_group_over self.old.reach ≡ true
+            → (self.new ≡ self.old) × (text.new ≡ text.old) }
+        ensures times { KeepsTimes self.old self.new }
+    {
         match self.reach {
             Reach::Over => {}
             _ => self.follow(packet, kind, text),
@@ -117,7 +123,9 @@ impl Pictures {
     }
 
     // A packet came that is of interest.
-    fn follow(&mut self, packet: &[u8; PACKET], kind: u8, text: &mut Text) {
+    fn follow(&mut self, packet: &[u8; PACKET], kind: u8, text: &mut Text)
+        ensures times { KeepsTimes self.old self.new }
+    {
         if begins_access(packet) && (begins(packet) || !has_payload(packet)) {
             self.is_flagged = true;
         }
@@ -138,7 +146,12 @@ impl Pictures {
     }
 
     // The flagged picture goes on in a packet, where no other one has begun.
-    fn read_on(&mut self, packet: &[u8; PACKET]) {
+    fn read_on(&mut self, packet: &[u8; PACKET])
+        ensures times { KeepsTimes self.old self.new }
+        ensures reads { self.old.is_first ≡ true → (kind : ℕ) (read : List ℕ)
+            → HasRead kind read self.old.reader
+            → HasRead kind (read ++ payload_in packet.now) self.new.reader }
+    {
         if self.is_first {
             self.reader.read(payload_in(packet));
         }
@@ -149,6 +162,8 @@ impl Pictures {
         ensures flagged { self.new.flagged ≡ pts_said (payload_in packet.now) }
         ensures first { self.new.first
             ≡ least_with self.old.first (pts_said (payload_in packet.now)) }
+        ensures times { KeepsTimes self.old self.new }
+        ensures reads { HasRead kind (behind_header (payload_in packet.now)) self.new.reader }
     {
         let payload = payload_in(packet);
         text.put(b"video");
@@ -163,7 +178,9 @@ impl Pictures {
     }
 
     // Counts what is lost by its counter, and what is scrambled, among the pictures.
-    fn count(&mut self, packet: &[u8; PACKET]) {
+    fn count(&mut self, packet: &[u8; PACKET])
+        ensures times { KeepsTimes self.old self.new }
+    {
         let counter = counter_of(packet);
         let goes_on = match self.counter {
             Some(last) => counter == last || counter == (last % 0x10 + 1) % 0x10,
@@ -186,6 +203,7 @@ impl Pictures {
         ensures first { self.new.first
             ≡ least_with self.old.first (pts_said (payload_in packet.now)) }
         ensures flagged { self.new.flagged ≡ self.old.flagged }
+        ensures times { KeepsTimes self.old self.new }
     {
         self.reach = Reach::Within;
         self.is_flagged = false;
@@ -204,6 +222,7 @@ impl Pictures {
     fn move_to(&mut self, now: u64, text: &mut Text)
         ensures first { self.new.first ≡ Some (least_of self.old.first now) }
         ensures flagged { self.new.flagged ≡ self.old.flagged }
+        ensures times { KeepsTimes self.old self.new }
     {
         let first = least_of(self.first, now);
         self.first = Some(first);
