@@ -1,6 +1,6 @@
 //! A PID with Teletext that is followed: what its packets carry, and what is missing.
-ghost use Rattle.std.specs.Prelude.{◌≡◌, ◌||◌, [], ◌∷◌, ◌++◌, drop, slice_index_or, IfNone, Some};
-ghost use Rattle.std.specs.Prelude.{None, codes, false, if◌then◌else◌, is_some, map, true};
+ghost use Rattle.std.specs.Prelude.{◌≡◌, ◌||◌, [], ◌∷◌, ◌++◌, drop, slice_index_or, IfNone, IfSome};
+ghost use Rattle.std.specs.Prelude.{None, Some, codes, false, if◌then◌else◌, is_some, map, true};
 ghost use Rattle.mpeg_ts.specs.GoodPackets.{Hole};
 ghost use Rattle.mpeg_ts.specs.Joining.{after_note};
 ghost use Rattle.mpeg_ts.specs.TransportPacket.{announces_jump, counter, has_payload, is_wrong};
@@ -60,7 +60,13 @@ pub struct Carrier {
 
 impl Carrier {
     /// Before the first packet. `None` where memory runs out.
-    pub fn new(alloc: Global, pid: u16, page: PageId) -> Option<Carrier> {
+    pub fn new(alloc: Global, pid: u16, page: PageId) -> Option<Carrier>
+        ensures pid { IfSome result (λ carrier. (carrier.pid ≡ pid)
+            × (carrier.packets_of.to.lines.pid ≡ pid)) }
+        // Its receiver is tuned to the page.
+        ensures page { IfSome result (λ carrier.
+            carrier.packets_of.to.lines.page.receiver.watched ≡ page) }
+    {
         let lines = PesLines::new(alloc, pid, page)?;
         Some(Carrier {
             pid,

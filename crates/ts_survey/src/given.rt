@@ -32,7 +32,9 @@ pub struct Given {
 
 impl Given {
     /// Nothing yet.
-    pub fn new(lines: PesLines) -> Given {
+    pub fn new(lines: PesLines) -> Given
+        ensures { result.lines ≡ lines }
+    {
         Given {
             lines,
             is_broken: false,

@@ -1,5 +1,5 @@
 //! What a receiver of the page hears in PES packets, and what it holds then.
-ghost use Rattle.std.specs.Prelude.{◌≡◌};
+ghost use Rattle.std.specs.Prelude.{◌≡◌, IfSome};
 ghost use Rattle.ttx_page.specs.Receiver.{Hears};
 ghost use Rattle.ts_survey.specs.Heard.{heard_packets, lent_packets};
 
@@ -20,7 +20,9 @@ pub struct Following {
 
 impl Following {
     /// Of this page. `None` where memory runs out.
-    pub fn new(alloc: Global, page: PageId) -> Option<Following> {
+    pub fn new(alloc: Global, page: PageId) -> Option<Following>
+        ensures { IfSome result (λ following. following.receiver.watched ≡ page) }
+    {
         let notes = Notes::new(alloc)?;
         Some(Following {
             receiver: Blank::tune(page, Page::blank()),

@@ -1,5 +1,5 @@
 //! The lines of the PES packets of a PID: runs of them, marks, and what the page holds.
-ghost use Rattle.std.specs.Prelude.{◌≡◌, ◌++◌};
+ghost use Rattle.std.specs.Prelude.{◌≡◌, ◌++◌, IfSome};
 ghost use Rattle.ts_survey.specs.Endings.{counts_words};
 ghost use Rattle.ts_survey.specs.Lines.{AddsWords, gap_line, run_line, run_words};
 ghost use Rattle.ts_survey.specs.Seams.{seam_line};
@@ -48,7 +48,10 @@ fn refusal(pes: &[u8], frame: &mut PesFrame) -> u16 {
 
 impl PesLines {
     /// Before the first. `None` where memory runs out.
-    pub fn new(alloc: Global, pid: u16, page: PageId) -> Option<PesLines> {
+    pub fn new(alloc: Global, pid: u16, page: PageId) -> Option<PesLines>
+        ensures { IfSome result (λ lines. (lines.pid ≡ pid)
+            × (lines.page.receiver.watched ≡ page)) }
+    {
         let page = Following::new(alloc, page)?;
         Some(PesLines {
             pid,
