@@ -6,6 +6,7 @@ pub mod FollowingLemmas
 pub mod FormLemmas
 pub mod HeardLemmas
 pub mod InStepLemmas
+pub mod ListedLemmas
 pub mod PendingLemmas
 pub mod RoomLemmas
 pub mod RowLemmas

@@ -13,6 +13,7 @@ pub mod Holes
 pub mod InStep
 pub mod Intervals
 pub mod Lines
+pub mod Listed
 pub mod Missing
 pub mod Noted
 pub mod Payload

@@ -1,5 +1,7 @@
 //! A file of PES packets.
 ghost use Rattle.std.specs.Prelude.{◌≡◌, ◌≤◌, ◌<◌, ◌+◌, ℕ, length};
+ghost use Rattle.ts_survey.specs.Lines.{AddsWords};
+ghost use Rattle.ts_survey.specs.Listed.{file_end, file_words};
 ghost use Rattle.ts_survey.specs.Room.{most_kept};
 
 use crate::adaptation::pts_said;
@@ -113,8 +115,17 @@ impl PesFile {
     }
 
     /// The file is over.
-    pub fn end(&mut self, text: &mut Text) {
+    pub fn end(&self, text: &mut Text)
+        ensures { AddsWords text.old (file_words self.now) text.new }
+    {
         self.lines.end(text);
+        self.tell_end(text);
+    }
+
+    // Tells how many PES packets came.
+    fn tell_end(&self, text: &mut Text)
+        ensures { AddsWords text.old (file_end self.now) text.new }
+    {
         text.put(b"end 0");
         text.number(self.lines.count());
         text.number(self.lines.marks());

@@ -1,6 +1,8 @@
 //! A recording, whatever it is: bytes come, and lines are made.
-ghost use Rattle.std.specs.Prelude.{◌≡◌, ◌≤◌, ◌+◌, IfSome, Some, false, length, true};
+ghost use Rattle.std.specs.Prelude.{◌≡◌, ◌≤◌, ◌+◌, ◌++◌, IfSome, Some, false, length, true};
 ghost use Rattle.mpeg_ts.specs.PacketSize.{bytes_of};
+ghost use Rattle.ts_survey.specs.Lines.{AddsWords};
+ghost use Rattle.ts_survey.specs.Listed.{GoesOn, IsAsAsked, TellsEnd, last_words, over_line};
 ghost use Rattle.ts_survey.specs.Room.{most_kept};
 ghost use Rattle.ts_survey.specs.Stream.{IsAsked, TakesOn, is_unknown};
 
@@ -49,7 +51,9 @@ pub struct Recording {
 
 impl Recording {
     /// Before the first byte.
-    pub fn new(alloc: Global, asked: SurveyOptions) -> Recording {
+    pub fn new(alloc: Global, asked: SurveyOptions) -> Recording
+        ensures { (result.asked ≡ asked) × (result.kind ≡ Kind.Unknown) }
+    {
         Recording {
             alloc,
             asked,
@@ -73,10 +77,14 @@ impl Recording {
 
     /// Takes bytes: those that were not needed before, and what has come. Answers how many are not
     /// needed any more.
+    #[tactic(auto, using(crate::proofs::ListedLemmas::stays_as_asked))]
     pub fn take(&mut self, bytes: &[u8], is_end: bool, text: &mut Text) -> usize
         ensures within { result ≤ length bytes.now }
         // Few bytes are kept, so there is room for more.
         ensures kept { self.new.is_short ≡ false → length bytes.now ≤ result + most_kept }
+        ensures asked { self.new.asked ≡ self.old.asked }
+        ensures as_asked { IsAsAsked self.old.asked self.old.kind
+            → IsAsAsked self.new.asked self.new.kind }
     {
         if !self.has_head {
             if bytes.len() < HEAD && !is_end {
@@ -95,12 +103,15 @@ impl Recording {
 
     // Hands on what the bytes have, and answers how many of them are not needed any more.
     #[inline(always)]
+    #[tactic(auto, using(crate::proofs::ListedLemmas::what_goes_on))]
     fn hand_on(&mut self, bytes: &[u8], is_end: bool, text: &mut Text) -> usize
         ensures within { result ≤ length bytes.now }
         ensures kept { length bytes.now ≤ result + most_kept }
         // Of a stream they are all packets that it has, in order, each once; at the end none is
         // left.
         ensures taken { TakesOn self.old.kind bytes.now is_end result self.new.kind }
+        ensures kind { GoesOn self.old.kind self.new.kind }
+        ensures asked { self.new.asked ≡ self.old.asked }
     {
         match &mut self.kind {
             Kind::Pes(file) => file.take(bytes, is_end, text),
@@ -113,7 +124,11 @@ impl Recording {
     }
 
     // Tells the first bytes, and what they say.
-    fn tell_head(&mut self, bytes: &[u8], text: &mut Text) {
+    fn tell_head(&mut self, bytes: &[u8], text: &mut Text)
+        ensures asked { self.new.asked ≡ self.old.asked }
+        ensures as_asked { IsAsAsked self.old.asked self.old.kind
+            → IsAsAsked self.new.asked self.new.kind }
+    {
         self.has_head = true;
         let (head, _) = bytes.split_at(bytes.len().min(HEAD));
         text.put(b"survey 1\nhead");
@@ -139,6 +154,9 @@ impl Recording {
             → length bytes.now ≤ result + most_kept }
         ensures asked { IfSome self.old.asked.packet_size (λ size. self.new.is_short ≡ false
             → IsAsked self.old.asked (bytes_of size) self.new.kind) }
+        ensures same { self.new.asked ≡ self.old.asked }
+        ensures as_asked { IsAsAsked self.old.asked self.old.kind
+            → IsAsAsked self.new.asked self.new.kind }
     {
         if let Some(size) = size_in(self.asked.packet_size, bytes, is_end) {
             self.begin(size, text);
@@ -161,8 +179,12 @@ impl Recording {
 
     // It is a transport stream.
     fn begin(&mut self, size: PacketSize, text: &mut Text)
-        ensures { self.new.is_short ≡ false
+        ensures asked { self.new.is_short ≡ false
             → IsAsked self.old.asked (bytes_of size) self.new.kind }
+        ensures same { self.new.asked ≡ self.old.asked }
+        ensures as_asked { IfSome self.old.asked.packet_size (λ asked. size ≡ asked)
+            → IsAsAsked self.old.asked self.old.kind
+            → IsAsAsked self.new.asked self.new.kind }
     {
         text.put(b"size");
         text.number(size.bytes() as u64);
@@ -177,9 +199,28 @@ impl Recording {
         }
     }
 
-    /// Tells what is not told yet, since nothing more is there for now.
-    pub fn flush(&mut self, text: &mut Text)
-        ensures { self.new.is_short ≡ self.old.is_short }
+    /// Tells what is not told yet, where nothing more is there for now, or nothing at all any more.
+    #[tactic(auto, using(crate::proofs::ListedLemmas::stays_as_asked))]
+    pub fn pause(&mut self, is_end: bool, is_short: bool, text: &mut Text)
+        ensures end { is_end ≡ true → TellsEnd self.old.kind text.old text.new }
+        ensures asked { self.new.asked ≡ self.old.asked }
+        ensures as_asked { is_end ≡ false → IsAsAsked self.old.asked self.old.kind
+            → IsAsAsked self.new.asked self.new.kind }
+        ensures short { self.new.is_short ≡ self.old.is_short }
+    {
+        if is_end {
+            self.end(text);
+        } else if is_short {
+            self.flush(text);
+        }
+    }
+
+    // Tells what is not told yet, since nothing more is there for now.
+    #[tactic(auto, using(crate::proofs::ListedLemmas::what_goes_on))]
+    fn flush(&mut self, text: &mut Text)
+        ensures kind { GoesOn self.old.kind self.new.kind }
+        ensures asked { self.new.asked ≡ self.old.asked }
+        ensures short { self.new.is_short ≡ self.old.is_short }
     {
         match &mut self.kind {
             Kind::Pes(file) => file.flush(text),
@@ -188,9 +229,25 @@ impl Recording {
         }
     }
 
-    /// The recording is over.
-    pub fn end(&mut self, text: &mut Text) {
-        let (skipped, number) = match &mut self.kind {
+    // The recording is over.
+    fn end(&mut self, text: &mut Text)
+        ensures told { TellsEnd self.old.kind text.old text.new }
+        ensures asked { self.new.asked ≡ self.old.asked }
+        ensures short { self.new.is_short ≡ self.old.is_short }
+    {
+        let (skipped, number) = self.tell_last(text);
+        put_over(skipped, number, text);
+    }
+
+    // Tells all that was kept until then. Answers how many bytes belong to no packet, and how many
+    // packets came.
+    #[tactic(auto, using(crate::proofs::ListedLemmas::nothing_kept))]
+    fn tell_last(&mut self, text: &mut Text) -> (u64, u64)
+        ensures told { AddsWords text.old (last_words self.old.kind) text.new }
+        ensures asked { self.new.asked ≡ self.old.asked }
+        ensures short { self.new.is_short ≡ self.old.is_short }
+    {
+        match &mut self.kind {
             Kind::Pes(file) => {
                 file.end(text);
                 (0, 0)
@@ -200,17 +257,24 @@ impl Recording {
                 (packets.skipped(), packets.number())
             }
             _ => (self.skipped, 0),
-        };
-        text.put(b"over");
-        text.number(skipped);
-        text.number(number);
-        text.put(b"\n");
+        }
     }
+}
+
+// Tells that a recording is over: the bytes that belong to no packet, and its packets.
+fn put_over(skipped: u64, number: u64, text: &mut Text)
+    ensures { AddsWords text.old (over_line skipped number) text.new }
+{
+    text.put(b"over");
+    text.number(skipped);
+    text.number(number);
+    text.put(b"\n");
 }
 
 // The distance of packets: the one that is asked for, or else the one that is found.
 fn size_in(asked: Option<PacketSize>, bytes: &[u8], is_end: bool) -> Option<PacketSize>
-    ensures { IfSome asked (λ size. result ≡ Some size) }
+    ensures asked { IfSome asked (λ size. result ≡ Some size) }
+    ensures found { IfSome result (λ size. IfSome asked (λ other. size ≡ other)) }
 {
     match asked {
         Some(size) => Some(size),

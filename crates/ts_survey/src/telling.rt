@@ -1,7 +1,8 @@
 //! `survey`: a recording is read once, and a line told for each fact.
 ghost use Rattle.std.specs.Prelude.{◌≡◌, IfErr, OnOk, false, length};
-ghost use Rattle.std.specs.Io.KnownBytes.{IsAtEnd};
+ghost use Rattle.std.specs.Io.KnownBytes.{Appends, IsAtEnd};
 ghost use Rattle.sub_io.specs.Device.{CanFail, CountsIf, failed};
+ghost use Rattle.ts_survey.specs.Listed.{Surveys};
 ghost use Rattle.ts_survey.specs.Survey.{Grows, is_survey_read, is_survey_write};
 
 use crate::recording::Recording;
@@ -51,6 +52,9 @@ pub fn survey<S: Source, K: Flush>(
         → K.held out.new ≡ 0 }
     // It is read to its end: nothing is left that is not looked at.
     ensures ended { OnOk result (IsAtEnd (S.remaining source.new)) }
+    // Then all lines were told: the last ones are those of a recording of which what is asked for
+    // was looked at and followed.
+    ensures listed { OnOk result (Surveys options (K.contents out.old) (K.contents out.new)) }
 {
     let Some(mut room) = Room::new(alloc) else {
         return Err(SurveyFault::Memory);
@@ -63,11 +67,7 @@ pub fn survey<S: Source, K: Flush>(
         };
         let used = recording.take(room.held(), came.is_end, &mut text);
         room.pass(used);
-        if came.is_end {
-            recording.end(&mut text);
-        } else if came.is_short {
-            recording.flush(&mut text);
-        }
+        recording.pause(came.is_end, came.is_short, &mut text);
         if text.is_lost() || recording.is_short() {
             return Err(SurveyFault::Memory);
         }
@@ -81,10 +81,13 @@ pub fn survey<S: Source, K: Flush>(
 }
 
 // Puts all lines, and has them handed on.
+#[tactic(auto, using(crate::proofs::ListedLemmas::all_told))]
 fn hand_on<K: Flush>(text: &mut Text, out: &mut K) -> Result<(), SurveyFault>
     requires { CanFail (K.failure_count out.old) }
     ensures grows { Grows (K.contents out.old) (K.contents out.new) }
     ensures all { OnOk result (length text.new.bytes.items ≡ 0) }
+    ensures told { OnOk result (Appends (K.contents out.old) (K.contents out.new)
+        text.old.bytes.items) }
     ensures holds { K.held out.old ≡ 0
         → failed is_survey_write result ≡ false
         → K.held out.new ≡ 0 }

@@ -32,7 +32,9 @@ impl Text {
     }
 
     /// Whether memory ran out.
-    pub fn is_lost(&self) -> bool {
+    pub fn is_lost(&self) -> bool
+        ensures { result ≡ self.now.is_lost }
+    {
         self.is_lost
     }
 
@@ -44,7 +46,9 @@ impl Text {
     }
 
     /// The bytes.
-    pub fn as_slice(&self) -> &[u8] {
+    pub fn as_slice(&self) -> &[u8]
+        ensures { result.now ≡ self.now.bytes.items }
+    {
         self.bytes.as_slice()
     }
 
