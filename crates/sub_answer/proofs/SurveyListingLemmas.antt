@@ -1,58 +1,88 @@
 -- What is printed of a recording: whole, printed-done; cut off by the sink, printed-cut; and with
 -- the line of a fault behind it, printed-told.
-use Rattle.std.proofs.Common.{◌≡◌, ℕ, ◌+◌, List, ◌++◌, Option, refl, ◌∙◌, ap, inl, inr}
+use Rattle.std.proofs.Common.{◌≡◌, ◌≢◌, ℕ, ◌+◌, List, ◌++◌, Option, refl, ◌∙◌, ap, arith, inl, inr}
 use Rattle.std.proofs.KnownBytes.{Appends-trans}
+use Rattle.mpeg_ts.specs.declared.survey_options.SurveyOptions.{SurveyOptions}
 use Rattle.sub_io.proofs.DeviceLemmas.{AppendsPrefix-second, AppendsPrefix-whole}
 use Rattle.sub_listing.specs.DeviceCall.{SinkCall}
-use Rattle.sub_listing.specs.Listing.{Listing, PrintsOrFails}
+use Rattle.sub_listing.specs.FaultLine.{line_of, status_of}
+use Rattle.sub_listing.specs.Listing.{PrintsOrFails, fault_listing}
 use Rattle.sub_answer.specs.SurveyListing.{PrintsSurvey}
+use Rattle.sub_listing.specs.declared.fault_line.FaultLine.{FaultLine}
 use Rattle.sub_listing.specs.declared.status.Status.{Status}
 use Rattle.sub_listing.specs.declared.status.Status.TheVariants.{Done, Fault}
+use Rattle.ts_survey.specs.Listed as listed
 use Rattle.ts_survey.specs.Survey.{Grows}
 
-pub printed-done : (out : SinkCall)
-    → Grows out.old out.new
+pub printed-done : (options : SurveyOptions) (out : SinkCall)
+    → listed.Surveys options out.old out.new
     → out.new_count ≡ out.old_count
-    → PrintsSurvey out Done
+    → PrintsSurvey options out Done
 unfolding PrintsOrFails
-printed-done out grows same = record {
-  listing = record { text = grows.0; status = Done };
-  printed = inl (same, grows.1, refl);
+printed-done options out surveys same = record {
+  listing = record { text = surveys.0; status = Done };
+  printed = inl (same, surveys.1, refl);
+  done = λ is. (same, surveys.2);
+  fault = λ other. absurd (other refl);
+  line = λ other count. absurd (other refl);
 }
 
-pub printed-cut : (out : SinkCall)
+pub printed-cut : (options : SurveyOptions) (out : SinkCall)
     → Grows out.old out.new
     → out.new_count ≡ out.old_count + 1
-    → PrintsSurvey out Fault
+    → PrintsSurvey options out Fault
 unfolding PrintsOrFails
-printed-cut out grows risen = record {
+printed-cut options out grows risen = record {
   listing = record { text = grows.0; status = Done };
   printed = inr (risen, AppendsPrefix-whole out.old out.new grows.0 grows.1, refl);
+  done = λ is. absurd cc;
+  fault = λ other. refl;
+  line = λ other count. absurd (omega (arith, risen, count));
 }
 
 pub printed-told :
-    (out : SinkCall) (mid : Option (List ℕ)) (mid_count : ℕ) (told : Listing) (status : Status)
+    (options : SurveyOptions) (out : SinkCall) (mid : Option (List ℕ)) (mid_count : ℕ)
+    (told : FaultLine) (status : Status)
     → Grows out.old mid
     → mid_count ≡ out.old_count
-    → PrintsOrFails (record out { old = mid; old_count = mid_count }) told status
-    → PrintsSurvey out status
+    → PrintsOrFails (record out { old = mid; old_count = mid_count }) (fault_listing told) status
+    → status_of told.kind ≡ Fault
+    → status ≢ Done
+    → status ≡ Fault
+    → PrintsSurvey options out status
 unfolding PrintsOrFails
-printed-told out mid mid_count told status grows same (inl p) = record {
-  listing = record { text = grows.0 ++ told.text; status = told.status };
+printed-told options out mid mid_count told status grows same (inl p) is_fault other fault = record {
+  listing = record { text = grows.0 ++ line_of told; status = status_of told.kind };
   printed = inl (
     p.0 ∙ same,
-    Appends-trans out.old mid out.new grows.0 told.text grows.1 p.1,
+    Appends-trans out.old mid out.new grows.0 (line_of told) grows.1 p.1,
     p.2,
   );
+  done = λ is. absurd (other is);
+  fault = λ not. fault;
+  line = λ not count. record {
+    before = grows.0;
+    fault = told;
+    is_fault = is_fault;
+    told = refl;
+  };
 }
-printed-told out mid mid_count told status grows same (inr p) = record {
-  listing = record { text = grows.0 ++ told.text; status = told.status };
+printed-told options out mid mid_count told status grows same (inr p) is_fault other fault = record {
+  listing = record { text = grows.0 ++ line_of told; status = status_of told.kind };
   printed = inr (
     p.0 ∙ ap (λ n. n + 1) same,
-    AppendsPrefix-second out.old mid out.new grows.0 told.text grows.1 p.1,
+    AppendsPrefix-second out.old mid out.new grows.0 (line_of told) grows.1 p.1,
     p.2,
   );
+  done = λ is. absurd (other is);
+  fault = λ not. fault;
+  line = λ not count. record {
+    before = grows.0;
+    fault = told;
+    is_fault = is_fault;
+    told = refl;
+  };
 }
 
 -- For `print_survey`: `using(crate::proofs::SurveyListingLemmas::surveys)`.
-pub ruleset surveys = (printed-done, printed-cut, printed-told)
+pub ruleset surveys = (printed-done, printed-cut)

@@ -216,7 +216,7 @@ Answers (ask.Listen pes listening) first second Untouched file out status =
 Answers (ask.Extract recording pes stream) first second Untouched file out status =
     EndsExtract first.call file out status
 Answers (ask.Survey recording options) first second Untouched file out status =
-    Surveys first.call out status
+    Surveys options first.call out status
 
 -- Each device of an answer fails once at most, and not where the status is another than `Fault`.
 -- That of a command that takes no memory is `Fault` only where a device failed.

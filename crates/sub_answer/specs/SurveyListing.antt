@@ -1,17 +1,37 @@
 -- What `survey` prints.
-use Rattle.std.specs.Prelude.{◌≡◌}
+use Rattle.std.specs.Prelude.{◌≡◌, ◌≢◌, List, ◌++◌, ℕ}
 use Rattle.std.specs.Io.KnownBytes.{IsAtEnd}
+use Rattle.mpeg_ts.specs.declared.survey_options.SurveyOptions.{SurveyOptions}
 use Rattle.sub_listing.specs.DeviceCall.{SinkCall, SourceCall}
+use Rattle.sub_listing.specs.FaultLine.{line_of, status_of}
 use Rattle.sub_listing.specs.Listing.{Listing, PrintsOrFails}
+use Rattle.sub_listing.specs.declared.fault_line.FaultLine.{FaultLine}
 use Rattle.sub_listing.specs.declared.status.Status.{Status}
-use Rattle.sub_listing.specs.declared.status.Status.TheVariants.{Done}
+use Rattle.sub_listing.specs.declared.status.Status.TheVariants.{Done, Fault}
+use Rattle.ts_survey.specs.Listed.{IsSurveyed}
 
--- Lines were printed, all of them or, where the sink failed, a prefix.
-pub record PrintsSurvey (out : SinkCall) (status : Status) : Type 0 where
+-- The line of a fault stands behind what was told before.
+pub record EndsInFault (text : List ℕ) : Type 0 where
+  pub before : List ℕ
+  pub fault : FaultLine
+  pub is_fault : status_of fault.kind ≡ Fault
+  pub told : text ≡ before ++ line_of fault
+
+-- Lines were printed, all of them or, where the sink failed, a prefix. With `Done` all are, and are
+-- those of a recording that was surveyed as it was asked; else the status is `Fault`, and where the
+-- sink did not fail, the line of what did is the last one.
+pub record PrintsSurvey (options : SurveyOptions) (out : SinkCall) (status : Status)
+    : Type 0 where
   pub listing : Listing
   pub printed : PrintsOrFails out listing status
+  pub done :
+      status ≡ Done → (out.new_count ≡ out.old_count) × IsSurveyed options listing.text
+  pub fault : status ≢ Done → status ≡ Fault
+  pub line : status ≢ Done → out.new_count ≡ out.old_count → EndsInFault listing.text
 
 -- They were printed of a recording, which was read to its end where the status is `Done`.
-pub record Surveys (recording : SourceCall) (out : SinkCall) (status : Status) : Type 0 where
-  pub printed : PrintsSurvey out status
+pub record Surveys
+    (options : SurveyOptions) (recording : SourceCall) (out : SinkCall) (status : Status)
+    : Type 0 where
+  pub printed : PrintsSurvey options out status
   pub ended : status ≡ Done → IsAtEnd recording.left
