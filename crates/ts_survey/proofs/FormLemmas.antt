@@ -1,14 +1,14 @@
 -- What tells the form of a group, read byte after byte, is what the first header tells: reads_byte,
 -- and nothing behind that: reads_no_more.
-use Rattle.std.proofs.Common.{◌≡◌, ℕ, ◌+◌, ◌/◌, ◌%◌, ◌==◌, ◌≤◌, ◌<◌, Bool, true, false, List, []}
-use Rattle.std.proofs.Common.{◌∷◌, ◌++◌, ◌∙◌, length, Option, Some, None, refl, sym, ap, subst}
-use Rattle.std.proofs.Common.{arith, append_assoc, length-append, true≢false, suc}
+use Rattle.std.proofs.Common.{◌≡◌, ℕ, ◌==◌, ◌≤◌, ◌<◌, Bool, true, false, List, []}
+use Rattle.std.proofs.Common.{◌∷◌, ◌++◌, ◌∙◌, length, Option, Some, None, refl, sym, ap}
+use Rattle.std.proofs.Common.{arith, append_assoc, length-append, true≢false}
 use Rattle.std.proofs.lemmas.Bool.Decides.{nat_tests}
 use Rattle.std.proofs.lemmas.Option.{none-some}
-use Rattle.std.specs.Prelude.{slice_index, ◌&&◌, ◌||◌, not, nat_le, nat_lt, if◌then◌else◌, is_some}
+use Rattle.std.specs.Prelude.{slice_index, ◌||◌, nat_lt, if◌then◌else◌, is_some}
 use Rattle.mpeg_ts.proofs.StreamLemmas.{index-append}
 use Rattle.ts_survey.specs.FormWindow.{HasRead, IsWindow, form_at, no_bytes}
-use Rattle.ts_survey.specs.Forms.{first_form, form_in, form_or, group_at, has_prefix}
+use Rattle.ts_survey.specs.Forms.{first_form, form_in, form_or, group_at}
 use Rattle.ts_survey.specs.Forms.{known_form, nal_at}
 use Rattle.ts_survey.specs.declared.forms.Form.{Form}
 use Rattle.ts_survey.specs.declared.forms.FormReader.{FormReader}

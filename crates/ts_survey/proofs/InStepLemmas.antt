@@ -12,7 +12,7 @@ use Rattle.mpeg_ts.specs.PacketSize.{bytes_of}
 use Rattle.mpeg_ts.specs.declared.packet_size.PacketSize.{PacketSize}
 use Rattle.mpeg_ts.specs.declared.packet_size.PacketSize.TheVariants.{Plain, TimeStamped}
 use Rattle.mpeg_ts.specs.declared.packet_size.PacketSize.TheVariants.{ErrorCorrected}
-use Rattle.mpeg_ts.specs.PacketsInStep.{Item, Packet, Skipped, begins_packet, items}
+use Rattle.mpeg_ts.specs.PacketsInStep.{Item, Packet, Skipped, begins_packet}
 use Rattle.mpeg_ts.proofs.StreamLemmas.{index-append, index-behind, items_end, items_packet}
 use Rattle.mpeg_ts.proofs.StreamLemmas.{items_room, items_skipped}
 use Rattle.ttx_page.specs.Receiver.{RunsBy}
