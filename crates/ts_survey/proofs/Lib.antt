@@ -1,4 +1,5 @@
 pub mod ApartLemmas
+pub mod AskedLemmas
 pub mod CarrierLemmas
 pub mod CounterLemmas
 pub mod EndingsLemmas

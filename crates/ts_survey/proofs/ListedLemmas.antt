@@ -8,7 +8,7 @@ use Rattle.std.specs.Prelude.{IfSome, length}
 use Rattle.mpeg_ts.specs.declared.packet_size.PacketSize.{PacketSize}
 use Rattle.mpeg_ts.specs.declared.survey_options.SurveyOptions.{SurveyOptions}
 use Rattle.ttx_page.specs.Receiver.{RunsBy}
-use Rattle.ts_survey.specs.Asked.{KeepsAsked, keeps_asked}
+use Rattle.ts_survey.specs.Asked.{KeepsAsked, keeps_asked, others_followed}
 use Rattle.ts_survey.specs.InStep.{TakesAll}
 use Rattle.ts_survey.specs.Listed.{GoesOn, IsAsAsked, Surveys, TellsEnd, last_words, over_line}
 use Rattle.ts_survey.specs.Survey.{Grows}
@@ -25,9 +25,11 @@ use Rattle.ts_survey.proofs.EndingsLemmas.{adds-none}
 runs-keep : (old new : Multiplex) (packets : List (List ℕ))
     → RunsBy keeps_asked old packets new
     → KeepsAsked old new
-runs-keep old new [] run = (ap (λ m. m.asked) run, ap (λ m. m.page) run)
+runs-keep old new [] run =
+    (ap (λ m. m.asked) run, ap (λ m. m.page) run, ap (λ m. others_followed m) run)
 runs-keep old new (p ∷ ps) run =
-    let rest = runs-keep run.0 new ps run.2 in (rest.0 ∙ run.1.0, rest.1 ∙ run.1.1)
+    let rest = runs-keep run.0 new ps run.2 in
+    (rest.0 ∙ run.1.0, rest.1 ∙ run.1.1, rest.2 ∙ run.1.2)
 
 -- A stream of which packets were taken goes on.
 pub goes-on :
@@ -42,7 +44,7 @@ goes-on packets after multiplex told bytes is_end used takes =
 pub goes-same : (kind : Kind) → GoesOn kind kind
 goes-same Unknown = tt
 goes-same (Pes f) = tt
-goes-same (Stream p m) = record { size = refl; keeps = (refl, refl) }
+goes-same (Stream p m) = record { size = refl; keeps = (refl, refl, refl) }
 goes-same Nothing = tt
 
 -- Packets are taken by a stream, and nothing by others: for `hand_on`, `flush` and `pause`.
@@ -73,6 +75,7 @@ as-asked-on options (Stream p m) (Stream q n) on asked = (
   size-on options.packet_size p.size q.size on.size asked.0,
   on.keeps.0 ∙ asked.1,
   on.keeps.1 ∙ asked.2,
+  on.keeps.2 ∙ asked.3,
 )
 as-asked-on options (Stream p m) Nothing on asked = tt
 as-asked-on options Nothing Unknown on asked = tt

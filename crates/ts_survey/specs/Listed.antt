@@ -4,7 +4,7 @@ use Rattle.std.specs.Prelude.{◌≡◌, ⊤, ℕ, List, [], ◌∷◌, ◌++◌
 use Rattle.std.specs.Io.KnownBytes.{Appends}
 use Rattle.std.specs.List.{concat}
 use Rattle.mpeg_ts.specs.declared.survey_options.SurveyOptions.{SurveyOptions}
-use Rattle.ts_survey.specs.Asked.{KeepsAsked}
+use Rattle.ts_survey.specs.Asked.{KeepsAsked, others_followed}
 use Rattle.ts_survey.specs.Endings.{counts_words, end_words}
 use Rattle.ts_survey.specs.Lines.{AddsWords, line_end, number_word, run_words}
 use Rattle.ts_survey.specs.Text.{time_word}
@@ -18,12 +18,13 @@ use Rattle.ts_survey.specs.declared.text.Text.{Text}
 -- ---- what is followed
 
 -- The packets of a stream have the distance that is asked for, and what is asked for is followed
--- and looked for in it.
+-- and looked for in it, and no other PID.
 abbrev pub IsAsAsked : SurveyOptions → Kind → Type 0
 IsAsAsked options (Stream packets multiplex) =
     (IfSome options.packet_size (λ size. packets.size ≡ size))
     × (multiplex.asked ≡ options.pid)
     × (multiplex.page ≡ options.page)
+    × (others_followed multiplex ≡ [])
 IsAsAsked options _ = ⊤
 
 -- Packets of a stream were taken.

@@ -91,7 +91,9 @@ impl Carrier {
     }
 
     /// A packet of the PID came. The PTS that begins in it, if one does.
-    pub fn take(&mut self, packet: &[u8; PACKET], text: &mut Text) -> Option<u64> {
+    pub fn take(&mut self, packet: &[u8; PACKET], text: &mut Text) -> Option<u64>
+        ensures pid { self.new.pid ≡ self.old.pid }
+    {
         self.packets = self.packets.saturating_add(1);
         if is_scrambled(packet) {
             self.scrambled = self.scrambled.saturating_add(1);
@@ -106,6 +108,7 @@ impl Carrier {
     // Counts what is lost before a packet, and notes a seam before it, and the PTS that begins in
     // it.
     fn note(&mut self, packet: &[u8; PACKET]) -> Option<u64>
+        ensures pid { self.new.pid ≡ self.old.pid }
         ensures seam { self.new.packets_of.to.has_seam ≡ (self.old.packets_of.to.has_seam
             || is_behind_seam self.old.packets_of.joining packet.now) }
         ensures wrong { is_wrong packet.now ≡ true → self.new ≡ self.old }
@@ -136,6 +139,7 @@ impl Carrier {
     fn note_good(&mut self, packet: &[u8; PACKET])
         requires payload { has_payload packet.now ≡ true }
         requires valid { is_wrong packet.now ≡ false }
+        ensures pid { self.new.pid ≡ self.old.pid }
         ensures seam { self.new.packets_of.to.has_seam ≡ (self.old.packets_of.to.has_seam
             || is_behind_seam self.old.packets_of.joining packet.now) }
         ensures lost { self.new.packets_of.to.lost ≡ lost_with self.old.packets_of.to.lost
@@ -151,6 +155,7 @@ impl Carrier {
 
     // Counts what is lost before a good packet, by its counter.
     fn count_lost(&mut self, packet: &[u8; PACKET])
+        ensures pid { self.new.pid ≡ self.old.pid }
         ensures lost { self.new.packets_of.to.lost ≡ more_lost self.old.packets_of.to.lost
             (lost_before self.old.counter self.old.has_jump packet.now) }
         ensures seam { self.new.packets_of.to.has_seam ≡ self.old.packets_of.to.has_seam }
@@ -165,7 +170,8 @@ impl Carrier {
 
     /// So many bytes were skipped that packets may be missing.
     pub fn note_hole(&mut self)
-        ensures { self.new.packets_of.joining ≡ after_note self.old.packets_of.joining Hole }
+        ensures pid { self.new.pid ≡ self.old.pid }
+        ensures joining { self.new.packets_of.joining ≡ after_note self.old.packets_of.joining Hole }
     {
         self.packets_of.note_hole();
     }
@@ -212,7 +218,8 @@ impl Carrier {
     /// A PTS began in a packet: strange PCR before it know it, and where a second has gone by since
     /// the last such look, it is held against the clock.
     pub fn note_begun(&mut self, pts: u64, pcr: Option<u64>, text: &mut Text)
-        ensures { self.new.pending ≡ map (known_after pts) self.old.pending }
+        ensures pending { self.new.pending ≡ map (known_after pts) self.old.pending }
+        ensures pid { self.new.pid ≡ self.old.pid }
     {
         let [first, second, third, fourth] = self.pending;
         self.pending = [
@@ -317,7 +324,9 @@ impl Carrier {
     }
 
     /// Tells what is not told yet of the PES packets, since nothing more is there for now.
-    pub fn flush(&mut self, text: &mut Text) {
+    pub fn flush(&mut self, text: &mut Text)
+        ensures pid { self.new.pid ≡ self.old.pid }
+    {
         self.packets_of.to.flush(text);
     }
 

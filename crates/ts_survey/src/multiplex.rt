@@ -1,7 +1,7 @@
 //! All that is followed in a transport stream, one packet after another.
 ghost use Rattle.std.specs.List.{slice_get};
 ghost use Rattle.std.specs.Prelude.{◌≡◌, ◌≢◌, ◌<◌, IfSome, [], map};
-ghost use Rattle.ts_survey.specs.Asked.{KeepsAsked, keeps_asked};
+ghost use Rattle.ts_survey.specs.Asked.{KeepsAsked, keeps_asked, others_followed, pid_followed};
 ghost use Rattle.ts_survey.specs.Endings.{carrier_words, clock_words, end_words, pictures_words};
 ghost use Rattle.ts_survey.specs.Endings.{pid_words, pids_words, waiting_words, words_of};
 ghost use Rattle.ts_survey.specs.Adaptation.{pcr_base};
@@ -60,7 +60,7 @@ impl Multiplex {
         text: &mut Text,
     ) -> Option<Multiplex>
         ensures { IfSome result (λ multiplex. (multiplex.asked ≡ asked)
-            × (multiplex.page ≡ page)) }
+            × (multiplex.page ≡ page) × (others_followed multiplex ≡ [])) }
     {
         let pids = Pids::new(alloc)?;
         let mut all = Multiplex {
@@ -168,6 +168,7 @@ impl Multiplex {
     }
 
     // A packet of a PID with Teletext came.
+    #[tactic(auto, using(crate::proofs::AskedLemmas::one_changed))]
     fn carry(&mut self, state: &PidState, packet: &[u8; PACKET], text: &mut Text)
         ensures asked { KeepsAsked self.old self.new }
     {
@@ -181,6 +182,7 @@ impl Multiplex {
     }
 
     // A PTS began in a packet of a PID with Teletext.
+    #[tactic(auto, using(crate::proofs::AskedLemmas::one_changed))]
     fn begin(&mut self, state: &PidState, pts: u64, text: &mut Text)
         ensures asked { KeepsAsked self.old self.new }
     {
@@ -293,6 +295,8 @@ impl Multiplex {
         ensures told { AddsWords text.old
             (words_of (pcr_told_of self.old.pids clock_pid strange) self.old.carriers.items)
             text.new }
+        ensures pids { map pid_followed self.new.carriers.items
+            ≡ map pid_followed self.old.carriers.items }
         ensures same { self.new ≡ record self.old { carriers = self.new.carriers } }
     {
         for carrier in self.carriers.iter_mut() {
@@ -321,6 +325,8 @@ impl Multiplex {
         ensures words { AddsWords text.old (waiting_words self.old) text.new }
         ensures carriers { map carrier_words self.new.carriers.items
             ≡ map carrier_words self.old.carriers.items }
+        ensures pids { map pid_followed self.new.carriers.items
+            ≡ map pid_followed self.old.carriers.items }
         ensures same { self.new ≡ record self.old {
           settle_at = 0xFFFF_FFFF_FFFF_FFFF;
           carriers = self.new.carriers;

@@ -1,9 +1,11 @@
--- One more knows and tells: changed-next, tells-next.
-use Rattle.std.proofs.Common.{◌≡◌, ◌<◌, ◌≤◌, List, arith, length, rules, subst}
+-- One more knows and tells: changed-next, tells-next. No PID changes: pids-after-pcr.
+use Rattle.std.proofs.Common.{◌≡◌, ◌<◌, ◌≤◌, ◌∙◌, List, ap, arith, length, map, rules, subst}
+use Rattle.ts_survey.specs.Asked.{pid_followed}
 use Rattle.ts_survey.specs.Endings.{words_of}
 use Rattle.ts_survey.specs.Holes.{after_pcr_of, pcr_told_of}
 use Rattle.ts_survey.specs.Lines.{AddsWords}
 use Rattle.ts_survey.specs.declared.carrier.Carrier.{Carrier}
+use Rattle.ts_survey.proofs.AskedLemmas.{pids-after-pcr}
 use Rattle.ts_survey.proofs.CarrierLemmas.{changed-all, changed-next}
 use Rattle.ts_survey.proofs.EndingsLemmas.{drop-changed, tells-end, tells-next}
 use Rattle.ts_survey.proofs.multiplex.Multiplex.note_pcr.Goals as goal
@@ -43,3 +45,9 @@ returns-clause-carriers c =
     let len : old.len ≡ length old.items = search rules in
     changed-all _ old.items items c.loop-carrier.carrier-index old.len past (omega (arith, size))
     (omega (arith, size, len)) c.loop-carrier.invariant.carriers
+
+pub returns-clause-pids : goal.returns-clause-pids
+returns-clause-pids c =
+    ap (λ (l : List Carrier). map pid_followed l) (returns-clause-carriers c)
+    ∙ pids-after-pcr c.args.self.now.pids c.args.clock_pid c.args.strange
+    c.args.self.now.carriers.items

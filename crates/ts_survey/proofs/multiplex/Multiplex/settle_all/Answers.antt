@@ -1,5 +1,6 @@
 -- One more was told: tells-next, tells-end. All else of it is as it was: map-same.
 use Rattle.std.proofs.Common.{◌≡◌, ◌<◌, ◌≤◌, ◌∙◌, ap, List, length, rules, subst}
+use Rattle.ts_survey.specs.Asked.{pid_followed}
 use Rattle.ts_survey.specs.Endings.{carrier_words, words_of}
 use Rattle.ts_survey.specs.Lines.{AddsWords, pending_words}
 use Rattle.ts_survey.specs.declared.carrier.Carrier.{Carrier}
@@ -23,6 +24,10 @@ loop-carrier-preserved c =
           map-same carrier_words items at c.settle.new.self c.carrier-item.result below
           (ap carrier_words c.settle.ensures.same)
           ∙ c.loop-carrier.invariant.others;
+      pids =
+          map-same pid_followed items at c.settle.new.self c.carrier-item.result below
+          (ap (λ (one : Carrier). one.pid) c.settle.ensures.same)
+          ∙ c.loop-carrier.invariant.pids;
     }
 
 pub returns-clause-words : goal.returns-clause-words

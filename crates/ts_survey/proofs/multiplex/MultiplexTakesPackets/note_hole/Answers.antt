@@ -1,9 +1,11 @@
--- One more has it: mapped-next.
-use Rattle.std.proofs.Common.{◌≡◌, ◌<◌, length, rules, slice_index_or}
+-- One more has it: mapped-next; and its PID: map-same.
+use Rattle.std.proofs.Common.{◌≡◌, ◌<◌, ◌∙◌, length, rules, slice_index_or}
 use Rattle.mpeg_ts.specs.GoodPackets.{Hole}
 use Rattle.mpeg_ts.specs.Joining.{after_note}
+use Rattle.ts_survey.specs.Asked.{pid_followed}
 use Rattle.ts_survey.specs.Missing.{joining_of}
 use Rattle.ts_survey.proofs.CarrierLemmas.{mapped-next}
+use Rattle.ts_survey.proofs.EndingsLemmas.{map-same}
 use Rattle.ts_survey.proofs.multiplex.MultiplexTakesPackets.note_hole.Goals as goal
 
 pub loop-carrier-preserved : goal.loop-carrier-preserved
@@ -18,6 +20,15 @@ loop-carrier-preserved c =
     c.carrier-item.result))
     Hole =
     search rules in
-    mapped-next joining_of (λ j. after_note j Hole) _ c.loop-carrier.carrier-items
-    c.loop-carrier.carrier-index c.note_hole.new.self c.carrier-item.result below
-    c.loop-carrier.invariant here
+    let within : c.loop-carrier.carrier-index < length c.loop-carrier.carrier-items =
+    search rules in
+    record {
+      holes =
+          mapped-next joining_of (λ j. after_note j Hole) _ c.loop-carrier.carrier-items
+          c.loop-carrier.carrier-index c.note_hole.new.self c.carrier-item.result below
+          c.loop-carrier.invariant.holes here;
+      pids =
+          map-same pid_followed c.loop-carrier.carrier-items c.loop-carrier.carrier-index
+          c.note_hole.new.self c.carrier-item.result within c.note_hole.ensures.pid
+          ∙ c.loop-carrier.invariant.pids;
+    }

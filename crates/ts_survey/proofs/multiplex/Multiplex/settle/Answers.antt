@@ -1,0 +1,19 @@
+-- One more has its PID: map-same.
+use Rattle.std.proofs.Common.{◌≡◌, ◌<◌, ◌∙◌, ap, length, map, rules, slice_set}
+use Rattle.ts_survey.specs.Asked.{pid_followed}
+use Rattle.ts_survey.specs.declared.carrier.Carrier.{Carrier}
+use Rattle.ts_survey.proofs.EndingsLemmas.{map-same}
+use Rattle.ts_survey.proofs.multiplex.Multiplex.settle.Goals as goal
+
+pub loop-carrier-preserved : goal.loop-carrier-preserved
+loop-carrier-preserved c =
+    let items = c.loop-carrier.carrier-items in
+    let at = c.loop-carrier.carrier-index in
+    let below : at < length items = search rules in
+    let next :
+    map pid_followed (slice_set items at c.settle.new.self)
+    ≡ map pid_followed c.args.self.now.carriers.items =
+    map-same pid_followed items at c.settle.new.self c.carrier-item.result below
+    (ap (λ (one : Carrier). one.pid) c.settle.ensures.same)
+    ∙ c.loop-carrier.invariant in
+    search rules
