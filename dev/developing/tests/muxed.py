@@ -1,7 +1,7 @@
 """Transport streams of a programme with video and Teletext, made for tests."""
 from __future__ import annotations
 
-from typing import Callable, Iterable, Iterator, NamedTuple, Sequence
+from typing import Callable, Collection, Iterable, Iterator, Mapping, NamedTuple, Sequence
 
 from developing.multiplex import ADAPTATION_ALONE, BEGINS, PACKET, PAYLOAD, head, section
 from developing.pes import pts_bytes, pts_in
@@ -58,19 +58,32 @@ def video_packet(pts: int | None, data: bytes) -> bytes:
     return b"\0\0\1\xe0\0\0\x80\x80\x05" + pts_bytes(pts % CLOCK) + data
 
 
-class Maker:
-    """TS packets one after another; the PMT has components, each a PID, its stream_type and its
-    descriptors."""
+Component = tuple[int, int, bytes]  # a PID, its stream_type and its descriptors
 
-    def __init__(self, components: list[tuple[int, int, bytes]], pcr_pid: int = VIDEO_PID) -> None:
+
+def program_association(pmt_pids: Iterable[tuple[int, int]]) -> bytes:
+    """A PAT: programmes by their numbers, each with the PID of its PMT."""
+    return section(0, 1, b"".join(number.to_bytes(2, "big") + (0xE000 | pid).to_bytes(2, "big")
+                                  for number, pid in pmt_pids))
+
+
+def program_map(number: int, components: Iterable[Component], pcr_pid: int) -> bytes:
+    """The PMT of the programme with a number."""
+    return section(2, number, (0xE000 | pcr_pid).to_bytes(2, "big") + b"\xf0\0" + b"".join(
+        bytes([kind]) + (0xE000 | pid).to_bytes(2, "big")
+        + (0xF000 | len(more)).to_bytes(2, "big") + more for pid, kind, more in components))
+
+
+class Maker:
+    """TS packets one after another; the PMT has components."""
+
+    def __init__(self, components: list[Component], pcr_pid: int = VIDEO_PID) -> None:
         self.packets: list[bytes] = []
         self.counters: dict[int, int] = {}
         self.pcr_pid = pcr_pid
-        pat = section(0, 1, b"\0\1" + (0xE000 | PMT_PID).to_bytes(2, "big"))
-        body = (0xE000 | pcr_pid).to_bytes(2, "big") + b"\xf0\0" + b"".join(
-            bytes([kind]) + (0xE000 | pid).to_bytes(2, "big")
-            + (0xF000 | len(more)).to_bytes(2, "big") + more for pid, kind, more in components)
-        self.tables = (0, pat), (PMT_PID, section(2, 1, body))
+        self.tables: Sequence[tuple[int, bytes]] = [
+            (0, program_association([(1, PMT_PID)])),
+            (PMT_PID, program_map(1, components, pcr_pid))]
 
     @property
     def data(self) -> bytes:
@@ -123,7 +136,7 @@ def teletext_descriptor(language: bytes = b"eng", kind: int = 2, page: int = 0x8
 
 
 def components(kind: int = MPEG_2, descriptor: bytes = teletext_descriptor(),
-               pid: int = TELETEXT_PID) -> list[tuple[int, int, bytes]]:
+               pid: int = TELETEXT_PID) -> list[Component]:
     """Video of a kind, and Teletext."""
     return [(VIDEO_PID, kind, b""), (pid, PRIVATE, descriptor)]
 
@@ -150,6 +163,42 @@ def with_pictures(pes: bytes, first: int, kind: int = MPEG_2, picture: bytes = b
     for one in packets(pes):
         maker.put_pcr(pts_in(one) - AHEAD)
         maker.put(TELETEXT_PID, one)
+    return maker
+
+
+class Programme(NamedTuple):
+    """A programme with a picture a frame: the PES packets of its PIDs with Teletext, the PTS of its
+    first picture, its video PID, which has the PCR, the frames whose pictures have the
+    random_access_indicator, and from which frames on they are by how many ticks later."""
+
+    pes: Mapping[int, Sequence[bytes]]
+    first: int
+    video: int = VIDEO_PID
+    flagged: Collection[int] = (0, 12)
+    later: Sequence[tuple[int, int]] = ()
+
+
+def shown(programmes: Sequence[Programme], frames: int) -> Maker:
+    """Programmes in one stream, frame after frame: of each a PCR, a picture, and the PES packets of
+    Teletext that are due by then."""
+    maker, waiting = Maker([]), [{pid: [*pes] for pid, pes in one.pes.items()}
+                                 for one in programmes]
+    pmt_pids = range(PMT_PID, PMT_PID - len(programmes), -1)
+    maker.tables = [(0, program_association(enumerate(pmt_pids, 1))), *(
+        (pid, program_map(number, [(one.video, MPEG_2, b""), *(
+            (pid, PRIVATE, teletext_descriptor()) for pid in one.pes)], one.video))
+        for number, (pid, one) in enumerate(zip(pmt_pids, programmes), 1))]
+    maker.put_tables()
+    for frame in range(frames):
+        for one, rest in zip(programmes, waiting):
+            now = one.first + TICKS * frame
+            later = sum(by for begin, by in one.later if begin <= frame)
+            maker.pcr_pid = one.video
+            maker.put_pcr(now - AHEAD)
+            maker.put(one.video, video_packet(now + later, mpeg_2_picture()), frame in one.flagged)
+            for pid, pes in rest.items():
+                while pes and ticks_between(pts_in(pes[0]), wrapped(now)) >= 0:
+                    maker.put(pid, pes.pop(0))
     return maker
 
 

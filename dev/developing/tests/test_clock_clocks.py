@@ -10,7 +10,7 @@ from developing.stl import boxed
 from subtitles.common.times import CLOCK, TICKS, time_of
 from .bench import Case, example, example_bytes
 from .judged import Judged, OfProgramme, judged
-from .muxed import HEVC, H_264, MPEG_2, with_pictures
+from .muxed import HEVC, H_264, MPEG_2, SLICES, mpeg_2_picture, with_pictures
 from .sent import Sent, in_pipe, in_two_parts, joined, late, moved, programme, sendings
 from .test_cli_pairs import FITTED, TS, lines_of, qc
 
@@ -264,6 +264,25 @@ class Starts(Case):
             self.must(f"{ticks}", found.word == "accepted" and any(line.endswith(
                 f"moved by {abs(ticks)} ticks {way} to the PTS of the Teletext")
                 for line in found.said), found.said)
+
+    def test_lost_pictures(self) -> None:
+        """Pictures of which something is lost or scrambled: not judged by them. Nothing is said
+        where that is behind the first group."""
+        made = with_pictures(example_bytes("story.pes"), FIRST_PTS,
+                             picture=mpeg_2_picture() + SLICES).packets
+        # Behind two tables two TS packets of each picture: three are passed over, 14 are a group.
+        for at, words in ((2 + 2 * 2 + 1, ""), (2 + 2 * 3 + 1, "lost"), (2 + 2 * 10 + 1, "lost"),
+                          (2 + 2 * 16 + 1, "lost"), (2 + 2 * 18 + 1, "")):
+            lost = b"".join(made[:at] + made[at + 1:])
+            scrambled = bytes([*made[at][:3], made[at][3] | 0x80, *made[at][4:]])
+            for name, data, line in (
+                    ("lost", lost, "1 TS packet of MPEG-2 of PID 0x200 lost among its first "
+                     "pictures"),
+                    ("scrambled", b"".join([*made[:at], scrambled, *made[at + 1:]]),
+                     "MPEG-2 of PID 0x200 is scrambled")):
+                found = self.judge(data, "--start", STARTED)
+                self.must(f"{at} {name}", found.word == ("not judged" if words else "accepted") and
+                          (line in "".join(found.said)) == bool(words), found.said)
 
     def test_start_of_the_programme(self) -> None:
         """The TCP of the GSI block; subtitles outside of the recording are told."""

@@ -13,13 +13,13 @@ import random
 import sys
 from typing import Callable, Iterator, NamedTuple, Sequence
 
-from developing.multiplex import section
 from developing.pes import pes_packet
 from subtitles.common.times import TICKS, time_of
 from .bench import BENCH, Case
 from .judged import Judged, judged
 from .muxed import (
-    AHEAD, MPEG_2, PMT_PID, PRIVATE, TELETEXT_PID, VIDEO_PID, Maker, teletext_descriptor)
+    AHEAD, MPEG_2, PMT_PID, PRIVATE, TELETEXT_PID, VIDEO_PID, Maker, program_association,
+    program_map, teletext_descriptor)
 from .sent import CLOSING, HEADER, Sent, joined, programme, sendings
 
 FIRST, EACH, LASTS = 900_000, 100, 60  # frames: of the first TCI, from one to the next, of each
@@ -185,20 +185,15 @@ class Service(NamedTuple):
     pages: Sequence[tuple[int, int, int]]
 
 
-def tables_of(services: Sequence[Service]) -> tuple[tuple[int, bytes], ...]:
+def tables_of(services: Sequence[Service]) -> list[tuple[int, bytes]]:
     """The PAT, and a PMT for each; all have one PCR."""
     pids = [PMT_PID if not at else LATER_PMT + at for at in range(len(services))]
-    pat = section(0, 1, b"".join(one.number.to_bytes(2, "big") + (0xE000 | pid).to_bytes(2, "big")
-                                 for one, pid in zip(services, pids)))
-    made = [(0, pat)]
+    made = [(0, program_association([(one.number, pid) for one, pid in zip(services, pids)]))]
     for one, pid in zip(services, pids):
-        streams = [(VIDEO_PID, MPEG_2, b""), *((own, PRIVATE, teletext_descriptor(
-            kind=kind, page=page)) for own, kind, page in one.pages)]
-        body = (0xE000 | VIDEO_PID).to_bytes(2, "big") + b"\xf0\0" + b"".join(
-            bytes([kind]) + (0xE000 | own).to_bytes(2, "big") + (0xF000 | len(more)).to_bytes(
-                2, "big") + more for own, kind, more in streams)
-        made.append((pid, section(2, one.number, body)))
-    return tuple(made)
+        made.append((pid, program_map(one.number, [(VIDEO_PID, MPEG_2, b""), *(
+            (own, PRIVATE, teletext_descriptor(kind=kind, page=page))
+            for own, kind, page in one.pages)], VIDEO_PID)))
+    return made
 
 
 OWN = Service(1, [(TELETEXT_PID, 2, 0x88)])
@@ -212,7 +207,7 @@ def in_stream(sent: Sent, plan: Sequence[tuple[int, Sequence[Service]]] = ((0, (
     for number, (pts, some) in enumerate(sent):
         for begin, services in plan:
             if begin == number:
-                maker.tables = tables_of(services)  # type: ignore[assignment]
+                maker.tables = tables_of(services)
                 maker.put_tables()
         maker.put_pcr(pts - AHEAD)
         maker.put(TELETEXT_PID, pes_packet(pts, some))

@@ -11,9 +11,9 @@ from typing import Any, Callable, Optional, Sequence
 from unittest import mock
 
 from developing.multiplex import ADAPTATION_ALONE, BEGINS, PACKET, PAYLOAD, head
-from developing.pes import pes_packet
+from developing.pes import pes_packet, pts_in
 from subtitles.clock.start import Clock, Found, GIVEN, RECORDING, START
-from subtitles.common.times import CLOCK, TICKS, pts_of
+from subtitles.common.times import CLOCK, TICKS, pts_of, time_of
 from subtitles.formats.listing import PICTURES_LEFT
 from subtitles.judging.timing import NOT_CHECKED, departures_in, late_jumps, left_by_pictures
 from subtitles.stream.gaps import Pace, REGULAR
@@ -21,7 +21,8 @@ from subtitles.stream.packets import Packets, Run, announced_in, jumps_at, jumps
 from subtitles.stream.survey import Departure, Distance, FEW, Line, Step, Survey, departures_of
 from .bench import Case, example_bytes
 from .judged import judged
-from .muxed import with_pictures
+from .muxed import Programme, TELETEXT_PID, shown, with_pictures
+from .sent import programme, scheduled, times
 from .test_clock_clocks import BEGIN, FIRST_PTS, STORY
 
 
@@ -241,6 +242,26 @@ class Pairs(Case):
             way = "12 frames early" if frames > 0 else "3 frames late"
             self.must(f"{frames}: sentence", word != "refused" or f"from 20:15:04:00 on subtitles "
                       f"come {way} for viewers" in found.verdict.sentence, found.verdict.sentence)
+
+    def test_by_recordings(self) -> None:
+        """Of recordings in which they do so in the middle, a minute behind the first group."""
+        stl = programme(self, times(20))
+        pes = scheduled(self, stl, "--every", "10")
+        begin, end = pts_in(pes[0]) // TICKS - 25, pts_in(pes[-1]) // TICKS + 25
+        rows: list[tuple[int, list[str], str, str]] = [
+            (0, [], "accepted", ""), (12, [], "refused", "12 frames early"),
+            (-3, [], "refused", "3 frames late"), (-3, ["--within", "3"], "accepted",
+                                                   "3 frames late")]
+        for frames, words, word, way in rows:
+            made = Programme({TELETEXT_PID: pes}, TICKS * begin, later=[(1500, TICKS * frames)])
+            found = judged(self, stl, self.write("one.ts", shown([made], end - begin).data), "--origin",
+                           "0", *words)
+            time = time_of((begin + 1500 + 9) // 10 * 10)
+            line = f"from {time} on subtitles come {way} for viewers: the pictures go on elsewhere"
+            self.must(f"{frames} {words}", found.word == word and (not way or any(
+                line in one for one in found.said)), found.said)
+            self.must(f"{frames} {words}: line", word == "accepted" or found.result["line"] ==
+                      f"refused pictures left frame {time}", found.result["line"])
 
 
 # Jumps of a counter that a stream announces: the TS packets of a PID, and where they say so.
