@@ -4,7 +4,7 @@ Recordings are made here, and the lines that there are of them by docs/manual/su
 """
 from __future__ import annotations
 
-from typing import Iterable, Sequence
+from typing import Collection, Iterable, Sequence
 
 from developing.pes import packet, pes_packet
 from subtitles.common.times import CLOCK, TICKS
@@ -53,21 +53,22 @@ class DecodingTimes(Case):
     def test_steps(self) -> None:
         """Within the first group of pictures and behind it, which ends at the next picture with the
         random_access_indicator, or after ten seconds; up to fifty PES packets on each side."""
-        for name, flagged, later, frames, wanted in (
-                ("none", (0, 12), [], 40, []),
-                ("no group", (), [(20, 7200)], 40,
-                 [*apart(range(20), 0), step(20, 0, 7200), *apart(range(20, 40), -7200)]),
-                ("within it", (0, 30), [(20, 7200)], 40,
-                 [*apart(range(20), 0), step(20, 0, 7200), *apart(range(20, 40), -7200)]),
-                ("behind it", (0, 12), [(20, 7200)], 80,
-                 [*apart(range(20), 0), step(20, 0, 7200), *apart(range(20, 70), -7200)]),
-                ("ten seconds behind", (0,), [(260, -9000)], 270,
-                 [*apart(range(210, 260), 0), step(260, 0, -9000), *apart(range(260, 270), 9000)]),
-                ("far behind", range(0, 500, 12), [(400, 5400)], 500,
-                 [*apart(range(350, 400), 0), step(400, 0, 5400), *apart(range(400, 450), -5400)]),
-                ("two", (0, 12), [(60, 7200), (80, -7200)], 200,
-                 [*apart(range(10, 60), 0), step(60, 0, 7200), *apart(range(60, 80), -7200),
-                  step(80, 7200, -7200), *apart(range(80, 130), 0)])):
+        rows: list[tuple[str, Collection[int], list[tuple[int, int]], int, list[str]]] = [
+            ("none", (0, 12), [], 40, []),
+            ("no group", (), [(20, 7200)], 40,
+             [*apart(range(20), 0), step(20, 0, 7200), *apart(range(20, 40), -7200)]),
+            ("within it", (0, 30), [(20, 7200)], 40,
+             [*apart(range(20), 0), step(20, 0, 7200), *apart(range(20, 40), -7200)]),
+            ("behind it", (0, 12), [(20, 7200)], 80,
+             [*apart(range(20), 0), step(20, 0, 7200), *apart(range(20, 70), -7200)]),
+            ("ten seconds behind", (0,), [(260, -9000)], 270,
+             [*apart(range(210, 260), 0), step(260, 0, -9000), *apart(range(260, 270), 9000)]),
+            ("far behind", range(0, 500, 12), [(400, 5400)], 500,
+             [*apart(range(350, 400), 0), step(400, 0, 5400), *apart(range(400, 450), -5400)]),
+            ("two", (0, 12), [(60, 7200), (80, -7200)], 200,
+             [*apart(range(10, 60), 0), step(60, 0, 7200), *apart(range(60, 80), -7200),
+              step(80, 7200, -7200), *apart(range(80, 130), 0)])]
+        for name, flagged, later, frames, wanted in rows:
             data = shown([Programme({TELETEXT_PID: each_frame(frames)}, FIRST, VIDEO_PID, flagged,
                                     later)], frames).data
             lines = told(self, data, *self.kinds)
@@ -294,8 +295,8 @@ class PesPackets(Case):
                 self.must(f"{size} {name}", lines == [
                     f"pes {TELETEXT_PID} {run}", f"end {TELETEXT_PID} 1500 0 1500 0 0 0 {last}",
                     f"over {skipped} 1502"], lines)
-        for name, more, wanted in (("whole", b"", []), ("cut", pes[0][:100],
-                                                        ["damaged 0 1500 cut"])):
-            lines = told(self, b"".join(pes) + more, "pes", "damaged", "end", "over")
-            self.must(name, lines == [f"pes 0 {run}", *wanted, f"end 0 1500 0 0 0 0 0 {last}",
-                                      "over 0 0"], lines)
+        for cut in (0, 100):
+            lines = told(self, b"".join(pes) + pes[0][:cut], "pes", "damaged", "end", "over")
+            self.must(f"a file, {cut}", lines == [
+                f"pes 0 {run}", *["damaged 0 1500 cut"][:cut], f"end 0 1500 0 0 0 0 0 {last}",
+                "over 0 0"], lines)
