@@ -98,6 +98,15 @@ class DecodingTimes(Case):
                     step(60, 0, 7200, video=own), *apart(range(60, 80), -7200, video=own), *ends],
                     lines)
 
+    def test_sixty_a_second(self) -> None:
+        """Steps of less than half a frame are usual too, and the first of them is one."""
+        maker = Maker(components())
+        maker.put_tables()
+        for number in range(8):
+            maker.put(VIDEO_PID, video_packet(FIRST + 1501 * number, mpeg_2_picture()))
+        lines = told(self, b"".join(maker.taken()), *self.kinds)
+        self.must("usual", lines == [f"steps {VIDEO_PID} 0 1501"], lines)
+
 
 # First pictures: thirty, one a frame, each in two TS packets.
 
