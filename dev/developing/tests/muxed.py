@@ -186,7 +186,7 @@ def shown(programmes: Sequence[Programme], frames: int) -> Maker:
     pmt_pids = range(PMT_PID, PMT_PID - len(programmes), -1)
     maker.tables = [(0, program_association(enumerate(pmt_pids, 1))), *(
         (pid, program_map(number, [(one.video, MPEG_2, b""), *(
-            (pid, PRIVATE, teletext_descriptor()) for pid in one.pes)], one.video))
+            (own, PRIVATE, teletext_descriptor()) for own in one.pes)], one.video))
         for number, (pid, one) in enumerate(zip(pmt_pids, programmes), 1))]
     maker.put_tables()
     for frame in range(frames):

@@ -254,8 +254,8 @@ class Pairs(Case):
                                                    "3 frames late")]
         for frames, words, word, way in rows:
             made = Programme({TELETEXT_PID: pes}, TICKS * begin, later=[(1500, TICKS * frames)])
-            found = judged(self, stl, self.write("one.ts", shown([made], end - begin).data), "--origin",
-                           "0", *words)
+            path = self.write("one.ts", shown([made], end - begin).data)
+            found = judged(self, stl, path, "--origin", "0", *words)
             time = time_of((begin + 1500 + 9) // 10 * 10)
             line = f"from {time} on subtitles come {way} for viewers: the pictures go on elsewhere"
             self.must(f"{frames} {words}", found.word == word and (not way or any(
