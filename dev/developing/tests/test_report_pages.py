@@ -13,6 +13,7 @@ from subtitles.common.markup import markup
 from subtitles.common.program import MadeWith
 from subtitles.common.times import CLOCK, FRAMES_OF_A_DAY, Spans, TICKS
 from subtitles.formats.teletext import ENGLISH
+from subtitles.judging.status import ACCEPTED, LOST, REFUSED, WAIVED, WARNED
 from subtitles.report import drawing, page as report_page
 from subtitles.report.faults import Entry
 from subtitles.report.page import lost_places, pages_table, subtitles_words
@@ -191,6 +192,24 @@ class Box(unittest.TestCase):
             words = in_page(lost_places(["<x>"] * count))
             self.assertEqual((words.count("<li>&lt;x&gt;</li>"), "<details>" in words),
                              (count, is_unfolded))
+
+    def test_kind(self) -> None:
+        """The box of a part has the verdict's colour where that is waived, lost or warned; else
+        that of the part, which may be accepted where another one is refused."""
+        rows: list[tuple[str, bool, list[str], str]] = [
+            (ACCEPTED, False, [], "accepted"), (REFUSED, True, [], "refused"),
+            (REFUSED, False, [], "accepted"), (REFUSED, False, ["<x>"], "unseen"),
+            (WARNED, False, [], "unseen"), (LOST, False, [], "unseen"),
+            (LOST, False, ["<x>"], "unseen"), (WAIVED, True, [], "waived"),
+            (WAIVED, False, [], "waived")]
+        for word, is_refused, lost, kind in rows:
+            report: Any = SimpleNamespace(
+                faults=SimpleNamespace(count=0), first=None, seen=None, notes=[], line="<line>",
+                is_refused=is_refused, lost=lost,
+                subject=SimpleNamespace(judged=SimpleNamespace(word=word, sentence="<said>")))
+            box = in_page(report_page.verdict_box(report))
+            with self.subTest(word, is_refused=is_refused, lost=lost):
+                self.assertTrue(box.startswith(f'<div class="verdict {kind}">'), box)
 
     def test_scope(self) -> None:
         """What the verdict speaks of, and what nobody looked at."""
