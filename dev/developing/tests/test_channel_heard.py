@@ -9,7 +9,8 @@ from typing import Iterable
 
 from developing.pes import packet, pes_packet
 from developing.stl import gsi_block
-from subtitles.cli.channel.feed import ANEW, BACK, GAP, MINUTE, clock_times, jump_of
+from subtitles.cli.channel.feed import (
+    ANEW, BACK, GAP, MINUTE, SILENT, Silence, clock_times, jump_of)
 from subtitles.cli.channel.hearing import Heard, Hearing
 from subtitles.common.command_line import Stop
 from subtitles.common.times import CLOCK, TICKS
@@ -230,6 +231,21 @@ class Missing(Case):
             "a break in the stream, before PTS 180000", "1 TS packet lost, before PTS 270000",
             "2 TS packets lost, before PTS 270000", "TS packets of 1.46 s are missing, by the PCR "
             "and the counters of other PIDs, before PTS 360000"], heard.said)
+
+    def test_last_that_is_told(self) -> None:
+        """Silence is counted from the latest PTS, and where PTS begin anew at earlier ones from
+        these; what came before a PID fell silent may be told then."""
+        for alive in (0, 100 * SECOND, CLOCK - 3 * SECOND):
+            for still, later, is_taken in (
+                    (0, 0, False), (0, 1, True), (0, 60 * SECOND, True), (0, -1, False),
+                    (0, -SILENT, False), (0, -SILENT - 1, True), (0, -3600 * SECOND, True),
+                    (9 * SECOND, 1 - SILENT // 2, False), (9 * SECOND, 1, True),
+                    (9 * SECOND, -SILENT - 1, True)):
+                silence, pts = Silence([]), (alive + later) % CLOCK
+                silence.alive, silence.still = alive, still
+                silence.hear(PID, pts)
+                self.must(f"{alive} {still} {later}", silence.alive == (
+                    pts if is_taken else alive), silence.alive)
 
     def test_silence(self) -> None:
         """More than eight seconds of the PCR without a PES packet; told once, and that it goes on.

@@ -8,6 +8,7 @@ import shutil
 import signal
 import subprocess
 import time
+from types import SimpleNamespace
 from typing import Any
 from unittest import mock
 
@@ -102,6 +103,23 @@ class Machine(Programmes):
         self.must("lines", [line for _, what, line in told if what == "begins"] == [
             "nothing has come for 10 seconds", f"{LOST}: it was recorded anew",
             f"nobody records into {channel.folder}", "one: No space left"], told)
+
+    def test_end_of_a_loss(self) -> None:
+        """It stands until something of the feed comes behind it."""
+        channel = Told(self, self.listed("one"))
+        channel.hearing = mock.MagicMock(**{"has_ended.return_value": False,
+                                            "begin.return_value": None, "now": 0})
+        stands, parts = list[bool](), iter([b"", None, b"more", b""])
+
+        def read() -> bytes | None:
+            stands.append(channel.loss is not None)
+            return next(parts)
+
+        recording: Any = SimpleNamespace(has_ended=lambda: len(stands) >= 3)
+        with mock.patch.object(channel.segments, "read", read), \
+                mock.patch.multiple(channel, take=mock.DEFAULT, keep=mock.DEFAULT):
+            channel.follow(recording)
+        self.must("stands", stands == [False, False, True, False], stands)
 
     def test_when(self) -> None:
         """When something changes, and every ten seconds; where it can't be written nothing else

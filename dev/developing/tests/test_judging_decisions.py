@@ -273,6 +273,20 @@ class Pages(Case):
         held = self.held(data[:len(data) // 2 + 1])
         self.must("open and closed once", (held.closed_from(15), held.closed_from(20)) == (20, 20))
 
+    def test_screen(self) -> None:
+        """A header of another page shows what was held before it; what comes behind that is shown
+        once a further one ends the page. One of the page itself ends nothing."""
+        old, new = row(20, b"old"), row(20, b"new")
+        rows: list[tuple[list[bytes], bytes | None]] = [
+            ([], None), ([new], None), ([HEADER], None), ([HEADER, new], None),
+            ([CLOSING], b"old"), ([CLOSING, HEADER, new], b"old"), ([new, CLOSING], b"new"),
+            ([HEADER, new, CLOSING], b"new"), ([HEADER, CLOSING], b"")]
+        for units, wanted in rows:
+            screen = self.held(pes_packet(0, [HEADER, old]) +
+                               pes_packet(TICKS * 10, units)).state.screen
+            text = screen and screen[0][19].strip(b"\x0b ")
+            self.must(f"{units}", text == wanted, text)
+
     def test_doubts(self) -> None:
         """From before what can't be read to the next: a first place, and a second."""
         good = [pes_packet(TICKS * frame, [HEADER, CLOSING]) for frame in range(0, 100, 10)]

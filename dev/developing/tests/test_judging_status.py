@@ -338,7 +338,7 @@ class Worst(Case):
 
     def test_by_causes(self) -> None:
         """The subtitle with the worst cause, the first of several; its first fault. A fault without
-        a cause is said first where it is worse."""
+        a cause is said first where it is worse, and not where it is as bad."""
         def at(second: int) -> str:
             return f"refused 72 Content frame 10:00:0{second}:00 row 22 column 3"
 
@@ -349,6 +349,7 @@ class Worst(Case):
             (["wrong colour or attribute", "early", "early", "early"], lines, at(2)),
             (["wrong colour or attribute"] * 4, lines, at(1)),
             (["not received"] * 4, lines, CONTROL), (["not received"] * 4, lines[1:], at(1)),
+            (["not received"] * 4, [LOST_LINE, *lines[1:]], at(1)),
             (["late"] * 4, [*lines, OPEN], OPEN), (["wrong text"] * 4, [*lines, OPEN], at(1)))
         for names, some, wanted in rows:
             causes: Any = SimpleNamespace(

@@ -27,6 +27,7 @@ from ..definitions import Library, counts
 from ..promises import clauses_in, unknown_clauses
 from .bench import Case
 from .judged import judged
+from .listings import Lines
 from .muxed import Packet, Shape, TELETEXT_PID, in_frames, multiplexed, stream, without
 from .parts import asked_for, call_words
 from .sent import packets, programme, scheduled
@@ -79,6 +80,17 @@ class Places(Case):
             self.must(f"{marks} {clocks} {jumps}", told == wanted, told)
         self.must("said", what_of(Place(1, 2, is_announced=True)) == "more time passes than usual, "
                   "and a jump of the counter is announced")
+
+    def test_marks(self) -> None:
+        """Each is behind the last PTS before it, which several PES packets in a row end with."""
+        one, last = Lines(TELETEXT_PID), SECOND + 4 * TICKS
+        lines = [one.gap(1), one.pes(SECOND, "", 5, TICKS), one.gap(2), one.gap(3),
+                 one.pes(9 * SECOND, ""), one.gap(4)]
+        known = Survey()
+        for line in lines:
+            known.take(line)
+        found = [mark.before for mark in known.by_pid[TELETEXT_PID].marks]
+        self.must("before", found == [None, last, last, 9 * SECOND], found)
 
     def test_which_are_one(self) -> None:
         """Two places are one where both lack what is between the same PES packets: not where one

@@ -115,13 +115,15 @@ class Ranges(Case):
                   "--from 00:00:32:00 --to 00:00:58:10" in commands[1], commands)
 
     def test_of_a_channel(self) -> None:
-        """Two programmes of a day's file, a line each: each is waited for by its own times."""
+        """Two programmes of a day's file, a line each: each is waited for by its own times, with an
+        origin or without."""
         day = self.day()
         for words, span in ((EARLIER, (50, 190)), (LATER, (MINUTE + 50, MINUTE + 190)),
                             ((), (50, MINUTE + 190))):
-            asked = Queue("list", defaults()).asked_of([day, *words])
-            awaited = Awaited(asked, 0, 1 << 40)
-            self.must(f"{words}", (awaited.first, awaited.last) == span)
+            for clock in ((), ("--origin", "7")):
+                asked = Queue("list", defaults()).asked_of([day, *words, *clock])
+                awaited = Awaited(asked, 0, 1 << 40)
+                self.must(f"{words} {clock}", (awaited.first, awaited.last) == span)
 
     def test_commands(self) -> None:
         """The files that a command names; `judged` finds no others in any that is printed."""
