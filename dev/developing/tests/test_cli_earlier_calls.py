@@ -338,6 +338,26 @@ class Watched(Case):
                   and not os.path.exists(self.path("out/a.json")), lines)
         self.must("at each look but the first", begun == ["a"] * 4, begun)
 
+    def test_pair_that_was_in_use(self) -> None:
+        """Once the other call has ended it is judged, and no more as long as it stays as it is."""
+        os.mkdir(self.path("in"))
+        for name in ("in/a.stl", "in/a.ts"):
+            self.write(name, b"1")
+
+        begun = list[bool]()
+
+        def judged(calls: Calls, item: Item) -> Row:
+            row_of = calls.begin(item)
+            begun.append(row_of is None)
+            return row_of or row(item.name, "accepted")
+
+        other = contextlib.ExitStack()
+        other.enter_context(claimed(self.path("out"), "a"))
+        with other, mock.patch.object(Calls, "begin_claimed", return_value=None):
+            lines = self.looked(8, judged, lambda look: other.close() if look == 4 else None)
+        self.must("judged once", begun == [False, False, False, True] and len(lines) == 2 and
+                  lines[1] == "a  accepted", (begun, lines))
+
     def test_what_changes(self) -> None:
         """A pair is judged once as it is, and again when it has changed; what comes meanwhile is
         judged at the next look."""
