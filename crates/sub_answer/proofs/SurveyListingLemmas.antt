@@ -15,7 +15,7 @@ use Rattle.ts_survey.specs.Listed as listed
 use Rattle.ts_survey.specs.Survey.{Grows}
 
 pub printed-done : (options : SurveyOptions) (out : SinkCall)
-    → listed.Surveys options out.old out.new
+    → listed.TellsSurvey options out.old out.new
     → out.new_count ≡ out.old_count
     → PrintsSurvey options out Done
 unfolding PrintsOrFails
@@ -41,17 +41,17 @@ printed-cut options out grows risen = record {
 }
 
 pub printed-told :
-    (options : SurveyOptions) (out : SinkCall) (mid : Option (List ℕ)) (mid_count : ℕ)
+    (options : SurveyOptions) (out : SinkCall) (mid : Option (List ℕ)) (count : ℕ)
     (told : FaultLine) (status : Status)
     → Grows out.old mid
-    → mid_count ≡ out.old_count
-    → PrintsOrFails (record out { old = mid; old_count = mid_count }) (fault_listing told) status
+    → count ≡ out.old_count
+    → PrintsOrFails (record out { old = mid; old_count = count }) (fault_listing told) status
     → status_of told.kind ≡ Fault
     → status ≢ Done
     → status ≡ Fault
     → PrintsSurvey options out status
 unfolding PrintsOrFails
-printed-told options out mid mid_count told status grows same (inl p) is_fault other fault = record {
+printed-told options out mid count told status grows same (inl p) is_fault other fault = record {
   listing = record { text = grows.0 ++ line_of told; status = status_of told.kind };
   printed = inl (
     p.0 ∙ same,
@@ -60,14 +60,14 @@ printed-told options out mid mid_count told status grows same (inl p) is_fault o
   );
   done = λ is. absurd (other is);
   fault = λ not. fault;
-  line = λ not count. record {
+  line = λ not kept. record {
     before = grows.0;
     fault = told;
     is_fault = is_fault;
     told = refl;
   };
 }
-printed-told options out mid mid_count told status grows same (inr p) is_fault other fault = record {
+printed-told options out mid count told status grows same (inr p) is_fault other fault = record {
   listing = record { text = grows.0 ++ line_of told; status = status_of told.kind };
   printed = inr (
     p.0 ∙ ap (λ n. n + 1) same,
@@ -76,7 +76,7 @@ printed-told options out mid mid_count told status grows same (inr p) is_fault o
   );
   done = λ is. absurd (other is);
   fault = λ not. fault;
-  line = λ not count. record {
+  line = λ not kept. record {
     before = grows.0;
     fault = told;
     is_fault = is_fault;

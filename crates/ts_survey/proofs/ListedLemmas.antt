@@ -1,23 +1,33 @@
--- What a recording is stays as it was asked, what_goes_on and as-asked-on; and the end: told-end.
+-- What a recording is stays as it was asked, what_goes_on and as-asked-on; what is told of it,
+-- told-on and told-more; and the end: told-end.
 use Rattle.std.proofs.Common.{◌≡◌, Bool, false, List, [], ◌++◌, ℕ, Option, Some, None}
 use Rattle.std.proofs.Common.{◌∷◌, ◌∙◌, ap, append-nil, append_assoc, arith, refl, subst, sym}
+use Rattle.std.proofs.Common.{if◌then◌else◌, take, true}
 use Rattle.std.proofs.KnownBytes.{Appends-trans}
 use Rattle.std.specs.Io.KnownBytes.{Appends, Keeps}
+use Rattle.std.proofs.lemmas.List.Folds.{concat-append}
 use Rattle.std.specs.List.{concat}
 use Rattle.std.specs.Prelude.{IfSome, length}
+use Rattle.mpeg_ts.specs.PacketSize.{bytes_of}
 use Rattle.mpeg_ts.specs.declared.packet_size.PacketSize.{PacketSize}
 use Rattle.mpeg_ts.specs.declared.survey_options.SurveyOptions.{SurveyOptions}
 use Rattle.ttx_page.specs.Receiver.{RunsBy}
 use Rattle.ts_survey.specs.Asked.{KeepsAsked, keeps_asked, others_followed}
+use Rattle.ts_survey.specs.FirstLines.{FindsKind, asked_words, head_size, head_so_far, head_told}
+use Rattle.ts_survey.specs.FirstLines.{head_words, kind_words, size_line}
 use Rattle.ts_survey.specs.InStep.{TakesAll}
-use Rattle.ts_survey.specs.Listed.{GoesOn, IsAsAsked, Surveys, TellsEnd, last_words, over_line}
-use Rattle.ts_survey.specs.Survey.{Grows}
+use Rattle.ts_survey.specs.Lines.{AddsWords}
+use Rattle.ts_survey.specs.Listed.{GoesOn, IsAsAsked, IsTold, TellsSurvey, TellsEnd, last_words}
+use Rattle.ts_survey.specs.Listed.{over_line, packets_in, skipped_of}
+use Rattle.ts_survey.specs.Stream.{is_unknown}
 use Rattle.ts_survey.specs.declared.multiplex.Multiplex.{Multiplex}
 use Rattle.ts_survey.specs.declared.packets_in_step.PacketsInStep.{PacketsInStep}
 use Rattle.ts_survey.specs.declared.recording.Kind.{Kind}
 use Rattle.ts_survey.specs.declared.recording.Kind.TheVariants.{Nothing, Pes, Stream, Unknown}
+use Rattle.ts_survey.specs.declared.recording.Recording.{Recording}
 use Rattle.ts_survey.specs.declared.text.Text.{Text}
 use Rattle.ts_survey.proofs.EndingsLemmas.{adds-none}
+use Rattle.ts_survey.proofs.TextLemmas.{adds-words}
 
 -- ---- what a recording is
 
@@ -99,7 +109,7 @@ pub ruleset stays_as_asked = (as-asked-as, goes-same)
 -- For `tell_last`: what is no stream and no file of PES packets tells nothing.
 pub ruleset nothing_kept = (adds-none)
 
-no-items : (xs : List ℕ) → length xs ≡ 0 → xs ≡ []
+pub no-items : (xs : List ℕ) → length xs ≡ 0 → xs ≡ []
 no-items [] none = refl
 no-items (x ∷ xs) none = absurd (omega arith)
 
@@ -122,27 +132,290 @@ appends-empty (Some xs) bytes none =
 -- For `hand_on` of lines.
 pub ruleset all_told = (appends-kept, appends-empty)
 
+-- ---- what it is
+
+-- What a recording is stays told.
+kind-words-on : (old new : Kind)
+    → GoesOn old new
+    → kind_words new ≡ kind_words old
+kind-words-on Unknown Unknown on = refl
+kind-words-on Unknown (Pes g) on = absurd on
+kind-words-on Unknown (Stream q n) on = absurd on
+kind-words-on Unknown Nothing on = absurd on
+kind-words-on (Pes f) Unknown on = absurd on
+kind-words-on (Pes f) (Pes g) on = refl
+kind-words-on (Pes f) (Stream q n) on = absurd on
+kind-words-on (Pes f) Nothing on = absurd on
+kind-words-on (Stream p m) Unknown on = absurd on
+kind-words-on (Stream p m) (Pes g) on = absurd on
+kind-words-on (Stream p m) (Stream q n) on =
+    ap (λ size. size_line (bytes_of size) ++ asked_words n.asked) on.size
+    ∙ ap (λ asked. size_line (bytes_of p.size) ++ asked_words asked) on.keeps.0
+kind-words-on (Stream p m) Nothing on = absurd on
+kind-words-on Nothing Unknown on = absurd on
+kind-words-on Nothing (Pes g) on = absurd on
+kind-words-on Nothing (Stream q n) on = absurd on
+kind-words-on Nothing Nothing on = refl
+
+-- What is known stays known, and what is not stays so.
+unknown-on : (old new : Kind) → GoesOn old new → is_unknown new ≡ is_unknown old
+unknown-on Unknown Unknown on = refl
+unknown-on Unknown (Pes g) on = absurd on
+unknown-on Unknown (Stream q n) on = absurd on
+unknown-on Unknown Nothing on = absurd on
+unknown-on (Pes f) Unknown on = absurd on
+unknown-on (Pes f) (Pes g) on = refl
+unknown-on (Pes f) (Stream q n) on = absurd on
+unknown-on (Pes f) Nothing on = absurd on
+unknown-on (Stream p m) Unknown on = absurd on
+unknown-on (Stream p m) (Pes g) on = absurd on
+unknown-on (Stream p m) (Stream q n) on = refl
+unknown-on (Stream p m) Nothing on = absurd on
+unknown-on Nothing Unknown on = absurd on
+unknown-on Nothing (Pes g) on = absurd on
+unknown-on Nothing (Stream q n) on = absurd on
+unknown-on Nothing Nothing on = refl
+
+-- What is not known is not told.
+unknown-words : (kind : Kind) → is_unknown kind ≡ true → kind_words kind ≡ []
+unknown-words Unknown is = refl
+unknown-words (Pes f) is = absurd cc
+unknown-words (Stream p m) is = absurd cc
+unknown-words Nothing is = absurd cc
+
+pub adds-nothing : (kind : Kind) (text : Text)
+    → is_unknown kind ≡ true
+    → AddsWords text (kind_words kind) text
+adds-nothing kind text is =
+    subst (λ words. AddsWords text words text) (sym (unknown-words kind is)) (adds-none text)
+
+-- Nothing is told of what has not come.
+pub told-start : (recording : Recording)
+    → recording.kind ≡ Unknown
+    → recording.has_head ≡ false
+    → IsTold recording []
+told-start recording unknown none = record {
+  head = [];
+  more = [];
+  told =
+      sym (ap (λ kind. concat (head_so_far recording.has_head [] ++ kind_words kind) ++ []) unknown
+      ∙ ap (λ has. concat (head_so_far has [] ++ []) ++ []) none);
+  unknown = λ is. refl;
+  none = λ no. ap is_unknown unknown;
+}
+
+-- More was told of what is known.
+pub told-more : (old new : Recording) (listing more : List ℕ)
+    → IsTold old listing
+    → GoesOn old.kind new.kind
+    → new.has_head ≡ old.has_head
+    → (is_unknown old.kind ≡ true → more ≡ [])
+    → IsTold new (listing ++ more)
+told-more old new listing more told on same none = record {
+  head = told.head;
+  more = told.more ++ more;
+  told =
+      ap (λ l. l ++ more) told.told
+      ∙ append_assoc _ told.more more
+      ∙ ap (λ words. concat (head_so_far old.has_head told.head ++ words) ++ (told.more ++ more))
+      (sym (kind-words-on old.kind new.kind on))
+      ∙ ap (λ has. concat (head_so_far has told.head ++ kind_words new.kind) ++ (told.more ++ more))
+      (sym same);
+  unknown = λ is.
+      let was = sym (unknown-on old.kind new.kind on) ∙ is in
+      ap (λ l. l ++ more) (told.unknown was) ∙ none was;
+  none = λ no. unknown-on old.kind new.kind on ∙ told.none (sym same ∙ no);
+}
+
+-- Nothing more was told.
+pub told-kept : (old new : Recording) (listing : List ℕ)
+    → IsTold old listing
+    → GoesOn old.kind new.kind
+    → new.has_head ≡ old.has_head
+    → IsTold new listing
+told-kept old new listing told on same =
+    subst (λ l. IsTold new l) (append-nil listing)
+    (told-more old new listing [] told on same (λ is. refl))
+
+-- The head that is told: the one that was, or else the first bytes.
+abbrev head-of : Bool → List ℕ → List ℕ → List ℕ
+head-of has_head head bytes = if has_head then head else take head_size bytes
+
+heads : (before after : Bool) (head bytes : List ℕ)
+    → (before ≡ true → after ≡ true)
+    → head_so_far after (head-of before head bytes)
+    ≡ head_so_far before head ++ head_told before bytes after
+heads true true head bytes stays = sym (append-nil (head_words head))
+heads true false head bytes stays = let e = stays refl in cc
+heads false after head bytes stays = refl
+
+-- The head was told, and then what it is: for `find_kind`.
+pub found-behind-head :
+    (old mid new : Recording) (bytes : List ℕ) (before between after : Text)
+    → old.has_head ≡ false
+    → mid.has_head ≡ true
+    → new.has_head ≡ mid.has_head
+    → mid.kind ≡ Unknown
+    → (mid.is_short ≡ false
+    → AddsWords before (head_words (take head_size bytes) ++ kind_words mid.kind) between)
+    → (new.is_short ≡ false → mid.is_short ≡ false)
+    → (new.is_short ≡ false → AddsWords between (kind_words new.kind) after)
+    → FindsKind old bytes before after new
+found-behind-head old mid new bytes before between after not has same unknown head short kind = record {
+  told = λ enough.
+      let words = head_words (take head_size bytes) in
+      let e : head_told old.has_head bytes new.has_head ≡ words ++ kind_words mid.kind =
+      ap (λ was. head_told was bytes new.has_head) not
+      ∙ ap (λ is. head_so_far is (take head_size bytes)) (same ∙ has)
+      ∙ sym (append-nil words)
+      ∙ ap (λ k. words ++ kind_words k) (sym unknown) in
+      subst (λ l. AddsWords before (l ++ kind_words new.kind) after) (sym e)
+      (adds-words (words ++ kind_words mid.kind) (kind_words new.kind) (head (short enough))
+      (kind enough));
+  stays = λ is. same ∙ has;
+  none = λ is. let e = sym (same ∙ has) ∙ is in cc;
+}
+
+-- It had been told.
+pub found-with-head : (old new : Recording) (bytes : List ℕ) (before after : Text)
+    → old.has_head ≡ true
+    → new.has_head ≡ old.has_head
+    → (new.is_short ≡ false → AddsWords before (kind_words new.kind) after)
+    → FindsKind old bytes before after new
+found-with-head old new bytes before after has same kind = record {
+  told = λ enough.
+      subst (λ was. AddsWords before (head_told was bytes new.has_head ++ kind_words new.kind) after)
+      (sym has) (kind enough);
+  stays = λ is. same ∙ is;
+  none = λ is. let e = sym (same ∙ has) ∙ is in cc;
+}
+
+-- It was found what a recording is, or some of it was looked at.
+told-found : (old new : Recording) (bytes listing text : List ℕ) (first last : Text)
+    → IsTold old listing
+    → is_unknown old.kind ≡ true
+    → FindsKind old bytes first last new
+    → new.is_short ≡ false
+    → first.bytes.items ≡ []
+    → last.is_lost ≡ false
+    → (is_unknown new.kind ≡ true → text ≡ [])
+    → IsTold new (listing ++ (last.bytes.items ++ text))
+told-found old new bytes listing text first last told is finds enough empty whole none =
+    let had = head_so_far old.has_head told.head in
+    let more = head_told old.has_head bytes new.has_head in
+    let known = kind_words new.kind in
+    let was : listing ≡ concat had =
+    told.told
+    ∙ ap (λ l. concat (had ++ kind_words old.kind) ++ l) (told.unknown is)
+    ∙ append-nil (concat (had ++ kind_words old.kind))
+    ∙ ap (λ l. concat (had ++ l)) (unknown-words old.kind is)
+    ∙ ap concat (append-nil had) in
+    let now : last.bytes.items ≡ concat (more ++ known) =
+    (finds.told enough).added whole ∙ ap (λ l. l ++ concat (more ++ known)) empty in
+    record {
+      head = head-of old.has_head told.head bytes;
+      more = text;
+      told =
+          ap (λ l. l ++ (last.bytes.items ++ text)) was
+          ∙ ap (λ l. concat had ++ (l ++ text)) now
+          ∙ sym (append_assoc (concat had) (concat (more ++ known)) text)
+          ∙ ap (λ l. l ++ text) (sym (concat-append had (more ++ known)))
+          ∙ ap (λ l. concat l ++ text) (sym (append_assoc had more known))
+          ∙ ap (λ l. concat (l ++ known) ++ text)
+          (sym (heads old.has_head new.has_head told.head bytes finds.stays));
+      unknown = none;
+      none = finds.none;
+    }
+
+told-by : (is : Bool) (old new : Recording) (bytes listing text : List ℕ) (first last : Text)
+    → is_unknown old.kind ≡ is
+    → IsTold old listing
+    → (is_unknown old.kind ≡ true → FindsKind old bytes first last new)
+    → (is_unknown old.kind ≡ false
+    → (last ≡ first) × (new.has_head ≡ old.has_head) × GoesOn old.kind new.kind)
+    → new.is_short ≡ false
+    → first.bytes.items ≡ []
+    → last.is_lost ≡ false
+    → (is_unknown new.kind ≡ true → text ≡ [])
+    → IsTold new (listing ++ (last.bytes.items ++ text))
+told-by true old new bytes listing text first last is told finds goes enough empty whole none =
+    told-found old new bytes listing text first last told is (finds is) enough empty whole none
+told-by false old new bytes listing text first last is told finds goes enough empty whole none =
+    let on = goes is in
+    let same : last.bytes.items ≡ [] = ap (λ t. t.bytes.items) on.0 ∙ empty in
+    subst (λ l. IsTold new (listing ++ (l ++ text))) (sym same)
+    (told-more old new listing text told on.2 on.1
+    (λ unknown. none (unknown-on old.kind new.kind on.2 ∙ unknown)))
+
+-- More of a recording was looked at.
+pub told-on : (old new : Recording) (bytes listing text : List ℕ) (first last : Text)
+    → IsTold old listing
+    → (is_unknown old.kind ≡ true → FindsKind old bytes first last new)
+    → (is_unknown old.kind ≡ false
+    → (last ≡ first) × (new.has_head ≡ old.has_head) × GoesOn old.kind new.kind)
+    → new.is_short ≡ false
+    → length first.bytes.items ≡ 0
+    → last.is_lost ≡ false
+    → (is_unknown new.kind ≡ true → text ≡ [])
+    → IsTold new (listing ++ (last.bytes.items ++ text))
+told-on old new bytes listing text first last told finds goes enough empty whole none =
+    told-by (is_unknown old.kind) old new bytes listing text first last refl told finds goes enough
+    (no-items first.bytes.items empty) whole none
+
+-- ---- the end
+
+has-head : (is : Bool) (kind : Kind)
+    → is_unknown kind ≡ false
+    → (is ≡ false → is_unknown kind ≡ true)
+    → is ≡ true
+has-head true kind known none = refl
+has-head false kind known none = let e = sym (none refl) ∙ known in cc
+
+-- All that was kept, and then the two numbers.
+pub ends-told : (recording : Recording) (old mid new : Text) (skipped number : ℕ)
+    → AddsWords old (last_words recording.kind) mid
+    → skipped ≡ skipped_of recording
+    → number ≡ packets_in recording.kind
+    → AddsWords mid (over_line skipped number) new
+    → TellsEnd recording old new
+ends-told recording old mid new skipped number kept is are over =
+    let kind = recording.kind in
+    adds-words (last_words kind) (over_line (skipped_of recording) (packets_in kind)) kept
+    (subst (λ n. AddsWords mid (over_line (skipped_of recording) n) new) are
+    (subst (λ n. AddsWords mid (over_line n number) new) is over))
+
 -- The recording is over.
 pub told-end :
-    (options : SurveyOptions) (start old out : Option (List ℕ)) (kind : Kind) (text last : Text)
-    → Grows start old
-    → IsAsAsked options kind
-    → TellsEnd kind text last
+    (options : SurveyOptions) (start old out : Option (List ℕ)) (recording : Recording)
+    (first text last : Text) (before : List ℕ)
+    → Appends start old before
+    → IsTold recording (before ++ (first.bytes.items ++ text.bytes.items))
+    → is_unknown recording.kind ≡ false
+    → IsAsAsked options recording.kind
+    → TellsEnd recording text last
     → last.is_lost ≡ false
-    → Appends old out last.bytes.items
-    → Surveys options start out
-told-end options start old out kind text last grows asked end kept more =
-    let words = concat (last_words kind ++ over_line end.skipped end.number) in
-    let same : last.bytes.items ≡ text.bytes.items ++ words = end.told.added kept in (
-      grows.0 ++ last.bytes.items,
-      Appends-trans start old out grows.0 last.bytes.items grows.1 more,
+    → Appends old out (first.bytes.items ++ last.bytes.items)
+    → TellsSurvey options start out
+told-end options start old out recording first text last before was told known asked end whole more =
+    let kind = recording.kind in
+    let told_last = last_words kind ++ over_line (skipped_of recording) (packets_in kind) in
+    let words = concat told_last in
+    let is_head = has-head recording.has_head kind known told.none in
+    let same : last.bytes.items ≡ text.bytes.items ++ words = end.added whole in (
+      before ++ (first.bytes.items ++ last.bytes.items),
+      Appends-trans start old out before (first.bytes.items ++ last.bytes.items) was more,
       record {
-        kind = kind;
+        last = recording;
         asked = asked;
-        before = grows.0 ++ text.bytes.items;
-        skipped = end.skipped;
-        number = end.number;
+        known = known;
+        head = told.head;
+        between = told.more;
         listed =
-            ap (λ l. grows.0 ++ l) same ∙ sym (append_assoc grows.0 text.bytes.items words);
+            ap (λ l. before ++ (first.bytes.items ++ l)) same
+            ∙ ap (λ l. before ++ l) (sym (append_assoc first.bytes.items text.bytes.items words))
+            ∙ sym (append_assoc before (first.bytes.items ++ text.bytes.items) words)
+            ∙ ap (λ l. l ++ words)
+            (told.told
+            ∙ ap (λ has. concat (head_so_far has told.head ++ kind_words kind) ++ told.more) is_head);
       },
     )

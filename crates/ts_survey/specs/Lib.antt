@@ -4,6 +4,7 @@ pub mod Asked
 pub mod Clocks
 pub mod Counters
 pub mod Endings
+pub mod FirstLines
 pub mod Following
 pub mod FormWindow
 pub mod Forms

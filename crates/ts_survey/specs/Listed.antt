@@ -1,18 +1,22 @@
--- The last lines that `survey` prints are of what was followed as it was asked (own;
--- docs/manual/survey.md).
-use Rattle.std.specs.Prelude.{◌≡◌, ⊤, ℕ, List, [], ◌∷◌, ◌++◌, Option, IfSome, codes}
+-- What `survey` prints begins with what the recording is, as it was asked, and ends with what is
+-- known of it at its end (own; docs/manual/survey.md).
+use Rattle.std.specs.Prelude.{◌≡◌, ⊤, true, false, ℕ, List, [], ◌∷◌, ◌++◌, Option, IfSome}
+use Rattle.std.specs.Prelude.{codes}
 use Rattle.std.specs.Io.KnownBytes.{Appends}
 use Rattle.std.specs.List.{concat}
 use Rattle.mpeg_ts.specs.declared.survey_options.SurveyOptions.{SurveyOptions}
 use Rattle.ts_survey.specs.Asked.{KeepsAsked, others_followed}
 use Rattle.ts_survey.specs.Endings.{counts_words, end_words}
+use Rattle.ts_survey.specs.FirstLines.{head_so_far, head_words, kind_words}
 use Rattle.ts_survey.specs.Lines.{AddsWords, line_end, number_word, run_words}
+use Rattle.ts_survey.specs.Stream.{is_unknown}
 use Rattle.ts_survey.specs.Text.{time_word}
 use Rattle.ts_survey.specs.declared.multiplex.Multiplex.{Multiplex}
 use Rattle.ts_survey.specs.declared.packets_in_step.PacketsInStep.{PacketsInStep}
 use Rattle.ts_survey.specs.declared.pes_file.PesFile.{PesFile}
 use Rattle.ts_survey.specs.declared.recording.Kind.{Kind}
 use Rattle.ts_survey.specs.declared.recording.Kind.TheVariants.{Nothing, Pes, Stream, Unknown}
+use Rattle.ts_survey.specs.declared.recording.Recording.{Recording}
 use Rattle.ts_survey.specs.declared.text.Text.{Text}
 
 -- ---- what is followed
@@ -63,27 +67,55 @@ last_words (Pes file) = file_words file
 last_words (Stream packets multiplex) = end_words multiplex
 last_words _ = []
 
+-- The packets that came: none of what is no stream.
+abbrev pub packets_in : Kind → ℕ
+packets_in (Stream packets multiplex) = packets.number
+packets_in _ = 0
+
+-- The bytes that belong to no packet: all of what is no stream and no file of PES packets.
+abbrev pub skipped_by : Kind → ℕ → ℕ
+skipped_by (Pes file) skipped = 0
+skipped_by (Stream packets multiplex) skipped = packets.skipped
+skipped_by _ skipped = skipped
+
 -- `over SKIPPED PACKETS`.
 abbrev pub over_line : ℕ → ℕ → List (List ℕ)
 over_line skipped number =
     codes "over" ∷ number_word skipped ∷ number_word number ∷ line_end ∷ []
 
--- All that was told, and then that the recording is over.
-pub record TellsEnd (kind : Kind) (old new : Text) : Type 0 where
-  pub skipped : ℕ
-  pub number : ℕ
-  pub told : AddsWords old (last_words kind ++ over_line skipped number) new
+-- The bytes of a recording that belong to no packet.
+abbrev pub skipped_of : Recording → ℕ
+skipped_of r = skipped_by r.kind r.skipped
 
--- The lines of a recording that was read to its end.
+-- All that was told, and then that the recording is over.
+abbrev pub TellsEnd : Recording → Text → Text → Type 0
+TellsEnd r old new =
+    AddsWords old (last_words r.kind ++ over_line (skipped_of r) (packets_in r.kind)) new
+
+-- ---- the lines of a recording
+
+-- What was told of a recording as far as it has come: what it is, and then what is in it.
+pub record IsTold (recording : Recording) (listing : List ℕ) : Type 0 where
+  pub head : List ℕ
+  pub more : List ℕ
+  pub told : listing ≡ concat (head_so_far recording.has_head head ++ kind_words recording.kind)
+      ++ more
+  pub unknown : is_unknown recording.kind ≡ true → more ≡ []
+  pub none : recording.has_head ≡ false → is_unknown recording.kind ≡ true
+
+-- The lines of a recording that was read to its end: what it is, as it was asked; what is in it;
+-- and what is known at its end.
 pub record IsSurveyed (options : SurveyOptions) (listing : List ℕ) : Type 0 where
-  pub kind : Kind
-  pub asked : IsAsAsked options kind
-  pub before : List ℕ
-  pub skipped : ℕ
-  pub number : ℕ
-  pub listed : listing ≡ before ++ concat (last_words kind ++ over_line skipped number)
+  pub last : Recording
+  pub asked : IsAsAsked options last.kind
+  pub known : is_unknown last.kind ≡ false
+  pub head : List ℕ
+  pub between : List ℕ
+  pub listed :
+      listing ≡ concat (head_words head ++ kind_words last.kind) ++ between
+      ++ concat (last_words last.kind ++ over_line (skipped_of last) (packets_in last.kind))
 
 -- They were told behind what was there.
-abbrev pub Surveys : SurveyOptions → Option (List ℕ) → Option (List ℕ) → Type 0
-Surveys options old new =
+abbrev pub TellsSurvey : SurveyOptions → Option (List ℕ) → Option (List ℕ) → Type 0
+TellsSurvey options old new =
     (listing : List ℕ) × Appends old new listing × IsSurveyed options listing

@@ -1,12 +1,14 @@
 //! All that is followed in a transport stream, one packet after another.
 ghost use Rattle.std.specs.List.{slice_get};
-ghost use Rattle.std.specs.Prelude.{◌≡◌, ◌≢◌, ◌<◌, IfSome, [], map};
-ghost use Rattle.ts_survey.specs.Asked.{KeepsAsked, keeps_asked, others_followed, pid_followed};
+ghost use Rattle.std.specs.Prelude.{◌≡◌, ◌≢◌, ◌<◌, IfSome, [], length, map, true};
+ghost use Rattle.ts_survey.specs.Asked.{KeepsAsked, is_asked, keeps_asked, others_followed};
+ghost use Rattle.ts_survey.specs.Asked.{pid_followed};
 ghost use Rattle.ts_survey.specs.Endings.{carrier_words, clock_words, end_words, pictures_words};
 ghost use Rattle.ts_survey.specs.Endings.{pid_words, pids_words, waiting_words, words_of};
 ghost use Rattle.ts_survey.specs.Adaptation.{pcr_base};
 ghost use Rattle.ts_survey.specs.Holes.{after_pcr_of, pcr_told_of};
 ghost use Rattle.ts_survey.specs.Clocks.{ReadsPcr};
+ghost use Rattle.ts_survey.specs.FirstLines.{asked_words, teletext_line};
 ghost use Rattle.ts_survey.specs.Lines.{AddsWords};
 ghost use Rattle.ts_survey.specs.Missing.{NoteHoles};
 ghost use Rattle.ts_survey.specs.Payload as specs;
@@ -59,8 +61,11 @@ impl Multiplex {
         asked: Option<u16>,
         text: &mut Text,
     ) -> Option<Multiplex>
-        ensures { IfSome result (λ multiplex. (multiplex.asked ≡ asked)
+        ensures asked { IfSome result (λ multiplex. (multiplex.asked ≡ asked)
             × (multiplex.page ≡ page) × (others_followed multiplex ≡ [])) }
+        // The PID that is asked for is followed from here on.
+        ensures told { IfSome result (λ multiplex. AddsWords text.old
+            (asked_words multiplex.asked) text.new) }
     {
         let pids = Pids::new(alloc)?;
         let mut all = Multiplex {
@@ -76,10 +81,10 @@ impl Multiplex {
             clocks: Vec::new(alloc),
             videos: Vec::new(alloc),
         };
-        all.add_table(0);
         if let Some(pid) = asked {
-            all.follow(pid, text);
+            all.add_carrier(pid, text)?;
         }
+        all.add_table(0);
         Some(all)
     }
 
@@ -109,28 +114,37 @@ impl Multiplex {
         ensures other { IfSome self.old.asked (λ asked. pid ≢ asked
             → (self.new.carriers ≡ self.old.carriers) × (text.new ≡ text.old)) }
     {
-        let mut state = self.pids.get(pid);
+        let state = self.pids.get(pid);
         let is_asked = match self.asked {
             Some(asked) => asked == pid,
             None => true,
         };
+        if state.carrier != NONE || !is_asked || self.carriers.len() >= MOST {
+            return;
+        }
+        if self.add_carrier(pid, text).is_none() {
+            self.is_short = true;
+        }
+    }
+
+    // Follows a PID with Teletext from here on. `None` where memory runs out.
+    fn add_carrier(&mut self, pid: u16, text: &mut Text) -> Option<()>
+        requires { length self.old.carriers.items < 64 }
+        ensures asked { is_asked self.old.asked pid ≡ true → KeepsAsked self.old self.new }
+        ensures told { IfSome result (λ _. AddsWords text.old (teletext_line pid) text.new) }
+    {
         let place = self.carriers.len();
-        if state.carrier != NONE || !is_asked || place >= MOST {
-            return;
-        }
-        let Some(carrier) = Carrier::new(self.alloc, pid, self.page) else {
-            self.is_short = true;
-            return;
-        };
+        let carrier = Carrier::new(self.alloc, pid, self.page)?;
         if self.carriers.push(carrier).is_err() {
-            self.is_short = true;
-            return;
+            return None;
         }
+        let mut state = self.pids.get(pid);
         state.carrier = place as u8;
         self.pids.set(pid, state);
         text.put(b"teletext");
-        text.number(u64::from(pid));
+        text.number(pid as u64);
         text.put(b"\n");
+        Some(())
     }
 
     // Follows the clock of a PID.

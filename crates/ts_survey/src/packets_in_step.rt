@@ -94,12 +94,16 @@ impl PacketsInStep {
     }
 
     /// Packets so far.
-    pub fn number(&self) -> u64 {
+    pub fn number(&self) -> u64
+        ensures { result ≡ self.now.number }
+    {
         self.number
     }
 
     /// Bytes that belong to no packet.
-    pub fn skipped(&self) -> u64 {
+    pub fn skipped(&self) -> u64
+        ensures { result ≡ self.now.skipped }
+    {
         self.skipped
     }
 

@@ -1,8 +1,11 @@
 //! A recording, whatever it is: bytes come, and lines are made.
-ghost use Rattle.std.specs.Prelude.{◌≡◌, ◌≤◌, ◌+◌, ◌++◌, IfSome, Some, false, length, true};
+ghost use Rattle.std.specs.Prelude.{◌≡◌, ◌≤◌, ◌+◌, ◌++◌, IfSome, Some, false, length, take, true};
 ghost use Rattle.mpeg_ts.specs.PacketSize.{bytes_of};
+ghost use Rattle.ts_survey.specs.FirstLines.{FindsKind, head_size, head_words, kind_words};
+ghost use Rattle.ts_survey.specs.FirstLines.{size_line, space_of};
 ghost use Rattle.ts_survey.specs.Lines.{AddsWords};
 ghost use Rattle.ts_survey.specs.Listed.{GoesOn, IsAsAsked, TellsEnd, last_words, over_line};
+ghost use Rattle.ts_survey.specs.Listed.{packets_in, skipped_of};
 ghost use Rattle.ts_survey.specs.Room.{most_kept};
 ghost use Rattle.ts_survey.specs.Stream.{IsAsked, TakesOn, is_unknown};
 
@@ -52,7 +55,9 @@ pub struct Recording {
 impl Recording {
     /// Before the first byte.
     pub fn new(alloc: Global, asked: SurveyOptions) -> Recording
-        ensures { (result.asked ≡ asked) × (result.kind ≡ Kind.Unknown) }
+        ensures asked { result.asked ≡ asked }
+        ensures kind { result.kind ≡ Kind.Unknown }
+        ensures none { (result.has_head ≡ false) × (result.is_short ≡ false) }
     {
         Recording {
             alloc,
@@ -76,29 +81,57 @@ impl Recording {
     }
 
     /// Takes bytes: those that were not needed before, and what has come. Answers how many are not
-    /// needed any more.
+    /// needed any more. The lines that a survey begins with are told apart, since they come first.
     #[tactic(auto, using(crate::proofs::ListedLemmas::stays_as_asked))]
-    pub fn take(&mut self, bytes: &[u8], is_end: bool, text: &mut Text) -> usize
+    pub fn take(&mut self, bytes: &[u8], is_end: bool, first: &mut Text, text: &mut Text) -> usize
         ensures within { result ≤ length bytes.now }
         // Few bytes are kept, so there is room for more.
         ensures kept { self.new.is_short ≡ false → length bytes.now ≤ result + most_kept }
         ensures asked { self.new.asked ≡ self.old.asked }
         ensures as_asked { IsAsAsked self.old.asked self.old.kind
             → IsAsAsked self.new.asked self.new.kind }
+        ensures finds { is_unknown self.old.kind ≡ true
+            → FindsKind self.old bytes.now first.old first.new self.new }
+        // Until it is known what it is, nothing else is told; at the end it is known.
+        ensures unknown { is_unknown self.new.kind ≡ true → text.new ≡ text.old }
+        ensures known { is_end ≡ true → self.new.is_short ≡ false
+            → is_unknown self.new.kind ≡ false }
+        ensures goes_on { is_unknown self.old.kind ≡ false → (first.new ≡ first.old)
+            × (self.new.has_head ≡ self.old.has_head)
+            × GoesOn self.old.kind self.new.kind }
     {
-        if !self.has_head {
-            if bytes.len() < HEAD && !is_end {
-                return 0;
-            }
-            self.tell_head(bytes, text);
-        }
         if let Kind::Unknown = &self.kind {
-            let used = self.look(bytes, is_end, text);
+            let used = self.find_kind(bytes, is_end, first);
             if let Kind::Unknown = &self.kind {
                 return used;
             }
         }
         self.hand_on(bytes, is_end, text)
+    }
+
+    // Finds what the recording is, and answers how many bytes need not be looked at again.
+    fn find_kind(&mut self, bytes: &[u8], is_end: bool, first: &mut Text) -> usize
+        ensures within { result ≤ length bytes.now }
+        ensures kept { is_unknown self.new.kind ≡ true → self.new.is_short ≡ false
+            → length bytes.now ≤ result + most_kept }
+        ensures same { self.new.asked ≡ self.old.asked }
+        ensures as_asked { IsAsAsked self.old.asked self.old.kind
+            → IsAsAsked self.new.asked self.new.kind }
+        ensures finds { is_unknown self.old.kind ≡ true
+            → FindsKind self.old bytes.now first.old first.new self.new }
+        ensures known { is_end ≡ true → self.new.is_short ≡ false
+            → is_unknown self.new.kind ≡ false }
+    {
+        if !self.has_head {
+            if bytes.len() < HEAD && !is_end {
+                return 0;
+            }
+            self.tell_head(bytes, first);
+        }
+        if let Kind::Unknown = &self.kind {
+            return self.look(bytes, is_end, first);
+        }
+        0
     }
 
     // Hands on what the bytes have, and answers how many of them are not needed any more.
@@ -112,6 +145,8 @@ impl Recording {
         ensures taken { TakesOn self.old.kind bytes.now is_end result self.new.kind }
         ensures kind { GoesOn self.old.kind self.new.kind }
         ensures asked { self.new.asked ≡ self.old.asked }
+        ensures same { (self.new.has_head ≡ self.old.has_head)
+            × (self.new.is_short ≡ self.old.is_short) }
     {
         match &mut self.kind {
             Kind::Pes(file) => file.take(bytes, is_end, text),
@@ -124,23 +159,22 @@ impl Recording {
     }
 
     // Tells the first bytes, and what they say.
-    fn tell_head(&mut self, bytes: &[u8], text: &mut Text)
+    fn tell_head(&mut self, bytes: &[u8], first: &mut Text)
         ensures asked { self.new.asked ≡ self.old.asked }
         ensures as_asked { IsAsAsked self.old.asked self.old.kind
             → IsAsAsked self.new.asked self.new.kind }
+        ensures has_head { self.new.has_head ≡ true }
+        ensures told { is_unknown self.old.kind ≡ true → self.new.is_short ≡ false
+            → AddsWords first.old (head_words (take head_size bytes.now) ++ kind_words self.new.kind)
+            first.new }
     {
         self.has_head = true;
-        let (head, _) = bytes.split_at(bytes.len().min(HEAD));
-        text.put(b"survey 1\nhead");
-        if !head.is_empty() {
-            text.put(b" ");
-        }
-        text.hex(head);
-        text.put(b"\n");
+        let head = head_in(bytes);
+        put_head(head, first);
         if !is_pes_file(head) {
             return;
         }
-        text.put(b"size 0\n");
+        first.put(b"size 0\n");
         match PesFile::new(self.alloc, self.asked.page) {
             Some(file) => self.kind = Kind::Pes(file),
             None => self.is_short = true,
@@ -148,7 +182,7 @@ impl Recording {
     }
 
     // Looks for the distance of packets. Answers how many bytes need not be looked at again.
-    fn look(&mut self, bytes: &[u8], is_end: bool, text: &mut Text) -> usize
+    fn look(&mut self, bytes: &[u8], is_end: bool, first: &mut Text) -> usize
         ensures within { result ≤ length bytes.now }
         ensures kept { is_unknown self.new.kind ≡ true → self.new.is_short ≡ false
             → length bytes.now ≤ result + most_kept }
@@ -157,9 +191,15 @@ impl Recording {
         ensures same { self.new.asked ≡ self.old.asked }
         ensures as_asked { IsAsAsked self.old.asked self.old.kind
             → IsAsAsked self.new.asked self.new.kind }
+        ensures has_head { self.new.has_head ≡ self.old.has_head }
+        ensures short { self.new.is_short ≡ false → self.old.is_short ≡ false }
+        ensures told { is_unknown self.old.kind ≡ true → self.new.is_short ≡ false
+            → AddsWords first.old (kind_words self.new.kind) first.new }
+        ensures known { is_end ≡ true → self.new.is_short ≡ false
+            → is_unknown self.new.kind ≡ false }
     {
         if let Some(size) = size_in(self.asked.packet_size, bytes, is_end) {
-            self.begin(size, text);
+            self.begin(size, first);
             return 0;
         }
         let used = if bytes.len() > LOOKED_AT {
@@ -169,7 +209,7 @@ impl Recording {
         };
         let seen = self.skipped.saturating_add(bytes.len() as u64);
         if is_end || seen > MOST_LOOKED_AT {
-            text.put(b"nothing\n");
+            first.put(b"nothing\n");
             self.kind = Kind::Nothing;
             return 0;
         }
@@ -178,19 +218,21 @@ impl Recording {
     }
 
     // It is a transport stream.
-    fn begin(&mut self, size: PacketSize, text: &mut Text)
+    fn begin(&mut self, size: PacketSize, first: &mut Text)
         ensures asked { self.new.is_short ≡ false
             → IsAsked self.old.asked (bytes_of size) self.new.kind }
         ensures same { self.new.asked ≡ self.old.asked }
         ensures as_asked { IfSome self.old.asked.packet_size (λ asked. size ≡ asked)
             → IsAsAsked self.old.asked self.old.kind
             → IsAsAsked self.new.asked self.new.kind }
+        ensures has_head { self.new.has_head ≡ self.old.has_head }
+        ensures short { self.new.is_short ≡ false → self.old.is_short ≡ false }
+        ensures told { self.new.is_short ≡ false
+            → AddsWords first.old (kind_words self.new.kind) first.new }
     {
-        text.put(b"size");
-        text.number(size.bytes() as u64);
-        text.put(b"\n");
+        put_size(size, first);
         let pid = number_of(self.asked.pid);
-        match Multiplex::new(self.alloc, self.asked.page, pid, text) {
+        match Multiplex::new(self.alloc, self.asked.page, pid, first) {
             Some(multiplex) => {
                 let packets = PacketsInStep::new(size, self.skipped);
                 self.kind = Kind::Stream(packets, multiplex);
@@ -202,11 +244,14 @@ impl Recording {
     /// Tells what is not told yet, where nothing more is there for now, or nothing at all any more.
     #[tactic(auto, using(crate::proofs::ListedLemmas::stays_as_asked))]
     pub fn pause(&mut self, is_end: bool, is_short: bool, text: &mut Text)
-        ensures end { is_end ≡ true → TellsEnd self.old.kind text.old text.new }
+        ensures end { is_end ≡ true → TellsEnd self.old text.old text.new }
         ensures asked { self.new.asked ≡ self.old.asked }
         ensures as_asked { is_end ≡ false → IsAsAsked self.old.asked self.old.kind
             → IsAsAsked self.new.asked self.new.kind }
         ensures short { self.new.is_short ≡ self.old.is_short }
+        ensures kind { is_end ≡ false → GoesOn self.old.kind self.new.kind }
+        ensures head { is_end ≡ false → self.new.has_head ≡ self.old.has_head }
+        ensures text { is_end ≡ false → is_unknown self.old.kind ≡ true → text.new ≡ text.old }
     {
         if is_end {
             self.end(text);
@@ -221,6 +266,8 @@ impl Recording {
         ensures kind { GoesOn self.old.kind self.new.kind }
         ensures asked { self.new.asked ≡ self.old.asked }
         ensures short { self.new.is_short ≡ self.old.is_short }
+        ensures head { self.new.has_head ≡ self.old.has_head }
+        ensures text { is_unknown self.old.kind ≡ true → text.new ≡ text.old }
     {
         match &mut self.kind {
             Kind::Pes(file) => file.flush(text),
@@ -231,7 +278,7 @@ impl Recording {
 
     // The recording is over.
     fn end(&mut self, text: &mut Text)
-        ensures told { TellsEnd self.old.kind text.old text.new }
+        ensures told { TellsEnd self.old text.old text.new }
         ensures asked { self.new.asked ≡ self.old.asked }
         ensures short { self.new.is_short ≡ self.old.is_short }
     {
@@ -244,6 +291,8 @@ impl Recording {
     #[tactic(auto, using(crate::proofs::ListedLemmas::nothing_kept))]
     fn tell_last(&mut self, text: &mut Text) -> (u64, u64)
         ensures told { AddsWords text.old (last_words self.old.kind) text.new }
+        ensures skipped { result.0 ≡ skipped_of self.old }
+        ensures packets { result.1 ≡ packets_in self.old.kind }
         ensures asked { self.new.asked ≡ self.old.asked }
         ensures short { self.new.is_short ≡ self.old.is_short }
     {
@@ -259,6 +308,45 @@ impl Recording {
             _ => (self.skipped, 0),
         }
     }
+}
+
+// The first bytes of a recording, as many as are told.
+fn head_in(bytes: &[u8]) -> &[u8]
+    ensures bytes { result.now ≡ take head_size bytes.now }
+    ensures few { length result.now ≤ head_size }
+{
+    let (head, _) = bytes.split_at(bytes.len().min(HEAD));
+    head
+}
+
+// Tells the first bytes of a recording.
+fn put_head(head: &[u8], text: &mut Text)
+    requires { length head.now ≤ head_size }
+    ensures { AddsWords text.old (head_words head.now) text.new }
+{
+    text.put(b"survey 1\nhead");
+    text.put(space_before(head));
+    text.hex(head);
+    text.put(b"\n");
+}
+
+// A space, where something stands behind it.
+fn space_before(word: &[u8]) -> &'static [u8]
+    ensures { result.now ≡ space_of word.now }
+{
+    if word.is_empty() {
+        return b"";
+    }
+    b" "
+}
+
+// Tells the distance of the packets of a stream.
+fn put_size(size: PacketSize, text: &mut Text)
+    ensures { AddsWords text.old (size_line (bytes_of size)) text.new }
+{
+    text.put(b"size");
+    text.number(size.bytes() as u64);
+    text.put(b"\n");
 }
 
 // Tells that a recording is over: the bytes that belong to no packet, and its packets.

@@ -45,13 +45,19 @@ impl Room {
         }
     }
 
-    /// Reads on, once: all lines were handed on, also those of the text.
+    /// Reads on, once: all lines were handed on, also the first ones and those of the text.
     ///
     /// # Errors
     ///
     /// `Failed` where the source failed.
-    pub fn pull<S: Source>(&mut self, source: &mut S, _text: &Text) -> Result<Came, Failed>
+    pub fn pull<S: Source>(
+        &mut self,
+        source: &mut S,
+        _first: &Text,
+        _text: &Text,
+    ) -> Result<Came, Failed>
         requires count { CanFail (S.failure_count source.old) }
+        requires first { length _first.now.bytes.items ≡ 0 }
         requires none { length _text.now.bytes.items ≡ 0 }
         ensures count { CountsFailure (S.failure_count source.old) result
             (S.failure_count source.new) }

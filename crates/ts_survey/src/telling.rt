@@ -1,8 +1,8 @@
 //! `survey`: a recording is read once, and a line told for each fact.
-ghost use Rattle.std.specs.Prelude.{◌≡◌, IfErr, OnOk, false, length};
+ghost use Rattle.std.specs.Prelude.{◌≡◌, ◌++◌, IfErr, OnOk, false, length};
 ghost use Rattle.std.specs.Io.KnownBytes.{Appends, IsAtEnd};
 ghost use Rattle.sub_io.specs.Device.{CanFail, CountsIf, failed};
-ghost use Rattle.ts_survey.specs.Listed.{Surveys};
+ghost use Rattle.ts_survey.specs.Listed.{TellsSurvey};
 ghost use Rattle.ts_survey.specs.Survey.{Grows, is_survey_read, is_survey_write};
 
 use crate::recording::Recording;
@@ -52,26 +52,27 @@ pub fn survey<S: Source, K: Flush>(
         → K.held out.new ≡ 0 }
     // It is read to its end: nothing is left that is not looked at.
     ensures ended { OnOk result (IsAtEnd (S.remaining source.new)) }
-    // Then all lines were told: the last ones are those of a recording of which what is asked for
-    // was looked at and followed.
-    ensures listed { OnOk result (Surveys options (K.contents out.old) (K.contents out.new)) }
+    // Then all lines were told: the first ones say what it is, with the packet size and the PID
+    // that are asked for, the last ones what is known at its end.
+    ensures listed { OnOk result (TellsSurvey options (K.contents out.old) (K.contents out.new)) }
 {
     let Some(mut room) = Room::new(alloc) else {
         return Err(SurveyFault::Memory);
     };
+    let mut first = Text::new(alloc);
     let mut text = Text::new(alloc);
     let mut recording = Recording::new(alloc, options);
     'reads: for _ in 0..u64::MAX {
-        let Ok(came) = room.pull(source, &text) else {
+        let Ok(came) = room.pull(source, &first, &text) else {
             return Err(SurveyFault::Read);
         };
-        let used = recording.take(room.held(), came.is_end, &mut text);
+        let used = recording.take(room.held(), came.is_end, &mut first, &mut text);
         room.pass(used);
         recording.pause(came.is_end, came.is_short, &mut text);
-        if text.is_lost() || recording.is_short() {
+        if first.is_lost() || text.is_lost() || recording.is_short() {
             return Err(SurveyFault::Memory);
         }
-        hand_on(&mut text, out)?;
+        hand_on(&mut first, &mut text, out)?;
         if came.is_end {
             return Ok(());
         }
@@ -80,29 +81,46 @@ pub fn survey<S: Source, K: Flush>(
     Err(SurveyFault::Memory)
 }
 
-// Puts all lines, and has them handed on.
-#[tactic(auto, using(crate::proofs::ListedLemmas::all_told))]
-fn hand_on<K: Flush>(text: &mut Text, out: &mut K) -> Result<(), SurveyFault>
+// Puts all lines, the first ones before the others, and has them handed on.
+#[tactic(auto, using(crate::proofs::SurveyLemmas::growing))]
+fn hand_on<K: Flush>(first: &mut Text, text: &mut Text, out: &mut K) -> Result<(), SurveyFault>
     requires { CanFail (K.failure_count out.old) }
     ensures grows { Grows (K.contents out.old) (K.contents out.new) }
     ensures all { OnOk result (length text.new.bytes.items ≡ 0) }
+    ensures first { OnOk result (length first.new.bytes.items ≡ 0) }
     ensures told { OnOk result (Appends (K.contents out.old) (K.contents out.new)
-        text.old.bytes.items) }
+        (first.old.bytes.items ++ text.old.bytes.items)) }
     ensures holds { K.held out.old ≡ 0
         → failed is_survey_write result ≡ false
         → K.held out.new ≡ 0 }
     ensures own { IfErr result (λ fault. fault ≡ SurveyFault.Write) }
     ensures count { CountsIf K.failure_count out.old (failed is_survey_write result) out.new }
 {
-    if text.is_empty() {
+    if first.is_empty() && text.is_empty() {
         return Ok(());
     }
-    if put_all(out, text.as_slice()).is_err() {
-        return Err(SurveyFault::Write);
-    }
-    text.clear();
+    put_lines(first, out)?;
+    put_lines(text, out)?;
     match out.flush() {
         Ok(()) => Ok(()),
         Err(_) => Err(SurveyFault::Write),
     }
+}
+
+// Puts all lines of a text.
+#[tactic(auto, using(crate::proofs::ListedLemmas::all_told))]
+fn put_lines<K: Flush>(text: &mut Text, out: &mut K) -> Result<(), SurveyFault>
+    requires { CanFail (K.failure_count out.old) }
+    ensures grows { Grows (K.contents out.old) (K.contents out.new) }
+    ensures all { OnOk result (length text.new.bytes.items ≡ 0) }
+    ensures told { OnOk result (Appends (K.contents out.old) (K.contents out.new)
+        text.old.bytes.items) }
+    ensures own { IfErr result (λ fault. fault ≡ SurveyFault.Write) }
+    ensures count { CountsIf K.failure_count out.old (failed is_survey_write result) out.new }
+{
+    if put_all(out, text.as_slice()).is_err() {
+        return Err(SurveyFault::Write);
+    }
+    text.clear();
+    Ok(())
 }

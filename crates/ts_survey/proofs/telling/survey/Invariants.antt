@@ -1,6 +1,6 @@
 -- Nothing has failed, what was told stands in the sink, and is handed on.
-use Rattle.std.proofs.Common.{◌≡◌, ◌≤◌, length, vec_len}
-use Rattle.ts_survey.specs.Listed.{IsAsAsked}
+use Rattle.std.proofs.Common.{◌≡◌, ◌≤◌, false, length, vec_len}
+use Rattle.ts_survey.specs.Listed.{IsAsAsked, IsTold}
 use Rattle.ts_survey.specs.Room.{most_kept, room_size}
 use Rattle.ts_survey.specs.Survey.{Grows}
 use Rattle.ts_survey.proofs.telling.survey.Given as goal
@@ -10,8 +10,11 @@ invariant-reads g l = record {
   source : g.S.Source.failure_count l.source ≡ g.S.Source.failure_count l.fn.source;
   out : g.K.Sink.failure_count l.out ≡ g.K.Sink.failure_count l.fn.out;
   grows : Grows (g.K.Sink.contents l.fn.out) (g.K.Sink.contents l.out);
+  told : IsTold l.recording grows.0;
+  enough : l.recording.is_short ≡ false;
   asked : l.recording.asked ≡ l.fn.options;
   as_asked : IsAsAsked l.recording.asked l.recording.kind;
+  first : length l.first.bytes.items ≡ 0;
   none : length l.text.bytes.items ≡ 0;
   kept : l.room.len ≤ most_kept;
   room : vec_len l.room.bytes ≡ room_size;

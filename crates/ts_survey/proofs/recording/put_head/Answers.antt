@@ -1,0 +1,10 @@
+-- Word by word: adds-word.
+use Rattle.ts_survey.proofs.TextLemmas.{adds-last, adds-word}
+use Rattle.ts_survey.proofs.recording.put_head.Goals as goal
+
+pub returns : goal.returns
+returns c =
+    adds-word c.put.ensures
+    (adds-word (rw c.space_before.ensures at c.put-2.ensures)
+    (adds-word c.hex.ensures
+    (adds-last c.put-3.ensures)))

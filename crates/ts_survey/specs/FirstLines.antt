@@ -1,0 +1,68 @@
+-- The lines that a survey begins with: what the recording is, and what of it is asked for (own;
+-- docs/manual/survey.md).
+use Rattle.std.specs.Prelude.{◌≡◌, ◌==◌, ℕ, Bool, true, false, if◌then◌else◌, List, [], ◌∷◌}
+use Rattle.std.specs.Prelude.{◌++◌, Option, Some, None, codes, length, take}
+use Rattle.mpeg_ts.specs.PacketSize.{bytes_of}
+use Rattle.ts_survey.specs.Lines.{AddsWords, line_end, number_word}
+use Rattle.ts_survey.specs.Stream.{is_unknown}
+use Rattle.ts_survey.specs.Text.{hex_word}
+use Rattle.ts_survey.specs.declared.recording.Kind.{Kind}
+use Rattle.ts_survey.specs.declared.recording.Kind.TheVariants.{Nothing, Pes, Stream, Unknown}
+use Rattle.ts_survey.specs.declared.recording.Recording.{Recording}
+use Rattle.ts_survey.specs.declared.text.Text.{Text}
+
+-- ---- the lines
+
+-- The bytes of a recording that are told.
+abbrev pub head_size : ℕ
+head_size = 11
+
+-- A space before a word, if it is one.
+abbrev pub space_of : List ℕ → List ℕ
+space_of word = if length word == 0 then [] else codes " "
+
+-- `survey 1`, and `head HEX`: the first bytes of the recording.
+abbrev pub head_words : List ℕ → List (List ℕ)
+head_words head =
+    codes "survey 1\nhead" ∷ space_of head ∷ hex_word head ∷ line_end ∷ []
+
+-- `size N`: the bytes from one packet to the next.
+abbrev pub size_line : ℕ → List (List ℕ)
+size_line size = codes "size" ∷ number_word size ∷ line_end ∷ []
+
+-- `teletext PID`: a PID is followed from here on.
+abbrev pub teletext_line : ℕ → List (List ℕ)
+teletext_line pid = codes "teletext" ∷ number_word pid ∷ line_end ∷ []
+
+-- The one that is asked for is followed from the first packet on.
+abbrev pub asked_words : Option ℕ → List (List ℕ)
+asked_words None = []
+asked_words (Some pid) = teletext_line pid
+
+-- What a recording is: a file of PES packets, a transport stream, or none of both.
+abbrev pub kind_words : Kind → List (List ℕ)
+kind_words Unknown = []
+kind_words (Pes file) = codes "size 0\n" ∷ []
+kind_words (Stream packets multiplex) =
+    size_line (bytes_of packets.size) ++ asked_words multiplex.asked
+kind_words Nothing = codes "nothing\n" ∷ []
+
+-- ---- when they are told
+
+-- `survey 1` and `head` are told as soon as there are bytes for them.
+abbrev pub head_so_far : Bool → List ℕ → List (List ℕ)
+head_so_far has_head head = if has_head then head_words head else []
+
+-- And then no more.
+abbrev pub head_told : Bool → List ℕ → Bool → List (List ℕ)
+head_told before bytes after = if before then [] else head_so_far after (take head_size bytes)
+
+-- It was looked at what a recording is: the lines of what was found are told, and no others.
+pub record FindsKind (old : Recording) (bytes : List ℕ) (before after : Text) (new : Recording)
+    : Type 0 where
+  pub told :
+      new.is_short ≡ false
+      → AddsWords before
+      (head_told old.has_head bytes new.has_head ++ kind_words new.kind) after
+  pub stays : old.has_head ≡ true → new.has_head ≡ true
+  pub none : new.has_head ≡ false → is_unknown new.kind ≡ true
