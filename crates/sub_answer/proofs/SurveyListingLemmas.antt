@@ -14,12 +14,12 @@ use Rattle.sub_listing.specs.declared.status.Status.TheVariants.{Done, Fault}
 use Rattle.ts_survey.specs.Listed as listed
 use Rattle.ts_survey.specs.Survey.{Grows}
 
-pub printed-done : (options : SurveyOptions) (out : SinkCall)
-    → listed.TellsSurvey options out.old out.new
+pub printed-done : (options : SurveyOptions) (recording : Option (List ℕ)) (out : SinkCall)
+    → listed.TellsSurvey options recording out.old out.new
     → out.new_count ≡ out.old_count
-    → PrintsSurvey options out Done
+    → PrintsSurvey options recording out Done
 unfolding PrintsOrFails
-printed-done options out surveys same = record {
+printed-done options recording out surveys same = record {
   listing = record { text = surveys.0; status = Done };
   printed = inl (same, surveys.1, refl);
   done = λ is. (same, surveys.2);
@@ -27,12 +27,12 @@ printed-done options out surveys same = record {
   line = λ other count. absurd (other refl);
 }
 
-pub printed-cut : (options : SurveyOptions) (out : SinkCall)
+pub printed-cut : (options : SurveyOptions) (recording : Option (List ℕ)) (out : SinkCall)
     → Grows out.old out.new
     → out.new_count ≡ out.old_count + 1
-    → PrintsSurvey options out Fault
+    → PrintsSurvey options recording out Fault
 unfolding PrintsOrFails
-printed-cut options out grows risen = record {
+printed-cut options recording out grows risen = record {
   listing = record { text = grows.0; status = Done };
   printed = inr (risen, AppendsPrefix-whole out.old out.new grows.0 grows.1, refl);
   done = λ is. absurd cc;
@@ -41,17 +41,17 @@ printed-cut options out grows risen = record {
 }
 
 pub printed-told :
-    (options : SurveyOptions) (out : SinkCall) (mid : Option (List ℕ)) (count : ℕ)
-    (told : FaultLine) (status : Status)
+    (options : SurveyOptions) (recording : Option (List ℕ)) (out : SinkCall)
+    (mid : Option (List ℕ)) (count : ℕ) (told : FaultLine) (status : Status)
     → Grows out.old mid
     → count ≡ out.old_count
     → PrintsOrFails (record out { old = mid; old_count = count }) (fault_listing told) status
     → status_of told.kind ≡ Fault
     → status ≢ Done
     → status ≡ Fault
-    → PrintsSurvey options out status
+    → PrintsSurvey options recording out status
 unfolding PrintsOrFails
-printed-told options out mid count told status grows same (inl p) is_fault other fault = record {
+printed-told _ _ out mid _ told status grows same (inl p) is_fault other fault = record {
   listing = record { text = grows.0 ++ line_of told; status = status_of told.kind };
   printed = inl (
     p.0 ∙ same,
@@ -67,7 +67,7 @@ printed-told options out mid count told status grows same (inl p) is_fault other
     told = refl;
   };
 }
-printed-told options out mid count told status grows same (inr p) is_fault other fault = record {
+printed-told _ _ out mid _ told status grows same (inr p) is_fault other fault = record {
   listing = record { text = grows.0 ++ line_of told; status = status_of told.kind };
   printed = inr (
     p.0 ∙ ap (λ n. n + 1) same,

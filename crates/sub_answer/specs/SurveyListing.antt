@@ -1,5 +1,5 @@
 -- What `survey` prints.
-use Rattle.std.specs.Prelude.{◌≡◌, ◌≢◌, List, ◌++◌, ℕ}
+use Rattle.std.specs.Prelude.{◌≡◌, ◌≢◌, List, ◌++◌, ℕ, Option}
 use Rattle.std.specs.Io.KnownBytes.{IsAtEnd}
 use Rattle.mpeg_ts.specs.declared.survey_options.SurveyOptions.{SurveyOptions}
 use Rattle.sub_listing.specs.DeviceCall.{SinkCall, SourceCall}
@@ -18,14 +18,15 @@ pub record EndsInFault (text : List ℕ) : Type 0 where
   pub told : text ≡ before ++ line_of fault
 
 -- Lines were printed, all of them or, where the sink failed, a prefix. With `Done` all are, and are
--- those of a recording that was surveyed as it was asked; else the status is `Fault`, and where the
--- sink did not fail, the line of what did is the last one.
-pub record PrintsSurvey (options : SurveyOptions) (out : SinkCall) (status : Status)
+-- those of the recording, surveyed as it was asked; else the status is `Fault`, and where the sink
+-- did not fail, the line of what did is the last one.
+pub record PrintsSurvey
+    (options : SurveyOptions) (recording : Option (List ℕ)) (out : SinkCall) (status : Status)
     : Type 0 where
   pub listing : Listing
   pub printed : PrintsOrFails out listing status
   pub done :
-      status ≡ Done → (out.new_count ≡ out.old_count) × IsSurveyed options listing.text
+      status ≡ Done → (out.new_count ≡ out.old_count) × IsSurveyed options recording listing.text
   pub fault : status ≢ Done → status ≡ Fault
   pub line : status ≢ Done → out.new_count ≡ out.old_count → EndsInFault listing.text
 
@@ -33,5 +34,5 @@ pub record PrintsSurvey (options : SurveyOptions) (out : SinkCall) (status : Sta
 pub record Surveys
     (options : SurveyOptions) (recording : SourceCall) (out : SinkCall) (status : Status)
     : Type 0 where
-  pub printed : PrintsSurvey options out status
+  pub printed : PrintsSurvey options recording.known out status
   pub ended : status ≡ Done → IsAtEnd recording.left

@@ -1,7 +1,8 @@
 -- The lines that a survey begins with: what the recording is, and what of it is asked for (own;
 -- docs/manual/survey.md).
-use Rattle.std.specs.Prelude.{◌≡◌, ◌==◌, ℕ, Bool, true, false, if◌then◌else◌, List, [], ◌∷◌}
-use Rattle.std.specs.Prelude.{◌++◌, Option, Some, None, codes, length, take}
+use Rattle.std.specs.Prelude.{◌≡◌, ◌==◌, ◌&&◌, ◌||◌, not, nat_le, nat_lt, ℕ, Bool, true, false}
+use Rattle.std.specs.Prelude.{if◌then◌else◌, List, [], ◌∷◌, ◌++◌, Option, Some, None, codes, length}
+use Rattle.std.specs.Prelude.{slice_index, take}
 use Rattle.mpeg_ts.specs.PacketSize.{bytes_of}
 use Rattle.ts_survey.specs.Lines.{AddsWords, line_end, number_word}
 use Rattle.ts_survey.specs.Stream.{is_unknown}
@@ -49,6 +50,20 @@ kind_words Nothing = codes "nothing\n" ∷ []
 
 -- ---- when they are told
 
+-- A file of PES packets begins with packet_start_code_prefix and the stream_id of private_stream_1
+-- (EN 300 472). So may a time stamp before the first transport packet, and then its sync byte
+-- follows.
+abbrev pub begins_pes : List ℕ → Bool
+begins_pes head =
+    nat_le 4 (length head) && (slice_index head 0 == 0) && (slice_index head 1 == 0)
+    && (slice_index head 2 == 1) && (slice_index head 3 == 0xBD)
+    && (nat_lt (length head) 5 || not (slice_index head 4 == 0x47))
+
+-- A recording is one.
+abbrev pub is_pes : Kind → Bool
+is_pes (Pes file) = true
+is_pes _ = false
+
 -- `survey 1` and `head` are told as soon as there are bytes for them.
 abbrev pub head_so_far : Bool → List ℕ → List (List ℕ)
 head_so_far has_head head = if has_head then head_words head else []
@@ -66,3 +81,7 @@ pub record FindsKind (old : Recording) (bytes : List ℕ) (before after : Text) 
       (head_told old.has_head bytes new.has_head ++ kind_words new.kind) after
   pub stays : old.has_head ≡ true → new.has_head ≡ true
   pub none : new.has_head ≡ false → is_unknown new.kind ≡ true
+  pub pes :
+      new.is_short ≡ false → old.has_head ≡ false → new.has_head ≡ true
+      → is_pes new.kind ≡ begins_pes (take head_size bytes)
+  pub not_pes : old.has_head ≡ true → is_pes new.kind ≡ false

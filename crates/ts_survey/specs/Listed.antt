@@ -1,13 +1,14 @@
 -- What `survey` prints begins with what the recording is, as it was asked, and ends with what is
 -- known of it at its end (own; docs/manual/survey.md).
 use Rattle.std.specs.Prelude.{◌≡◌, ⊤, true, false, ℕ, List, [], ◌∷◌, ◌++◌, Option, IfSome}
-use Rattle.std.specs.Prelude.{codes}
+use Rattle.std.specs.Prelude.{codes, take}
 use Rattle.std.specs.Io.KnownBytes.{Appends}
 use Rattle.std.specs.List.{concat}
 use Rattle.mpeg_ts.specs.declared.survey_options.SurveyOptions.{SurveyOptions}
 use Rattle.ts_survey.specs.Asked.{KeepsAsked, others_followed}
 use Rattle.ts_survey.specs.Endings.{counts_words, end_words}
-use Rattle.ts_survey.specs.FirstLines.{head_so_far, head_words, kind_words}
+use Rattle.ts_survey.specs.FirstLines.{begins_pes, head_size, head_so_far, head_words, is_pes}
+use Rattle.ts_survey.specs.FirstLines.{kind_words}
 use Rattle.ts_survey.specs.Lines.{AddsWords, line_end, number_word, run_words}
 use Rattle.ts_survey.specs.Stream.{is_unknown}
 use Rattle.ts_survey.specs.Text.{time_word}
@@ -94,28 +95,34 @@ TellsEnd r old new =
 
 -- ---- the lines of a recording
 
--- What was told of a recording as far as it has come: what it is, and then what is in it.
-pub record IsTold (recording : Recording) (listing : List ℕ) : Type 0 where
-  pub head : List ℕ
+-- What was told of a recording of which those bytes came: what it is, and then what is in it.
+pub record IsTold (recording : Recording) (came listing : List ℕ) : Type 0 where
   pub more : List ℕ
-  pub told : listing ≡ concat (head_so_far recording.has_head head ++ kind_words recording.kind)
-      ++ more
+  pub told :
+      listing ≡ concat (head_so_far recording.has_head (take head_size came)
+      ++ kind_words recording.kind) ++ more
   pub unknown : is_unknown recording.kind ≡ true → more ≡ []
   pub none : recording.has_head ≡ false → is_unknown recording.kind ≡ true
+  pub pes :
+      recording.has_head ≡ true → is_pes recording.kind ≡ begins_pes (take head_size came)
 
--- The lines of a recording that was read to its end: what it is, as it was asked; what is in it;
--- and what is known at its end.
-pub record IsSurveyed (options : SurveyOptions) (listing : List ℕ) : Type 0 where
+-- The lines of a recording that was read to its end: its first bytes; what it is, as it was asked;
+-- what is in it; and what is known at its end. Where it tells its bytes, the first are these.
+pub record IsSurveyed
+    (options : SurveyOptions) (recording : Option (List ℕ)) (listing : List ℕ) : Type 0 where
+  pub head : List ℕ
+  pub begins : IfSome recording (λ bytes. head ≡ take head_size bytes)
   pub last : Recording
   pub asked : IsAsAsked options last.kind
   pub known : is_unknown last.kind ≡ false
-  pub head : List ℕ
+  pub pes : is_pes last.kind ≡ begins_pes head
   pub between : List ℕ
   pub listed :
       listing ≡ concat (head_words head ++ kind_words last.kind) ++ between
       ++ concat (last_words last.kind ++ over_line (skipped_of last) (packets_in last.kind))
 
 -- They were told behind what was there.
-abbrev pub TellsSurvey : SurveyOptions → Option (List ℕ) → Option (List ℕ) → Type 0
-TellsSurvey options old new =
-    (listing : List ℕ) × Appends old new listing × IsSurveyed options listing
+abbrev pub TellsSurvey :
+    SurveyOptions → Option (List ℕ) → Option (List ℕ) → Option (List ℕ) → Type 0
+TellsSurvey options recording old new =
+    (listing : List ℕ) × Appends old new listing × IsSurveyed options recording listing

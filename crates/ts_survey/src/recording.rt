@@ -1,8 +1,8 @@
 //! A recording, whatever it is: bytes come, and lines are made.
 ghost use Rattle.std.specs.Prelude.{◌≡◌, ◌≤◌, ◌+◌, ◌++◌, IfSome, Some, false, length, take, true};
 ghost use Rattle.mpeg_ts.specs.PacketSize.{bytes_of};
-ghost use Rattle.ts_survey.specs.FirstLines.{FindsKind, head_size, head_words, kind_words};
-ghost use Rattle.ts_survey.specs.FirstLines.{size_line, space_of};
+ghost use Rattle.ts_survey.specs.FirstLines.{FindsKind, begins_pes, head_size, head_words};
+ghost use Rattle.ts_survey.specs.FirstLines.{is_pes, kind_words, size_line, space_of};
 ghost use Rattle.ts_survey.specs.Lines.{AddsWords};
 ghost use Rattle.ts_survey.specs.Listed.{GoesOn, IsAsAsked, TellsEnd, last_words, over_line};
 ghost use Rattle.ts_survey.specs.Listed.{packets_in, skipped_of};
@@ -96,6 +96,12 @@ impl Recording {
         ensures unknown { is_unknown self.new.kind ≡ true → text.new ≡ text.old }
         ensures known { is_end ≡ true → self.new.is_short ≡ false
             → is_unknown self.new.kind ≡ false }
+        // The first bytes are told once, when all of them are there.
+        ensures stays { self.old.has_head ≡ true → self.new.has_head ≡ true }
+        ensures waits { is_unknown self.new.kind ≡ true → self.new.has_head ≡ false
+            → result ≡ 0 }
+        ensures enough { is_end ≡ false → self.old.has_head ≡ false → self.new.has_head ≡ true
+            → head_size ≤ length bytes.now }
         ensures goes_on { is_unknown self.old.kind ≡ false → (first.new ≡ first.old)
             × (self.new.has_head ≡ self.old.has_head)
             × GoesOn self.old.kind self.new.kind }
@@ -121,6 +127,10 @@ impl Recording {
             → FindsKind self.old bytes.now first.old first.new self.new }
         ensures known { is_end ≡ true → self.new.is_short ≡ false
             → is_unknown self.new.kind ≡ false }
+        ensures stays { self.old.has_head ≡ true → self.new.has_head ≡ true }
+        ensures waits { self.new.has_head ≡ false → result ≡ 0 }
+        ensures enough { is_end ≡ false → self.old.has_head ≡ false → self.new.has_head ≡ true
+            → head_size ≤ length bytes.now }
     {
         if !self.has_head {
             if bytes.len() < HEAD && !is_end {
@@ -167,6 +177,9 @@ impl Recording {
         ensures told { is_unknown self.old.kind ≡ true → self.new.is_short ≡ false
             → AddsWords first.old (head_words (take head_size bytes.now) ++ kind_words self.new.kind)
             first.new }
+        ensures pes { is_unknown self.old.kind ≡ true → self.new.is_short ≡ false
+            → is_pes self.new.kind ≡ begins_pes (take head_size bytes.now) }
+        ensures short { self.new.is_short ≡ false → self.old.is_short ≡ false }
     {
         self.has_head = true;
         let head = head_in(bytes);
@@ -195,6 +208,7 @@ impl Recording {
         ensures short { self.new.is_short ≡ false → self.old.is_short ≡ false }
         ensures told { is_unknown self.old.kind ≡ true → self.new.is_short ≡ false
             → AddsWords first.old (kind_words self.new.kind) first.new }
+        ensures not_pes { is_unknown self.old.kind ≡ true → is_pes self.new.kind ≡ false }
         ensures known { is_end ≡ true → self.new.is_short ≡ false
             → is_unknown self.new.kind ≡ false }
     {
@@ -229,6 +243,7 @@ impl Recording {
         ensures short { self.new.is_short ≡ false → self.old.is_short ≡ false }
         ensures told { self.new.is_short ≡ false
             → AddsWords first.old (kind_words self.new.kind) first.new }
+        ensures not_pes { is_unknown self.old.kind ≡ true → is_pes self.new.kind ≡ false }
     {
         put_size(size, first);
         let pid = number_of(self.asked.pid);
@@ -382,7 +397,9 @@ fn number_of(pid: Option<Pid>) -> Option<u16>
 
 // Whether a recording is a file of PES packets, by its first bytes. A time stamp before the first
 // packet may be the same.
-fn is_pes_file(head: &[u8]) -> bool {
+fn is_pes_file(head: &[u8]) -> bool
+    ensures { result ≡ begins_pes head.now }
+{
     if head.len() < 4 || head[0] != 0 || head[1] != 0 || head[2] != 1 || head[3] != 0xBD {
         return false;
     }

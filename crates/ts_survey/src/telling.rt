@@ -52,9 +52,10 @@ pub fn survey<S: Source, K: Flush>(
         → K.held out.new ≡ 0 }
     // It is read to its end: nothing is left that is not looked at.
     ensures ended { OnOk result (IsAtEnd (S.remaining source.new)) }
-    // Then all lines were told: the first ones say what it is, with the packet size and the PID
-    // that are asked for, the last ones what is known at its end.
-    ensures listed { OnOk result (TellsSurvey options (K.contents out.old) (K.contents out.new)) }
+    // Then all lines were told: the first ones say what it begins with and what it is, with the
+    // packet size and the PID that are asked for, the last ones what is known at its end.
+    ensures listed { OnOk result (TellsSurvey options (S.remaining source.old)
+        (K.contents out.old) (K.contents out.new)) }
 {
     let Some(mut room) = Room::new(alloc) else {
         return Err(SurveyFault::Memory);

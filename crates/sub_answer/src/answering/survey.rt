@@ -25,7 +25,7 @@ pub fn print_survey<S: Source, K: Flush>(
 ) -> Status
     requires source { CanFail (S.failure_count source.old) }
     requires out { CanFail (K.failure_count out.old) }
-    ensures printed { PrintsSurvey options
+    ensures printed { PrintsSurvey options (S.remaining source.old)
         (sink_call K.contents K.failure_count out.old out.new) result }
     // It is read to its end.
     ensures ended { result ≡ Status.Done → IsAtEnd (S.remaining source.new) }

@@ -1,5 +1,7 @@
 -- Nothing has failed, what was told stands in the sink, and is handed on.
-use Rattle.std.proofs.Common.{◌≡◌, ◌≤◌, false, length, vec_len}
+use Rattle.std.proofs.Common.{◌≡◌, ◌≤◌, List, ℕ, false, length, take, true, vec_len}
+use Rattle.std.specs.Io.KnownBytes.{Consumes}
+use Rattle.ts_survey.specs.FirstLines.{head_size}
 use Rattle.ts_survey.specs.Listed.{IsAsAsked, IsTold}
 use Rattle.ts_survey.specs.Room.{most_kept, room_size}
 use Rattle.ts_survey.specs.Survey.{Grows}
@@ -10,7 +12,12 @@ invariant-reads g l = record {
   source : g.S.Source.failure_count l.source ≡ g.S.Source.failure_count l.fn.source;
   out : g.K.Sink.failure_count l.out ≡ g.K.Sink.failure_count l.fn.out;
   grows : Grows (g.K.Sink.contents l.fn.out) (g.K.Sink.contents l.out);
-  told : IsTold l.recording grows.0;
+  read :
+      (came : List ℕ)
+      × Consumes (g.S.Source.remaining l.fn.source) (g.S.Source.remaining l.source) came;
+  told : IsTold l.recording read.0 grows.0;
+  held : l.recording.has_head ≡ false → take l.room.len l.room.bytes.items ≡ read.0;
+  long : l.recording.has_head ≡ true → head_size ≤ length read.0;
   enough : l.recording.is_short ≡ false;
   asked : l.recording.asked ≡ l.fn.options;
   as_asked : IsAsAsked l.recording.asked l.recording.kind;

@@ -11,7 +11,7 @@ returns-in-Err-Read-clause-printed g c =
     let counted = rw c.in-Err-Read.field-0-is at c.in-Err-Read.ensures.out_count in
     let told = c.print_fault_line.ensures in
     let is_fault = ap (λ (line : FaultLine). status_of line.kind) c.line_of_failed_read.ensures in
-    printed-told c.args.options
+    printed-told c.args.options (g.S.Source.remaining c.args.source.now)
     (sink_call g.K.Sink.contents g.K.Sink.failure_count c.args.out.now c.print_fault_line.new.out)
     (g.K.Sink.contents c.survey.new.out) (g.K.Sink.failure_count c.survey.new.out) _ _
     c.survey.ensures.grows (omega (arith, counted)) told.printed is_fault told.not_done
@@ -22,7 +22,7 @@ returns-in-Err-Memory-clause-printed g c =
     let counted = rw c.in-Err-Memory.field-0-is at c.in-Err-Memory.ensures.out_count in
     let told = c.print_fault_line-in-Err-Memory.ensures in
     let is_fault = ap (λ (line : FaultLine). status_of line.kind) c.line_of_usage.ensures in
-    printed-told c.args.options
+    printed-told c.args.options (g.S.Source.remaining c.args.source.now)
     (sink_call g.K.Sink.contents g.K.Sink.failure_count c.args.out.now
     c.print_fault_line-in-Err-Memory.new.out)
     (g.K.Sink.contents c.survey.new.out) (g.K.Sink.failure_count c.survey.new.out) _ _

@@ -12,15 +12,17 @@ pub returns-in-Unknown-clause-finds : goal.returns-in-Unknown-clause-finds
 returns-in-Unknown-clause-finds c = λ unknown.
     let old = c.args.self.now in
     let seen = c.look.ensures.told (ap is_unknown c.in-Unknown.is) in
+    let not = c.look.ensures.not_pes (ap is_unknown c.in-Unknown.is) in
     elim c.if-not-self.branch [
       | then-not-self+else-bytes-lt-HEAD w ↦
           found-behind-head old c.if-not-self.self c.look.new.self _ _ c.if-not-self.first _
           w.if-not-self.true (search rules) c.look.ensures.has_head c.in-Unknown.is
-          (search rules) c.look.ensures.short seen
+          (search rules) (search rules) c.look.ensures.short seen not
       | else-not-self w ↦
           found-with-head old c.look.new.self _ _ _ w.if-not-self.false
           (c.look.ensures.has_head ∙ ap (λ r. r.has_head) w.self-is)
           (subst (λ text. c.look.new.self.is_short ≡ false
           → AddsWords text (kind_words c.look.new.self.kind) c.look.new.first)
           w.first-is seen)
+          not
     ]
