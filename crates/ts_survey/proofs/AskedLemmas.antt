@@ -39,16 +39,6 @@ one-more-asked asked pid old new one known same more =
     ap (λ l. not_asked asked (map pid_followed l)) more
     ∙ more-asked asked old one (ap (is_asked asked) same ∙ known)
 
--- What is asked for, by cases.
-pub asked-where-some : (asked : Option ℕ) (one pid : ℕ)
-    → asked ≡ Some one
-    → (one == pid) ≡ true
-    → is_asked asked pid ≡ true
-asked-where-some asked one pid is known = ap (λ some. is_asked some pid) is ∙ known
-
-pub asked-where-none : (asked : Option ℕ) (pid : ℕ) → asked ≡ None → is_asked asked pid ≡ true
-asked-where-none asked pid is = ap (λ some. is_asked some pid) is
-
 -- Where one changes that keeps its PID, the PIDs are the same.
 pub pids-kept : (carriers : List Carrier) (i : ℕ) (one other : Carrier)
     → i < length carriers

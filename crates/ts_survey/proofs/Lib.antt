@@ -3,6 +3,7 @@ pub mod AskedLemmas
 pub mod CarrierLemmas
 pub mod CounterLemmas
 pub mod EndingsLemmas
+pub mod FirstLinesLemmas
 pub mod FollowingLemmas
 pub mod FormLemmas
 pub mod HeardLemmas

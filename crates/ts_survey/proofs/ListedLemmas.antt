@@ -1,21 +1,15 @@
--- What a recording is stays as it was asked, what_goes_on and as-asked-on; what is told of it,
--- told-on and told-more; and the end: told-end.
-use Rattle.std.proofs.Common.{◌≡◌, Bool, false, List, [], ◌++◌, ℕ, Option, Some, None}
-use Rattle.std.proofs.Common.{◌∷◌, ◌∙◌, ap, append-nil, append_assoc, arith, refl, subst, sym}
-use Rattle.std.proofs.Common.{◌≤◌, drop, length-append, take, true}
+-- What a recording is stays as it was asked, what_goes_on and as-asked-on; and the end: told-end.
+use Rattle.std.proofs.Common.{◌≡◌, Bool, false, List, [], ◌++◌, ℕ, Option, Some, None, ◌∷◌, ◌∙◌, ap}
+use Rattle.std.proofs.Common.{append-nil, append_assoc, refl, subst, sym, take, true}
 use Rattle.std.proofs.KnownBytes.{Appends-trans}
-use Rattle.std.proofs.lemmas.List.{take-append-le}
 use Rattle.std.specs.Io.KnownBytes.{Appends, Consumes, IsAtEnd, Keeps}
-use Rattle.std.proofs.lemmas.List.Folds.{concat-append}
 use Rattle.std.specs.List.{concat}
 use Rattle.std.specs.Prelude.{IfSome, length}
-use Rattle.mpeg_ts.specs.PacketSize.{bytes_of}
 use Rattle.mpeg_ts.specs.declared.packet_size.PacketSize.{PacketSize}
 use Rattle.mpeg_ts.specs.declared.survey_options.SurveyOptions.{SurveyOptions}
 use Rattle.ttx_page.specs.Receiver.{RunsBy}
 use Rattle.ts_survey.specs.Asked.{KeepsAsked, keeps_asked, others_followed}
-use Rattle.ts_survey.specs.FirstLines.{FindsKind, asked_words, begins_pes, head_size, head_so_far}
-use Rattle.ts_survey.specs.FirstLines.{head_told, head_words, is_pes, kind_words, size_line}
+use Rattle.ts_survey.specs.FirstLines.{head_size, head_so_far, kind_words}
 use Rattle.ts_survey.specs.InStep.{TakesAll}
 use Rattle.ts_survey.specs.Lines.{AddsWords}
 use Rattle.ts_survey.specs.Listed.{GoesOn, IsAsAsked, IsTold, TellsSurvey, TellsEnd, last_words}
@@ -29,6 +23,7 @@ use Rattle.ts_survey.specs.declared.recording.Recording.{Recording}
 use Rattle.ts_survey.specs.declared.text.Text.{Text}
 use Rattle.ts_survey.proofs.EndingsLemmas.{adds-none}
 use Rattle.ts_survey.proofs.TextLemmas.{adds-words}
+use Rattle.ts_survey.proofs.FirstLinesLemmas.{no-items}
 
 -- ---- what a recording is
 
@@ -110,10 +105,6 @@ pub ruleset stays_as_asked = (as-asked-as, goes-same)
 -- For `tell_last`: what is no stream and no file of PES packets tells nothing.
 pub ruleset nothing_kept = (adds-none)
 
-pub no-items : (xs : List ℕ) → length xs ≡ 0 → xs ≡ []
-no-items [] none = refl
-no-items (x ∷ xs) none = absurd (omega arith)
-
 pub appends-kept : (old mid new : Option (List ℕ)) (bytes : List ℕ)
     → Appends old mid bytes
     → Keeps mid new
@@ -132,352 +123,6 @@ appends-empty (Some xs) bytes none =
 
 -- For `hand_on` of lines.
 pub ruleset all_told = (appends-kept, appends-empty)
-
--- ---- what it is
-
--- What a recording is stays told.
-kind-words-on : (old new : Kind)
-    → GoesOn old new
-    → kind_words new ≡ kind_words old
-kind-words-on Unknown Unknown on = refl
-kind-words-on Unknown (Pes g) on = absurd on
-kind-words-on Unknown (Stream q n) on = absurd on
-kind-words-on Unknown Nothing on = absurd on
-kind-words-on (Pes f) Unknown on = absurd on
-kind-words-on (Pes f) (Pes g) on = refl
-kind-words-on (Pes f) (Stream q n) on = absurd on
-kind-words-on (Pes f) Nothing on = absurd on
-kind-words-on (Stream p m) Unknown on = absurd on
-kind-words-on (Stream p m) (Pes g) on = absurd on
-kind-words-on (Stream p m) (Stream q n) on =
-    ap (λ size. size_line (bytes_of size) ++ asked_words n.asked) on.size
-    ∙ ap (λ asked. size_line (bytes_of p.size) ++ asked_words asked) on.keeps.0
-kind-words-on (Stream p m) Nothing on = absurd on
-kind-words-on Nothing Unknown on = absurd on
-kind-words-on Nothing (Pes g) on = absurd on
-kind-words-on Nothing (Stream q n) on = absurd on
-kind-words-on Nothing Nothing on = refl
-
--- What is known stays known, and what is not stays so.
-unknown-on : (old new : Kind) → GoesOn old new → is_unknown new ≡ is_unknown old
-unknown-on Unknown Unknown on = refl
-unknown-on Unknown (Pes g) on = absurd on
-unknown-on Unknown (Stream q n) on = absurd on
-unknown-on Unknown Nothing on = absurd on
-unknown-on (Pes f) Unknown on = absurd on
-unknown-on (Pes f) (Pes g) on = refl
-unknown-on (Pes f) (Stream q n) on = absurd on
-unknown-on (Pes f) Nothing on = absurd on
-unknown-on (Stream p m) Unknown on = absurd on
-unknown-on (Stream p m) (Pes g) on = absurd on
-unknown-on (Stream p m) (Stream q n) on = refl
-unknown-on (Stream p m) Nothing on = absurd on
-unknown-on Nothing Unknown on = absurd on
-unknown-on Nothing (Pes g) on = absurd on
-unknown-on Nothing (Stream q n) on = absurd on
-unknown-on Nothing Nothing on = refl
-
--- What is not known is not told.
-unknown-words : (kind : Kind) → is_unknown kind ≡ true → kind_words kind ≡ []
-unknown-words Unknown is = refl
-unknown-words (Pes f) is = absurd cc
-unknown-words (Stream p m) is = absurd cc
-unknown-words Nothing is = absurd cc
-
-pub adds-nothing : (kind : Kind) (text : Text)
-    → is_unknown kind ≡ true
-    → AddsWords text (kind_words kind) text
-adds-nothing kind text is =
-    subst (λ words. AddsWords text words text) (sym (unknown-words kind is)) (adds-none text)
-
--- Nothing is told of what has not come.
-pub told-start : (recording : Recording)
-    → recording.kind ≡ Unknown
-    → recording.has_head ≡ false
-    → IsTold recording [] []
-told-start recording unknown none = record {
-  more = [];
-  told =
-      sym (ap (λ kind. concat (head_so_far recording.has_head [] ++ kind_words kind) ++ []) unknown
-      ∙ ap (λ has. concat (head_so_far has [] ++ []) ++ []) none);
-  unknown = λ is. refl;
-  none = λ no. ap is_unknown unknown;
-  pes = λ has. let e = sym none ∙ has in cc;
-}
-
-same-head : (has : Bool) (head other : List ℕ)
-    → (has ≡ true → other ≡ head)
-    → head_so_far has other ≡ head_so_far has head
-same-head true head other same = ap head_words (same refl)
-same-head false head other same = refl
-
-kind-is-pes : (old new : Kind) → GoesOn old new → is_pes new ≡ is_pes old
-kind-is-pes Unknown Unknown on = refl
-kind-is-pes Unknown (Pes g) on = absurd on
-kind-is-pes Unknown (Stream q n) on = absurd on
-kind-is-pes Unknown Nothing on = absurd on
-kind-is-pes (Pes f) Unknown on = absurd on
-kind-is-pes (Pes f) (Pes g) on = refl
-kind-is-pes (Pes f) (Stream q n) on = absurd on
-kind-is-pes (Pes f) Nothing on = absurd on
-kind-is-pes (Stream p m) Unknown on = absurd on
-kind-is-pes (Stream p m) (Pes g) on = absurd on
-kind-is-pes (Stream p m) (Stream q n) on = refl
-kind-is-pes (Stream p m) Nothing on = absurd on
-kind-is-pes Nothing Unknown on = absurd on
-kind-is-pes Nothing (Pes g) on = absurd on
-kind-is-pes Nothing (Stream q n) on = absurd on
-kind-is-pes Nothing Nothing on = refl
-
--- More was told of what is known.
-told-more : (old new : Recording) (came all listing more : List ℕ)
-    → IsTold old came listing
-    → GoesOn old.kind new.kind
-    → new.has_head ≡ old.has_head
-    → (old.has_head ≡ true → take head_size all ≡ take head_size came)
-    → (is_unknown old.kind ≡ true → more ≡ [])
-    → IsTold new all (listing ++ more)
-told-more old new came all listing more told on same begins none =
-    let head = take head_size all in record {
-      more = told.more ++ more;
-      told =
-          ap (λ l. l ++ more) told.told
-          ∙ append_assoc _ told.more more
-          ∙ ap (λ l. concat (l ++ kind_words old.kind) ++ (told.more ++ more))
-          (sym (same-head old.has_head (take head_size came) head begins))
-          ∙ ap (λ words. concat (head_so_far old.has_head head ++ words) ++ (told.more ++ more))
-          (sym (kind-words-on old.kind new.kind on))
-          ∙ ap (λ has. concat (head_so_far has head ++ kind_words new.kind) ++ (told.more ++ more))
-          (sym same);
-      unknown = λ is.
-          let was = sym (unknown-on old.kind new.kind on) ∙ is in
-          ap (λ l. l ++ more) (told.unknown was) ∙ none was;
-      none = λ not. unknown-on old.kind new.kind on ∙ told.none (sym same ∙ not);
-      pes = λ has.
-          let had = sym same ∙ has in
-          kind-is-pes old.kind new.kind on
-          ∙ told.pes had
-          ∙ ap begins_pes (sym (begins had));
-    }
-
--- Nothing more was told.
-pub told-kept : (old new : Recording) (came listing : List ℕ)
-    → IsTold old came listing
-    → GoesOn old.kind new.kind
-    → new.has_head ≡ old.has_head
-    → IsTold new came listing
-told-kept old new came listing told on same =
-    subst (λ l. IsTold new came l) (append-nil listing)
-    (told-more old new came came listing [] told on same (λ has. refl) (λ is. refl))
-
--- The head that is told: the one that was, or else the first bytes.
-heads : (before after : Bool) (came all bytes : List ℕ)
-    → (before ≡ true → after ≡ true)
-    → (before ≡ true → take head_size all ≡ take head_size came)
-    → (before ≡ false → all ≡ bytes)
-    → head_so_far after (take head_size all)
-    ≡ head_so_far before (take head_size came) ++ head_told before bytes after
-heads true true came all bytes stays begins first =
-    ap head_words (begins refl) ∙ sym (append-nil (head_words (take head_size came)))
-heads true false came all bytes stays begins first = let e = stays refl in cc
-heads false after came all bytes stays begins first =
-    ap (λ l. head_so_far after (take head_size l)) (first refl)
-
--- The head was told, and then what it is: for `find_kind`.
-pub found-behind-head :
-    (old mid new : Recording) (bytes : List ℕ) (before between after : Text)
-    → old.has_head ≡ false
-    → mid.has_head ≡ true
-    → new.has_head ≡ mid.has_head
-    → mid.kind ≡ Unknown
-    → (mid.is_short ≡ false
-    → AddsWords before (head_words (take head_size bytes) ++ kind_words mid.kind) between)
-    → (mid.is_short ≡ false → is_pes mid.kind ≡ begins_pes (take head_size bytes))
-    → (new.is_short ≡ false → mid.is_short ≡ false)
-    → (new.is_short ≡ false → AddsWords between (kind_words new.kind) after)
-    → is_pes new.kind ≡ false
-    → FindsKind old bytes before after new
-found-behind-head old mid new bytes before between after was has same unknown head pes short kind not =
-    record {
-      told = λ enough.
-          let words = head_words (take head_size bytes) in
-          let e : head_told old.has_head bytes new.has_head ≡ words ++ kind_words mid.kind =
-          ap (λ had. head_told had bytes new.has_head) was
-          ∙ ap (λ is. head_so_far is (take head_size bytes)) (same ∙ has)
-          ∙ sym (append-nil words)
-          ∙ ap (λ k. words ++ kind_words k) (sym unknown) in
-          subst (λ l. AddsWords before (l ++ kind_words new.kind) after) (sym e)
-          (adds-words (words ++ kind_words mid.kind) (kind_words new.kind) (head (short enough))
-          (kind enough));
-      stays = λ is. same ∙ has;
-      none = λ is. let e = sym (same ∙ has) ∙ is in cc;
-      pes = λ enough had is. not ∙ sym (ap is_pes unknown) ∙ pes (short enough);
-      not_pes = λ had. not;
-    }
-
--- It had been told.
-pub found-with-head : (old new : Recording) (bytes : List ℕ) (before after : Text)
-    → old.has_head ≡ true
-    → new.has_head ≡ old.has_head
-    → (new.is_short ≡ false → AddsWords before (kind_words new.kind) after)
-    → is_pes new.kind ≡ false
-    → FindsKind old bytes before after new
-found-with-head old new bytes before after has same kind not = record {
-  told = λ enough.
-      subst (λ was. AddsWords before (head_told was bytes new.has_head ++ kind_words new.kind) after)
-      (sym has) (kind enough);
-  stays = λ is. same ∙ is;
-  none = λ is. let e = sym (same ∙ has) ∙ is in cc;
-  pes = λ enough had is. let e = sym has ∙ had in cc;
-  not_pes = λ had. not;
-}
-
-unknown-is-no-pes : (kind : Kind) → is_unknown kind ≡ true → is_pes kind ≡ false
-unknown-is-no-pes Unknown is = refl
-unknown-is-no-pes (Pes f) is = absurd cc
-unknown-is-no-pes (Stream p m) is = absurd cc
-unknown-is-no-pes Nothing is = absurd cc
-
-found-pes : (had : Bool) (old new : Recording) (came all bytes listing : List ℕ) (first last : Text)
-    → old.has_head ≡ had
-    → IsTold old came listing
-    → is_unknown old.kind ≡ true
-    → FindsKind old bytes first last new
-    → new.is_short ≡ false
-    → (old.has_head ≡ true → take head_size all ≡ take head_size came)
-    → (old.has_head ≡ false → all ≡ bytes)
-    → new.has_head ≡ true
-    → is_pes new.kind ≡ begins_pes (take head_size all)
-found-pes true old new came all bytes listing first last had told is finds enough begins same has =
-    finds.not_pes had
-    ∙ sym (unknown-is-no-pes old.kind is)
-    ∙ told.pes had
-    ∙ ap begins_pes (sym (begins had))
-found-pes false old new came all bytes listing first last had told is finds enough begins same has =
-    finds.pes enough had has ∙ ap (λ l. begins_pes (take head_size l)) (sym (same had))
-
--- It was found what a recording is, or some of it was looked at.
-told-found : (old new : Recording) (came all bytes listing text : List ℕ) (first last : Text)
-    → IsTold old came listing
-    → is_unknown old.kind ≡ true
-    → FindsKind old bytes first last new
-    → new.is_short ≡ false
-    → first.bytes.items ≡ []
-    → last.is_lost ≡ false
-    → (old.has_head ≡ true → take head_size all ≡ take head_size came)
-    → (old.has_head ≡ false → all ≡ bytes)
-    → (is_unknown new.kind ≡ true → text ≡ [])
-    → IsTold new all (listing ++ (last.bytes.items ++ text))
-told-found old new came all bytes listing text first last told is finds enough empty whole begins same none =
-    let had = head_so_far old.has_head (take head_size came) in
-    let more = head_told old.has_head bytes new.has_head in
-    let known = kind_words new.kind in
-    let was : listing ≡ concat had =
-    told.told
-    ∙ ap (λ l. concat (had ++ kind_words old.kind) ++ l) (told.unknown is)
-    ∙ append-nil (concat (had ++ kind_words old.kind))
-    ∙ ap (λ l. concat (had ++ l)) (unknown-words old.kind is)
-    ∙ ap concat (append-nil had) in
-    let now : last.bytes.items ≡ concat (more ++ known) =
-    (finds.told enough).added whole ∙ ap (λ l. l ++ concat (more ++ known)) empty in
-    record {
-      more = text;
-      told =
-          ap (λ l. l ++ (last.bytes.items ++ text)) was
-          ∙ ap (λ l. concat had ++ (l ++ text)) now
-          ∙ sym (append_assoc (concat had) (concat (more ++ known)) text)
-          ∙ ap (λ l. l ++ text) (sym (concat-append had (more ++ known)))
-          ∙ ap (λ l. concat l ++ text) (sym (append_assoc had more known))
-          ∙ ap (λ l. concat (l ++ known) ++ text)
-          (sym (heads old.has_head new.has_head came all bytes finds.stays begins same));
-      unknown = none;
-      none = finds.none;
-      pes = λ has.
-          found-pes old.has_head old new came all bytes listing first last refl told is finds enough
-          begins same has;
-    }
-
-told-by : (is : Bool) (old new : Recording) (came all bytes listing text : List ℕ)
-    (first last : Text)
-    → is_unknown old.kind ≡ is
-    → IsTold old came listing
-    → (is_unknown old.kind ≡ true → FindsKind old bytes first last new)
-    → (is_unknown old.kind ≡ false
-    → (last ≡ first) × (new.has_head ≡ old.has_head) × GoesOn old.kind new.kind)
-    → new.is_short ≡ false
-    → first.bytes.items ≡ []
-    → last.is_lost ≡ false
-    → (old.has_head ≡ true → take head_size all ≡ take head_size came)
-    → (old.has_head ≡ false → all ≡ bytes)
-    → (is_unknown new.kind ≡ true → text ≡ [])
-    → IsTold new all (listing ++ (last.bytes.items ++ text))
-told-by true old new came all bytes listing text first last is told finds goes enough empty whole begins same none =
-    told-found old new came all bytes listing text first last told is (finds is) enough empty whole
-    begins same none
-told-by false old new came all bytes listing text first last is told finds goes enough empty whole begins same none =
-    let on = goes is in
-    let no_more : last.bytes.items ≡ [] = ap (λ t. t.bytes.items) on.0 ∙ empty in
-    subst (λ l. IsTold new all (listing ++ (l ++ text))) (sym no_more)
-    (told-more old new came all listing text told on.2 on.1 begins
-    (λ unknown. none (unknown-on old.kind new.kind on.2 ∙ unknown)))
-
--- More of a recording was looked at.
-pub told-on : (old new : Recording) (came all bytes listing text : List ℕ) (first last : Text)
-    → IsTold old came listing
-    → (is_unknown old.kind ≡ true → FindsKind old bytes first last new)
-    → (is_unknown old.kind ≡ false
-    → (last ≡ first) × (new.has_head ≡ old.has_head) × GoesOn old.kind new.kind)
-    → new.is_short ≡ false
-    → length first.bytes.items ≡ 0
-    → last.is_lost ≡ false
-    → (old.has_head ≡ true → take head_size all ≡ take head_size came)
-    → (old.has_head ≡ false → all ≡ bytes)
-    → (is_unknown new.kind ≡ true → text ≡ [])
-    → IsTold new all (listing ++ (last.bytes.items ++ text))
-told-on old new came all bytes listing text first last told finds goes enough empty =
-    told-by (is_unknown old.kind) old new came all bytes listing text first last refl told finds goes
-    enough (no-items first.bytes.items empty)
-
--- ---- the bytes that came
-
--- Those that are told have come, so more of them change nothing.
-pub begins-as : (has : Bool) (came more : List ℕ)
-    → (has ≡ true → head_size ≤ length came)
-    → has ≡ true
-    → take head_size (came ++ more) ≡ take head_size came
-begins-as has came more long is = take-append-le head_size came more (long is)
-
-pub long-on : (had has : Bool) (came more : List ℕ)
-    → (had ≡ true → head_size ≤ length came)
-    → (had ≡ false → has ≡ true → head_size ≤ length (came ++ more))
-    → has ≡ true
-    → head_size ≤ length (came ++ more)
-long-on true has came more long enough is =
-    let e = length-append came more in omega (arith, e, long refl)
-long-on false has came more long enough is = enough refl is
-
--- While nothing is told, what came is held.
-pub came-all : (came held now bytes more : List ℕ)
-    → held ≡ came
-    → now ≡ held ++ more
-    → bytes ≡ now
-    → came ++ more ≡ bytes
-came-all came held now bytes more is more_is same =
-    ap (λ l. l ++ more) (sym is) ∙ sym more_is ∙ sym same
-
--- And none of it is passed over.
-pub still-held : (came held now after more : List ℕ) (used : ℕ)
-    → held ≡ came
-    → now ≡ held ++ more
-    → used ≡ 0
-    → after ≡ drop used now
-    → after ≡ came ++ more
-still-held came held now after more used is more_is none passed =
-    passed ∙ ap (λ n. drop n now) none ∙ more_is ∙ ap (λ l. l ++ more) is
-
-pub was-none : (had has : Bool) → (had ≡ true → has ≡ true) → has ≡ false → had ≡ false
-was-none true has stays none = let e = sym (stays refl) ∙ none in cc
-was-none false has stays none = refl
 
 -- All was read.
 all-read : (start end : Option (List ℕ)) (came : List ℕ)
@@ -525,7 +170,9 @@ pub told-end :
     → last.is_lost ≡ false
     → Appends old out (first.bytes.items ++ last.bytes.items)
     → TellsSurvey options left start out
-told-end options left end start old out recording first text last came before read over was told known asked ends whole more =
+told-end
+    options left end start old out recording first text last came before read over was told known
+    asked ends whole more =
     let kind = recording.kind in
     let head = take head_size came in
     let told_last = last_words kind ++ over_line (skipped_of recording) (packets_in kind) in

@@ -175,8 +175,8 @@ impl Recording {
             → IsAsAsked self.new.asked self.new.kind }
         ensures has_head { self.new.has_head ≡ true }
         ensures told { is_unknown self.old.kind ≡ true → self.new.is_short ≡ false
-            → AddsWords first.old (head_words (take head_size bytes.now) ++ kind_words self.new.kind)
-            first.new }
+            → AddsWords first.old
+            (head_words (take head_size bytes.now) ++ kind_words self.new.kind) first.new }
         ensures pes { is_unknown self.old.kind ≡ true → self.new.is_short ≡ false
             → is_pes self.new.kind ≡ begins_pes (take head_size bytes.now) }
         ensures short { self.new.is_short ≡ false → self.old.is_short ≡ false }

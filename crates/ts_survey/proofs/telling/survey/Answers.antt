@@ -5,9 +5,9 @@ use Rattle.std.proofs.KnownBytes.{Appends-trans, Consumes-nil, Consumes-trans}
 use Rattle.mpeg_ts.specs.declared.survey_options.SurveyOptions.{SurveyOptions}
 use Rattle.ts_survey.specs.FirstLines.{head_size}
 use Rattle.ts_survey.specs.Listed.{IsAsAsked}
-use Rattle.ts_survey.proofs.ListedLemmas.{appends-empty, begins-as, came-all, long-on, no-items}
-use Rattle.ts_survey.proofs.ListedLemmas.{still-held, told-end, told-kept, told-on, told-start}
-use Rattle.ts_survey.proofs.ListedLemmas.{was-none}
+use Rattle.ts_survey.proofs.FirstLinesLemmas.{begins-as, came-all, long-on, no-items, still-held}
+use Rattle.ts_survey.proofs.FirstLinesLemmas.{told-kept, told-on, told-start, was-none}
+use Rattle.ts_survey.proofs.ListedLemmas.{appends-empty, told-end}
 use Rattle.ts_survey.proofs.SurveyLemmas.{grows-more}
 use Rattle.ts_survey.proofs.telling.survey.Goals as goal
 

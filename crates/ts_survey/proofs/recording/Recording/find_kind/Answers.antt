@@ -3,7 +3,7 @@ use Rattle.std.proofs.Common.{◌≡◌, ◌∙◌, ap, false, rules, subst}
 use Rattle.ts_survey.specs.FirstLines.{kind_words}
 use Rattle.ts_survey.specs.Lines.{AddsWords}
 use Rattle.ts_survey.specs.Stream.{is_unknown}
-use Rattle.ts_survey.proofs.ListedLemmas.{found-behind-head, found-with-head}
+use Rattle.ts_survey.proofs.FirstLinesLemmas.{found-behind-head, found-with-head}
 use Rattle.ts_survey.proofs.recording.Recording.find_kind.Goals as goal
 use Rattle.ts_survey.proofs.recording.Recording.find_kind.Goals.{else-not-self}
 use Rattle.ts_survey.proofs.recording.Recording.find_kind.Goals.{then-not-self+else-bytes-lt-HEAD}

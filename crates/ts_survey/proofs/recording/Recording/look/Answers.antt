@@ -1,5 +1,5 @@
 -- A stream that was begun is known; what is not known is not told: adds-nothing.
-use Rattle.ts_survey.proofs.ListedLemmas.{adds-nothing}
+use Rattle.ts_survey.proofs.FirstLinesLemmas.{adds-nothing}
 use Rattle.ts_survey.proofs.RoomLemmas.{asked_is_known}
 use Rattle.ts_survey.proofs.recording.Recording.look.Goals as goal
 
