@@ -1,6 +1,7 @@
 pub mod ApartLemmas
 pub mod AskedLemmas
 pub mod CarrierLemmas
+pub mod CountedLemmas
 pub mod CounterLemmas
 pub mod EndingsLemmas
 pub mod FirstLinesLemmas

@@ -9,6 +9,7 @@ use Rattle.mpeg_ts.specs.declared.packet_size.PacketSize.{PacketSize}
 use Rattle.mpeg_ts.specs.declared.survey_options.SurveyOptions.{SurveyOptions}
 use Rattle.ttx_page.specs.Receiver.{RunsBy}
 use Rattle.ts_survey.specs.Asked.{KeepsAsked, keeps_asked, others_followed}
+use Rattle.ts_survey.specs.Counted.{StandsAt}
 use Rattle.ts_survey.specs.FirstLines.{head_size, head_so_far, kind_words}
 use Rattle.ts_survey.specs.InStep.{TakesAll}
 use Rattle.ts_survey.specs.Lines.{AddsWords}
@@ -21,6 +22,7 @@ use Rattle.ts_survey.specs.declared.recording.Kind.{Kind}
 use Rattle.ts_survey.specs.declared.recording.Kind.TheVariants.{Nothing, Pes, Stream, Unknown}
 use Rattle.ts_survey.specs.declared.recording.Recording.{Recording}
 use Rattle.ts_survey.specs.declared.text.Text.{Text}
+use Rattle.ts_survey.proofs.CountedLemmas.{counted-all, takes-begun}
 use Rattle.ts_survey.proofs.EndingsLemmas.{adds-none}
 use Rattle.ts_survey.proofs.TextLemmas.{adds-words}
 use Rattle.ts_survey.proofs.FirstLinesLemmas.{no-items}
@@ -97,8 +99,10 @@ pub as-asked-as : (options other : SurveyOptions) (old new : Kind)
 as-asked-as options other old new same on asked =
     subst (λ (o : SurveyOptions). IsAsAsked o new) (sym same) (as-asked-on options old new on asked)
 
--- For `take` and `pause`.
+-- For `pause`, and for `take`.
 pub ruleset stays_as_asked = (as-asked-as, goes-same)
+
+pub ruleset takes_as_asked = (as-asked-as, goes-same, takes-begun)
 
 -- ---- what is told of it
 
@@ -128,11 +132,11 @@ pub ruleset all_told = (appends-kept, appends-empty)
 all-read : (start end : Option (List ℕ)) (came : List ℕ)
     → Consumes start end came
     → IsAtEnd end
-    → IfSome start (λ bytes. take head_size came ≡ take head_size bytes)
+    → IfSome start (λ bytes. came ≡ bytes)
 all-read None end came consumed over = tt
 all-read (Some xs) None came consumed over = absurd consumed
 all-read (Some xs) (Some ys) came consumed over =
-    ap (take head_size) (sym (consumed ∙ ap (λ l. came ++ l) over ∙ append-nil came))
+    sym (consumed ∙ ap (λ l. came ++ l) over ∙ append-nil came)
 
 -- ---- the end
 
@@ -159,9 +163,10 @@ ends-told recording old mid new skipped number kept is are over =
 -- The recording is over.
 pub told-end :
     (options : SurveyOptions) (left end start old out : Option (List ℕ)) (recording : Recording)
-    (first text last : Text) (came before : List ℕ)
+    (first text last : Text) (came held before : List ℕ)
     → Consumes left end came
     → IsAtEnd end
+    → StandsAt recording.kind recording.skipped came held true
     → Appends start old before
     → IsTold recording came (before ++ (first.bytes.items ++ text.bytes.items))
     → is_unknown recording.kind ≡ false
@@ -171,8 +176,8 @@ pub told-end :
     → Appends old out (first.bytes.items ++ last.bytes.items)
     → TellsSurvey options left start out
 told-end
-    options left end start old out recording first text last came before read over was told known
-    asked ends whole more =
+    options left end start old out recording first text last came held before read over stands was
+    told known asked ends whole more =
     let kind = recording.kind in
     let head = take head_size came in
     let told_last = last_words kind ++ over_line (skipped_of recording) (packets_in kind) in
@@ -182,12 +187,13 @@ told-end
       before ++ (first.bytes.items ++ last.bytes.items),
       Appends-trans start old out before (first.bytes.items ++ last.bytes.items) was more,
       record {
-        head = head;
-        begins = all-read left end came read over;
+        came = came;
+        all = all-read left end came read over;
         last = recording;
         asked = asked;
         known = known;
         pes = told.pes is_head;
+        counted = counted-all recording.kind recording.skipped came held stands;
         between = told.more;
         listed =
             ap (λ l. before ++ (first.bytes.items ++ l)) same

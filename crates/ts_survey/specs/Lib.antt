@@ -2,6 +2,7 @@ pub mod Adaptation
 pub mod Aparts
 pub mod Asked
 pub mod Clocks
+pub mod Counted
 pub mod Counters
 pub mod Endings
 pub mod FirstLines

@@ -6,6 +6,7 @@ use Rattle.std.specs.Io.KnownBytes.{Appends}
 use Rattle.std.specs.List.{concat}
 use Rattle.mpeg_ts.specs.declared.survey_options.SurveyOptions.{SurveyOptions}
 use Rattle.ts_survey.specs.Asked.{KeepsAsked, others_followed}
+use Rattle.ts_survey.specs.Counted.{CountsRecording}
 use Rattle.ts_survey.specs.Endings.{counts_words, end_words}
 use Rattle.ts_survey.specs.FirstLines.{begins_pes, head_size, head_so_far, head_words, is_pes}
 use Rattle.ts_survey.specs.FirstLines.{kind_words}
@@ -106,19 +107,20 @@ pub record IsTold (recording : Recording) (came listing : List ℕ) : Type 0 whe
   pub pes :
       recording.has_head ≡ true → is_pes recording.kind ≡ begins_pes (take head_size came)
 
--- The lines of a recording that was read to its end: its first bytes; what it is, as it was asked;
--- what is in it; and what is known at its end. Where it tells its bytes, the first are these.
+-- The lines of a recording of which all bytes came: the first of them; what it is, as it was asked;
+-- what is in it; and what is known at its end, with its packets and the bytes that belong to none.
 pub record IsSurveyed
     (options : SurveyOptions) (recording : Option (List ℕ)) (listing : List ℕ) : Type 0 where
-  pub head : List ℕ
-  pub begins : IfSome recording (λ bytes. head ≡ take head_size bytes)
+  pub came : List ℕ
+  pub all : IfSome recording (λ bytes. came ≡ bytes)
   pub last : Recording
   pub asked : IsAsAsked options last.kind
   pub known : is_unknown last.kind ≡ false
-  pub pes : is_pes last.kind ≡ begins_pes head
+  pub pes : is_pes last.kind ≡ begins_pes (take head_size came)
+  pub counted : CountsRecording came last.kind
   pub between : List ℕ
   pub listed :
-      listing ≡ concat (head_words head ++ kind_words last.kind) ++ between
+      listing ≡ concat (head_words (take head_size came) ++ kind_words last.kind) ++ between
       ++ concat (last_words last.kind ++ over_line (skipped_of last) (packets_in last.kind))
 
 -- They were told behind what was there.

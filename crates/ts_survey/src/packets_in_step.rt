@@ -9,6 +9,7 @@ ghost use Rattle.std.specs.Prelude.{IfNone, IfSome, drop, false, replicate, take
 ghost use Rattle.mpeg_ts.specs.PacketSize.{bytes_of};
 ghost use Rattle.mpeg_ts.specs.PacketsInStep.{Skipped, begins_packet, bytes_needed, lead_size};
 ghost use Rattle.ttx_page.specs.Receiver.{RunsBy};
+ghost use Rattle.ts_survey.specs.Counted.{BeginsAt};
 ghost use Rattle.ts_survey.specs.Following.{any_piece};
 ghost use Rattle.ts_survey.specs.InStep.{AreFound, TakesAll, counted_on, items_from, told_of};
 ghost use Rattle.ts_survey.specs.Room.{most_kept};
@@ -79,6 +80,7 @@ impl PacketsInStep {
         ensures lead { result.lead ≡ lead_size (bytes_of size) }
         ensures in_step { result.in_step ≡ true }
         ensures counted { (result.number ≡ 0) × (result.skipped ≡ skipped) }
+        ensures begins { BeginsAt skipped result }
     {
         PacketsInStep {
             size,

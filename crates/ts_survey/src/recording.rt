@@ -1,6 +1,7 @@
 //! A recording, whatever it is: bytes come, and lines are made.
 ghost use Rattle.std.specs.Prelude.{◌≡◌, ◌≤◌, ◌+◌, ◌++◌, IfSome, Some, false, length, take, true};
 ghost use Rattle.mpeg_ts.specs.PacketSize.{bytes_of};
+ghost use Rattle.ts_survey.specs.Counted.{BeginsStream, StaysRead, TakesBegun};
 ghost use Rattle.ts_survey.specs.FirstLines.{FindsKind, begins_pes, head_size, head_words};
 ghost use Rattle.ts_survey.specs.FirstLines.{is_pes, kind_words, size_line, space_of};
 ghost use Rattle.ts_survey.specs.Lines.{AddsWords};
@@ -58,6 +59,7 @@ impl Recording {
         ensures asked { result.asked ≡ asked }
         ensures kind { result.kind ≡ Kind.Unknown }
         ensures none { (result.has_head ≡ false) × (result.is_short ≡ false) }
+        ensures skipped { result.skipped ≡ 0 }
     {
         Recording {
             alloc,
@@ -82,7 +84,7 @@ impl Recording {
 
     /// Takes bytes: those that were not needed before, and what has come. Answers how many are not
     /// needed any more. The lines that a survey begins with are told apart, since they come first.
-    #[tactic(auto, using(crate::proofs::ListedLemmas::stays_as_asked))]
+    #[tactic(auto, using(crate::proofs::ListedLemmas::takes_as_asked))]
     pub fn take(&mut self, bytes: &[u8], is_end: bool, first: &mut Text, text: &mut Text) -> usize
         ensures within { result ≤ length bytes.now }
         // Few bytes are kept, so there is room for more.
@@ -105,6 +107,13 @@ impl Recording {
         ensures goes_on { is_unknown self.old.kind ≡ false → (first.new ≡ first.old)
             × (self.new.has_head ≡ self.old.has_head)
             × GoesOn self.old.kind self.new.kind }
+        // Of a stream all packets that the bytes have are taken, in order, each once.
+        ensures taken { is_unknown self.old.kind ≡ false
+            → TakesOn self.old.kind bytes.now is_end result self.new.kind }
+        ensures begun { is_unknown self.old.kind ≡ true
+            → TakesBegun self.old.skipped bytes.now is_end result self.new.kind }
+        ensures passed { is_unknown self.old.kind ≡ true → is_unknown self.new.kind ≡ true
+            → self.new.skipped ≡ self.old.skipped + result }
     {
         if let Kind::Unknown = &self.kind {
             let used = self.find_kind(bytes, is_end, first);
@@ -131,6 +140,10 @@ impl Recording {
         ensures waits { self.new.has_head ≡ false → result ≡ 0 }
         ensures enough { is_end ≡ false → self.old.has_head ≡ false → self.new.has_head ≡ true
             → head_size ≤ length bytes.now }
+        ensures begins { is_unknown self.old.kind ≡ true
+            → BeginsStream self.old.skipped self.new.kind }
+        ensures passed { is_unknown self.old.kind ≡ true → is_unknown self.new.kind ≡ true
+            → self.new.skipped ≡ self.old.skipped + result }
     {
         if !self.has_head {
             if bytes.len() < HEAD && !is_end {
@@ -180,6 +193,9 @@ impl Recording {
         ensures pes { is_unknown self.old.kind ≡ true → self.new.is_short ≡ false
             → is_pes self.new.kind ≡ begins_pes (take head_size bytes.now) }
         ensures short { self.new.is_short ≡ false → self.old.is_short ≡ false }
+        ensures begins { is_unknown self.old.kind ≡ true
+            → BeginsStream self.old.skipped self.new.kind }
+        ensures skipped { self.new.skipped ≡ self.old.skipped }
     {
         self.has_head = true;
         let head = head_in(bytes);
@@ -209,6 +225,10 @@ impl Recording {
         ensures told { is_unknown self.old.kind ≡ true → self.new.is_short ≡ false
             → AddsWords first.old (kind_words self.new.kind) first.new }
         ensures not_pes { is_unknown self.old.kind ≡ true → is_pes self.new.kind ≡ false }
+        ensures begins { is_unknown self.old.kind ≡ true
+            → BeginsStream self.old.skipped self.new.kind }
+        ensures passed { is_unknown self.old.kind ≡ true → is_unknown self.new.kind ≡ true
+            → self.new.skipped ≡ self.old.skipped + result }
         ensures known { is_end ≡ true → self.new.is_short ≡ false
             → is_unknown self.new.kind ≡ false }
     {
@@ -244,6 +264,9 @@ impl Recording {
         ensures told { self.new.is_short ≡ false
             → AddsWords first.old (kind_words self.new.kind) first.new }
         ensures not_pes { is_unknown self.old.kind ≡ true → is_pes self.new.kind ≡ false }
+        ensures begins { is_unknown self.old.kind ≡ true
+            → BeginsStream self.old.skipped self.new.kind }
+        ensures skipped { self.new.skipped ≡ self.old.skipped }
     {
         put_size(size, first);
         let pid = number_of(self.asked.pid);
@@ -267,6 +290,8 @@ impl Recording {
         ensures kind { is_end ≡ false → GoesOn self.old.kind self.new.kind }
         ensures head { is_end ≡ false → self.new.has_head ≡ self.old.has_head }
         ensures text { is_end ≡ false → is_unknown self.old.kind ≡ true → text.new ≡ text.old }
+        ensures reads { is_end ≡ false → StaysRead self.old.kind self.new.kind }
+        ensures skipped { is_end ≡ false → self.new.skipped ≡ self.old.skipped }
     {
         if is_end {
             self.end(text);
@@ -283,6 +308,8 @@ impl Recording {
         ensures short { self.new.is_short ≡ self.old.is_short }
         ensures head { self.new.has_head ≡ self.old.has_head }
         ensures text { is_unknown self.old.kind ≡ true → text.new ≡ text.old }
+        ensures reads { StaysRead self.old.kind self.new.kind }
+        ensures skipped { self.new.skipped ≡ self.old.skipped }
     {
         match &mut self.kind {
             Kind::Pes(file) => file.flush(text),

@@ -3,8 +3,10 @@ use Rattle.std.proofs.Common.{◌≡◌, ◌≤◌, ◌++◌, ◌∙◌, [], ap,
 use Rattle.std.proofs.Common.{sym, take}
 use Rattle.std.proofs.KnownBytes.{Appends-trans, Consumes-nil, Consumes-trans}
 use Rattle.mpeg_ts.specs.declared.survey_options.SurveyOptions.{SurveyOptions}
+use Rattle.ts_survey.specs.Counted.{StandsAt}
 use Rattle.ts_survey.specs.FirstLines.{head_size}
 use Rattle.ts_survey.specs.Listed.{IsAsAsked}
+use Rattle.ts_survey.proofs.CountedLemmas.{stands-kept, stands-next, stands-start}
 use Rattle.ts_survey.proofs.FirstLinesLemmas.{begins-as, came-all, long-on, no-items, still-held}
 use Rattle.ts_survey.proofs.FirstLinesLemmas.{told-kept, told-on, told-start, was-none}
 use Rattle.ts_survey.proofs.ListedLemmas.{appends-empty, told-end}
@@ -27,11 +29,23 @@ returns-then-came-clause-listed g c =
     told-end c.args.options (g.S.Source.remaining c.args.source.now)
     (g.S.Source.remaining c.pull.new.source) (g.K.Sink.contents c.args.out.now)
     (g.K.Sink.contents c.reads.out) (g.K.Sink.contents c.hand_on.new.out) taken.new.self
-    taken.new.first taken.new.text c.pause.new.text (given.read.0 ++ came.came) given.grows.0
+    taken.new.first taken.new.text c.pause.new.text (given.read.0 ++ came.came)
+    (take c.pass.new.self.len c.pass.new.self.bytes.items) given.grows.0
     (Consumes-trans (g.S.Source.remaining c.args.source.now)
     (g.S.Source.remaining c.reads.source) (g.S.Source.remaining c.pull.new.source) given.read.0
     came.came given.read.1 came.consumed)
     (search rules)
+    (subst (λ b. StandsAt taken.new.self.kind taken.new.self.skipped
+    (given.read.0 ++ came.came) (take c.pass.new.self.len c.pass.new.self.bytes.items) b)
+    c.if-came.true
+    (stands-next c.reads.recording.kind taken.new.self.kind c.reads.recording.skipped
+    taken.new.self.skipped taken.result given.read.0 came.came
+    (take c.reads.room.len c.reads.room.bytes.items)
+    (take c.pull.new.self.len c.pull.new.self.bytes.items) c.held.result.now
+    (take c.pass.new.self.len c.pass.new.self.bytes.items) c.in-Ok.came.is_end given.stands
+    came.held c.held.ensures.bytes c.pass.ensures.held taken.ensures.within
+    taken.ensures.passed taken.ensures.begun (λ known. (taken.ensures.goes_on known).2)
+    taken.ensures.taken))
     given.grows.1
     (told-on c.reads.recording taken.new.self given.read.0 (given.read.0 ++ came.came)
     c.held.result.now given.grows.0 taken.new.text.bytes.items c.reads.first taken.new.first
@@ -93,6 +107,23 @@ reads-preserved g c =
           (take c.pass.new.self.len c.pass.new.self.bytes.items) came.came taken.result
           (given.held had) came.held
           (taken.ensures.waits (told.none none) none) c.pass.ensures.held;
+      stands =
+          stands-kept taken.new.self.kind c.pause.new.self.kind taken.new.self.skipped
+          c.pause.new.self.skipped (given.read.0 ++ came.came)
+          (take c.pass.new.self.len c.pass.new.self.bytes.items) false
+          (c.pause.ensures.kind c.if-came.false) (c.pause.ensures.reads c.if-came.false)
+          (c.pause.ensures.skipped c.if-came.false)
+          (subst (λ b. StandsAt taken.new.self.kind taken.new.self.skipped
+          (given.read.0 ++ came.came) (take c.pass.new.self.len c.pass.new.self.bytes.items) b)
+          c.if-came.false
+          (stands-next c.reads.recording.kind taken.new.self.kind c.reads.recording.skipped
+          taken.new.self.skipped taken.result given.read.0 came.came
+          (take c.reads.room.len c.reads.room.bytes.items)
+          (take c.pull.new.self.len c.pull.new.self.bytes.items) c.held.result.now
+          (take c.pass.new.self.len c.pass.new.self.bytes.items) c.in-Ok.came.is_end given.stands
+          came.held c.held.ensures.bytes c.pass.ensures.held taken.ensures.within
+          taken.ensures.passed taken.ensures.begun (λ known. (taken.ensures.goes_on known).2)
+          taken.ensures.taken));
       long = λ has.
           long-on c.reads.recording.has_head taken.new.self.has_head given.read.0 came.came
           given.long
@@ -119,6 +150,11 @@ reads-init g c = record {
       told-start c.new-recording.result c.new-recording.ensures.kind
       c.new-recording.ensures.none.0;
   held = λ not. ap (λ n. take n c.in-Some.room.bytes.items) c.in-Some.ensures.0;
+  stands =
+      stands-start c.new-recording.result.kind c.new-recording.result.skipped
+      (take c.in-Some.room.len c.in-Some.room.bytes.items) c.new-recording.ensures.kind
+      c.new-recording.ensures.skipped
+      (ap (λ n. take n c.in-Some.room.bytes.items) c.in-Some.ensures.0);
   long = λ has. let e = sym c.new-recording.ensures.none.0 ∙ has in cc;
   enough = search rules;
   asked = search rules;

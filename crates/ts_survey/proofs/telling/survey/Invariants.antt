@@ -1,6 +1,7 @@
 -- Nothing has failed, what was told stands in the sink, and is handed on.
 use Rattle.std.proofs.Common.{◌≡◌, ◌≤◌, List, ℕ, false, length, take, true, vec_len}
 use Rattle.std.specs.Io.KnownBytes.{Consumes}
+use Rattle.ts_survey.specs.Counted.{StandsAt}
 use Rattle.ts_survey.specs.FirstLines.{head_size}
 use Rattle.ts_survey.specs.Listed.{IsAsAsked, IsTold}
 use Rattle.ts_survey.specs.Room.{most_kept, room_size}
@@ -17,6 +18,9 @@ invariant-reads g l = record {
       × Consumes (g.S.Source.remaining l.fn.source) (g.S.Source.remaining l.source) came;
   told : IsTold l.recording read.0 grows.0;
   held : l.recording.has_head ≡ false → take l.room.len l.room.bytes.items ≡ read.0;
+  stands :
+      StandsAt l.recording.kind l.recording.skipped read.0
+      (take l.room.len l.room.bytes.items) false;
   long : l.recording.has_head ≡ true → head_size ≤ length read.0;
   enough : l.recording.is_short ≡ false;
   asked : l.recording.asked ≡ l.fn.options;

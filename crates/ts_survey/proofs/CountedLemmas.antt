@@ -1,0 +1,350 @@
+-- Where the packets of a stream stand was told of all bytes that came: stands-start, stands-next,
+-- stands-kept; and at the end they are counted: counted-all.
+use Rattle.std.proofs.Common.{◌≡◌, ◌≤◌, ◌+◌, ◌-◌, ◌*◌, ◌∙◌, Bool, List, [], ◌∷◌, ◌++◌, ℕ, ap}
+use Rattle.std.proofs.Common.{append-nil, arith, drop, drop-drop, false, length, length-append}
+use Rattle.std.proofs.Common.{length-drop, refl, subst, sym, true}
+use Rattle.std.proofs.lemmas.List.{drop-append-le}
+use Rattle.mpeg_ts.specs.PacketSize.{bytes_of}
+use Rattle.mpeg_ts.specs.PacketsInStep.{lead_size}
+use Rattle.ttx_page.specs.Receiver.{RunsBy}
+use Rattle.ts_survey.specs.Asked.{keeps_asked}
+use Rattle.ts_survey.specs.Counted.{BeginsAt, BeginsStream, CountsRecording, CountsStream}
+use Rattle.ts_survey.specs.Counted.{ReadsStream, StandsAt, StaysRead, TakesAny, TakesBegun}
+use Rattle.ts_survey.specs.Following.{any_piece}
+use Rattle.ts_survey.specs.InStep.{TakesAll, counted_on, items_from, packet_count, skipped_in}
+use Rattle.ts_survey.specs.Listed.{GoesOn}
+use Rattle.ts_survey.specs.Stream.{TakesOn, is_unknown}
+use Rattle.ts_survey.specs.declared.multiplex.Multiplex.{Multiplex}
+use Rattle.ts_survey.specs.declared.packets_in_step.PacketsInStep.{PacketsInStep}
+use Rattle.ts_survey.specs.declared.recording.Kind.{Kind}
+use Rattle.ts_survey.specs.declared.recording.Kind.TheVariants.{Nothing, Pes, Stream, Unknown}
+use Rattle.ts_survey.proofs.InStepLemmas.{law_of_two_calls}
+
+-- ---- whatever takes the packets
+
+runs-any : (packets : List (List ℕ)) → RunsBy {S = Unit {0}} any_piece (tt {0}) packets (tt {0})
+runs-any [] = refl
+runs-any (p ∷ ps) = (tt, tt, runs-any ps)
+
+-- They stand where they do.
+taken-any :
+    (old new : PacketsInStep) (before after : Multiplex) (bytes : List ℕ) (is_end : Bool) (used : ℕ)
+    → TakesAll keeps_asked old before bytes is_end used new after
+    → TakesAny old bytes is_end used new
+taken-any old new before after bytes is_end used takes = record {
+  within = takes.within;
+  found = record {
+    found = takes.found.found;
+    stand = takes.found.stand;
+    up_to = takes.found.up_to;
+    taken = runs-any _;
+    run = takes.found.run;
+    number = takes.found.number;
+    skipped = takes.found.skipped;
+    size = takes.found.size;
+  };
+  left = takes.left;
+  all = takes.all;
+}
+
+-- ---- more bytes came
+
+-- A stream that has begun takes them.
+begun-read :
+    (passed : ℕ) (first new : PacketsInStep) (start after : Multiplex)
+    (came bytes held : List ℕ) (is_end : Bool) (used : ℕ)
+    → passed ≤ length came
+    → bytes ≡ drop passed came
+    → held ≡ drop used bytes
+    → BeginsAt passed first
+    → TakesAll keeps_asked first start bytes is_end used new after
+    → ReadsStream came held is_end new
+begun-read passed first new start after came bytes held is_end used within is left begins takes =
+    record {
+      passed = passed;
+      within = within;
+      first = first;
+      begins = begins;
+      used = used;
+      taken =
+          subst (λ l. TakesAny first l is_end used new) is
+          (taken-any first new start after bytes is_end used takes);
+      left = left ∙ ap (drop used) is;
+    }
+
+-- So does one of which packets were taken before.
+read-on :
+    (mid new : PacketsInStep) (told after : Multiplex) (came more held bytes next : List ℕ)
+    (is_end : Bool) (used : ℕ)
+    → ReadsStream came held false mid
+    → bytes ≡ held ++ more
+    → next ≡ drop used bytes
+    → TakesAll keeps_asked mid told bytes is_end used new after
+    → ReadsStream (came ++ more) next is_end new
+read-on mid new told after came more held bytes next is_end used read is left takes =
+    let one = drop read.passed came in
+    let all = drop read.passed (came ++ more) in
+    let ahead : one ++ more ≡ all = sym (drop-append-le read.passed came more read.within) in
+    let whole : bytes ≡ drop read.used one ++ more = is ∙ ap (λ l. l ++ more) read.left in
+    let behind : drop read.used one ++ more ≡ drop read.used all =
+    sym (drop-append-le read.used one more read.taken.within) ∙ ap (drop read.used) ahead in
+    record {
+      passed = read.passed;
+      within = omega (arith, read.within, length-append came more);
+      first = read.first;
+      begins = read.begins;
+      used = read.used + used;
+      taken =
+          subst (λ l. TakesAny read.first l is_end (read.used + used) new) ahead
+          (law_of_two_calls {T = Unit {0}} any_piece read.first mid new tt tt tt one more is_end
+          read.used used read.taken
+          (subst (λ l. TakesAny mid l is_end used new) whole
+          (taken-any mid new told after bytes is_end used takes)));
+      left =
+          left
+          ∙ ap (drop used) (whole ∙ behind)
+          ∙ drop-drop used read.used all;
+    }
+
+-- ---- what a recording is
+
+-- A stream that was begun before the bytes that are taken now.
+pub takes-begun : (passed : ℕ) (mid new : Kind) (bytes : List ℕ) (is_end : Bool) (used : ℕ)
+    → BeginsStream passed mid
+    → TakesOn mid bytes is_end used new
+    → GoesOn mid new
+    → TakesBegun passed bytes is_end used new
+takes-begun passed Unknown Unknown bytes is_end used begins takes on = tt
+takes-begun passed Unknown (Pes g) bytes is_end used begins takes on = tt
+takes-begun passed Unknown (Stream q n) bytes is_end used begins takes on = absurd on
+takes-begun passed Unknown Nothing bytes is_end used begins takes on = tt
+takes-begun passed (Pes f) Unknown bytes is_end used begins takes on = tt
+takes-begun passed (Pes f) (Pes g) bytes is_end used begins takes on = tt
+takes-begun passed (Pes f) (Stream q n) bytes is_end used begins takes on = absurd on
+takes-begun passed (Pes f) Nothing bytes is_end used begins takes on = tt
+takes-begun passed (Stream p m) Unknown bytes is_end used begins takes on = tt
+takes-begun passed (Stream p m) (Pes g) bytes is_end used begins takes on = tt
+takes-begun passed (Stream p m) (Stream q n) bytes is_end used begins takes on =
+    record { first = p; begins = begins; start = m; taken = takes }
+takes-begun passed (Stream p m) Nothing bytes is_end used begins takes on = tt
+takes-begun passed Nothing Unknown bytes is_end used begins takes on = tt
+takes-begun passed Nothing (Pes g) bytes is_end used begins takes on = tt
+takes-begun passed Nothing (Stream q n) bytes is_end used begins takes on = absurd on
+takes-begun passed Nothing Nothing bytes is_end used begins takes on = tt
+
+-- More of what was not known came.
+stands-begun :
+    (new : Kind) (skipped skipped_now used : ℕ) (came more held bytes next : List ℕ)
+    (is_end : Bool)
+    → skipped ≤ length came
+    → held ≡ drop skipped came
+    → bytes ≡ held ++ more
+    → next ≡ drop used bytes
+    → used ≤ length bytes
+    → (is_unknown new ≡ true → skipped_now ≡ skipped + used)
+    → TakesBegun skipped bytes is_end used new
+    → StandsAt new skipped_now (came ++ more) next is_end
+stands-begun
+    Unknown skipped skipped_now used came more held bytes next is_end within is whole left fits
+    known takes =
+    let count = known refl in
+    let all : bytes ≡ drop skipped (came ++ more) =
+    whole ∙ ap (λ l. l ++ more) is ∙ sym (drop-append-le skipped came more within) in (
+      omega (
+        arith,
+        within,
+        fits,
+        count,
+        ap length all,
+        length-drop skipped (came ++ more),
+        length-append came more,
+      ),
+      left
+          ∙ ap (drop used) all
+          ∙ drop-drop used skipped (came ++ more)
+          ∙ ap (λ n. drop n (came ++ more)) (sym count),
+    )
+stands-begun
+    (Pes f) skipped skipped_now used came more held bytes next is_end within is whole left fits
+    known takes = tt
+stands-begun
+    (Stream p m) skipped skipped_now used came more held bytes next is_end within is whole left
+    fits known takes =
+    begun-read skipped takes.first p takes.start m (came ++ more) bytes next is_end used
+    (omega (arith, within, length-append came more))
+    (whole ∙ ap (λ l. l ++ more) is ∙ sym (drop-append-le skipped came more within))
+    left takes.begins takes.taken
+stands-begun
+    Nothing skipped skipped_now used came more held bytes next is_end within is whole left fits
+    known takes = tt
+
+-- More of a recording came.
+stands-on :
+    (old new : Kind) (skipped skipped_now used : ℕ) (came more held bytes next : List ℕ)
+    (is_end : Bool)
+    → StandsAt old skipped came held false
+    → bytes ≡ held ++ more
+    → next ≡ drop used bytes
+    → used ≤ length bytes
+    → (is_unknown old ≡ true → is_unknown new ≡ true → skipped_now ≡ skipped + used)
+    → (is_unknown old ≡ true → TakesBegun skipped bytes is_end used new)
+    → (is_unknown old ≡ false → GoesOn old new × TakesOn old bytes is_end used new)
+    → StandsAt new skipped_now (came ++ more) next is_end
+stands-on
+    Unknown new skipped skipped_now used came more held bytes next is_end stands whole left fits
+    known begun on =
+    stands-begun new skipped skipped_now used came more held bytes next is_end stands.0 stands.1
+    whole left fits (known refl) (begun refl)
+stands-on
+    (Pes f) Unknown skipped skipped_now used came more held bytes next is_end stands whole left
+    fits known begun on =
+    absurd (on refl).0
+stands-on
+    (Pes f) (Pes g) skipped skipped_now used came more held bytes next is_end stands whole left
+    fits known begun on = tt
+stands-on
+    (Pes f) (Stream q n) skipped skipped_now used came more held bytes next is_end stands whole
+    left fits known begun on =
+    absurd (on refl).0
+stands-on
+    (Pes f) Nothing skipped skipped_now used came more held bytes next is_end stands whole left
+    fits known begun on = tt
+stands-on
+    (Stream p m) Unknown skipped skipped_now used came more held bytes next is_end stands whole
+    left fits known begun on =
+    absurd (on refl).0
+stands-on
+    (Stream p m) (Pes g) skipped skipped_now used came more held bytes next is_end stands whole
+    left fits known begun on = tt
+stands-on
+    (Stream p m) (Stream q n) skipped skipped_now used came more held bytes next is_end stands
+    whole left fits known begun on =
+    read-on p q m n came more held bytes next is_end used stands whole left (on refl).1
+stands-on
+    (Stream p m) Nothing skipped skipped_now used came more held bytes next is_end stands whole
+    left fits known begun on = tt
+stands-on
+    Nothing Unknown skipped skipped_now used came more held bytes next is_end stands whole left
+    fits known begun on =
+    absurd (on refl).0
+stands-on
+    Nothing (Pes g) skipped skipped_now used came more held bytes next is_end stands whole left
+    fits known begun on = tt
+stands-on
+    Nothing (Stream q n) skipped skipped_now used came more held bytes next is_end stands whole
+    left fits known begun on =
+    absurd (on refl).0
+stands-on
+    Nothing Nothing skipped skipped_now used came more held bytes next is_end stands whole left
+    fits known begun on = tt
+
+-- More came behind what was held, and so much of it is passed over.
+pub stands-next :
+    (old new : Kind) (skipped skipped_now used : ℕ) (came more held now bytes next : List ℕ)
+    (is_end : Bool)
+    → StandsAt old skipped came held false
+    → now ≡ held ++ more
+    → bytes ≡ now
+    → next ≡ drop used now
+    → used ≤ length bytes
+    → (is_unknown old ≡ true → is_unknown new ≡ true → skipped_now ≡ skipped + used)
+    → (is_unknown old ≡ true → TakesBegun skipped bytes is_end used new)
+    → (is_unknown old ≡ false → GoesOn old new)
+    → (is_unknown old ≡ false → TakesOn old bytes is_end used new)
+    → StandsAt new skipped_now (came ++ more) next is_end
+stands-next
+    old new skipped skipped_now used came more held now bytes next is_end stands more_is same passed
+    fits known begun on taken =
+    stands-on old new skipped skipped_now used came more held bytes next is_end stands
+    (same ∙ more_is) (passed ∙ ap (drop used) (sym same)) fits known begun
+    (λ is. (on is, taken is))
+
+-- Nothing came.
+pub stands-start : (kind : Kind) (skipped : ℕ) (held : List ℕ)
+    → kind ≡ Unknown
+    → skipped ≡ 0
+    → held ≡ []
+    → StandsAt kind skipped [] held false
+stands-start kind skipped held unknown none empty =
+    subst (λ k. StandsAt k skipped [] held false) (sym unknown)
+    (subst (λ n. (n ≤ 0) × (held ≡ drop n [])) (sym none) (omega arith, empty))
+
+-- Nothing more came.
+pub stands-kept :
+    (old new : Kind) (skipped skipped_now : ℕ) (came held : List ℕ) (is_end : Bool)
+    → GoesOn old new
+    → StaysRead old new
+    → skipped_now ≡ skipped
+    → StandsAt old skipped came held is_end
+    → StandsAt new skipped_now came held is_end
+stands-kept Unknown Unknown skipped skipped_now came held is_end on stays same stands =
+    subst (λ n. (n ≤ length came) × (held ≡ drop n came)) (sym same) stands
+stands-kept Unknown (Pes g) skipped skipped_now came held is_end on stays same stands = tt
+stands-kept Unknown (Stream q n) skipped skipped_now came held is_end on stays same stands =
+    absurd on
+stands-kept Unknown Nothing skipped skipped_now came held is_end on stays same stands = tt
+stands-kept (Pes f) Unknown skipped skipped_now came held is_end on stays same stands = absurd on
+stands-kept (Pes f) (Pes g) skipped skipped_now came held is_end on stays same stands = tt
+stands-kept (Pes f) (Stream q n) skipped skipped_now came held is_end on stays same stands =
+    absurd on
+stands-kept (Pes f) Nothing skipped skipped_now came held is_end on stays same stands = tt
+stands-kept (Stream p m) Unknown skipped skipped_now came held is_end on stays same stands =
+    absurd on
+stands-kept (Stream p m) (Pes g) skipped skipped_now came held is_end on stays same stands = tt
+stands-kept (Stream p m) (Stream q n) skipped skipped_now came held is_end on stays same stands =
+    subst (λ one. ReadsStream came held is_end one) (sym stays) stands
+stands-kept (Stream p m) Nothing skipped skipped_now came held is_end on stays same stands = tt
+stands-kept Nothing Unknown skipped skipped_now came held is_end on stays same stands = absurd on
+stands-kept Nothing (Pes g) skipped skipped_now came held is_end on stays same stands = tt
+stands-kept Nothing (Stream q n) skipped skipped_now came held is_end on stays same stands =
+    absurd on
+stands-kept Nothing Nothing skipped skipped_now came held is_end on stays same stands = tt
+
+-- ---- the end
+
+counted-stream : (came held : List ℕ) (packets : PacketsInStep)
+    → ReadsStream came held true packets
+    → CountsStream came packets
+counted-stream came held packets read =
+    let first = read.first in
+    let bytes = drop read.passed came in
+    let found = read.taken.found in
+    let place = read.used + packets.lead in
+    let same = found.size in
+    let distance = bytes_of first.size in
+    let count = packet_count found.found in
+    let skipped = skipped_in found.found in
+    record {
+      passed = read.passed;
+      within = read.within;
+      found = found.found;
+      items =
+          ap (λ s. items_from (bytes_of s) true (drop (lead_size (bytes_of s)) bytes)) same
+          ∙ ap (λ n. items_from distance true (drop n bytes)) (sym read.begins.lead)
+          ∙ ap (λ b. items_from distance b (drop first.lead bytes)) (sym read.begins.in_step)
+          ∙ ap (λ l. items_from distance first.in_step (drop first.lead l)) (sym (append-nil bytes))
+          ∙ found.stand [] (λ is. refl)
+          ∙ ap (λ l. found.found ++ items_from distance packets.in_step (drop place l))
+          (append-nil bytes)
+          ∙ ap (λ s. found.found ++ items_from (bytes_of s) packets.in_step (drop place bytes))
+          (sym same)
+          ∙ ap (λ l. found.found ++ l) (read.taken.all refl)
+          ∙ append-nil found.found;
+      number = found.number ∙ ap (λ n. counted_on n count) read.begins.number;
+      skipped =
+          found.skipped
+          ∙ ap (λ n. counted_on n (skipped + (length bytes - place))) read.begins.skipped
+          ∙ ap (λ n. counted_on read.passed (skipped + (length bytes - n)))
+          (found.up_to
+          ∙ ap (λ n. n + distance * count + skipped) read.begins.lead
+          ∙ ap (λ s. lead_size (bytes_of s) + bytes_of s * count + skipped) (sym same));
+    }
+
+-- All was read of a recording.
+pub counted-all : (kind : Kind) (skipped : ℕ) (came held : List ℕ)
+    → StandsAt kind skipped came held true
+    → CountsRecording came kind
+counted-all Unknown skipped came held stands = tt
+counted-all (Pes f) skipped came held stands = tt
+counted-all (Stream p m) skipped came held stands = counted-stream came held p stands
+counted-all Nothing skipped came held stands = tt

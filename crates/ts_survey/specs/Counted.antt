@@ -1,0 +1,92 @@
+-- A transport stream is read from a place of a recording on, to its end: its packets are counted,
+-- and so are the bytes that belong to none.
+use Rattle.std.specs.Prelude.{◌≡◌, ◌≤◌, ⊤, ℕ, ◌+◌, ◌-◌, ◌*◌, Bool, true, List, drop, length}
+use Rattle.mpeg_ts.specs.PacketSize.{bytes_of}
+use Rattle.mpeg_ts.specs.PacketsInStep.{Item, lead_size}
+use Rattle.ts_survey.specs.Asked.{keeps_asked}
+use Rattle.ts_survey.specs.Following.{any_piece}
+use Rattle.ts_survey.specs.InStep.{TakesAll, counted_on, items_from, packet_count, skipped_in}
+use Rattle.ts_survey.specs.declared.multiplex.Multiplex.{Multiplex}
+use Rattle.ts_survey.specs.declared.packets_in_step.PacketsInStep.{PacketsInStep}
+use Rattle.ts_survey.specs.declared.recording.Kind.{Kind}
+use Rattle.ts_survey.specs.declared.recording.Kind.TheVariants.{Stream, Unknown}
+
+-- ---- while it is read
+
+-- Nothing was found yet of a stream before which so many bytes were passed over.
+pub record BeginsAt (passed : ℕ) (packets : PacketsInStep) : Type 0 where
+  pub lead : packets.lead ≡ lead_size (bytes_of packets.size)
+  pub in_step : packets.in_step ≡ true
+  pub number : packets.number ≡ 0
+  pub run : packets.run ≡ 0
+  pub skipped : packets.skipped ≡ passed
+
+-- A recording that is a stream is one that begins there.
+abbrev pub BeginsStream : ℕ → Kind → Type 0
+BeginsStream passed (Stream packets multiplex) = BeginsAt passed packets
+BeginsStream passed _ = ⊤
+
+-- The packets that bytes have were taken, whatever takes them.
+abbrev pub TakesAny : PacketsInStep → List ℕ → Bool → ℕ → PacketsInStep → Type 0
+TakesAny old bytes is_end used new =
+    TakesAll {T = Unit {0}} any_piece old (tt {0}) bytes is_end used new (tt {0})
+
+-- A stream begins there, and the packets were taken that these bytes of it have.
+pub record TakesStream
+    (passed : ℕ) (bytes : List ℕ) (is_end : Bool) (used : ℕ) (packets : PacketsInStep)
+    (multiplex : Multiplex)
+    : Type 0 where
+  pub first : PacketsInStep
+  pub begins : BeginsAt passed first
+  pub start : Multiplex
+  pub taken : TakesAll keeps_asked first start bytes is_end used packets multiplex
+
+-- So of a recording that was found to be one.
+abbrev pub TakesBegun : ℕ → List ℕ → Bool → ℕ → Kind → Type 0
+TakesBegun passed bytes is_end used (Stream packets multiplex) =
+    TakesStream passed bytes is_end used packets multiplex
+TakesBegun passed bytes is_end used _ = ⊤
+
+-- Where the packets of a stream stand was told of the bytes that came, up to those that are held:
+-- of all of them at the end.
+pub record ReadsStream (came held : List ℕ) (is_end : Bool) (packets : PacketsInStep) : Type 0 where
+  pub passed : ℕ
+  pub within : passed ≤ length came
+  pub first : PacketsInStep
+  pub begins : BeginsAt passed first
+  pub used : ℕ
+  pub taken : TakesAny first (drop passed came) is_end used packets
+  pub left : held ≡ drop used (drop passed came)
+
+-- So it is of a recording: what is no stream yet holds all but the bytes that were passed over.
+abbrev pub StandsAt : Kind → ℕ → List ℕ → List ℕ → Bool → Type 0
+StandsAt Unknown skipped came held is_end = (skipped ≤ length came) × (held ≡ drop skipped came)
+StandsAt (Stream packets multiplex) skipped came held is_end = ReadsStream came held is_end packets
+StandsAt _ skipped came held is_end = ⊤
+
+-- Nothing more of it was looked at.
+abbrev pub StaysRead : Kind → Kind → Type 0
+StaysRead (Stream packets multiplex) (Stream after told) = after ≡ packets
+StaysRead _ _ = ⊤
+
+-- ---- at its end
+
+-- All packets that stand there from that place on were counted, each once, and the bytes that
+-- belong to none: those before it, between packets, and behind the last one.
+pub record CountsStream (came : List ℕ) (packets : PacketsInStep) : Type 0 where
+  pub passed : ℕ
+  pub within : passed ≤ length came
+  pub found : List Item
+  pub items :
+      items_from (bytes_of packets.size) true
+      (drop (lead_size (bytes_of packets.size)) (drop passed came)) ≡ found
+  pub number : packets.number ≡ counted_on 0 (packet_count found)
+  pub skipped :
+      packets.skipped ≡ counted_on passed (skipped_in found
+      + (length (drop passed came) - (lead_size (bytes_of packets.size)
+      + bytes_of packets.size * packet_count found + skipped_in found)))
+
+-- So they were of a recording that is a stream.
+abbrev pub CountsRecording : List ℕ → Kind → Type 0
+CountsRecording came (Stream packets multiplex) = CountsStream came packets
+CountsRecording came _ = ⊤
