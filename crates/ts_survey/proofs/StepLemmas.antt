@@ -5,9 +5,9 @@ use Rattle.std.proofs.Common.{length, min, Option, Some, None, ap, arith, refl, 
 use Rattle.std.proofs.lemmas.Bool.Decides.{nat_tests}
 use Rattle.std.specs.Prelude.{nat_le, nat_lt, if◌then◌else◌}
 use Rattle.ts_survey.specs.InStep.{counted_on}
-use Rattle.ts_survey.specs.Steps.{AreKept, first_of_row, first_steps, is_alike, last_row}
-use Rattle.ts_survey.specs.Steps.{row_length, steps_behind, strange_behind, strange_step, told_step, usual_of}
-use Rattle.ts_survey.specs.Steps.{with_step, with_time}
+use Rattle.ts_survey.specs.Steps.{AreKept, first_step_of_row, first_steps, is_alike, row_length}
+use Rattle.ts_survey.specs.Steps.{row_of_last_step, steps_behind, strange_behind, strange_step}
+use Rattle.ts_survey.specs.Steps.{told_step, usual_of, with_step, with_time}
 use Rattle.ts_survey.specs.Text.{forward_ticks}
 use Rattle.ts_survey.specs.declared.steps.Alike.{Alike}
 use Rattle.ts_survey.specs.declared.steps.Step.{Step}
@@ -38,21 +38,21 @@ by_alike true first count step = ap (row first) (count_next 0xFFFF_FFFF_FFFF_FFF
 by_alike false first count step = refl
 
 row-after : (step : ℕ) (earlier : List ℕ)
-    → alike_after (last_row earlier) step
-    ≡ row (first_of_row step earlier) (min (row_length step earlier) 0xFFFF_FFFF_FFFF_FFFF)
+    → alike_after (row_of_last_step earlier) step
+    ≡ row (first_step_of_row step earlier) (min (row_length step earlier) 0xFFFF_FFFF_FFFF_FFFF)
 row-after step [] = refl
 row-after step (last ∷ earlier) =
-    by_alike (is_alike (first_of_row last earlier) step) (first_of_row last earlier)
+    by_alike (is_alike (first_step_of_row last earlier) step) (first_step_of_row last earlier)
     (row_length last earlier) step
 
 -- ---- what is usual, and how many are strange
 
 usual-after : (step : ℕ) (earlier : List ℕ)
     → usual_after (usual_of earlier)
-    (row (first_of_row step earlier) (min (row_length step earlier) 0xFFFF_FFFF_FFFF_FFFF))
+    (row (first_step_of_row step earlier) (min (row_length step earlier) 0xFFFF_FFFF_FFFF_FFFF))
     ≡ usual_of (step ∷ earlier)
 usual-after step earlier =
-    ap (λ (b : Bool). if b then Some (first_of_row step earlier) else usual_of earlier)
+    ap (λ (b : Bool). if b then Some (first_step_of_row step earlier) else usual_of earlier)
     (count_from 0xFFFF_FFFF_FFFF_FFFF (row_length step earlier) (omega arith))
 
 counted : (step : Option Step) (steps : List Step)
@@ -74,7 +74,7 @@ module _ (time last : ℕ) (earlier : List ℕ) (s : Steps) (is : AreKept (last 
 
   row_moved :
       alike_after s.alike (forward_ticks last time)
-      ≡ row (first_of_row (forward_ticks last time) (steps_behind last earlier))
+      ≡ row (first_step_of_row (forward_ticks last time) (steps_behind last earlier))
       (min (row_length (forward_ticks last time) (steps_behind last earlier)) 0xFFFF_FFFF_FFFF_FFFF)
   row_moved =
       ap (λ (a : Option Alike). alike_after a (forward_ticks last time)) is.alike

@@ -40,13 +40,14 @@ due_beside video a = if is_beside video a.video then a.due else 0
 abbrev pub last_fifty : List Apart → List Apart
 last_fifty kept = drop (length kept - 50) kept
 
--- What is told of one that comes, and what is not told of those so far then.
+-- What is told of one that comes.
 abbrev pub told_at_once : ℕ → ℕ → Apart → Aparts → List (List ℕ)
 told_at_once pid video one a =
     if due_beside video a == 0 then [] else apart_line pid video one
 
-abbrev pub kept_with : ℕ → Apart → Aparts → List Apart
-kept_with video one a =
+-- What is not told then of those so far and of this one: the last fifty.
+abbrev pub aparts_with : ℕ → Apart → Aparts → List Apart
+aparts_with video one a =
     if due_beside video a == 0 then last_fifty (kept_beside video a ++ one ∷ [])
     else kept_beside video a
 
@@ -54,7 +55,7 @@ kept_with video one a =
 abbrev pub TakesApart : ℕ → Apart → Aparts → Aparts → Type 0
 TakesApart video one old new =
     (new.video ≡ Some video)
-    × (new.kept.items ≡ kept_with video one old)
+    × (new.kept.items ≡ aparts_with video one old)
     × (new.due ≡ due_beside video old - 1)
 
 -- What is told at a step of the pictures of that PID: all that was not.

@@ -14,12 +14,13 @@ as_held code = if code == 160 then 32 else code
 abbrev pub told_cell : ℕ → ℕ → ℕ
 told_cell held heard = if (held == 32) && (heard == 160) then 160 else held
 
--- So of the cells of a row, and of the rows of a page.
+-- So of the cells of a row.
 unfoldable pub told_row : List ℕ → List ℕ → List ℕ
 told_row [] heard = []
 told_row (cell ∷ held) [] = []
 told_row (cell ∷ held) (code ∷ heard) = told_cell cell code ∷ told_row held heard
 
+-- And of the rows of a page.
 unfoldable pub told_rows : List (List ℕ) → List (List ℕ) → List (List ℕ)
 told_rows [] heard = []
 told_rows (row ∷ page) [] = []
@@ -34,6 +35,7 @@ is_blank cells = bytes_eq cells (replicate 40 32)
 abbrev pub cells_words : ℕ → ℕ → List ℕ → List (List ℕ)
 cells_words sign row cells = (sign ∷ decimal (row + 1)) ∷ codes ":" ∷ hex_word cells ∷ []
 
+-- Those of a row: none where it is blank.
 abbrev pub row_words : ℕ → ℕ → List ℕ → List (List ℕ)
 row_words sign row cells = if is_blank cells then [] else cells_words sign row cells
 

@@ -22,22 +22,22 @@ is_alike one other = nat_lt (one - other) half_frame && nat_lt (other - one) hal
 
 -- The first of the row in which a step stands, behind others: a row goes on as long as its steps
 -- are like its first one.
-abbrev pub first_of_row : ℕ → List ℕ → ℕ
-first_of_row step [] = step
-first_of_row step (last ∷ earlier) =
-    if is_alike (first_of_row last earlier) step then first_of_row last earlier else step
+abbrev pub first_step_of_row : ℕ → List ℕ → ℕ
+first_step_of_row step [] = step
+first_step_of_row step (last ∷ earlier) =
+    if is_alike (first_step_of_row last earlier) step then first_step_of_row last earlier else step
 
 -- How many steps the row has, up to that one.
 abbrev pub row_length : ℕ → List ℕ → ℕ
 row_length step [] = 1
 row_length step (last ∷ earlier) =
-    if is_alike (first_of_row last earlier) step then suc (row_length last earlier) else 1
+    if is_alike (first_step_of_row last earlier) step then suc (row_length last earlier) else 1
 
 -- The usual step: the first of the last row of five or more.
 abbrev pub usual_of : List ℕ → Option ℕ
 usual_of [] = None
 usual_of (step ∷ earlier) =
-    if nat_le 5 (row_length step earlier) then Some (first_of_row step earlier)
+    if nat_le 5 (row_length step earlier) then Some (first_step_of_row step earlier)
     else usual_of earlier
 
 -- ---- the steps of decoding times
@@ -49,15 +49,17 @@ with_time time [] = time ∷ []
 with_time time (last ∷ earlier) =
     if last == time then last ∷ earlier else time ∷ last ∷ earlier
 
-abbrev pub times_of : List ℕ → List ℕ
-times_of [] = []
-times_of (time ∷ came) = with_time time (times_of came)
+-- So of all that came.
+abbrev pub decoding_times : List ℕ → List ℕ
+decoding_times [] = []
+decoding_times (time ∷ came) = with_time time (decoding_times came)
 
 -- The steps from each to the next.
 abbrev pub steps_behind : ℕ → List ℕ → List ℕ
 steps_behind time [] = []
 steps_behind time (last ∷ earlier) = forward_ticks last time ∷ steps_behind last earlier
 
+-- The steps of all.
 abbrev pub steps_of : List ℕ → List ℕ
 steps_of [] = []
 steps_of (time ∷ earlier) = steps_behind time earlier
@@ -83,6 +85,7 @@ strange_behind time (last ∷ earlier) =
     with_step (strange_step last time (usual_of (steps_behind last earlier)))
     (strange_behind last earlier)
 
+-- Those of all.
 abbrev pub strange_steps : List ℕ → List Step
 strange_steps [] = []
 strange_steps (time ∷ earlier) = strange_behind time earlier
@@ -99,11 +102,12 @@ told_step time (last ∷ earlier) =
     else first_steps (length (strange_behind last earlier))
     (strange_step last time (usual_of (steps_behind last earlier)))
 
--- So to that of a PES packet, if it says one, behind those that came; and all that came then.
+-- So to that of a PES packet, if it says one, behind those that came.
 abbrev pub told_to : Option ℕ → List ℕ → Option Step
 told_to None came = None
-told_to (Some time) came = told_step time (times_of came)
+told_to (Some time) came = told_step time (decoding_times came)
 
+-- All that came, with that of a PES packet, if it says one.
 abbrev pub came_with : Option ℕ → List ℕ → List ℕ
 came_with None came = came
 came_with (Some time) came = time ∷ came
@@ -111,28 +115,28 @@ came_with (Some time) came = time ∷ came
 -- ---- what is kept of them
 
 -- The last one.
-abbrev pub last_of : List ℕ → Option ℕ
-last_of [] = None
-last_of (time ∷ earlier) = Some time
+abbrev pub last_decoding_time : List ℕ → Option ℕ
+last_decoding_time [] = None
+last_decoding_time (time ∷ earlier) = Some time
 
 -- The row in which the last step stands: numbers of 64 bits stay at their last one.
-abbrev pub last_row : List ℕ → Option Alike
-last_row [] = None
-last_row (step ∷ earlier) = Some (record {
-  first = first_of_row step earlier;
+abbrev pub row_of_last_step : List ℕ → Option Alike
+row_of_last_step [] = None
+row_of_last_step (step ∷ earlier) = Some (record {
+  first = first_step_of_row step earlier;
   count = min (row_length step earlier) 0xFFFF_FFFF_FFFF_FFFF;
 })
 
 -- These are the decoding times of which it is known.
 pub record AreKept (times : List ℕ) (s : Steps) : Type 0 where
-  pub last : s.last ≡ last_of times
-  pub alike : s.alike ≡ last_row (steps_of times)
+  pub last : s.last ≡ last_decoding_time times
+  pub alike : s.alike ≡ row_of_last_step (steps_of times)
   pub usual : s.usual ≡ usual_of (steps_of times)
   pub strange : s.strange ≡ min (length (strange_steps times)) 0xFFFF_FFFF_FFFF_FFFF
 
 -- These have come.
 abbrev pub HaveCome : List ℕ → Steps → Type 0
-HaveCome came s = AreKept (times_of came) s
+HaveCome came s = AreKept (decoding_times came) s
 
 -- `step PID BEFORE AFTER USUAL`.
 abbrev pub step_line : ℕ → Step → List (List ℕ)

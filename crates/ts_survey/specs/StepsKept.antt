@@ -32,6 +32,7 @@ step_from (Some last) s time =
     if last == time then None
     else first_steps s.strange (strange_step last time s.usual)
 
+-- So by all that is kept.
 abbrev pub step_on : Steps → ℕ → Option Step
 step_on s time = step_from s.last s time
 
@@ -47,5 +48,6 @@ kept_from (Some last) s time =
       strange = counted_step s.strange (strange_step last time s.usual);
     }
 
+-- So by the decoding time that is kept.
 abbrev pub kept_on : Steps → ℕ → Steps
 kept_on s time = kept_from s.last s time

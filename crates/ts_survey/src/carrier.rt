@@ -171,7 +171,7 @@ impl Carrier {
     /// So many bytes were skipped that packets may be missing.
     pub fn note_hole(&mut self)
         ensures pid { self.new.pid ≡ self.old.pid }
-        ensures joining { self.new.packets_of.joining ≡ after_note self.old.packets_of.joining Hole }
+        ensures hole { self.new.packets_of.joining ≡ after_note self.old.packets_of.joining Hole }
     {
         self.packets_of.note_hole();
     }

@@ -132,7 +132,7 @@ impl Steps {
     /// packet may be sent twice, so that the same time again is no step.
     pub fn take(&mut self, time: u64) -> Option<Step>
         ensures told { (came : List ℕ) → specs.HaveCome came self.old
-            → result ≡ specs.told_step time (specs.times_of came) }
+            → result ≡ specs.told_step time (specs.decoding_times came) }
         ensures state { (came : List ℕ) → specs.HaveCome came self.old
             → specs.HaveCome (time ∷ came) self.new }
     {
