@@ -1,3 +1,4 @@
+pub mod AnnouncementLemmas
 pub mod ApartLemmas
 pub mod AskedLemmas
 pub mod CarrierLemmas
@@ -10,9 +11,12 @@ pub mod FormLemmas
 pub mod HeardLemmas
 pub mod InStepLemmas
 pub mod ListedLemmas
+pub mod PacketSizeLemmas
 pub mod PendingLemmas
 pub mod RoomLemmas
 pub mod RowLemmas
+pub mod ShownLemmas
 pub mod StepLemmas
 pub mod SurveyLemmas
+pub mod TableLemmas
 pub mod TextLemmas

@@ -1,6 +1,8 @@
 pub mod Adaptation
+pub mod Announcements
 pub mod Aparts
 pub mod Asked
+pub mod CharacterSets
 pub mod Clocks
 pub mod Counted
 pub mod Counters
@@ -18,14 +20,18 @@ pub mod Lines
 pub mod Listed
 pub mod Missing
 pub mod Noted
+pub mod PacketSizes
 pub mod Payload
+pub mod PidStates
 pub mod Room
 pub mod Rows
 pub mod Seams
 pub mod Section
+pub mod Shown
 pub mod Steps
 pub mod StepsKept
 pub mod Stream
 pub mod Survey
+pub mod Tables
 pub mod Text
 pub mod Usual

@@ -11,9 +11,9 @@
 --   ..     then for each stream: stream_type (8 bits), reserved (3), elementary_PID (13), reserved
 --          (4), ES_info_length (12), and so many bytes of descriptors
 --   ..     CRC_32
-use Rattle.std.specs.Prelude.{ℕ, ◌+◌, ◌-◌, ◌*◌, ◌/◌, ◌%◌, ◌==◌, min, nat_le, nat_lt}
+use Rattle.std.specs.Prelude.{ℕ, ◌+◌, ◌-◌, ◌*◌, ◌/◌, ◌%◌, ◌==◌, ◌||◌, Bool, min, nat_le}
 use Rattle.std.specs.Prelude.{if◌then◌else◌, List, [], ◌∷◌, length, slice_index, bit_xor}
-use Rattle.std.specs.Prelude.{Option, Some, None}
+use Rattle.std.specs.Prelude.{Option, Some, None, nat_lt}
 use Rattle.std.specs.List.{fold}
 use Rattle.ts_survey.specs.declared.section.Announced.{Announced}
 use Rattle.ts_survey.specs.declared.section.Descriptor.{Descriptor}
@@ -102,6 +102,11 @@ descriptor_at bytes place end =
       first = place + 2;
       end = min (place + 2 + slice_index bytes (place + 1)) (min end (length bytes));
     })
+
+-- A descriptor names pages of Teletext: by its descriptor_tag it is a VBI_teletext_descriptor, 46,
+-- or a teletext_descriptor, 56 (ETSI EN 300 468).
+abbrev pub is_of_teletext : Descriptor → Bool
+is_of_teletext d = (d.tag == 0x46) || (d.tag == 0x56)
 
 -- The page that a teletext_descriptor names at a place (ETSI EN 300 468): ISO_639_language_code (24
 -- bits), teletext_type (5), teletext_magazine_number (3), teletext_page_number (8).

@@ -1,6 +1,8 @@
 //! The character sets that packets X/28 and M/29 name for a page (EN 300 706, Page Enhancement Data
 //! Packets and Magazine Related Enhancement Data Packets).
-ghost use Rattle.std.specs.Prelude.{◌≡◌, ◌<◌};
+ghost use Rattle.std.specs.Prelude.{◌≡◌, ◌<◌, false, replicate, slice_set, true};
+ghost use Rattle.ts_survey.specs.CharacterSets as specs;
+ghost use Rattle.ts_survey.specs.Lines.{AddsWords};
 
 use crate::text::Text;
 use ttx_packet::{Packet, unham};
@@ -52,12 +54,57 @@ fn data_bits(word: u32) -> u32 {
     first | second | third | fourth
 }
 
+// None was told.
+fn none_told() -> [bool; LINES]
+    ensures { result ≡ replicate 1024 false }
+{
+    [false; LINES]
+}
+
+// The place of a set among those that may be told.
+fn line_place(number: u8, designation: u8, set: Option<u32>) -> usize
+    ensures value { result ≡ specs.line_place number designation set }
+    ensures range { result < 1024 }
+{
+    let packet = if number == 28 { 0 } else { 512 };
+    let behind = if designation == 0 { 0 } else { 256 };
+    match set {
+        Some(set) => packet + behind + (set % 0x80) as usize,
+        None => packet + behind + 0x80,
+    }
+}
+
+// Tells a set.
+fn tell_set(number: u8, designation: u8, set: Option<u32>, pid: u16, text: &mut Text)
+    ensures { AddsWords text.old (specs.set_line pid number designation set) text.new }
+{
+    text.put(b"set");
+    text.number(pid as u64);
+    text.number(number as u64);
+    text.number(designation as u64);
+    end_set(set, text);
+}
+
+// Tells which region and option a set is of, at the end of its line.
+fn end_set(set: Option<u32>, text: &mut Text)
+    ensures { AddsWords text.old (specs.set_words set) text.new }
+{
+    match set {
+        Some(set) => {
+            text.number((set / 8 % 0x10) as u64);
+            text.number((set % 8) as u64);
+            text.put(b"\n");
+        }
+        None => text.put(b" - -\n"),
+    }
+}
+
 impl CharacterSets {
     /// None.
-    pub fn new() -> CharacterSets {
-        CharacterSets {
-            told: [false; LINES],
-        }
+    pub fn new() -> CharacterSets
+        ensures { result.told ≡ replicate 1024 false }
+    {
+        CharacterSets { told: none_told() }
     }
 
     /// A packet of the page's magazine came, which is no header: `is_own` where the last header of
@@ -83,28 +130,17 @@ impl CharacterSets {
     }
 
     // Tells a set, where that was not told.
-    fn tell(&mut self, number: u8, designation: u8, set: Option<u32>, pid: u16, text: &mut Text) {
-        let kind = if number == 28 { 0 } else { 2 } + if designation == 0 { 0 } else { 1 };
-        let place = 256 * kind
-            + match set {
-                Some(set) => (set & 0x7F) as usize,
-                None => 0x80,
-            };
-        match self.told.get_mut(place) {
-            Some(told) if !*told => *told = true,
-            _ => return,
+    fn tell(&mut self, number: u8, designation: u8, set: Option<u32>, pid: u16, text: &mut Text)
+        ensures told { AddsWords text.old
+            (specs.words_once self.old.told pid number designation set) text.new }
+        ensures state { self.new.told
+            ≡ slice_set self.old.told (specs.line_place number designation set) true }
+    {
+        let place = line_place(number, designation, set);
+        let was_told = self.told[place];
+        self.told[place] = true;
+        if !was_told {
+            tell_set(number, designation, set, pid, text);
         }
-        text.put(b"set");
-        text.number(u64::from(pid));
-        text.number(u64::from(number));
-        text.number(u64::from(designation));
-        match set {
-            Some(set) => {
-                text.number(u64::from(set >> 3 & 15));
-                text.number(u64::from(set & 7));
-            }
-            None => text.put(b" - -"),
-        }
-        text.put(b"\n");
     }
 }

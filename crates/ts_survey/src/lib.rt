@@ -11,6 +11,7 @@
 #![tactic(auto)]
 
 mod adaptation;
+mod announcements;
 mod aparts;
 mod carrier;
 mod character_set;

@@ -1,6 +1,7 @@
 //! All that is followed in a transport stream, one packet after another.
 ghost use Rattle.std.specs.List.{slice_get};
-ghost use Rattle.std.specs.Prelude.{◌≡◌, ◌≢◌, ◌<◌, IfSome, [], length, map, true};
+ghost use Rattle.std.specs.Prelude.{◌≡◌, ◌≢◌, ◌<◌, ◌==◌, ◌&&◌, ◌||◌, ℕ, List, [], IfNone, IfSome};
+ghost use Rattle.std.specs.Prelude.{Some, false, length, map, not, true};
 ghost use Rattle.ts_survey.specs.Asked.{KeepsAsked, is_asked, keeps_asked, others_followed};
 ghost use Rattle.ts_survey.specs.Asked.{pid_followed};
 ghost use Rattle.ts_survey.specs.Endings.{carrier_words, clock_words, end_words, pictures_words};
@@ -12,18 +13,18 @@ ghost use Rattle.ts_survey.specs.FirstLines.{asked_words, teletext_line};
 ghost use Rattle.ts_survey.specs.Lines.{AddsWords};
 ghost use Rattle.ts_survey.specs.Missing.{NoteHoles};
 ghost use Rattle.ts_survey.specs.Payload as specs;
-ghost use Rattle.ts_survey.specs.Steps.{step_line};
+ghost use Rattle.ts_survey.specs.Endings.{is_group_over};
+ghost use Rattle.ts_survey.specs.Shown as shown;
+ghost use Rattle.ts_survey.specs.Steps.{HaveCome, came_with, step_line, told_to};
 
 use crate::adaptation::{payload_in, pcr_base};
+use crate::announcements::tell_pages;
 use crate::carrier::{Carrier, LOOKED_AT};
 use crate::clock::{Clock, Strange};
 use crate::packets_in_step::TakesPackets;
 use crate::pictures::Pictures;
 use crate::pid_state::{NONE, NULL_PID, PidState, Pids};
-use crate::section::{
-    Announced, FIRST_PMT, Stream, descriptor_at, names_pages, page_at, pmt_pid_at, programme_of,
-    stream_at,
-};
+use crate::section::{FIRST_PMT, Stream, pmt_pid_at, programme_of, stream_at};
 use crate::steps::Step;
 use crate::tables::{SECTION_ROOM, Section, Tables, parts_of};
 use crate::text::Text;
@@ -89,7 +90,9 @@ impl Multiplex {
     }
 
     /// Whether memory ran out.
-    pub fn is_short(&self) -> bool {
+    pub fn is_short(&self) -> bool
+        ensures { result ≡ self.now.is_short }
+    {
         self.is_short
     }
 
@@ -224,6 +227,15 @@ impl Multiplex {
     #[inline(always)]
     fn show(&mut self, state: &PidState, packet: &[u8; PACKET], text: &mut Text)
         ensures asked { KeepsAsked self.old self.new }
+        ensures shown { IfSome (slice_get self.old.videos.items state.now.video) (λ video.
+            shown.is_of_interest packet.now video ≡ true
+            → shown.ShowsOn state.now.video packet.now video self.old text.old self.new
+            text.new) }
+        ensures passed { IfSome (slice_get self.old.videos.items state.now.video) (λ video.
+            shown.is_of_interest packet.now video ≡ false
+            → (self.new ≡ self.old) × (text.new ≡ text.old)) }
+        ensures none { IfNone (slice_get self.old.videos.items state.now.video)
+            ((self.new ≡ self.old) × (text.new ≡ text.old)) }
     {
         let Some(pictures) = self.videos.get(state.video as usize) else {
             return;
@@ -238,16 +250,28 @@ impl Multiplex {
     #[inline(never)]
     fn show_on(&mut self, place: u8, kind: u8, packet: &[u8; PACKET], text: &mut Text)
         ensures asked { KeepsAsked self.old self.new }
+        ensures shown { IfSome (slice_get self.old.videos.items place) (λ video.
+            shown.ShowsOn place packet.now video self.old text.old self.new text.new) }
+        ensures none { IfNone (slice_get self.old.videos.items place)
+            ((self.new ≡ self.old) × (text.new ≡ text.old)) }
     {
         let Some(pictures) = self.videos.get_mut(place as usize) else {
             return;
         };
-        pictures.take(packet, kind, text);
-        if !begins(packet) {
-            return;
-        }
-        if let Some(step) = pictures.step(packet) {
-            let video = pictures.pid();
+        let step = take_pictures(pictures, kind, packet, text);
+        let video = pictures.pid();
+        self.tell_if(video, step, text);
+    }
+
+    // Tells a step of the decoding times of a video PID, if there is one.
+    fn tell_if(&mut self, video: u16, step: Option<Step>, text: &mut Text)
+        ensures asked { KeepsAsked self.old self.new }
+        ensures told { AddsWords text.old (shown.words_if_step video step self.old) text.new }
+        ensures carriers { self.new.carriers.items
+            ≡ shown.carriers_if_step video step self.old.carriers.items }
+        ensures same { self.new ≡ record self.old { carriers = self.new.carriers } }
+    {
+        if let Some(step) = step {
             self.tell_step(video, &step, text);
         }
     }
@@ -256,23 +280,40 @@ impl Multiplex {
     // Teletext before it are ahead.
     fn tell_step(&mut self, video: u16, step: &Step, text: &mut Text)
         ensures asked { KeepsAsked self.old self.new }
+        ensures told { AddsWords text.old (shown.words_at_step video step.now self.old) text.new }
+        ensures carriers { self.new.carriers.items
+            ≡ map (shown.carrier_after_step video) self.old.carriers.items }
+        ensures same { self.new ≡ record self.old { carriers = self.new.carriers } }
     {
-        for carrier in self.carriers.iter_mut() {
-            carrier.note_step(video, text);
-        }
+        self.note_step(video, text);
         tell_step(video, step, text);
     }
 
+    // Each PID with Teletext tells how far its PES packets before a step are ahead.
+    fn note_step(&mut self, video: u16, text: &mut Text)
+        ensures told { AddsWords text.old
+            (words_of (shown.carrier_at_step video) self.old.carriers.items) text.new }
+        ensures carriers { self.new.carriers.items
+            ≡ map (shown.carrier_after_step video) self.old.carriers.items }
+        ensures pids { map pid_followed self.new.carriers.items
+            ≡ map pid_followed self.old.carriers.items }
+        ensures same { self.new ≡ record self.old { carriers = self.new.carriers } }
+    {
+        for carrier in self.carriers.iter_mut() {
+            note_step_of(carrier, video, text);
+        }
+    }
+
     // The first PID of pictures of the programme with that PCR_PID, and their last decoding time.
-    fn last_time(&self, clock_pid: u16) -> Option<(u16, u64)> {
+    fn last_time(&self, clock_pid: u16) -> Option<(u16, u64)>
+        ensures { result ≡ shown.shown_with self.now clock_pid }
+    {
         if clock_pid == NULL_PID {
             return None;
         }
         for video in self.videos.iter() {
-            let pid = video.pid();
-            if self.pids.get(pid).clock_pid == clock_pid {
-                let time = video.last_time()?;
-                return Some((pid, time));
+            if self.pids.get(video.pid()).clock_pid == clock_pid {
+                return time_of(video);
             }
         }
         None
@@ -350,6 +391,35 @@ impl Multiplex {
             carrier.settle(None, &self.pids, text);
         }
         self.settle_at = u64::MAX;
+    }
+
+    // A packet of a PID came: its sections and its clock are read, and what begins is looked at.
+    #[inline(always)]
+    fn read(&mut self, pid: u16, state: &PidState, packet: &[u8; PACKET], text: &mut Text)
+        ensures asked { KeepsAsked self.old self.new }
+    {
+        if state.table != NONE {
+            self.read_sections(state.table, packet, text);
+        }
+        if state.clock != NONE {
+            self.read_clock(state.clock, packet, text);
+        }
+        if begins(packet) && is_unknown(state) {
+            self.look(pid, packet, text);
+        }
+    }
+
+    // So of a PID with pictures or Teletext.
+    #[inline(always)]
+    fn follow_on(&mut self, state: &PidState, packet: &[u8; PACKET], text: &mut Text)
+        ensures asked { KeepsAsked self.old self.new }
+    {
+        if state.video != NONE {
+            self.show(state, packet, text);
+        }
+        if state.carrier != NONE {
+            self.carry(state, packet, text);
+        }
     }
 
     // Looks at what begins in a PID of which nothing is known.
@@ -547,22 +617,9 @@ impl TakesPackets for Multiplex {
             return;
         }
         let state = self.pids.count(pid, packet, number);
-        if state.table != NONE {
-            self.read_sections(state.table, packet, text);
-        }
-        if state.clock != NONE {
-            self.read_clock(state.clock, packet, text);
-        }
-        if begins(packet) && is_unknown(&state) {
-            self.look(pid, packet, text);
-        }
+        self.read(pid, &state, packet, text);
         let state = self.pids.get(pid);
-        if state.video != NONE {
-            self.show(&state, packet, text);
-        }
-        if state.carrier != NONE {
-            self.carry(&state, packet, text);
-        }
+        self.follow_on(&state, packet, text);
         if number >= self.settle_at {
             self.settle(number, text);
         }
@@ -596,8 +653,52 @@ fn note_pcr_of(
     }
 }
 
+// The PID of pictures, and their last decoding time.
+fn time_of(video: &Pictures) -> Option<(u16, u64)>
+    ensures { result ≡ shown.time_of_pictures (Some video.now) }
+{
+    match video.last_time() {
+        Some(time) => Some((video.pid(), time)),
+        None => None,
+    }
+}
+
+// The pictures of a PID take a packet. The step of their decoding times, where it is to be told.
+fn take_pictures(
+    pictures: &mut Pictures,
+    kind: u8,
+    packet: &[u8; PACKET],
+    text: &mut Text,
+) -> Option<Step>
+    ensures told { (came : List ℕ) → HaveCome came pictures.old.steps
+        → result ≡ told_to (shown.time_begun packet.now) came }
+    ensures times { (came : List ℕ) → HaveCome came pictures.old.steps
+        → HaveCome (came_with (shown.time_begun packet.now) came) pictures.new.steps }
+    ensures pid { pictures.new.pid ≡ pictures.old.pid }
+    ensures over { is_group_over pictures.old.reach ≡ true
+        → (pictures.new ≡ record pictures.old { steps = pictures.new.steps })
+        × (text.new ≡ text.old) }
+{
+    pictures.take(packet, kind, text);
+    if !begins(packet) {
+        return None;
+    }
+    pictures.step(packet)
+}
+
+// A PID with Teletext tells how far its PES packets before a step are ahead.
+fn note_step_of(carrier: &mut Carrier, video: u16, text: &mut Text)
+    ensures state { carrier.new ≡ shown.carrier_after_step video carrier.old }
+    ensures told { AddsWords text.old (shown.carrier_at_step video carrier.old) text.new }
+{
+    carrier.note_step(video, text);
+}
+
 // Whether nothing is known of what a PID carries.
-fn is_unknown(state: &PidState) -> bool {
+fn is_unknown(state: &PidState) -> bool
+    ensures { result ≡ ((state.now.carrier == 0xFF) && (state.now.table == 0xFF)
+        && not state.now.is_other) }
+{
     state.carrier == NONE && state.table == NONE && !state.is_other
 }
 
@@ -613,31 +714,6 @@ fn begins_teletext(payload: &[u8]) -> bool
     payload[3] == 0xBD && place < payload.len() && payload[place] / 0x10 == 1
 }
 
-// Tells the pages that a stream announces; whether there are any.
-fn tell_pages(section: &[u8], stream: &Stream, text: &mut Text) -> bool {
-    let end = stream.end.min(section.len());
-    let mut has_pages = false;
-    let mut place = stream.first;
-    for _ in 0..2048u32 {
-        let Some(descriptor) = descriptor_at(section, place.min(0xFFFF), end) else {
-            break;
-        };
-        if names_pages(&descriptor) {
-            let mut at = descriptor.first;
-            for _ in 0..64u32 {
-                let Some(page) = page_at(section, at.min(0xFFFF), descriptor.end) else {
-                    break;
-                };
-                has_pages = true;
-                tell_page(stream.pid, &page, text);
-                at = at.saturating_add(5);
-            }
-        }
-        place = descriptor.end;
-    }
-    has_pages
-}
-
 // Tells a step of the decoding times of a PID.
 fn tell_step(pid: u16, step: &Step, text: &mut Text)
     ensures { AddsWords text.old (step_line pid step.now) text.new }
@@ -647,16 +723,5 @@ fn tell_step(pid: u16, step: &Step, text: &mut Text)
     text.number(step.before);
     text.number(step.after);
     text.number(step.usual);
-    text.put(b"\n");
-}
-
-// Tells a page that is announced.
-fn tell_page(pid: u16, page: &Announced, text: &mut Text) {
-    text.put(b"announce");
-    text.number(u64::from(pid));
-    text.page(page.magazine % 8, page.page);
-    text.put(b" ");
-    text.hex(&page.language);
-    text.number(u64::from(page.kind));
     text.put(b"\n");
 }

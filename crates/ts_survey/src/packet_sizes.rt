@@ -1,44 +1,61 @@
 //! The bytes from one packet to the next, found in the first bytes of a recording.
-ghost use Rattle.std.specs.Prelude.{◌≡◌};
+ghost use Rattle.std.specs.Prelude.{◌≡◌, ◌<◌, length};
+ghost use Rattle.ts_survey.specs.PacketSizes as specs;
 
-use mpeg_ts::{PacketSize, SYNC_BYTE};
+use mpeg_ts::{PACKET, PacketSize, SYNC_BYTE};
 
 /// Packets in a row that tell the distance.
 const IN_A_ROW: usize = 5;
 
+// Whether a packet may stand at a place, or the recording ended before it.
+fn may_stand(bytes: &[u8], place: usize, is_end: bool) -> bool
+    ensures { result ≡ specs.may_stand bytes.now is_end place }
+{
+    if place >= bytes.len() {
+        return is_end;
+    }
+    bytes[place] == SYNC_BYTE
+}
+
 // Whether packets stand at a place and behind it at a distance, as many as tell it, or up to the
 // end of the recording.
-fn is_at(bytes: &[u8], place: usize, distance: usize, is_end: bool) -> bool {
+fn is_at(bytes: &[u8], place: usize, distance: usize, is_end: bool) -> bool
+    ensures { result ≡ specs.may_stand_in_row 5 bytes.now is_end distance place }
+{
     let mut at = place;
     for _ in 0..IN_A_ROW {
-        match bytes.get(at) {
-            Some(byte) => {
-                if *byte != SYNC_BYTE {
-                    return false;
-                }
-            }
-            None => return is_end,
+        if !may_stand(bytes, at, is_end) {
+            return false;
         }
         at = at.saturating_add(distance);
     }
     true
 }
 
+// The distance at a place. `None` where packets stand at none.
+fn size_at(bytes: &[u8], place: usize, is_end: bool) -> Option<PacketSize>
+    ensures { result ≡ specs.size_from bytes.now is_end place }
+{
+    if is_at(bytes, place, PacketSize::Plain.bytes(), is_end) {
+        return Some(PacketSize::Plain);
+    }
+    if is_at(bytes, place, PacketSize::TimeStamped.bytes(), is_end) {
+        return Some(PacketSize::TimeStamped);
+    }
+    if is_at(bytes, place, PacketSize::ErrorCorrected.bytes(), is_end) {
+        return Some(PacketSize::ErrorCorrected);
+    }
+    None
+}
+
 /// The distance at the first place at which packets stand so. `None` where there is none yet.
-pub fn find_size(bytes: &[u8], is_end: bool) -> Option<PacketSize> {
-    let (places, _) = bytes.split_at(bytes.len().saturating_sub(187));
-    for (place, byte) in places.iter().enumerate() {
-        if *byte != SYNC_BYTE {
-            continue;
-        }
-        for size in [
-            PacketSize::Plain,
-            PacketSize::TimeStamped,
-            PacketSize::ErrorCorrected,
-        ] {
-            if is_at(bytes, place, size.bytes(), is_end) {
-                return Some(size);
-            }
+pub fn find_size(bytes: &[u8], is_end: bool) -> Option<PacketSize>
+    ensures { result ≡ specs.found_size bytes.now is_end }
+{
+    for place in 0..bytes.len().saturating_sub(PACKET - 1) {
+        match size_at(bytes, place, is_end) {
+            Some(size) => return Some(size),
+            None => {}
         }
     }
     None

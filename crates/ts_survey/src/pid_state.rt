@@ -1,10 +1,12 @@
 //! What is kept of every PID: its counter, and what it carries.
-ghost use Rattle.std.specs.Prelude.{◌≡◌, ◌<◌, length};
+ghost use Rattle.std.specs.Prelude.{◌≡◌, ◌<◌, ◌+◌, ◌%◌, IfSome, length, replicate};
+ghost use Rattle.std.specs.Prelude.{slice_set};
 ghost use Rattle.std.specs.List.{list_any};
 ghost use Rattle.ts_survey.specs.Counters as specs;
 ghost use Rattle.ts_survey.specs.Endings.{carrier_place};
 ghost use Rattle.ts_survey.specs.Holes.{clock_pid_of};
 ghost use Rattle.ts_survey.specs.Counters.{is_break_between, others_of, told_between};
+ghost use Rattle.ts_survey.specs.PidStates as known;
 
 use mpeg_ts::{PACKET, announces_jump, counter_of, has_payload};
 use std::alloc::Global;
@@ -59,8 +61,7 @@ pub struct Pids {
 
 // Nothing is known of a PID.
 fn unknown() -> PidState
-    ensures carrier { result.carrier ≡ 0xFF }
-    ensures clock { result.clock_pid ≡ 0x1FFF }
+    ensures { result ≡ known.nothing_known }
 {
     PidState {
         counter: 0,
@@ -76,24 +77,90 @@ fn unknown() -> PidState
     }
 }
 
+// So many PIDs, of which nothing is known. `None` where memory runs out.
+fn all_unknown(alloc: Global, count: usize) -> Option<Vec<PidState>>
+    ensures { IfSome result (λ states. states.items ≡ replicate count known.nothing_known) }
+{
+    let mut states = Vec::new(alloc);
+    for _ in 0..count {
+        match states.push(unknown()) {
+            Ok(()) => {}
+            Err(_) => return None,
+        }
+    }
+    Some(states)
+}
+
+// No counter broke.
+fn no_breaks() -> [Break; BREAKS]
+    ensures { result ≡ replicate 256 known.no_break }
+{
+    let none = Break {
+        pid: NULL_PID,
+        before: 0,
+        at: 0,
+    };
+    [none; BREAKS]
+}
+
+// What is known of a PID behind a packet of it with that number.
+#[inline(always)]
+fn known_behind(state: PidState, packet: &[u8; PACKET], number: u64) -> PidState
+    ensures { result ≡ known.known_behind number packet.now state }
+{
+    if !is_counted(packet) {
+        return state;
+    }
+    PidState {
+        counter: counter_of(packet),
+        last: number,
+        first: if state.last == 0 { number } else { state.first },
+        clock_pid: state.clock_pid,
+        kind: state.kind,
+        table: state.table,
+        clock: state.clock,
+        video: state.video,
+        carrier: state.carrier,
+        is_other: state.is_other,
+    }
+}
+
+// Whether the counter of a packet counts: it is not damaged, and has a payload.
+#[inline(always)]
+fn is_counted(packet: &[u8; PACKET]) -> bool
+    ensures { result ≡ known.is_counted packet.now }
+{
+    packet[1] < 0x80 && has_payload(packet)
+}
+
+// Whether a counter goes on, or is that of a repeat.
+#[inline(always)]
+fn is_next_counter(last: u8, next: u8) -> bool
+    ensures { result ≡ known.is_next_counter last next }
+{
+    next == last || next == (last % 0x10 + 1) % 0x10
+}
+
+// Whether the counter of a PID breaks at a packet, by what was known before it.
+#[inline(always)]
+fn is_break(state: PidState, packet: &[u8; PACKET]) -> bool
+    ensures { result ≡ known.breaks_counter state packet.now }
+{
+    is_counted(packet)
+        && state.last != 0
+        && !is_next_counter(state.counter, counter_of(packet))
+        && !announces_jump(packet)
+}
+
 impl Pids {
     /// Nothing is known of any. `None` where memory runs out.
-    pub fn new(alloc: Global) -> Option<Pids> {
-        let mut states = Vec::new(alloc);
-        for _ in 0..PIDS {
-            match states.push(unknown()) {
-                Ok(()) => {}
-                Err(_) => return None,
-            }
-        }
-        let none = Break {
-            pid: NULL_PID,
-            before: 0,
-            at: 0,
-        };
+    pub fn new(alloc: Global) -> Option<Pids>
+        ensures { IfSome result known.NothingKnown }
+    {
+        let states = all_unknown(alloc, PIDS)?;
         Some(Pids {
             states,
-            breaks: [none; BREAKS],
+            breaks: no_breaks(),
             next: 0,
         })
     }
@@ -103,6 +170,7 @@ impl Pids {
     pub fn get(&self, pid: u16) -> PidState
         ensures carrier { result.carrier ≡ carrier_place self.now pid }
         ensures clock { result.clock_pid ≡ clock_pid_of self.now pid }
+        ensures state { result ≡ known.known_of self.now pid }
     {
         match self.states.get(pid as usize) {
             Some(state) => *state,
@@ -111,7 +179,11 @@ impl Pids {
     }
 
     /// Sets what is known of a PID.
-    pub fn set(&mut self, pid: u16, state: PidState) {
+    #[inline(always)]
+    pub fn set(&mut self, pid: u16, state: PidState)
+        ensures states { self.new.states.items ≡ slice_set self.old.states.items pid state }
+        ensures same { (self.new.breaks ≡ self.old.breaks) × (self.new.next ≡ self.old.next) }
+    {
         if let Some(place) = self.states.get_mut(pid as usize) {
             *place = state;
         }
@@ -120,39 +192,35 @@ impl Pids {
     /// Follows the counter of a PID, and answers what is known of it. A packet of no PID but this
     /// has the number.
     #[inline(always)]
-    pub fn count(&mut self, pid: u16, packet: &[u8; PACKET], number: u64) -> PidState {
-        let Some(state) = self.states.get_mut(pid as usize) else {
-            return unknown();
-        };
-        if packet[1] >= 0x80 || !has_payload(packet) {
-            return *state;
-        }
-        let (before, last) = (state.last, state.counter);
-        let counter = counter_of(packet);
-        state.counter = counter;
-        state.last = number;
-        if before == 0 {
-            state.first = number;
-        }
-        let known = *state;
-        let goes_on = counter == last || counter == (last % 0x10 + 1) % 0x10;
-        if before != 0 && !goes_on && !announces_jump(packet) {
+    pub fn count(&mut self, pid: u16, packet: &[u8; PACKET], number: u64) -> PidState
+        ensures states { self.new.states.items ≡ slice_set self.old.states.items pid
+            (known.known_behind number packet.now (known.known_of self.old pid)) }
+        ensures breaks { self.new.breaks ≡ known.breaks_behind pid number packet.now self.old }
+        ensures known { result
+            ≡ known.known_behind number packet.now (known.known_of self.old pid) }
+    {
+        let before = self.get(pid);
+        let state = known_behind(before, packet, number);
+        self.set(pid, state);
+        if is_break(before, packet) {
             self.add_break(Break {
                 pid,
-                before,
+                before: before.last,
                 at: number,
             });
         }
-        known
+        state
     }
 
     // Keeps a break, in place of the oldest.
-    fn add_break(&mut self, one: Break) {
-        let next = self.next;
-        if let Some(place) = self.breaks.get_mut(next) {
-            *place = one;
-        }
-        self.next = (next % BREAKS + 1) % BREAKS;
+    fn add_break(&mut self, one: Break)
+        ensures breaks { self.new.breaks ≡ known.breaks_with one self.old }
+        ensures next { self.new.next ≡ known.next_place self.old.next }
+        ensures states { self.new.states ≡ self.old.states }
+    {
+        let place = self.next % BREAKS;
+        self.breaks[place] = one;
+        self.next = (place + 1) % BREAKS;
     }
 
     /// What the counters of other PIDs tell of the packets between two: `broken`, `whole`, or

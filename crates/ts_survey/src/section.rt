@@ -2,7 +2,7 @@
 ghost use Rattle.std.specs.Prelude.{◌≡◌, ◌≤◌, ◌<◌, ◌+◌, length, slice_index, ◌*◌, IfSome};
 ghost use Rattle.ts_survey.specs.Section.{crc_after, crc_of, crc_shifted, descriptor_at, length_at};
 ghost use Rattle.ts_survey.specs.Section.{name_of, number_at, page_at, pid_at, pmt_pid_at};
-ghost use Rattle.ts_survey.specs.Section.{programme_of, section_size, stream_at};
+ghost use Rattle.ts_survey.specs.Section.{is_of_teletext, programme_of, section_size, stream_at};
 
 /// The bytes before the first thing that a PAT names, and before the descriptors of a PMT.
 const PAT_HEAD: usize = 8;
@@ -92,7 +92,8 @@ pub struct SectionName {
 
 /// The name of a section. `None` where it is too short to have one and a CRC.
 pub fn name_of(section: &[u8]) -> Option<SectionName>
-    ensures { result ≡ name_of section.now }
+    ensures value { result ≡ name_of section.now }
+    ensures there { IfSome result (λ _. 12 ≤ length section.now) }
 {
     if section.len() < PAT_HEAD + CRC {
         return None;
@@ -205,7 +206,9 @@ pub fn descriptor_at(bytes: &[u8], place: usize, end: usize) -> Option<Descripto
 
 /// Whether a descriptor names pages of Teletext: VBI_teletext_descriptor, teletext_descriptor (ETSI
 /// EN 300 468).
-pub fn names_pages(descriptor: &Descriptor) -> bool {
+pub fn names_pages(descriptor: &Descriptor) -> bool
+    ensures { result ≡ is_of_teletext descriptor.now }
+{
     descriptor.tag == 0x46 || descriptor.tag == 0x56
 }
 

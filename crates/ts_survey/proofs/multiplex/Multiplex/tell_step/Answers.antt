@@ -1,15 +1,12 @@
--- One more has its PID: map-same.
-use Rattle.std.proofs.Common.{◌<◌, ◌∙◌, ap, length, rules}
-use Rattle.ts_survey.specs.Asked.{pid_followed}
-use Rattle.ts_survey.specs.declared.carrier.Carrier.{Carrier}
-use Rattle.ts_survey.proofs.EndingsLemmas.{map-same}
+-- What each tells, and then the step: adds-words.
+use Rattle.ts_survey.specs.Endings.{words_of}
+use Rattle.ts_survey.specs.Shown.{carrier_at_step}
+use Rattle.ts_survey.specs.Steps.{step_line}
+use Rattle.ts_survey.proofs.TextLemmas.{adds-words}
 use Rattle.ts_survey.proofs.multiplex.Multiplex.tell_step.Goals as goal
 
-pub loop-carrier-preserved : goal.loop-carrier-preserved
-loop-carrier-preserved c =
-    let items = c.loop-carrier.carrier-items in
-    let at = c.loop-carrier.carrier-index in
-    let below : at < length items = search rules in
-    map-same pid_followed items at c.note_step.new.self c.carrier-item.result below
-    (ap (λ (one : Carrier). one.pid) c.note_step.ensures.same)
-    ∙ c.loop-carrier.invariant
+pub returns-clause-told : goal.returns-clause-told
+returns-clause-told c =
+    adds-words
+    (words_of (carrier_at_step c.args.video) c.args.self.now.carriers.items)
+    (step_line c.args.video c.args.step.now) c.note_step.ensures.told c.tell_step.ensures

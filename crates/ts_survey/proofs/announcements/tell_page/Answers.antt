@@ -1,0 +1,13 @@
+-- Word by word: adds-word.
+use Rattle.ts_survey.proofs.TextLemmas.{adds-last, adds-word}
+use Rattle.ts_survey.proofs.announcements.tell_page.Goals as goal
+
+pub returns : goal.returns
+returns c =
+    adds-word c.put.ensures
+    (adds-word c.number.ensures
+    (adds-word c.page.ensures
+    (adds-word c.put-2.ensures
+    (adds-word c.hex.ensures
+    (adds-word c.number-2.ensures
+    (adds-last c.put-3.ensures))))))

@@ -1,0 +1,80 @@
+//! The pages that a stream of a PMT announces.
+ghost use Rattle.std.specs.Prelude.{◌≡◌, ◌≤◌, length};
+ghost use Rattle.ts_survey.specs.Announcements.{announce_line, has_any, pages_from, pages_named};
+ghost use Rattle.ts_survey.specs.Announcements.{pages_of_stream};
+ghost use Rattle.ts_survey.specs.Endings.{words_of};
+ghost use Rattle.ts_survey.specs.Lines.{AddsWords};
+
+use crate::section::{Announced, Descriptor, Stream, descriptor_at, names_pages, page_at};
+use crate::text::Text;
+
+/// Tells the pages that a stream announces; whether there are any. A section has 4,098 bytes at
+/// most.
+pub fn tell_pages(section: &[u8], stream: &Stream, text: &mut Text) -> bool
+    ensures told { length section.now ≤ 0xFFFF → AddsWords text.old
+        (words_of (announce_line stream.now.pid) (pages_of_stream section.now stream.now))
+        text.new }
+    ensures any { length section.now ≤ 0xFFFF
+        → result ≡ has_any (pages_of_stream section.now stream.now) }
+{
+    let end = stream.end.min(section.len());
+    let mut has_pages = false;
+    let mut place = stream.first;
+    for _ in 0..2048u32 {
+        let Some(descriptor) = descriptor_at(section, place.min(0xFFFF), end) else {
+            return has_pages;
+        };
+        let names_any = tell_named(section, &descriptor, stream.pid, text);
+        has_pages = has_pages || names_any;
+        place = descriptor.end;
+    }
+    has_pages
+}
+
+// Tells the pages that a descriptor names; whether there are any.
+fn tell_named(section: &[u8], descriptor: &Descriptor, pid: u16, text: &mut Text) -> bool
+    requires { descriptor.now.end ≤ length section.now }
+    ensures told { length section.now ≤ 0xFFFF → AddsWords text.old
+        (words_of (announce_line pid) (pages_named section.now descriptor.now)) text.new }
+    ensures any { length section.now ≤ 0xFFFF
+        → result ≡ has_any (pages_named section.now descriptor.now) }
+{
+    if !names_pages(descriptor) {
+        return false;
+    }
+    tell_from(section, descriptor.first, descriptor.end, pid, text)
+}
+
+// Tells the pages that stand between two places; whether there are any.
+fn tell_from(section: &[u8], first: usize, end: usize, pid: u16, text: &mut Text) -> bool
+    requires { end ≤ length section.now }
+    ensures told { length section.now ≤ 0xFFFF → AddsWords text.old
+        (words_of (announce_line pid) (pages_from 64 section.now first end)) text.new }
+    ensures any { length section.now ≤ 0xFFFF
+        → result ≡ has_any (pages_from 64 section.now first end) }
+{
+    let mut has_pages = false;
+    let mut at = first;
+    for _ in 0..64u32 {
+        let Some(page) = page_at(section, at.min(0xFFFF), end) else {
+            return has_pages;
+        };
+        has_pages = true;
+        tell_page(pid, &page, text);
+        at = at.saturating_add(5);
+    }
+    has_pages
+}
+
+// Tells a page that is announced.
+fn tell_page(pid: u16, page: &Announced, text: &mut Text)
+    ensures { AddsWords text.old (announce_line pid page.now) text.new }
+{
+    text.put(b"announce");
+    text.number(pid as u64);
+    text.page(page.magazine % 8, page.page);
+    text.put(b" ");
+    text.hex(&page.language);
+    text.number(page.kind as u64);
+    text.put(b"\n");
+}
