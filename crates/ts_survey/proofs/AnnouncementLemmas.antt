@@ -1,11 +1,11 @@
 -- Pages one behind another: tells-page, pages-none; and descriptors: tells-descriptor,
 -- descriptors-none. Places past all sections: page-far, descriptor-far.
 use Rattle.std.proofs.Common.{◌≡◌, ◌<◌, ◌≤◌, ◌∙◌, ◌+◌, ◌-◌, ◌||◌, ℕ, zero, suc, Bool, List, [], ◌∷◌}
-use Rattle.std.proofs.Common.{◌++◌, ap, arith, false, length, map, min, refl, subst, sym, true}
+use Rattle.std.proofs.Common.{◌++◌, ap, arith, false, length, min, refl, subst, sym, true}
 use Rattle.std.proofs.Common.{Option, Some, None}
 use Rattle.std.proofs.lemmas.Bool.Decides.{nat_tests}
 use Rattle.std.proofs.lemmas.List.{append_assoc}
-use Rattle.std.specs.Prelude.{nat_lt, if◌then◌else◌}
+use Rattle.std.specs.Prelude.{nat_lt}
 use Rattle.ts_survey.specs.Announcements.{announce_line, has_any, list_if, pages_behind, pages_from}
 use Rattle.ts_survey.specs.Announcements.{pages_named}
 use Rattle.ts_survey.specs.Endings.{words_of}

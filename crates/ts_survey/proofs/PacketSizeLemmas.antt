@@ -1,5 +1,5 @@
 -- Packets in a row, one after another: row-next, row-broken and row-end; and places: first-next,
--- first-here and first-end.
+-- first-here and first-end; and none at a place, size-none.
 use Rattle.std.proofs.Common.{◌≡◌, ◌<◌, ◌≤◌, ◌∙◌, ℕ, zero, suc, ◌+◌, ◌-◌, ◌&&◌, Bool, List}
 use Rattle.std.proofs.Common.{ap, arith, false, length, min, refl, sym, true, Some, None}
 use Rattle.std.proofs.lemmas.Bool.Decides.{nat_tests}
@@ -99,6 +99,17 @@ row-end count i bytes is_end distance place past =
     ap (λ n. may_stand_in_row n bytes is_end distance place) none
 
 -- ---- the first place
+
+-- Where none may stand no distance is one.
+pub size-none : (bytes : List ℕ) (is_end : Bool) (place : ℕ)
+    → may_stand bytes is_end place ≡ false
+    → None ≡ size_from bytes is_end place
+size-none bytes is_end place other =
+    rw (
+      row-broken 5 bytes is_end 188 place (omega arith) other,
+      row-broken 5 bytes is_end 192 place (omega arith) other,
+      row-broken 5 bytes is_end 204 place (omega arith) other,
+    )
 
 -- At this place there is none.
 pub first-next : (count i : ℕ) (bytes : List ℕ) (is_end : Bool)

@@ -2,7 +2,6 @@
 -- docs/manual/survey.md): that of five packets in a row.
 use Rattle.std.specs.Prelude.{ℕ, zero, suc, ◌+◌, ◌-◌, ◌==◌, ◌&&◌, nat_lt, Bool, true}
 use Rattle.std.specs.Prelude.{if◌then◌else◌, List, length, slice_index, Option, Some, None}
-use Rattle.mpeg_ts.specs.PacketSize.{bytes_of}
 use Rattle.mpeg_ts.specs.declared.packet_size.PacketSize.{PacketSize}
 use Rattle.mpeg_ts.specs.declared.packet_size.PacketSize.TheVariants.{Plain, TimeStamped}
 use Rattle.mpeg_ts.specs.declared.packet_size.PacketSize.TheVariants.{ErrorCorrected}

@@ -1,6 +1,7 @@
 //! The character sets that packets X/28 and M/29 name for a page (EN 300 706, Page Enhancement Data
 //! Packets and Magazine Related Enhancement Data Packets).
-ghost use Rattle.std.specs.Prelude.{◌≡◌, ◌<◌, false, replicate, slice_set, true};
+ghost use Rattle.std.specs.Prelude.{◌≡◌, ◌<◌, ◌≤◌, IfNone, IfSome, false, replicate, slice_set};
+ghost use Rattle.std.specs.Prelude.{true};
 ghost use Rattle.ts_survey.specs.CharacterSets as specs;
 ghost use Rattle.ts_survey.specs.Lines.{AddsWords};
 
@@ -18,40 +19,102 @@ pub struct CharacterSets {
 
 // The 18 bits of three Hamming 24/18 bytes (EN 300 706, 8.3), one wrong bit corrected. `None` where
 // two are wrong.
-fn triplet(first: u8, second: u8, third: u8) -> Option<u32> {
-    let word = first as u32 + second as u32 * 0x100 + third as u32 * 0x1_0000;
-    let mut wrong = 31;
-    let mut is_odd = false;
-    for place in 0..24u32 {
-        if (word >> place) % 2 == 1 {
-            is_odd = !is_odd;
-            if place < 23 {
-                wrong ^= place + 1;
-            }
-        }
+fn triplet(first: u8, second: u8, third: u8) -> Option<u32>
+    ensures { result ≡ specs.triplet first second third }
+{
+    carried_bits(first as u32 + second as u32 * 0x100 + third as u32 * 0x1_0000)
+}
+
+// So of their 24 bits.
+fn carried_bits(word: u32) -> Option<u32>
+    ensures { result ≡ specs.carried_bits word }
+{
+    let wrong = wrong_place(word);
+    if word.count_ones() % 2 == 1 {
+        return if wrong == 0 {
+            Some(data_bits(word))
+        } else {
+            None
+        };
     }
-    let word = if is_odd {
-        if wrong != 0 {
-            return None;
-        }
-        word
-    } else if wrong > 23 {
+    if wrong > 23 {
         return None;
-    } else if wrong == 0 {
+    }
+    Some(data_bits(turned(word, wrong)))
+}
+
+// The place of the bit that is wrong, where one is: 0 for the last.
+fn wrong_place(word: u32) -> u32
+    ensures { result ≡ specs.wrong_place word }
+{
+    failed(word, 0x55_5555, 1)
+        + failed(word, 0x66_6666, 2)
+        + failed(word, 0x78_7878, 4)
+        + failed(word, 0x00_7F80, 8)
+        + failed(word, 0x7F_8000, 16)
+}
+
+// A digit, where the test of some bits fails.
+fn failed(word: u32, bits: u32, digit: u32) -> u32
+    ensures value { result ≡ specs.digit_if_failed word bits digit }
+    ensures range { result ≤ digit }
+{
+    if (word & bits).count_ones() % 2 == 1 {
+        0
+    } else {
+        digit
+    }
+}
+
+// A word with the other bit at a place.
+fn turned(word: u32, place: u32) -> u32
+    requires { place ≤ 23 }
+    ensures { result ≡ specs.turned word place }
+{
+    if place == 0 {
         word
     } else {
-        word ^ (1u32 << (wrong - 1))
-    };
-    Some(data_bits(word))
+        word ^ (1u32 << (place - 1))
+    }
 }
 
 // The data bits of a word: those at no power of two, counted from 1.
-fn data_bits(word: u32) -> u32 {
-    let first = word >> 2 & 1;
-    let second = (word >> 4 & 0x7) << 1;
-    let third = (word >> 8 & 0x7F) << 4;
-    let fourth = (word >> 16 & 0x7F) << 11;
-    first | second | third | fourth
+fn data_bits(word: u32) -> u32
+    ensures { result ≡ specs.data_bits word }
+{
+    word / 4 % 2 + word / 0x10 % 8 * 2 + word / 0x100 % 0x80 * 0x10 + word / 0x1_0000 % 0x80 * 0x800
+}
+
+// The set that bits say. `None` where they are of another page function than that of rows that are
+// shown.
+fn set_in(number: u8, bits: Option<u32>) -> Option<Option<u32>>
+    ensures { result ≡ specs.set_in number bits }
+{
+    match bits {
+        None => Some(None),
+        Some(bits) => {
+            if number == 28 && bits % 0x10 != 0 {
+                return None;
+            }
+            Some(Some(bits / 0x80 % 0x80))
+        }
+    }
+}
+
+// The designation of a packet, and the set that it says.
+fn set_said(packet: &Packet, number: u8, is_own: bool) -> Option<(u8, Option<u32>)>
+    ensures { result ≡ specs.set_said number is_own packet.now }
+{
+    if number != 29 && (number != 28 || !is_own) {
+        return None;
+    }
+    let bytes = packet.bytes();
+    let designation = unham(bytes[2])?;
+    if designation != 0 && designation != 4 {
+        return None;
+    }
+    let set = set_in(number, triplet(bytes[3], bytes[4], bytes[5]))?;
+    Some((designation, set))
 }
 
 // None was told.
@@ -109,23 +172,16 @@ impl CharacterSets {
 
     /// A packet of the page's magazine came, which is no header: `is_own` where the last header of
     /// the magazine is one of the page.
-    pub fn hear(&mut self, packet: &Packet, number: u8, is_own: bool, pid: u16, text: &mut Text) {
-        if number != 29 && (number != 28 || !is_own) {
-            return;
-        }
-        let bytes = packet.bytes();
-        let Some(designation) = unham(bytes[2]) else {
-            return;
-        };
-        if designation != 0 && designation != 4 {
-            return;
-        }
-        let bits = triplet(bytes[3], bytes[4], bytes[5]);
-        match bits {
-            // Another page function than that of rows that are shown.
-            Some(bits) if number == 28 && bits & 15 != 0 => {}
-            Some(bits) => self.tell(number, designation, Some(bits >> 7 & 0x7F), pid, text),
-            None => self.tell(number, designation, None, pid, text),
+    pub fn hear(&mut self, packet: &Packet, number: u8, is_own: bool, pid: u16, text: &mut Text)
+        ensures some { IfSome (specs.set_said number is_own packet.now) (λ said.
+            AddsWords text.old (specs.words_once self.old.told pid number said.0 said.1) text.new
+            × (self.new.told
+            ≡ slice_set self.old.told (specs.line_place number said.0 said.1) true)) }
+        ensures none { IfNone (specs.set_said number is_own packet.now)
+            ((self.new ≡ self.old) × (text.new ≡ text.old)) }
+    {
+        if let Some((designation, set)) = set_said(packet, number, is_own) {
+            self.tell(number, designation, set, pid, text);
         }
     }
 

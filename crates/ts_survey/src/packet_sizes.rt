@@ -36,6 +36,9 @@ fn is_at(bytes: &[u8], place: usize, distance: usize, is_end: bool) -> bool
 fn size_at(bytes: &[u8], place: usize, is_end: bool) -> Option<PacketSize>
     ensures { result ≡ specs.size_from bytes.now is_end place }
 {
+    if !may_stand(bytes, place, is_end) {
+        return None;
+    }
     if is_at(bytes, place, PacketSize::Plain.bytes(), is_end) {
         return Some(PacketSize::Plain);
     }

@@ -1,5 +1,5 @@
 -- What is left to tell is what the step leaves: step-taken.
-use Rattle.std.proofs.Common.{◌≡◌, ◌∙◌, ap}
+use Rattle.std.proofs.Common.{◌∙◌, ap}
 use Rattle.ts_survey.specs.declared.aparts.Aparts.{Aparts}
 use Rattle.ts_survey.proofs.ShownLemmas.{step-taken}
 use Rattle.ts_survey.proofs.multiplex.note_step_of.Goals as goal

@@ -1,6 +1,6 @@
 -- One more stands there, row-next; or the row has ended, row-broken; or all stand, row-end.
 use Rattle.std.proofs.Common.{◌≡◌, ◌<◌, ◌≤◌, ◌-◌, ◌∙◌, arith, false, length, rules, sym, true}
-use Rattle.ts_survey.specs.PacketSizes.{may_stand, may_stand_in_row}
+use Rattle.ts_survey.specs.PacketSizes.{may_stand}
 use Rattle.ts_survey.proofs.PacketSizeLemmas.{row-broken, row-end, row-next}
 use Rattle.ts_survey.proofs.packet_sizes.is_at.Goals as goal
 
