@@ -7,7 +7,8 @@ ghost use Rattle.ts_survey.specs.Endings.{is_group_over, steps_line, steps_words
 ghost use Rattle.ts_survey.specs.Forms as forms;
 // What the reader keeps, not the standard's.
 ghost use Rattle.ts_survey.specs.FormWindow.{HasRead};
-ghost use Rattle.ts_survey.specs.Groups.{KeepsTimes, least_of, least_with};
+ghost use Rattle.ts_survey.specs.Groups as groups;
+ghost use Rattle.ts_survey.specs.Groups.{KeepsTimes, least_of, least_with, packet_counted};
 ghost use Rattle.ts_survey.specs.Steps.{HaveCome, came_with, told_to};
 ghost use Rattle.ts_survey.specs.Lines.{AddsWords};
 
@@ -179,22 +180,17 @@ impl Pictures {
 
     // Counts what is lost by its counter, and what is scrambled, among the pictures.
     fn count(&mut self, packet: &[u8; PACKET])
-        ensures times { KeepsTimes self.old self.new }
+        ensures { self.new ≡ packet_counted packet.now self.old }
     {
         let counter = counter_of(packet);
-        let goes_on = match self.counter {
-            Some(last) => counter == last || counter == (last % 0x10 + 1) % 0x10,
-            None => true,
-        };
+        let goes_on = goes_on_behind(self.counter, counter);
         self.counter = Some(counter);
-        if self.reach != Reach::Within {
-            return;
-        }
-        if !goes_on {
-            self.lost = self.lost.saturating_add(1);
-        }
-        if is_scrambled(packet) {
-            self.scrambled = self.scrambled.saturating_add(1);
+        match self.reach {
+            Reach::Within => {
+                self.lost = counted_if(!goes_on, self.lost);
+                self.scrambled = counted_if(is_scrambled(packet), self.scrambled);
+            }
+            _ => {}
         }
     }
 
@@ -306,6 +302,27 @@ impl Pictures {
         text.number(self.scrambled);
         text.number(self.passed);
         text.put(begun);
+    }
+}
+
+// Whether a counter goes on behind the last one, or repeats it.
+fn goes_on_behind(last: Option<u8>, now: u8) -> bool
+    ensures { result ≡ groups.goes_on_behind last now }
+{
+    match last {
+        Some(last) => now == last || now == (last % 0x10 + 1) % 0x10,
+        None => true,
+    }
+}
+
+// One more where that is so.
+fn counted_if(is_so: bool, number: u64) -> u64
+    ensures { result ≡ groups.counted_if is_so number }
+{
+    if is_so {
+        number.saturating_add(1)
+    } else {
+        number
     }
 }
 
