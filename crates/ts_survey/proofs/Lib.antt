@@ -11,6 +11,7 @@ pub mod FormLemmas
 pub mod HeardLemmas
 pub mod InStepLemmas
 pub mod ListedLemmas
+pub mod NotesLemmas
 pub mod PacketSizeLemmas
 pub mod PendingLemmas
 pub mod RoomLemmas

@@ -20,11 +20,13 @@ pub mod Lines
 pub mod Listed
 pub mod Missing
 pub mod Noted
+pub mod PacketNotes
 pub mod PacketSizes
 pub mod Payload
 pub mod PidStates
 pub mod Room
 pub mod Rows
+pub mod Runs
 pub mod Seams
 pub mod Section
 pub mod Shown
@@ -33,5 +35,6 @@ pub mod StepsKept
 pub mod Stream
 pub mod Survey
 pub mod Tables
+pub mod Taken
 pub mod Text
 pub mod Usual

@@ -12,6 +12,9 @@ ghost use Rattle.ts_survey.specs.Holes.{told_for_room};
 ghost use Rattle.ts_survey.specs.Lines.{AddsWords, clock_line, clock_told, pending_words};
 ghost use Rattle.ts_survey.specs.Missing.{ends_within_packet, lost_before, lost_with, more_lost};
 ghost use Rattle.ts_survey.specs.Seams.{is_behind_seam};
+ghost use Rattle.ts_survey.specs.Adaptation.{is_scrambled};
+ghost use Rattle.ts_survey.specs.Groups.{counted_if};
+ghost use Rattle.ts_survey.specs.Taken.{TakesPacket, given_noted, is_due_beside};
 
 use crate::adaptation::{is_scrambled, pts_said};
 use crate::aparts::Aparts;
@@ -93,16 +96,33 @@ impl Carrier {
     /// A packet of the PID came. The PTS that begins in it, if one does.
     pub fn take(&mut self, packet: &[u8; PACKET], text: &mut Text) -> Option<u64>
         ensures pid { self.new.pid ≡ self.old.pid }
+        ensures takes { TakesPacket packet.now self.old self.new }
     {
         self.packets = self.packets.saturating_add(1);
-        if is_scrambled(packet) {
-            self.scrambled = self.scrambled.saturating_add(1);
-            self.packets_of.to.add_scrambled();
-        }
+        self.note_scrambled(packet);
         let begun = self.note(packet);
         self.packets_of.to.go_on();
         self.packets_of.take(packet, text);
         begun
+    }
+
+    // Counts a packet where it is scrambled.
+    fn note_scrambled(&mut self, packet: &[u8; PACKET])
+        ensures scrambled { self.new.scrambled
+            ≡ counted_if (is_scrambled packet.now) self.old.scrambled }
+        ensures to { self.new.packets_of.to ≡ record self.old.packets_of.to {
+          scrambled = counted_if (is_scrambled packet.now) self.old.packets_of.to.scrambled;
+        } }
+        ensures joining { self.new.packets_of.joining ≡ self.old.packets_of.joining }
+        ensures same { self.new ≡ record self.old {
+          scrambled = self.new.scrambled;
+          packets_of = self.new.packets_of;
+        } }
+    {
+        if is_scrambled(packet) {
+            self.scrambled = self.scrambled.saturating_add(1);
+            self.packets_of.to.add_scrambled();
+        }
     }
 
     // Counts what is lost before a packet, and notes a seam before it, and the PTS that begins in
@@ -111,6 +131,10 @@ impl Carrier {
         ensures pid { self.new.pid ≡ self.old.pid }
         ensures seam { self.new.packets_of.to.has_seam ≡ (self.old.packets_of.to.has_seam
             || is_behind_seam self.old.packets_of.joining packet.now) }
+        ensures given { self.new.packets_of.to ≡ given_noted self.old packet.now }
+        ensures joining { self.new.packets_of.joining ≡ self.old.packets_of.joining }
+        ensures packets { self.new.packets ≡ self.old.packets }
+        ensures scrambled { self.new.scrambled ≡ self.old.scrambled }
         ensures wrong { is_wrong packet.now ≡ true → self.new ≡ self.old }
         ensures empty { is_wrong packet.now ≡ false → has_payload packet.now ≡ false
             → self.new.has_jump ≡ (self.old.has_jump || announces_jump packet.now) }
@@ -144,6 +168,13 @@ impl Carrier {
             || is_behind_seam self.old.packets_of.joining packet.now) }
         ensures lost { self.new.packets_of.to.lost ≡ lost_with self.old.packets_of.to.lost
             self.old.packets_of.joining self.old.counter self.old.has_jump packet.now }
+        ensures to { self.new.packets_of.to ≡ record self.old.packets_of.to {
+          lost = self.new.packets_of.to.lost;
+          has_seam = self.new.packets_of.to.has_seam;
+        } }
+        ensures joining { self.new.packets_of.joining ≡ self.old.packets_of.joining }
+        ensures packets { self.new.packets ≡ self.old.packets }
+        ensures scrambled { self.new.scrambled ≡ self.old.scrambled }
     {
         if self.packets_of.is_repeat(packet) {
             return;
@@ -161,6 +192,12 @@ impl Carrier {
         ensures seam { self.new.packets_of.to.has_seam ≡ self.old.packets_of.to.has_seam }
         ensures counter { self.new.counter ≡ Some (counter packet.now) }
         ensures jump { self.new.has_jump ≡ false }
+        ensures to { self.new.packets_of.to ≡ record self.old.packets_of.to {
+          lost = self.new.packets_of.to.lost;
+        } }
+        ensures joining { self.new.packets_of.joining ≡ self.old.packets_of.joining }
+        ensures packets { self.new.packets ≡ self.old.packets }
+        ensures scrambled { self.new.scrambled ≡ self.old.scrambled }
     {
         let lost = lost_before(self.counter, self.has_jump, packet);
         self.packets_of.to.add_lost(lost as u64);
@@ -243,7 +280,9 @@ impl Carrier {
 
     /// Whether a PTS is a second from the last one that was held against the clock, and nothing is
     /// missing before it.
-    pub fn is_due(&self, pts: u64) -> bool {
+    pub fn is_due(&self, pts: u64) -> bool
+        ensures { result ≡ is_due_beside self.now pts }
+    {
         if self.packets_of.to.is_broken() {
             return false;
         }

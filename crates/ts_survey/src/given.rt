@@ -1,9 +1,13 @@
 //! What the packets of a PID carry, piece after piece: PES packets, marks, and what is none.
-ghost use Rattle.std.specs.Prelude.{◌≡◌, ◌||◌, [], false};
+ghost use Rattle.std.specs.Prelude.{◌≡◌, ◌||◌, false};
 ghost use Rattle.ts_survey.specs.Endings.{given_words, with_due_mark};
 ghost use Rattle.ts_survey.specs.Seams.{seam_words};
 ghost use Rattle.ts_survey.specs.Lines.{AddsWords};
+ghost use Rattle.ts_survey.specs.InStep.{counted_on};
 ghost use Rattle.ts_survey.specs.Missing.{more_lost};
+ghost use Rattle.ts_survey.specs.Lines.{run_words};
+ghost use Rattle.ts_survey.specs.Taken.{GivesKnown, GivesPes, GivesPiece, due_words, mark_told};
+ghost use Rattle.ts_survey.specs.Taken.{lines_flushed, nothing_given, piece_refusal};
 
 use crate::adaptation::pts_said;
 use crate::pes_lines::PesLines;
@@ -33,7 +37,7 @@ pub struct Given {
 impl Given {
     /// Nothing yet.
     pub fn new(lines: PesLines) -> Given
-        ensures { result.lines ≡ lines }
+        ensures { result ≡ nothing_given lines }
     {
         Given {
             lines,
@@ -62,7 +66,9 @@ impl Given {
     }
 
     /// A packet came that is scrambled.
-    pub fn add_scrambled(&mut self) {
+    pub fn add_scrambled(&mut self)
+        ensures { self.new ≡ record self.old { scrambled = counted_on self.old.scrambled 1 } }
+    {
         self.scrambled = self.scrambled.saturating_add(1);
     }
 
@@ -74,12 +80,16 @@ impl Given {
     }
 
     /// Another packet came.
-    pub fn go_on(&mut self) {
+    pub fn go_on(&mut self)
+        ensures { self.new ≡ record self.old { is_broken = self.old.has_mark } }
+    {
         self.is_broken = self.has_mark;
     }
 
     /// Whether something is missing before what the last packet carries.
-    pub fn is_broken(&self) -> bool {
+    pub fn is_broken(&self) -> bool
+        ensures { result ≡ self.now.is_broken }
+    {
         self.is_broken
     }
 
@@ -91,11 +101,15 @@ impl Given {
     }
 
     // Tells a mark that is due.
-    fn tell_mark(&mut self, text: &mut Text) {
-        if self.has_mark {
-            self.has_mark = false;
-            self.lines.mark(self.lost, self.scrambled, text);
+    fn tell_mark(&mut self, text: &mut Text)
+        ensures told { AddsWords text.old (due_words self.old) text.new }
+        ensures state { self.new ≡ mark_told self.old }
+    {
+        if !self.has_mark {
+            return;
         }
+        self.has_mark = false;
+        self.lines.mark(self.lost, self.scrambled, text);
     }
 
     // Tells the seams before a PES packet, where there are any.
@@ -110,8 +124,38 @@ impl Given {
         self.lines.tell_seam(text);
     }
 
+    // Takes a mark, or a PES packet, before which a mark that is due is told.
+    fn take_known(&mut self, piece: &[u8], text: &mut Text)
+        ensures { GivesKnown piece.now self.old self.new }
+    {
+        if is_mark(piece) {
+            self.has_mark = true;
+            self.is_broken = true;
+            return;
+        }
+        self.tell_mark(text);
+        self.take_packet(piece, text);
+    }
+
+    // Takes a PES packet.
+    fn take_packet(&mut self, pes: &[u8], text: &mut Text)
+        ensures { GivesPes pes.now self.old self.new }
+    {
+        self.tell_seam(text);
+        self.lines.take(pes, text);
+        self.last = pts_said(pes).or(self.last);
+        self.lost = 0;
+        self.scrambled = 0;
+    }
+
     /// Tells what is not told yet of the PES packets.
-    pub fn flush(&mut self, text: &mut Text) {
+    pub fn flush(&mut self, text: &mut Text)
+        ensures line { AddsWords text.old (run_words self.old.lines.pid self.old.lines.run)
+            text.new }
+        ensures state { self.new ≡ record self.old {
+          lines = lines_flushed self.old.lines;
+        } }
+    {
         self.lines.flush(text);
     }
 
@@ -142,27 +186,24 @@ impl Given {
 }
 
 impl TakesPieces for Given {
+    ghost is_taken = { GivesPiece };
+
     /// Takes a PES packet, a mark, or what is none, behind which nothing comes.
     fn take(&mut self, piece: &[u8], text: &mut Text) {
-        if let Some(number) = refusal_of(piece) {
-            self.refusal = number;
-            self.tell_mark(text);
-        } else if is_mark(piece) {
-            self.has_mark = true;
-            self.is_broken = true;
-        } else {
-            self.tell_mark(text);
-            self.tell_seam(text);
-            self.lines.take(piece, text);
-            self.last = pts_said(piece).or(self.last);
-            self.lost = 0;
-            self.scrambled = 0;
+        match refusal_of(piece) {
+            Some(number) => {
+                self.refusal = number;
+                self.tell_mark(text);
+            }
+            None => self.take_known(piece, text),
         }
     }
 }
 
 // The refusal of bytes that are no PES packet with Teletext; `None` of one, and of a mark.
-fn refusal_of(bytes: &[u8]) -> Option<u16> {
+fn refusal_of(bytes: &[u8]) -> Option<u16>
+    ensures { result ≡ piece_refusal bytes.now }
+{
     let head = bytes.first_chunk()?;
     match size_of(head) {
         Ok(_) => None,

@@ -1,10 +1,14 @@
 //! What was heard in a PES packet: letters, and the numbers of its headers.
-ghost use Rattle.std.specs.Prelude.{◌≡◌};
+ghost use Rattle.std.specs.Prelude.{◌≡◌, ◌<◌, IfSome};
 ghost use Rattle.ts_survey.specs.Lines.{AddsWords, heard_words, told_letters};
+ghost use Rattle.ts_survey.specs.InStep.{counted_on};
 ghost use Rattle.ts_survey.specs.Noted.{with_letter, with_letter_if};
+ghost use Rattle.ts_survey.specs.PacketNotes.{is_same_heard, nothing_heard, with_number};
+ghost use Rattle.ts_survey.specs.PacketNotes.{with_numbers, with_plus, with_sign};
 
-use crate::text::Text;
+use crate::text::{Text, upper_digit};
 use arrayvec::ArrayVec;
+use ttx_packet::unham;
 
 /// Deeds of a PES packet that are compared with those of the one before.
 #[derive(Drop)]
@@ -21,7 +25,9 @@ pub struct Heard {
 
 impl Heard {
     /// Nothing.
-    pub fn new() -> Heard {
+    pub fn new() -> Heard
+        ensures { result ≡ nothing_heard 0 }
+    {
         Heard {
             letters: ArrayVec::new(),
             control: ArrayVec::new(),
@@ -31,7 +37,9 @@ impl Heard {
     }
 
     /// Nothing yet, in the next PES packet: that is refused so, or 0.
-    pub fn begin(&mut self, fault: u16) {
+    pub fn begin(&mut self, fault: u16)
+        ensures { self.new ≡ nothing_heard fault }
+    {
         self.letters.clear();
         self.control.clear();
         self.units = 0;
@@ -82,24 +90,57 @@ impl Heard {
     }
 
     /// A Teletext packet.
-    pub fn add_unit(&mut self) {
+    pub fn add_unit(&mut self)
+        ensures { self.new ≡ record self.old { units = counted_on self.old.units 1 } }
+    {
         self.units = self.units.saturating_add(1);
     }
 
     /// The numbers of a header begin, behind those of another.
-    pub fn begin_header(&mut self) {
+    pub fn begin_header(&mut self)
+        ensures control { self.new.control.items ≡ with_plus self.old.control.items }
+        ensures same { self.new ≡ record self.old { control = self.new.control } }
+    {
         if !self.control.is_empty() {
             let _ = self.control.try_push(b'+');
         }
     }
 
-    /// The next number of the header.
-    pub fn add_digit(&mut self, digit: u8) {
+    /// The numbers of the header, by its coded bytes.
+    #[tactic(auto, using(crate::proofs::NotesLemmas::numbers_heard))]
+    pub fn add_numbers(&mut self, bytes: &[u8])
+        ensures control { self.new.control.items
+            ≡ with_numbers self.old.control.items bytes.now }
+        ensures same { self.new ≡ record self.old { control = self.new.control } }
+    {
+        for byte in bytes {
+            self.add_number(unham(*byte));
+        }
+    }
+
+    // The next one, if its byte decodes to one.
+    fn add_number(&mut self, number: Option<u8>)
+        requires { IfSome number (λ n. n < 16) }
+        ensures control { self.new.control.items ≡ with_number self.old.control.items number }
+        ensures same { self.new ≡ record self.old { control = self.new.control } }
+    {
+        if let Some(number) = number {
+            self.add_digit(upper_digit(number));
+        }
+    }
+
+    // A digit of it.
+    fn add_digit(&mut self, digit: u8)
+        ensures control { self.new.control.items ≡ with_sign self.old.control.items digit }
+        ensures same { self.new ≡ record self.old { control = self.new.control } }
+    {
         let _ = self.control.try_push(digit);
     }
 
     /// Whether the same was heard.
-    pub fn is_same(&self, other: &Heard) -> bool {
+    pub fn is_same(&self, other: &Heard) -> bool
+        ensures { result ≡ is_same_heard self.now other.now }
+    {
         self.units == other.units
             && self.fault == other.fault
             && self.letters.as_slice() == other.letters.as_slice()
@@ -107,7 +148,9 @@ impl Heard {
     }
 
     /// Takes over what another one heard.
-    pub fn copy(&mut self, other: &Heard) {
+    pub fn copy(&mut self, other: &Heard)
+        ensures { self.new ≡ other.now }
+    {
         self.begin(other.fault);
         let _ = self.letters.try_extend_from_slice(other.letters.as_slice());
         let _ = self.control.try_extend_from_slice(other.control.as_slice());

@@ -1,18 +1,24 @@
 //! What is told of the packets that a receiver of the page hears.
-ghost use Rattle.std.specs.Prelude.{◌≡◌, ◌≤◌, ◌<◌, ◌↔◌, IsTrue, Some};
+ghost use Rattle.std.specs.Prelude.{◌≡◌, ◌≤◌, ◌<◌, ◌↔◌, ℕ, IfSome, IsTrue, Some, true};
+ghost use Rattle.std.specs.List.{slice_get};
+ghost use Rattle.ttx_page.specs.PacketKind.{kind};
 ghost use Rattle.ttx_page.specs.Page.{blank};
 ghost use Rattle.ts_survey.specs.Endings.{count_words, counts_words, subs_line};
 ghost use Rattle.ts_survey.specs.Lines.{AddsWords};
 ghost use Rattle.ts_survey.specs.Noted.{NotesEnd};
+ghost use Rattle.ts_survey.specs.PacketNotes.{AreNotes, NothingNoted, are_changed, counted_at};
+ghost use Rattle.ts_survey.specs.PacketNotes.{counts_with, kind_heard, kind_noted, unit_heard};
+ghost use Rattle.ts_survey.specs.PacketNotes.{header_heard, header_noted, notes_begun, row_noted};
+ghost use Rattle.ts_survey.specs.PacketNotes.{sub_if_first, sub_line, sub_words};
 ghost use Rattle.ts_survey.specs.Rows.{held_words, page_words};
 
 use crate::character_set::CharacterSets;
 use crate::heard::Heard;
 use crate::rows::{Rows, cells_of};
-use crate::text::{Text, upper_digit};
+use crate::text::Text;
 use bitflags::Flags;
 use std::alloc::Global;
-use ttx_packet::{Control, Header, Packet, unham};
+use ttx_packet::{Control, Header, Packet, PageId};
 use ttx_page::{Blank, PacketKind, Page, Receiver};
 
 /// Pages: eight magazines of 256.
@@ -38,7 +44,9 @@ pub struct Notes {
 
 impl Notes {
     /// Nothing yet. `None` where memory runs out.
-    pub fn new(alloc: Global) -> Option<Notes> {
+    pub fn new(alloc: Global) -> Option<Notes>
+        ensures { IfSome result NothingNoted }
+    {
         let Ok(subtitles) = vec![in alloc; 0u64; PAGES] else {
             return None;
         };
@@ -56,7 +64,9 @@ impl Notes {
     }
 
     /// A PES packet begins.
-    pub fn begin(&mut self) {
+    pub fn begin(&mut self)
+        ensures { self.new ≡ notes_begun self.old }
+    {
         self.is_opened = false;
         if self.has_stray {
             self.has_stray = false;
@@ -82,20 +92,44 @@ impl Notes {
         pid: u16,
         heard: &mut Heard,
         text: &mut Text,
-    ) {
+    )
+        ensures heard { heard.new ≡ kind_heard (kind receiver.now.watched packet.now)
+            receiver.now.state.is_open packet.now (unit_heard heard.old) }
+        ensures notes { AreNotes (kind_noted (kind receiver.now.watched packet.now)
+            receiver.now.state.is_open packet.now self.old) self.new }
+    {
         heard.add_unit();
         let watched = receiver.watched();
         let (kind, header) = PacketKind::with_header(watched, packet);
+        self.note_kind(&kind, receiver.open(), packet, heard);
+        self.note_other(watched, packet, header, pid, text);
+    }
+
+    // A packet comes that is of that kind to a receiver of the page.
+    fn note_kind(&mut self, kind: &PacketKind, is_open: bool, packet: &Packet, heard: &mut Heard)
+        requires { (row : ℕ) → kind.now ≡ PacketKind.Row row → (1 ≤ row) × (row ≤ 24) }
+        ensures heard { heard.new ≡ kind_heard kind.now is_open packet.now heard.old }
+        ensures notes { self.new ≡ kind_noted kind.now is_open packet.now self.old }
+    {
         match kind {
-            PacketKind::ThisPage(header) => self.note_header(packet, &header, heard),
-            PacketKind::EndsPage => {
-                if receiver.open() {
-                    heard.add(b'c');
-                }
-            }
-            PacketKind::Row(row) => self.note_row(row, receiver.open(), packet),
+            PacketKind::ThisPage(header) => self.note_header(packet, header, heard),
+            PacketKind::EndsPage => heard.add_if(is_open, b'c'),
+            PacketKind::Row(row) => self.note_row(*row, is_open, packet),
             PacketKind::Other => {}
         }
+    }
+
+    // A packet comes, with its header of any page, if it has one.
+    fn note_other(
+        &mut self,
+        watched: PageId,
+        packet: &Packet,
+        header: Option<Header>,
+        pid: u16,
+        text: &mut Text,
+    )
+        ensures { AreNotes self.old self.new }
+    {
         let Some((magazine, number)) = packet.address() else {
             return;
         };
@@ -114,6 +148,7 @@ impl Notes {
     fn note_row(&mut self, row: u8, is_open: bool, packet: &Packet)
         requires first { 1 ≤ row }
         requires last { row ≤ 24 }
+        ensures { self.new ≡ row_noted row is_open packet.now self.old }
     {
         if is_open {
             self.rows.set(row, cells_of(packet));
@@ -124,7 +159,10 @@ impl Notes {
     }
 
     // A header of the page.
-    fn note_header(&mut self, packet: &Packet, header: &Header, heard: &mut Heard) {
+    fn note_header(&mut self, packet: &Packet, header: &Header, heard: &mut Heard)
+        ensures notes { self.new ≡ header_noted header.now self.old }
+        ensures heard { heard.new ≡ header_heard packet.now header.now heard.old }
+    {
         self.is_opened = true;
         heard.add(b'h');
         if header.control.contains(Control::C4) {
@@ -132,36 +170,32 @@ impl Notes {
             self.rows = Rows::none();
         }
         heard.begin_header();
-        for byte in &packet.bytes()[2..10] {
-            if let Some(number) = unham(*byte) {
-                heard.add_digit(upper_digit(number));
-            }
-        }
+        let (_, coded) = packet.bytes().split_at(2);
+        let (coded, _) = coded.split_at(8);
+        heard.add_numbers(coded);
     }
 
     // A header of any page: it is counted where it is one of subtitles.
     fn count_header(&mut self, magazine: u8, header: &Header, pid: u16, text: &mut Text)
         requires { magazine < 8 }
+        ensures told { AddsWords text.old
+            (sub_words pid magazine header.now self.old.subtitles.items) text.new }
+        ensures counts { self.new.subtitles.items
+            ≡ counts_with magazine header.now self.old.subtitles.items }
+        ensures same { self.new ≡ record self.old { subtitles = self.new.subtitles } }
     {
         if !header.control.contains(Control::C6) {
             return;
         }
         let place = magazine as usize * 256 + header.page as usize;
-        let Some(count) = self.subtitles.get_mut(place) else {
-            return;
-        };
-        let is_first = *count == 0;
-        *count = count.saturating_add(1);
-        if is_first {
-            text.put(b"sub");
-            text.number(u64::from(pid));
-            text.page(magazine, header.page);
-            text.put(b"\n");
-        }
+        let before = count_at(&mut self.subtitles, place);
+        tell_first(before, pid, magazine, header.page, text);
     }
 
     /// Whether the rows are others than those told last, or none were told.
-    pub fn is_changed(&self) -> bool {
+    pub fn is_changed(&self) -> bool
+        ensures { result ≡ are_changed self.now }
+    {
         match &self.told {
             None => true,
             Some(told) => *told != self.rows,
@@ -169,7 +203,9 @@ impl Notes {
     }
 
     /// Whether strays have to be told.
-    pub fn has_new_strays(&self) -> bool {
+    pub fn has_new_strays(&self) -> bool
+        ensures { result ≡ Rattle.ts_survey.specs.PacketNotes.has_new_strays self.now }
+    {
         self.has_stray && self.strays != self.told_strays
     }
 
@@ -208,6 +244,39 @@ fn is_blank(page: &Page) -> bool
     ensures { IsTrue result ↔ (page.now ≡ blank) }
 {
     page.first_difference(&Page::blank()).is_none()
+}
+
+// Counts one more at a place, and answers how many there were. `None` where there is no such place.
+#[tactic(auto, using(std::proofs::lemmas::Option::slice_get_read))]
+fn count_at(counts: &mut Vec<u64>, place: usize) -> Option<u64>
+    ensures before { result ≡ slice_get counts.old.items place }
+    ensures counted { counts.new.items
+        ≡ counted_at (slice_get counts.old.items place) place counts.old.items }
+{
+    let count = counts.get_mut(place)?;
+    let before = *count;
+    *count = before.saturating_add(1);
+    Some(before)
+}
+
+// Tells a page of which no header with the subtitle bit came before.
+fn tell_first(before: Option<u64>, pid: u16, magazine: u8, page: u8, text: &mut Text)
+    requires { magazine < 8 }
+    ensures { AddsWords text.old (sub_if_first before pid magazine page) text.new }
+{
+    if before == Some(0) {
+        tell_sub(pid, magazine, page, text);
+    }
+}
+
+fn tell_sub(pid: u16, magazine: u8, page: u8, text: &mut Text)
+    requires { magazine < 8 }
+    ensures { AddsWords text.old (sub_line pid magazine page) text.new }
+{
+    text.put(b"sub");
+    text.number(pid as u64);
+    text.page(magazine, page);
+    text.put(b"\n");
 }
 
 // Tells how many headers with the subtitle bit came of a page, where any did.

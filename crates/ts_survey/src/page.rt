@@ -1,7 +1,12 @@
 //! What a receiver of the page hears in PES packets, and what it holds then.
-ghost use Rattle.std.specs.Prelude.{◌≡◌, IfSome};
+ghost use Rattle.std.specs.Prelude.{◌≡◌, IfSome, false, true};
 ghost use Rattle.ttx_page.specs.Receiver.{Hears};
 ghost use Rattle.ts_survey.specs.Heard.{heard_packets, lent_packets};
+ghost use Rattle.ts_survey.specs.Lines.{AddsWords};
+ghost use Rattle.ts_survey.specs.PacketNotes.{HearsPackets};
+ghost use Rattle.ts_survey.specs.Rows.{held_words, page_words};
+ghost use Rattle.ts_survey.specs.Runs.{HearsUnits, NothingFollowed, following_begun, hearing_of};
+ghost use Rattle.ts_survey.specs.Runs.{is_page_changed, page_told};
 
 use crate::heard::Heard;
 use crate::notes::Notes;
@@ -21,7 +26,8 @@ pub struct Following {
 impl Following {
     /// Of this page. `None` where memory runs out.
     pub fn new(alloc: Global, page: PageId) -> Option<Following>
-        ensures { IfSome result (λ following. following.receiver.watched ≡ page) }
+        ensures watched { IfSome result (λ following. following.receiver.watched ≡ page) }
+        ensures nothing { IfSome result NothingFollowed }
     {
         let notes = Notes::new(alloc)?;
         Some(Following {
@@ -35,6 +41,10 @@ impl Following {
         ensures watched { self.new.receiver.watched ≡ self.old.receiver.watched }
         ensures hears { Hears self.old.receiver.watched self.old.receiver.state
             (heard_packets pes.now) self.new.receiver.state }
+        // With all that is noted of it.
+        ensures noted { HearsUnits self.old.receiver.watched
+            (hearing_of (following_begun self.old) heard.old) (heard_packets pes.now)
+            (hearing_of self.new heard.new) }
     {
         self.notes.begin();
         let mut rest = units_of(pes);
@@ -53,6 +63,8 @@ impl Following {
         ensures watched { self.new.receiver.watched ≡ self.old.receiver.watched }
         ensures hears { Hears self.old.receiver.watched self.old.receiver.state
             (lent_packets sent.entry) self.new.receiver.state }
+        ensures noted { HearsPackets self.old.receiver.watched (hearing_of self.old heard.old)
+            (lent_packets sent.entry) (hearing_of self.new heard.new) }
     {
         match sent {
             None => {}
@@ -66,7 +78,9 @@ impl Following {
 
     /// Whether rows have to be told after a PES packet: at the first header of the page, and where
     /// they are others than those told last.
-    pub fn is_changed(&self) -> bool {
+    pub fn is_changed(&self) -> bool
+        ensures { result ≡ is_page_changed self.now }
+    {
         self.receiver.heard() && self.notes.is_changed()
     }
 
@@ -78,12 +92,19 @@ impl Following {
     }
 
     /// Tells the rows of the page that the receiver holds.
-    pub fn tell_rows(&mut self, text: &mut Text) {
+    pub fn tell_rows(&mut self, text: &mut Text)
+        ensures told { AddsWords text.old
+            (held_words self.old.receiver.state.page self.old.notes.rows.cells) text.new }
+        ensures state { self.new ≡ page_told true false self.old }
+    {
         self.notes.tell_rows(&self.receiver, text);
     }
 
     /// Tells rows that came behind the end of the page.
-    pub fn tell_strays(&mut self, text: &mut Text) {
+    pub fn tell_strays(&mut self, text: &mut Text)
+        ensures told { AddsWords text.old (page_words self.old.notes.strays.cells) text.new }
+        ensures state { self.new ≡ page_told false true self.old }
+    {
         self.notes.tell_strays(text);
     }
 }

@@ -1,8 +1,10 @@
 //! A file of PES packets.
-ghost use Rattle.std.specs.Prelude.{◌≡◌, ◌≤◌, ◌<◌, ◌+◌, ℕ, length};
-ghost use Rattle.ts_survey.specs.Lines.{AddsWords};
+ghost use Rattle.std.specs.Prelude.{◌≡◌, ◌≤◌, ◌<◌, ◌+◌, ℕ, IfSome, length, true};
+ghost use Rattle.ts_survey.specs.Lines.{AddsWords, run_words};
 ghost use Rattle.ts_survey.specs.Listed.{file_end, file_words};
 ghost use Rattle.ts_survey.specs.Room.{most_kept};
+ghost use Rattle.ts_survey.specs.Taken.{BeginsFile, TakesFilePes, TakesFilePiece, damage_words};
+ghost use Rattle.ts_survey.specs.Taken.{lines_flushed};
 
 use crate::adaptation::pts_said;
 use crate::pes_lines::PesLines;
@@ -51,7 +53,9 @@ fn piece_of(bytes: &[u8]) -> Piece
 
 impl PesFile {
     /// Before the first. `None` where memory runs out.
-    pub fn new(alloc: Global, page: PageId) -> Option<PesFile> {
+    pub fn new(alloc: Global, page: PageId) -> Option<PesFile>
+        ensures { IfSome result (BeginsFile page) }
+    {
         let lines = PesLines::new(alloc, 0, page)?;
         Some(PesFile {
             lines,
@@ -91,17 +95,32 @@ impl PesFile {
     }
 
     // A PES packet, or a mark.
-    fn take_piece(&mut self, piece: &[u8], text: &mut Text) {
+    fn take_piece(&mut self, piece: &[u8], text: &mut Text)
+        ensures { TakesFilePiece piece.now self.old self.new }
+    {
         if is_mark(piece) {
             self.lines.mark(0, 0, text);
             return;
         }
-        self.lines.take(piece, text);
-        self.last = pts_said(piece).or(self.last);
+        self.take_packet(piece, text);
+    }
+
+    // A PES packet.
+    fn take_packet(&mut self, pes: &[u8], text: &mut Text)
+        ensures { TakesFilePes pes.now self.old self.new }
+    {
+        self.lines.take(pes, text);
+        self.last = pts_said(pes).or(self.last);
     }
 
     // The file can't be read on.
-    fn tell_damage(&mut self, why: &[u8], text: &mut Text) {
+    fn tell_damage(&mut self, why: &[u8], text: &mut Text)
+        ensures told { AddsWords text.old (damage_words self.old.lines why.now) text.new }
+        ensures state { self.new ≡ record self.old {
+          is_damaged = true;
+          lines = lines_flushed self.old.lines;
+        } }
+    {
         self.is_damaged = true;
         self.lines.flush(text);
         text.put(b"damaged 0");
@@ -110,7 +129,11 @@ impl PesFile {
     }
 
     /// Tells what is not told yet, since nothing more is there for now.
-    pub fn flush(&mut self, text: &mut Text) {
+    pub fn flush(&mut self, text: &mut Text)
+        ensures line { AddsWords text.old (run_words self.old.lines.pid self.old.lines.run)
+            text.new }
+        ensures state { self.new ≡ record self.old { lines = lines_flushed self.old.lines } }
+    {
         self.lines.flush(text);
     }
 

@@ -1,8 +1,15 @@
 //! The lines of the PES packets of a PID: runs of them, marks, and what the page holds.
-ghost use Rattle.std.specs.Prelude.{◌≡◌, ◌++◌, IfSome};
+ghost use Rattle.std.specs.Prelude.{◌≡◌, ◌++◌, [], if◌then◌else◌, IfSome, false, true};
+ghost use Rattle.ts_survey.specs.Adaptation.{pts_said};
 ghost use Rattle.ts_survey.specs.Endings.{counts_words};
 ghost use Rattle.ts_survey.specs.Lines.{AddsWords, gap_line, run_line, run_words};
+ghost use Rattle.ts_survey.specs.Runs.{joins_run, packet_kept, packet_words, page_lines, page_told};
+ghost use Rattle.ts_survey.specs.Runs.{pes_refusal, rows_line, run_from, run_told, run_joined};
+ghost use Rattle.ts_survey.specs.Runs.{strays_line};
+ghost use Rattle.ts_survey.specs.Runs as specs;
 ghost use Rattle.ts_survey.specs.Seams.{seam_line};
+ghost use Rattle.ts_survey.specs.Taken.{BeginsLines, HearsPes, TakesPes, lines_flushed};
+ghost use Rattle.ts_survey.specs.Taken.{lines_marked};
 
 use crate::adaptation::pts_said;
 use crate::heard::Heard;
@@ -37,7 +44,9 @@ pub struct PesLines {
 }
 
 // The refusal by which a PES packet is not read; 0 for none.
-fn refusal(pes: &[u8], frame: &mut PesFrame) -> u16 {
+fn refusal(pes: &[u8], frame: &mut PesFrame) -> u16
+    ensures { result ≡ pes_refusal pes.now }
+{
     let mut source = MemSource::new(pes);
     let mut reader = PesReader::new();
     match reader.next_into(&mut source, frame) {
@@ -49,8 +58,9 @@ fn refusal(pes: &[u8], frame: &mut PesFrame) -> u16 {
 impl PesLines {
     /// Before the first. `None` where memory runs out.
     pub fn new(alloc: Global, pid: u16, page: PageId) -> Option<PesLines>
-        ensures { IfSome result (λ lines. (lines.pid ≡ pid)
+        ensures asked { IfSome result (λ lines. (lines.pid ≡ pid)
             × (lines.page.receiver.watched ≡ page)) }
+        ensures nothing { IfSome result BeginsLines }
     {
         let page = Following::new(alloc, page)?;
         Some(PesLines {
@@ -86,29 +96,89 @@ impl PesLines {
     }
 
     /// A PES packet came.
-    pub fn take(&mut self, pes: &[u8], text: &mut Text) {
+    pub fn take(&mut self, pes: &[u8], text: &mut Text)
+        ensures { TakesPes pes.now self.old self.new text.new }
+    {
         let pts = pts_said(pes);
+        self.hear(pes, pts, text);
+        let is_changed = self.tells_rows(pts);
+        let has_strays = self.tells_strays(pts);
+        self.put(pts, is_changed, has_strays, text);
+    }
+
+    // Whether rows have to be told behind a PES packet with that PTS.
+    fn tells_rows(&self, pts: Option<u64>) -> bool
+        ensures { result ≡ specs.tells_rows pts self.now.page }
+    {
+        pts.is_some() && self.page.is_changed()
+    }
+
+    // Whether strays have to be.
+    fn tells_strays(&self, pts: Option<u64>) -> bool
+        ensures { result ≡ specs.tells_strays pts self.now.page }
+    {
+        pts.is_some() && self.page.notes().has_new_strays()
+    }
+
+    // Hears a PES packet with a PTS.
+    fn hear(&mut self, pes: &[u8], pts: Option<u64>, text: &mut Text)
+        requires { pts ≡ pts_said pes.now }
+        ensures { HearsPes pes.now self.old self.new }
+    {
         self.heard.begin(refusal(pes, &mut self.frame));
         if pts.is_some() {
             self.page.hear(pes, self.pid, &mut self.heard, text);
         }
-        let is_changed = pts.is_some() && self.page.is_changed();
-        let has_strays = pts.is_some() && self.page.notes().has_new_strays();
+    }
+
+    // Puts a PES packet that was heard into the run, or tells it where rows or strays are told
+    // behind it.
+    fn put(&mut self, pts: Option<u64>, is_changed: bool, has_strays: bool, text: &mut Text)
+        ensures told { AddsWords text.old (packet_words self.old pts is_changed has_strays)
+            text.new }
+        ensures state { self.new ≡ packet_kept self.old pts is_changed has_strays }
+    {
         let number = self.count;
         self.count = self.count.saturating_add(1);
-        let is_joined = !is_changed && !has_strays && self.join(pts);
-        if !is_joined {
+        let is_told = is_changed || has_strays;
+        if is_told {
+            self.tell_alone(number, pts, is_changed, has_strays, text);
+        } else if !self.join(pts) {
             self.flush(text);
             self.begin(number, pts);
         }
-        if is_changed || has_strays {
-            self.flush(text);
-            self.tell_page(number, is_changed, has_strays, text);
-        }
+    }
+
+    // Tells the run, then a PES packet for itself, then what the page holds, and strays, behind it.
+    fn tell_alone(
+        &mut self,
+        number: u64,
+        pts: Option<u64>,
+        is_changed: bool,
+        has_strays: bool,
+        text: &mut Text,
+    )
+        ensures told { AddsWords text.old (run_words self.old.pid self.old.run
+            ++ (run_line self.old.pid (run_from number pts self.old.heard)
+            ++ page_lines self.old.pid number is_changed has_strays self.old.page)) text.new }
+        ensures state { self.new ≡ record self.old {
+          run = run_told (run_from number pts self.old.heard);
+          page = page_told is_changed has_strays self.old.page;
+        } }
+    {
+        self.flush(text);
+        self.begin(number, pts);
+        self.flush(text);
+        self.tell_page(number, is_changed, has_strays, text);
     }
 
     // Adds a PES packet to the run, where it goes on with it; whether it does.
-    fn join(&mut self, pts: Option<u64>) -> bool {
+    fn join(&mut self, pts: Option<u64>) -> bool
+        ensures joins { result ≡ joins_run self.old.run self.old.heard pts }
+        ensures yes { result ≡ true
+            → self.new ≡ record self.old { run = run_joined self.old.run pts } }
+        ensures no { result ≡ false → self.new ≡ self.old }
+    {
         let Some(now) = pts else {
             return false;
         };
@@ -126,7 +196,9 @@ impl PesLines {
     }
 
     // Begins a run.
-    fn begin(&mut self, number: u64, pts: Option<u64>) {
+    fn begin(&mut self, number: u64, pts: Option<u64>)
+        ensures { self.new ≡ record self.old { run = run_from number pts self.old.heard } }
+    {
         self.run.first = number;
         self.run.count = 1;
         self.run.pts = pts;
@@ -138,28 +210,53 @@ impl PesLines {
     /// Tells the run, where there is one.
     pub fn flush(&mut self, text: &mut Text)
         ensures line { AddsWords text.old (run_words self.old.pid self.old.run) text.new }
-        ensures told { self.new.run.count ≡ 0 }
-        ensures pid { self.new.pid ≡ self.old.pid }
-        ensures count { self.new.count ≡ self.old.count }
+        ensures state { self.new ≡ lines_flushed self.old }
     {
         self.tell_kept(text);
         self.run.count = 0;
     }
 
     // Tells what the page holds, and strays, behind the PES packet.
-    fn tell_page(&mut self, number: u64, is_changed: bool, has_strays: bool, text: &mut Text) {
-        if is_changed {
-            text.put(b"rows");
-            text.number(u64::from(self.pid));
-            text.number(number);
-            self.page.tell_rows(text);
+    fn tell_page(&mut self, number: u64, is_changed: bool, has_strays: bool, text: &mut Text)
+        ensures told { AddsWords text.old
+            (page_lines self.old.pid number is_changed has_strays self.old.page) text.new }
+        ensures state { self.new
+            ≡ record self.old { page = page_told is_changed has_strays self.old.page } }
+    {
+        self.tell_rows(number, is_changed, text);
+        self.tell_strays(number, has_strays, text);
+    }
+
+    // Tells what the page holds, where that is to be told.
+    fn tell_rows(&mut self, number: u64, is_told: bool, text: &mut Text)
+        ensures told { AddsWords text.old
+            (if is_told then rows_line self.old.pid number self.old.page else []) text.new }
+        ensures state { self.new
+            ≡ record self.old { page = page_told is_told false self.old.page } }
+    {
+        if !is_told {
+            return;
         }
-        if has_strays {
-            text.put(b"strays");
-            text.number(u64::from(self.pid));
-            text.number(number);
-            self.page.tell_strays(text);
+        text.put(b"rows");
+        text.number(self.pid as u64);
+        text.number(number);
+        self.page.tell_rows(text);
+    }
+
+    // Tells strays, where they are to be told.
+    fn tell_strays(&mut self, number: u64, is_told: bool, text: &mut Text)
+        ensures told { AddsWords text.old
+            (if is_told then strays_line self.old.pid number self.old.page else []) text.new }
+        ensures state { self.new
+            ≡ record self.old { page = page_told false is_told self.old.page } }
+    {
+        if !is_told {
+            return;
         }
+        text.put(b"strays");
+        text.number(self.pid as u64);
+        text.number(number);
+        self.page.tell_strays(text);
     }
 
     /// A jump of the counter was announced before the next PES packet.
@@ -174,8 +271,9 @@ impl PesLines {
 
     /// A mark came: so many packets were lost and scrambled.
     pub fn mark(&mut self, lost: u64, scrambled: u64, text: &mut Text)
-        ensures { AddsWords text.old (run_words self.old.pid self.old.run
+        ensures told { AddsWords text.old (run_words self.old.pid self.old.run
             ++ gap_line self.old.pid self.old.count lost scrambled) text.new }
+        ensures state { self.new ≡ lines_marked self.old }
     {
         self.flush(text);
         tell_gap(self.pid, self.count, lost, scrambled, text);

@@ -1,7 +1,8 @@
 //! Rows of a page with the cells that were hit.
-ghost use Rattle.std.specs.Prelude.{◌≡◌, ◌-◌, ◌≤◌, ◌<◌, slice_index, slice_set, ℕ};
+ghost use Rattle.std.specs.Prelude.{◌≡◌, ◌-◌, ◌≤◌, ◌<◌, map, slice_index, slice_set, ℕ};
 ghost use Rattle.ttx_page.specs.Page.{AreCodes, IsCode};
 ghost use Rattle.ts_survey.specs.Lines.{AddsWords};
+ghost use Rattle.ts_survey.specs.PacketNotes.{cell_heard, cells_heard, no_rows};
 ghost use Rattle.ts_survey.specs.Rows as specs;
 ghost use Rattle.ts_survey.specs.Rows.{as_held, cells_words, held_words, page_words, row_words};
 ghost use Rattle.ts_survey.specs.Rows.{sign_behind, told_row};
@@ -23,18 +24,37 @@ pub struct Rows {
 }
 
 /// The cells of a row, as its packet has them: each code, or `HIT` where the parity is even.
-pub fn cells_of(packet: &Packet) -> [u8; 40] {
-    let mut cells = *packet.data();
+#[tactic(auto, unfolding(crate::specs::PacketNotes::cells_heard))]
+pub fn cells_of(packet: &Packet) -> [u8; 40]
+    ensures { result ≡ cells_heard packet.now }
+{
+    cells_of_bytes(packet.data())
+}
+
+// The cells of the bytes of a row.
+fn cells_of_bytes(bytes: &[u8; 40]) -> [u8; 40]
+    ensures { result ≡ map cell_heard bytes.now }
+{
+    let mut cells = *bytes;
     for column in 0..40usize {
-        let byte = cells[column];
-        cells[column] = if is_odd(byte) { byte % 0x80 } else { HIT };
+        cells[column] = cell_of(bytes[column]);
     }
     cells
 }
 
+// The cell of a byte.
+fn cell_of(byte: u8) -> u8
+    ensures { result ≡ cell_heard byte }
+{
+    if is_odd(byte) { byte % 0x80 } else { HIT }
+}
+
 impl Rows {
     /// None.
-    pub fn none() -> Rows {
+    #[tactic(auto, unfolding(ttx_page::specs::Page::blank, ttx_page::specs::Page::blank_row))]
+    pub fn none() -> Rows
+        ensures { result ≡ no_rows }
+    {
         Rows {
             cells: [SPACES; 24],
         }

@@ -3,7 +3,7 @@ use Rattle.ts_survey.specs.Lines.{run_words}
 use Rattle.ts_survey.proofs.TextLemmas.{adds-words}
 use Rattle.ts_survey.proofs.pes_lines.PesLines.mark.Goals as goal
 
-pub returns : goal.returns
-returns c =
+pub returns-clause-told : goal.returns-clause-told
+returns-clause-told c =
     adds-words (run_words c.args.self.now.pid c.args.self.now.run) _ c.flush.ensures.line
-    (rw (c.flush.ensures.pid, c.flush.ensures.count) at c.tell_gap.ensures)
+    (rw c.flush.ensures.state at c.tell_gap.ensures)
