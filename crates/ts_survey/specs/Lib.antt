@@ -16,6 +16,7 @@ pub mod Heard
 pub mod Holes
 pub mod InStep
 pub mod Intervals
+pub mod LastNumbers
 pub mod Lines
 pub mod Listed
 pub mod Missing

@@ -1,11 +1,15 @@
 //! The clock of a programme: its PCR, and which of them are strange.
-ghost use Rattle.std.specs.Prelude.{◌≡◌, ◌||◌, Some, false, min, take};
+ghost use Rattle.std.specs.Prelude.{◌≡◌, ◌||◌, Some, false, if◌then◌else◌, min, nat_lt, slice_set};
+ghost use Rattle.std.specs.Prelude.{take};
 ghost use Rattle.mpeg_ts.specs.TransportPacket.{announces_jump};
 ghost use Rattle.ts_survey.specs.Usual as specs;
 ghost use Rattle.ts_survey.specs.Usual.{IsMiddle};
 ghost use Rattle.ts_survey.specs.Endings.{clock_words, pcr_line};
 ghost use Rattle.ts_survey.specs.Holes.{IsCompared, IsStrange};
 ghost use Rattle.ts_survey.specs.Intervals.{IsUsual};
+ghost use Rattle.ts_survey.specs.LastNumbers.{IsNearPcr, KeepsCompared, KeepsIntervals};
+ghost use Rattle.ts_survey.specs.LastNumbers.{first_clock, no_numbers, number_kept, pcr_if_due};
+ghost use Rattle.ts_survey.specs.LastNumbers.{pcr_told_last};
 ghost use Rattle.ts_survey.specs.Lines.{AddsWords};
 
 use crate::text::{CLOCK, Text, forward};
@@ -32,7 +36,9 @@ struct Numbers {
 
 impl Numbers {
     // None.
-    fn new() -> Numbers {
+    fn new() -> Numbers
+        ensures { result ≡ no_numbers }
+    {
         Numbers {
             kept: [0; KNOWN],
             count: 0,
@@ -41,12 +47,11 @@ impl Numbers {
     }
 
     // One more, in place of the oldest where there are as many as are kept.
-    fn add(&mut self, number: u64) {
-        let next = self.next;
-        if let Some(place) = self.kept.get_mut(next) {
-            *place = number;
-        }
-        self.next = (next % KNOWN + 1) % KNOWN;
+    fn add(&mut self, number: u64)
+        ensures { self.new ≡ number_kept self.old number }
+    {
+        put_at(&mut self.kept, self.next, number);
+        self.next = (self.next % KNOWN + 1) % KNOWN;
         if self.count < KNOWN {
             self.count += 1;
         }
@@ -59,6 +64,16 @@ impl Numbers {
         let mut sorted = self.kept;
         let (some, _) = sorted.split_at_mut(self.count.min(KNOWN));
         middle_of(some)
+    }
+}
+
+// Puts a number at a place, where there is that place.
+fn put_at(kept: &mut [u64; KNOWN], place: usize, number: u64)
+    ensures { kept.new
+        ≡ (if nat_lt place 100 then slice_set kept.old place number else kept.old) }
+{
+    if place < KNOWN {
+        kept[place] = number;
     }
 }
 
@@ -107,7 +122,9 @@ pub struct Clock {
 
 impl Clock {
     /// Of this PID, before the first.
-    pub fn new(pid: u16) -> Clock {
+    pub fn new(pid: u16) -> Clock
+        ensures { result ≡ first_clock pid }
+    {
         Clock {
             pid,
             last: None,
@@ -142,6 +159,10 @@ impl Clock {
         ensures last { self.new.last ≡ Some (pcr, number) }
         ensures announced { self.new.is_announced ≡ false }
         ensures pid { self.new.pid ≡ self.old.pid }
+        ensures told { self.new.told ≡ pcr_told_last self.old.told pcr }
+        ensures line { AddsWords text.old (pcr_if_due self.old pcr) text.new }
+        ensures keeps { KeepsIntervals self.old.last self.old.is_announced result pcr number
+            self.old self.new }
     {
         let is_due = match self.told {
             None => true,
@@ -163,6 +184,7 @@ impl Clock {
     // Compares a PCR with the one before.
     fn compare(&mut self, last: u64, at: u64, pcr: u64, number: u64) -> Option<Strange>
         ensures strange { IsCompared self.old.ticks self.old.packets last at pcr number result }
+        ensures keeps { KeepsCompared result last at pcr number self.old self.new }
         ensures same { self.new ≡ record self.old {
           ticks = self.new.ticks;
           packets = self.new.packets;
@@ -193,8 +215,12 @@ impl Clock {
 
     /// The last PCR, where one came lately: at most four times as many packets ago as there usually
     /// are between two, and at least 256.
-    pub fn near(&self, number: u64) -> Option<u64> {
-        let (pcr, at) = self.last?;
+    pub fn near(&self, number: u64) -> Option<u64>
+        ensures { IsNearPcr self.now number result }
+    {
+        let Some((pcr, at)) = self.last else {
+            return None;
+        };
         let room = self.packets.middle().max(64).saturating_mul(4);
         if number.saturating_sub(at) < room {
             Some(pcr)
