@@ -10,6 +10,7 @@ pub mod FollowingLemmas
 pub mod FormLemmas
 pub mod HeardLemmas
 pub mod InStepLemmas
+pub mod LastLemmas
 pub mod ListedLemmas
 pub mod NotesLemmas
 pub mod PacketSizeLemmas

@@ -1,8 +1,8 @@
 -- What a clock keeps of the PCR that came, and which one is near a packet (own;
 -- docs/manual/survey.md, clocks and pictures).
-use Rattle.std.specs.Prelude.{◌≡◌, ℕ, ◌+◌, ◌-◌, ◌*◌, ◌%◌, nat_le, nat_lt, min, max, Bool, false}
-use Rattle.std.specs.Prelude.{true, if◌then◌else◌, List, [], replicate, slice_set, Option, Some}
-use Rattle.std.specs.Prelude.{None}
+use Rattle.std.specs.Prelude.{◌≡◌, ◌<◌, ◌≤◌, ℕ, ◌+◌, ◌-◌, ◌*◌, ◌%◌, nat_le, nat_lt, min, max, Bool}
+use Rattle.std.specs.Prelude.{false, true, if◌then◌else◌, List, [], length, replicate, slice_index}
+use Rattle.std.specs.Prelude.{slice_set, Option, Some, None}
 use Rattle.ts_survey.specs.Endings.{pcr_line}
 use Rattle.ts_survey.specs.Holes.{IsMiddleOfLast}
 use Rattle.ts_survey.specs.Text.{forward_ticks}
@@ -19,6 +19,16 @@ number_kept n number = record {
   count = if nat_lt n.count 100 then n.count + 1 else n.count;
   next = (n.next % 100 + 1) % 100;
 }
+
+-- The last hundred of numbers that came are kept: number k of all, from 0 on, stands at place k
+-- modulo 100.
+pub record HoldsLast (came : List ℕ) (n : Numbers) : Type 0 where
+  pub room : length n.kept ≡ 100
+  pub count : n.count ≡ min (length came) 100
+  pub next : n.next ≡ length came % 100
+  pub each :
+      (k : ℕ) → k < length came → length came ≤ k + 100
+      → slice_index n.kept (k % 100) ≡ slice_index came k
 
 -- None.
 abbrev pub no_numbers : Numbers

@@ -1,13 +1,13 @@
 //! The clock of a programme: its PCR, and which of them are strange.
-ghost use Rattle.std.specs.Prelude.{◌≡◌, ◌||◌, Some, false, if◌then◌else◌, min, nat_lt, slice_set};
-ghost use Rattle.std.specs.Prelude.{take};
+ghost use Rattle.std.specs.Prelude.{◌≡◌, ◌||◌, ◌++◌, ◌∷◌, [], ℕ, List, Some, false, if◌then◌else◌};
+ghost use Rattle.std.specs.Prelude.{min, nat_lt, slice_set, take};
 ghost use Rattle.mpeg_ts.specs.TransportPacket.{announces_jump};
 ghost use Rattle.ts_survey.specs.Usual as specs;
 ghost use Rattle.ts_survey.specs.Usual.{IsMiddle};
 ghost use Rattle.ts_survey.specs.Endings.{clock_words, pcr_line};
 ghost use Rattle.ts_survey.specs.Holes.{IsCompared, IsStrange};
 ghost use Rattle.ts_survey.specs.Intervals.{IsUsual};
-ghost use Rattle.ts_survey.specs.LastNumbers.{IsNearPcr, KeepsCompared, KeepsIntervals};
+ghost use Rattle.ts_survey.specs.LastNumbers.{HoldsLast, IsNearPcr, KeepsCompared, KeepsIntervals};
 ghost use Rattle.ts_survey.specs.LastNumbers.{first_clock, no_numbers, number_kept, pcr_if_due};
 ghost use Rattle.ts_survey.specs.LastNumbers.{pcr_told_last};
 ghost use Rattle.ts_survey.specs.Lines.{AddsWords};
@@ -37,7 +37,8 @@ struct Numbers {
 impl Numbers {
     // None.
     fn new() -> Numbers
-        ensures { result ≡ no_numbers }
+        ensures value { result ≡ no_numbers }
+        ensures last { HoldsLast [] result }
     {
         Numbers {
             kept: [0; KNOWN],
@@ -47,8 +48,12 @@ impl Numbers {
     }
 
     // One more, in place of the oldest where there are as many as are kept.
+    #[tactic(auto, using(crate::proofs::LastLemmas::holds_next))]
     fn add(&mut self, number: u64)
-        ensures { self.new ≡ number_kept self.old number }
+        ensures value { self.new ≡ number_kept self.old number }
+        // The last hundred are kept.
+        ensures last { (came : List ℕ) → HoldsLast came self.old
+            → HoldsLast (came ++ number ∷ []) self.new }
     {
         put_at(&mut self.kept, self.next, number);
         self.next = (self.next % KNOWN + 1) % KNOWN;
