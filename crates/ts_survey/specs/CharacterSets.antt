@@ -43,8 +43,9 @@ digit_if_failed word bits digit = if count_ones (bit_and word bits) % 2 == 1 the
 -- is wrong, they tell its place, or 0 for bit 24.
 abbrev pub wrong_place : ℕ → ℕ
 wrong_place word =
-    digit_if_failed word 0x55_5555 1 + digit_if_failed word 0x66_6666 2 + digit_if_failed word 0x78_7878 4
-    + digit_if_failed word 0x00_7F80 8 + digit_if_failed word 0x7F_8000 16
+    digit_if_failed word 0x55_5555 1 + digit_if_failed word 0x66_6666 2
+    + digit_if_failed word 0x78_7878 4 + digit_if_failed word 0x00_7F80 8
+    + digit_if_failed word 0x7F_8000 16
 
 -- The word with the other bit at a place: 0 for none.
 abbrev pub turned : ℕ → ℕ → ℕ

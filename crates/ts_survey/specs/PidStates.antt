@@ -87,3 +87,8 @@ breaks_behind pid number p pids =
     if breaks_counter (known_of pids pid) p
     then breaks_with (break_of pid number (known_of pids pid)) pids
     else pids.breaks
+
+-- And the place of the oldest of them.
+abbrev pub oldest_behind : ℕ → List ℕ → Pids → ℕ
+oldest_behind pid p pids =
+    if breaks_counter (known_of pids pid) p then next_place pids.next else pids.next

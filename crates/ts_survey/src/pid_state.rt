@@ -196,6 +196,7 @@ impl Pids {
         ensures states { self.new.states.items ≡ slice_set self.old.states.items pid
             (known.known_behind number packet.now (known.known_of self.old pid)) }
         ensures breaks { self.new.breaks ≡ known.breaks_behind pid number packet.now self.old }
+        ensures next { self.new.next ≡ known.oldest_behind pid packet.now self.old }
         ensures known { result
             ≡ known.known_behind number packet.now (known.known_of self.old pid) }
     {
