@@ -39,6 +39,7 @@ mod tables;
 mod telling;
 mod text;
 mod units;
+mod video_steps;
 
 pub use laws::{law_of_following, law_of_two_calls};
 pub use pid_packets::{PidPackets, TakesPieces};

@@ -1,7 +1,7 @@
 //! All that is followed in a transport stream, one packet after another.
 ghost use Rattle.std.specs.List.{slice_get};
-ghost use Rattle.std.specs.Prelude.{◌≡◌, ◌≢◌, ◌<◌, ◌==◌, ◌&&◌, ◌||◌, ℕ, List, [], IfNone, IfSome};
-ghost use Rattle.std.specs.Prelude.{Some, false, length, map, not, true};
+ghost use Rattle.std.specs.Prelude.{◌≡◌, ◌≢◌, ◌<◌, ◌==◌, ◌&&◌, [], IfNone, IfSome, false};
+ghost use Rattle.std.specs.Prelude.{length, map, not, true};
 ghost use Rattle.ts_survey.specs.Asked.{KeepsAsked, is_asked, keeps_asked, others_followed};
 ghost use Rattle.ts_survey.specs.Asked.{pid_followed};
 ghost use Rattle.ts_survey.specs.Endings.{carrier_words, clock_words, end_words, pictures_words};
@@ -13,9 +13,7 @@ ghost use Rattle.ts_survey.specs.FirstLines.{asked_words, teletext_line};
 ghost use Rattle.ts_survey.specs.Lines.{AddsWords};
 ghost use Rattle.ts_survey.specs.Missing.{NoteHoles};
 ghost use Rattle.ts_survey.specs.Payload as specs;
-ghost use Rattle.ts_survey.specs.Endings.{is_group_over};
 ghost use Rattle.ts_survey.specs.Shown as shown;
-ghost use Rattle.ts_survey.specs.Steps.{HaveCome, came_with, step_line, told_to};
 
 use crate::adaptation::{payload_in, pcr_base};
 use crate::announcements::tell_pages;
@@ -28,6 +26,7 @@ use crate::section::{FIRST_PMT, Stream, pmt_pid_at, programme_of, stream_at};
 use crate::steps::Step;
 use crate::tables::{SECTION_ROOM, Section, Tables, parts_of};
 use crate::text::Text;
+use crate::video_steps::{note_step_of, take_pictures, tell_step, time_of};
 use mpeg_ts::{PACKET, announces_jump, begins, pid_of};
 use std::alloc::Global;
 use ttx_packet::PageId;
@@ -653,47 +652,6 @@ fn note_pcr_of(
     }
 }
 
-// The PID of pictures, and their last decoding time.
-fn time_of(video: &Pictures) -> Option<(u16, u64)>
-    ensures { result ≡ shown.time_of_pictures (Some video.now) }
-{
-    match video.last_time() {
-        Some(time) => Some((video.pid(), time)),
-        None => None,
-    }
-}
-
-// The pictures of a PID take a packet. The step of their decoding times, where it is to be told.
-fn take_pictures(
-    pictures: &mut Pictures,
-    kind: u8,
-    packet: &[u8; PACKET],
-    text: &mut Text,
-) -> Option<Step>
-    ensures told { (came : List ℕ) → HaveCome came pictures.old.steps
-        → result ≡ told_to (shown.time_begun packet.now) came }
-    ensures times { (came : List ℕ) → HaveCome came pictures.old.steps
-        → HaveCome (came_with (shown.time_begun packet.now) came) pictures.new.steps }
-    ensures pid { pictures.new.pid ≡ pictures.old.pid }
-    ensures over { is_group_over pictures.old.reach ≡ true
-        → (pictures.new ≡ record pictures.old { steps = pictures.new.steps })
-        × (text.new ≡ text.old) }
-{
-    pictures.take(packet, kind, text);
-    if !begins(packet) {
-        return None;
-    }
-    pictures.step(packet)
-}
-
-// A PID with Teletext tells how far its PES packets before a step are ahead.
-fn note_step_of(carrier: &mut Carrier, video: u16, text: &mut Text)
-    ensures state { carrier.new ≡ shown.carrier_after_step video carrier.old }
-    ensures told { AddsWords text.old (shown.carrier_at_step video carrier.old) text.new }
-{
-    carrier.note_step(video, text);
-}
-
 // Whether nothing is known of what a PID carries.
 fn is_unknown(state: &PidState) -> bool
     ensures { result ≡ ((state.now.carrier == 0xFF) && (state.now.table == 0xFF)
@@ -712,16 +670,4 @@ fn begins_teletext(payload: &[u8]) -> bool
     }
     let place = 9 + payload[8] as usize;
     payload[3] == 0xBD && place < payload.len() && payload[place] / 0x10 == 1
-}
-
-// Tells a step of the decoding times of a PID.
-fn tell_step(pid: u16, step: &Step, text: &mut Text)
-    ensures { AddsWords text.old (step_line pid step.now) text.new }
-{
-    text.put(b"step");
-    text.number(pid as u64);
-    text.number(step.before);
-    text.number(step.after);
-    text.number(step.usual);
-    text.put(b"\n");
 }

@@ -2,7 +2,7 @@
 use Rattle.std.proofs.Common.{◌∙◌, ap}
 use Rattle.ts_survey.specs.declared.aparts.Aparts.{Aparts}
 use Rattle.ts_survey.proofs.ShownLemmas.{step-taken}
-use Rattle.ts_survey.proofs.multiplex.note_step_of.Goals as goal
+use Rattle.ts_survey.proofs.video_steps.note_step_of.Goals as goal
 
 pub returns-clause-state : goal.returns-clause-state
 returns-clause-state c =

@@ -1,6 +1,6 @@
 -- Word by word: adds-word.
 use Rattle.ts_survey.proofs.TextLemmas.{adds-last, adds-word}
-use Rattle.ts_survey.proofs.multiplex.tell_step.Goals as goal
+use Rattle.ts_survey.proofs.video_steps.tell_step.Goals as goal
 
 pub returns : goal.returns
 returns c =
