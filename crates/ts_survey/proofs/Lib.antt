@@ -5,6 +5,7 @@ pub mod CarrierLemmas
 pub mod CountedLemmas
 pub mod CounterLemmas
 pub mod EndingsLemmas
+pub mod FilePieceLemmas
 pub mod FirstLinesLemmas
 pub mod FollowingLemmas
 pub mod FormLemmas

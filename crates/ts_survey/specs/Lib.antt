@@ -7,6 +7,7 @@ pub mod Clocks
 pub mod Counted
 pub mod Counters
 pub mod Endings
+pub mod FilePieces
 pub mod FirstLines
 pub mod Following
 pub mod FormWindow

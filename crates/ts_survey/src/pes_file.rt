@@ -1,5 +1,10 @@
 //! A file of PES packets.
-ghost use Rattle.std.specs.Prelude.{◌≡◌, ◌≤◌, ◌<◌, ◌+◌, ℕ, IfSome, length, true};
+ghost use Rattle.std.specs.Prelude.{◌≡◌, ◌≤◌, ◌<◌, ◌+◌, ◌==◌, ◌&&◌, not, IfNone, IfSome, false};
+ghost use Rattle.std.specs.Prelude.{if◌then◌else◌, length, true};
+ghost use Rattle.ttx_pes.specs.Reading as reading;
+ghost use Rattle.ttx_pes.specs.Reading.{stated_size};
+ghost use Rattle.ts_survey.specs.FilePieces as pieces;
+ghost use Rattle.ts_survey.specs.FilePieces.{ReadsPieces, TakesPiecesOf, file_damaged, has_piece};
 ghost use Rattle.ts_survey.specs.Lines.{AddsWords, run_words};
 ghost use Rattle.ts_survey.specs.Listed.{file_end, file_words};
 ghost use Rattle.ts_survey.specs.Room.{most_kept};
@@ -21,34 +26,40 @@ pub struct PesFile {
     is_damaged: bool,
 }
 
-// The PES packet at a place of bytes.
-#[derive(Clone, Copy)]
-enum Piece {
-    // So many bytes.
-    Whole(usize),
-    // Not all of it has come.
-    Unfinished,
-    // It has another start.
-    Other,
+// Whether six bytes or more begin with the start of a PES packet with private data.
+fn is_start(bytes: &[u8]) -> bool
+    requires { 6 ≤ length bytes.now }
+    ensures { result ≡ reading.is_start bytes.now }
+{
+    bytes[0] == 0 && bytes[1] == 0 && bytes[2] == 1 && bytes[3] == 0xBD
 }
 
-// The PES packet that the bytes begin with, by its length.
-fn piece_of(bytes: &[u8]) -> Piece
-    ensures whole { (size : ℕ) → result ≡ Piece.Whole size
-        → (6 ≤ size) × (size ≤ length bytes.now) }
-    ensures unfinished { result ≡ Piece.Unfinished → length bytes.now < most_kept }
+// Whether bytes begin with another start.
+fn has_other_start(bytes: &[u8]) -> bool
+    ensures { result ≡ pieces.has_other_start bytes.now }
+{
+    bytes.len() >= 6 && !is_start(bytes)
+}
+
+// The size of the whole PES packet that the bytes begin with, by its length.
+fn whole_size(bytes: &[u8]) -> Option<usize>
+    ensures some { IfSome result (λ size. (has_piece bytes.now ≡ true)
+        × (size ≡ stated_size bytes.now) × (6 ≤ size) × (size ≤ length bytes.now)) }
+    ensures none { IfNone result (has_piece bytes.now ≡ false) }
+    ensures unfinished { IfNone result (pieces.has_other_start bytes.now ≡ false
+        → length bytes.now < most_kept) }
 {
     if bytes.len() < 6 {
-        return Piece::Unfinished;
+        return None;
     }
-    if bytes[0] != 0 || bytes[1] != 0 || bytes[2] != 1 || bytes[3] != 0xBD {
-        return Piece::Other;
+    if !is_start(bytes) {
+        return None;
     }
-    let size = 6 + bytes[4] as usize * 0x100 + bytes[5] as usize;
+    let size = bytes[4] as usize * 0x100 + bytes[5] as usize + 6;
     if bytes.len() < size {
-        return Piece::Unfinished;
+        return None;
     }
-    Piece::Whole(size)
+    Some(size)
 }
 
 impl PesFile {
@@ -69,29 +80,50 @@ impl PesFile {
     pub fn take(&mut self, bytes: &[u8], is_end: bool, text: &mut Text) -> usize
         ensures within { result ≤ length bytes.now }
         ensures kept { length bytes.now ≤ result + most_kept }
+        // All that they have, unless it can't be read on.
+        ensures reads { self.old.is_damaged ≡ false
+            → ReadsPieces self.old bytes.now is_end result self.new }
     {
         if self.is_damaged {
             return bytes.len();
         }
-        let mut rest = bytes;
-        for _ in 0..bytes.len() {
-            match piece_of(rest) {
-                Piece::Whole(size) => {
-                    let (piece, more) = rest.split_at(size);
-                    self.take_piece(piece, text);
-                    rest = more;
-                }
-                Piece::Unfinished => break,
-                Piece::Other => {
-                    self.tell_damage(b" start\n", text);
-                    return bytes.len();
-                }
-            }
+        let rest = self.take_whole(bytes, text);
+        if has_other_start(rest) {
+            self.tell_damage(b" start\n", text);
+            return bytes.len();
         }
+        self.end_at(rest, is_end, text);
+        bytes.len() - rest.len()
+    }
+
+    // The file can't be read on where bytes are left at its end.
+    fn end_at(&mut self, rest: &[u8], is_end: bool, text: &mut Text)
+        ensures { self.new ≡ (if is_end && not (length rest.now == 0)
+            then file_damaged self.old else self.old) }
+    {
         if is_end && !rest.is_empty() {
             self.tell_damage(b" cut\n", text);
         }
-        bytes.len().saturating_sub(rest.len())
+    }
+
+    // Takes the whole PES packets that the bytes begin with, and answers what stands behind them.
+    fn take_whole<'a>(&mut self, bytes: &'a [u8], text: &mut Text) -> &'a [u8]
+        ensures taken { TakesPiecesOf self.old bytes.now result.now self.new }
+        ensures none { has_piece result.now ≡ false }
+        ensures unfinished { pieces.has_other_start result.now ≡ false
+            → length result.now < most_kept }
+        ensures within { length result.now ≤ length bytes.now }
+    {
+        let mut rest = bytes;
+        for _ in 0..bytes.len() {
+            let Some(size) = whole_size(rest) else {
+                break;
+            };
+            let (piece, more) = rest.split_at(size);
+            self.take_piece(piece, text);
+            rest = more;
+        }
+        rest
     }
 
     // A PES packet, or a mark.
