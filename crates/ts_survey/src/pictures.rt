@@ -1,6 +1,7 @@
 //! The pictures of a video PID: the first ones, from one that can be shown alone to the next such
 //! one, and the steps of all their decoding times.
-ghost use Rattle.std.specs.Prelude.{◌≡◌, ℕ, List, [], ◌++◌, Some, true};
+ghost use Rattle.std.specs.Prelude.{◌≡◌, ℕ, List, [], ◌++◌, Some, false, if◌then◌else◌, nat_lt};
+ghost use Rattle.std.specs.Prelude.{true};
 ghost use Rattle.ts_survey.specs.Adaptation.{behind_header, decoding_time, payload_in, pts_said};
 ghost use Rattle.ts_survey.specs.Endings.{group_line, pictures_line, pictures_words, reach_words};
 ghost use Rattle.ts_survey.specs.Endings.{is_group_over, steps_line, steps_words};
@@ -8,7 +9,10 @@ ghost use Rattle.ts_survey.specs.Forms as forms;
 // What the reader keeps, not the standard's.
 ghost use Rattle.ts_survey.specs.FormWindow.{HasRead};
 ghost use Rattle.ts_survey.specs.Groups as groups;
-ghost use Rattle.ts_survey.specs.Groups.{KeepsTimes, least_of, least_with, packet_counted};
+ghost use Rattle.ts_survey.specs.Groups.{BeginsGroup, BeginsPicture, FollowsPacket, GoesOnIn};
+ghost use Rattle.ts_survey.specs.Groups.{KeepsTimes, flagged_with, least_of, least_with};
+ghost use Rattle.ts_survey.specs.Groups.{packet_counted, picture_shown};
+ghost use Rattle.ts_survey.specs.Text.{forward_ticks};
 ghost use Rattle.ts_survey.specs.Steps.{HaveCome, came_with, told_to};
 ghost use Rattle.ts_survey.specs.Lines.{AddsWords};
 
@@ -103,6 +107,8 @@ impl Pictures {
         ensures over { is_group_over self.old.reach ≡ true
             → (self.new ≡ self.old) × (text.new ≡ text.old) }
         ensures times { KeepsTimes self.old self.new }
+        ensures follows { is_group_over self.old.reach ≡ false
+            → FollowsPacket packet.now self.old self.new }
     {
         match self.reach {
             Reach::Over => {}
@@ -126,23 +132,56 @@ impl Pictures {
     // A packet came that is of interest.
     fn follow(&mut self, packet: &[u8; PACKET], kind: u8, text: &mut Text)
         ensures times { KeepsTimes self.old self.new }
+        ensures follows { FollowsPacket packet.now self.old self.new }
     {
-        if begins_access(packet) && (begins(packet) || !has_payload(packet)) {
-            self.is_flagged = true;
+        self.note_flag(packet);
+        if has_payload(packet) && packet[1] < 0x80 {
+            self.count(packet);
+            self.go_on(packet, kind, text);
         }
-        if !has_payload(packet) || packet[1] >= 0x80 {
-            return;
-        }
-        self.count(packet);
-        if !begins(packet) {
+    }
+
+    // Whether the next picture can be shown alone.
+    fn note_flag(&mut self, packet: &[u8; PACKET])
+        ensures { self.new ≡ flagged_with packet.now self.old }
+    {
+        let is_flag = begins_access(packet) && (begins(packet) || !has_payload(packet));
+        self.is_flagged = self.is_flagged || is_flag;
+    }
+
+    // A packet goes on with a picture, or begins one.
+    fn go_on(&mut self, packet: &[u8; PACKET], kind: u8, text: &mut Text)
+        ensures times { KeepsTimes self.old self.new }
+        ensures goes_on { GoesOnIn packet.now self.old self.new }
+    {
+        if begins(packet) {
+            self.begin_picture(packet, kind, text);
+        } else {
             self.read_on(packet);
-            return;
         }
+    }
+
+    // A picture begins.
+    fn begin_picture(&mut self, packet: &[u8; PACKET], kind: u8, text: &mut Text)
+        ensures times { KeepsTimes self.old self.new }
+        ensures begins { BeginsPicture self.old.reach packet.now self.old self.new }
+    {
         match self.reach {
-            Reach::Before if !self.is_flagged => self.passed = self.passed.saturating_add(1),
-            Reach::Before => self.begin(packet, kind, text),
-            Reach::Within if self.is_flagged => self.close(text),
-            _ => self.show(packet, text),
+            Reach::Before => {
+                if self.is_flagged {
+                    self.begin(packet, kind, text);
+                } else {
+                    self.passed = self.passed.saturating_add(1);
+                }
+            }
+            Reach::Within => {
+                if self.is_flagged {
+                    self.close(text);
+                } else {
+                    self.show(packet, text);
+                }
+            }
+            Reach::Over => self.show(packet, text),
         }
     }
 
@@ -152,6 +191,7 @@ impl Pictures {
         ensures reads { self.old.is_first ≡ true → (kind : ℕ) (read : List ℕ)
             → HasRead kind read self.old.reader
             → HasRead kind (read ++ payload_in packet.now) self.new.reader }
+        ensures same { self.new ≡ record self.old { reader = self.new.reader } }
     {
         if self.is_first {
             self.reader.read(payload_in(packet));
@@ -165,6 +205,7 @@ impl Pictures {
             ≡ least_with self.old.first (pts_said (payload_in packet.now)) }
         ensures times { KeepsTimes self.old self.new }
         ensures reads { HasRead kind (behind_header (payload_in packet.now)) self.new.reader }
+        ensures begins { BeginsGroup packet.now self.old self.new }
     {
         let payload = payload_in(packet);
         text.put(b"video");
@@ -200,6 +241,7 @@ impl Pictures {
             ≡ least_with self.old.first (pts_said (payload_in packet.now)) }
         ensures flagged { self.new.flagged ≡ self.old.flagged }
         ensures times { KeepsTimes self.old self.new }
+        ensures state { self.new ≡ picture_shown packet.now self.old }
     {
         self.reach = Reach::Within;
         self.is_flagged = false;
@@ -219,6 +261,11 @@ impl Pictures {
         ensures first { self.new.first ≡ Some (least_of self.old.first now) }
         ensures flagged { self.new.flagged ≡ self.old.flagged }
         ensures times { KeepsTimes self.old self.new }
+        ensures state { self.new ≡ record self.old {
+          first = Some (least_of self.old.first now);
+          reach = if nat_lt 900000 (forward_ticks (least_of self.old.first now) now)
+              then Reach.Over else self.old.reach;
+        } }
     {
         let first = least_of(self.first, now);
         self.first = Some(first);
