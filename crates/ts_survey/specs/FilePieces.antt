@@ -35,7 +35,7 @@ file_damaged f = record f { is_damaged = true; lines = lines_flushed f.lines }
 
 -- All pieces that bytes have were taken, and so many bytes are not needed any more. The file can't
 -- be read on where another start is left, nor where bytes are left at its end.
-pub record ReadsPieces
+pub record ReadsFilePieces
     (old : PesFile) (bytes : List ℕ) (is_end : Bool) (used : ℕ) (new : PesFile) : Type 0 where
   pub left : List ℕ
   pub before : PesFile

@@ -160,7 +160,7 @@ given_ready c p = record (given_noted c p) {
 
 -- A packet of the PID was taken, and what it makes ready is given: nothing any more behind what is
 -- no PES packet.
-pub record TakesPacket (packet : List ℕ) (old new : Carrier) : Type 0 where
+pub record TakesTsPacket (packet : List ℕ) (old new : Carrier) : Type 0 where
   pub pid : new.pid ≡ old.pid
   pub packets : new.packets ≡ counted_on old.packets 1
   pub scrambled : new.scrambled ≡ counted_if (is_scrambled packet) old.scrambled

@@ -14,7 +14,7 @@ ghost use Rattle.ts_survey.specs.Missing.{ends_within_packet, lost_before, lost_
 ghost use Rattle.ts_survey.specs.Seams.{is_behind_seam};
 ghost use Rattle.ts_survey.specs.Adaptation.{is_scrambled};
 ghost use Rattle.ts_survey.specs.Groups.{counted_if};
-ghost use Rattle.ts_survey.specs.Taken.{TakesPacket, given_noted, is_due_beside};
+ghost use Rattle.ts_survey.specs.Taken.{TakesTsPacket, given_noted, is_due_beside};
 
 use crate::adaptation::{is_scrambled, pts_said};
 use crate::aparts::Aparts;
@@ -96,7 +96,7 @@ impl Carrier {
     /// A packet of the PID came. The PTS that begins in it, if one does.
     pub fn take(&mut self, packet: &[u8; PACKET], text: &mut Text) -> Option<u64>
         ensures pid { self.new.pid ≡ self.old.pid }
-        ensures takes { TakesPacket packet.now self.old self.new }
+        ensures takes { TakesTsPacket packet.now self.old self.new }
     {
         self.packets = self.packets.saturating_add(1);
         self.note_scrambled(packet);

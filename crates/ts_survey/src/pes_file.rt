@@ -4,7 +4,8 @@ ghost use Rattle.std.specs.Prelude.{if◌then◌else◌, length, true};
 ghost use Rattle.ttx_pes.specs.Reading as reading;
 ghost use Rattle.ttx_pes.specs.Reading.{stated_size};
 ghost use Rattle.ts_survey.specs.FilePieces as pieces;
-ghost use Rattle.ts_survey.specs.FilePieces.{ReadsPieces, TakesPiecesOf, file_damaged, has_piece};
+ghost use Rattle.ts_survey.specs.FilePieces.{ReadsFilePieces, TakesPiecesOf, file_damaged};
+ghost use Rattle.ts_survey.specs.FilePieces.{has_piece};
 ghost use Rattle.ts_survey.specs.Lines.{AddsWords, run_words};
 ghost use Rattle.ts_survey.specs.Listed.{file_end, file_words};
 ghost use Rattle.ts_survey.specs.Room.{most_kept};
@@ -82,7 +83,7 @@ impl PesFile {
         ensures kept { length bytes.now ≤ result + most_kept }
         // All that they have, unless it can't be read on.
         ensures reads { self.old.is_damaged ≡ false
-            → ReadsPieces self.old bytes.now is_end result self.new }
+            → ReadsFilePieces self.old bytes.now is_end result self.new }
     {
         if self.is_damaged {
             return bytes.len();
