@@ -15,7 +15,7 @@ from subtitles.cli import single
 from subtitles.cli.channel import records, results
 from subtitles.cli.channel.channel import BEFORE_IT
 from subtitles.cli.channel.records import Due, Judged, Read, Records, Tries
-from subtitles.cli.channel.results import PASSING
+from subtitles.cli.channel.results import PASSING, SLOWEST
 from subtitles.cli.channel.spool import Journal, claim, path_of
 from subtitles.common.files import Inputs
 from subtitles.common.times import CLOCK, TICKS
@@ -110,14 +110,13 @@ class Again(Programmes):
 
         def judged(asked: object, call: single.PairCall, called: str) -> SimpleNamespace:
             put_object(os.path.join(call.here or "", "one.json"), result("accepted"))
-            does()
-            return SimpleNamespace(status=0, is_final=True)
+            return SimpleNamespace(status=0, is_final=does() is None)
 
         def failing(error: BaseException) -> Callable[[], None]:
             return mock.Mock(side_effect=error)
 
         rows: list[tuple[Callable[[], object], int, float, bool, str]] = [
-            (lambda: None, 0, SECONDS, True, ""),
+            (lambda: None, 0, SECONDS, True, ""), (lambda: "the machine's", 0, SECONDS, False, ""),
             (lambda: os.kill(os.getpid(), signal.SIGKILL), 0, SECONDS, False,
              "did not end by itself"),
             (failing(OSError(28, "No space")), 0, SECONDS, False, "No space"),
@@ -131,6 +130,10 @@ class Again(Programmes):
                 found = results.Results.judged(channel.results, record, due)
             self.must(why, (found.known is not None) == is_known and why in found.reason and
                       found.is_late == (seconds < 1), found)
+        due = due._replace(parts=[Read(1, 3 * SLOWEST), Read(2, SLOWEST)])
+        with mock.patch.object(results, "called", return_value=(2, [])) as called:
+            results.Results.judged(channel.results, record, due)
+        self.must("a second more for each so many bytes", called.call_args[0][1] == 64)
 
     def test_segments_that_are_needed(self) -> None:
         """From the first on of all that are due, and were over since a time. Where they go it is

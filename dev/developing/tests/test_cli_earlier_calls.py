@@ -6,6 +6,7 @@ import collections
 import contextlib
 import dataclasses
 import io
+import itertools
 import json
 import os
 from typing import Any, Callable, Iterator
@@ -226,8 +227,15 @@ class Watched(Case):
     def words(self, **more: Any) -> argparse.Namespace:
         words = argparse.Namespace(**vars(defaults()))
         vars(words).update({"watch": self.path("in"), "out": self.path("out"), "settled": 0,
-                            "is_kept": False, "jobs": None, "limit": None, **more})
+                            "is_kept": True, "jobs": 3, "limit": 7, "every": 99,
+                            **more})
         return words
+
+    def write_pair(self) -> None:
+        """The folder that is watched, with one pair."""
+        os.mkdir(self.path("in"))
+        for name in ("in/a.stl", "in/a.ts"):
+            self.write(name, b"1")
 
     def test_folders(self) -> None:
         """Both are there, and two; that for objects is made."""
@@ -236,24 +244,30 @@ class Watched(Case):
         os.mkdir(self.path("in"))
         refuse_folders(self.words())
         self.must("made", os.path.isdir(self.path("out")))
-        self.assertRaises(Stop, refuse_folders, self.words(out=self.path("in")))
+        os.symlink("in", self.path("link"))
+        for name in ("in", "link"):
+            self.assertRaises(Stop, refuse_folders, self.words(out=self.path(name)))
+        for name in ("out/index.html", "out/.lock"):
+            self.assertRaises(Stop, refuse_folders, self.words(name=self.write(name, b"theirs")))
+            os.unlink(self.path(name))
 
     def test_whole(self) -> None:
         """A pair is due once when its files have stayed for so long; what changes meanwhile, or
         afterwards, begins anew; who says that both are whole waits for nothing."""
         os.mkdir(self.path("in"))
         watching = Watch(self.path("in"), 5)
-        for at, size, is_due in ((0, 1, False), (4, 1, False), (5, 1, True), (9, 1, False),
-                                 (10, 2, False), (14, 3, False), (18, 3, False), (19, 3, True),
-                                 (20, 3, False), (30, 1, False), (35, 1, True)):
+        for at, size, is_due in ((0, 1, False), (5, 1, False), (6, 1, True), (9, 1, False),
+                                 (10, 2, False), (14, 3, False), (19, 3, False), (20, 3, True),
+                                 (21, 3, False), (30, 1, False), (36, 1, True)):
             paths = [self.write(f"in/a.{ending}", b"x" * size) for ending in ("stl", "ts")]
             for path in paths:
                 os.utime(path, (size, size))
-            due = watching.due([Item("a", asked_for(*paths), None)], lambda: float(at))
+            times = itertools.count(float(at))  # each look takes a second
+            due = watching.due([Item("a", asked_for(*paths), None)], lambda: next(times))
             self.must(f"{at}", bool(due) == is_due, due)
         self.write("in/a.done", b"")
         paths = [self.write(f"in/a.{ending}", b"other") for ending in ("stl", "ts")]
-        self.must("said", watching.due([Item("a", asked_for(*paths), None)], lambda: 36.0))
+        self.must("said", watching.due([Item("a", asked_for(*paths), None)], lambda: 37.0))
 
     def test_verdicts(self) -> None:
         """A line for each, and the page over all, also of what an earlier call left."""
@@ -286,6 +300,8 @@ class Watched(Case):
             change(count)
 
         def judge(calls: Calls, waiting: collections.deque[Item], jobs: int) -> Iterator[Row]:
+            self.must("its words", (calls.is_kept, calls.limit, jobs) == (True, 7, 3) and
+                      calls.inputs.names and waiting[0].asked.every == 99)  # type: ignore
             while waiting:
                 yield judged(calls, waiting.popleft())
 
@@ -303,7 +319,8 @@ class Watched(Case):
             os.mkdir(self.path(name))
         program = about_program(self.bench.program)
         for name in ("a", "b", "c"):
-            asked = asked_for(self.write(f"in/{name}.stl", b"1"), self.write(f"in/{name}.ts", b"1"))
+            asked = asked_for(self.write(f"in/{name}.stl", b"1"), self.write(f"in/{name}.ts", b"1"),
+                              "--every", "99")
             have = result(asked=ASKED.made(asked), found=found(asked), program=program._asdict())
             change: dict[str, Any] = {"found": {**found(asked), "stl": None}} if name == "b" else {}
             self.write(f"out/{name}.json", json.dumps({**have, **change}).encode())
@@ -321,9 +338,7 @@ class Watched(Case):
 
     def test_pair_in_use(self) -> None:
         """One whose files another call was writing is told once, and judged again at each look."""
-        os.mkdir(self.path("in"))
-        for name in ("in/a.stl", "in/a.ts"):
-            self.write(name, b"1")
+        self.write_pair()
         begun = list[str]()
 
         def judged(calls: Calls, item: Item) -> Row:
@@ -340,10 +355,7 @@ class Watched(Case):
 
     def test_pair_that_was_in_use(self) -> None:
         """Once the other call has ended it is judged, and no more as long as it stays as it is."""
-        os.mkdir(self.path("in"))
-        for name in ("in/a.stl", "in/a.ts"):
-            self.write(name, b"1")
-
+        self.write_pair()
         begun = list[bool]()
 
         def judged(calls: Calls, item: Item) -> Row:
@@ -361,9 +373,7 @@ class Watched(Case):
     def test_what_changes(self) -> None:
         """A pair is judged once as it is, and again when it has changed; what comes meanwhile is
         judged at the next look."""
-        os.mkdir(self.path("in"))
-        for name in ("in/a.stl", "in/a.ts"):
-            self.write(name, b"1")
+        self.write_pair()
 
         def change(look: int) -> None:
             if look in (2, 5):

@@ -16,14 +16,13 @@ from unittest import mock
 from subtitles.cli import batch
 from subtitles.cli.batch import Calls, Forked, all_rows, ended_of, kept_rows, signals_held
 from subtitles.cli.collection import progress_line
-from subtitles.cli.main import parser_of
 from subtitles.cli.single import PairCall
 from subtitles.common import files
 from subtitles.common.command_line import Stop
 from subtitles.common.program import about_program
 from subtitles.request.commands import CommandWords
 from subtitles.request.lines import Item, at_line, inputs_of, no_file, pairs_at
-from subtitles.request.request import Request, request_of
+from subtitles.request.request import Request
 from subtitles.results.files import Row, found, object_at, put_object, unjudged
 from subtitles.results.schema import ASKED
 from .bench import Case, SECONDS
@@ -139,28 +138,29 @@ class Batches(Case):
 
     seen: Any = None  # how the judging was called
 
-    def batch(self, judged: str, *, is_stopped: bool = False, **more: Any) \
+    def batch(self, judged: str, *, is_stopped: bool = False,
+              unwritten: dict[str, dict[str, Any]] = {}, **more: Any) \
             -> tuple[int, list[str], list[str]]:
         """The status, the lines of the table, and what is told, where the pairs of a list have
-        these verdicts by and by."""
+        these verdicts by and by, some of which stand in no file."""
         words = argparse.Namespace(**{**vars(defaults()), "batch": self.write("list", "".join(
             f"{self.path(name)}.stl {self.path('one.ts')}\n" for name in ("one", "two", "three")
         ).encode()), "out": None, "program": self.bench.program, "is_kept": False, "jobs": None,
-            "limit": None, "is_resumed": False, "line": None, "json": None, "csv": None,
+            "limit": 7, "is_resumed": False, "line": None, "json": None, "csv": None,
             "junit": None, **more})
 
         def all_rows(calls: Calls, items: list[Item], kept: dict[str, Row], jobs: int) \
                 -> dict[str, Row]:
             self.seen = calls, [item.name for item in items], kept, jobs
             self.must("folders", os.path.isdir(words.out or calls.folder) and
-                      (calls.out, calls.is_kept) == (words.out, words.is_kept))
+                      (calls.out, calls.is_kept, calls.limit) == (words.out, words.is_kept, 7))
             rows = {}
             for item, verdict in reversed(list(zip(items, judged.split(", ")))):
                 with open(calls.path(item), "w", encoding="ascii") as file:
                     json.dump(result(verdict, **{
                         "reason" if verdict == "not judged" else "lead": item.name}), file)
                 rows[item.name] = row(item.name, verdict, item.name)
-            calls.is_stopped = is_stopped
+            calls.is_stopped, calls.unwritten = is_stopped, unwritten
             return rows
 
         out, told = io.StringIO(), io.StringIO()
@@ -189,6 +189,10 @@ class Batches(Case):
                 self.must("objects", (names, have["status"]) == (
                     ["one", "two", "three"], status))
                 self.must("the folder went", not os.path.exists(self.seen[0].folder))
+        self.batch("accepted, accepted, accepted", json=self.path("all"),
+                   unwritten={"two": unjudged("two", "in use")})
+        self.must("in no file", [one["verdict"] for one in json.loads(self.read("all"))["pairs"]]
+                  == ["accepted", "not judged", "accepted"])
         for out, more in ((None, ""), (self.path("out"), "; --resume judges the others")):
             stopped = self.batch("accepted, accepted", is_stopped=True, out=out)
             self.must("stopped", (stopped[0], len(stopped[1]), [line.partition(": ")[2] for line in
@@ -220,7 +224,7 @@ class Batches(Case):
 # A call that writes the object of its pair, with the verdict that its subtitle file names, and ends
 # with its status.
 CALL = """#!/bin/sh
-words="$*" out= object= files="$(readlink /proc/$$/fd/0) $(readlink /proc/$$/fd/1)"
+words="$*" out= object=
 while [ $# -gt 0 ]; do
     case $1 in
         --name=*) name=${1#*=} ;; --json) object=$2 ;; -o) out=$2 ;; --) stl=$2 ;;
@@ -237,13 +241,10 @@ case $kind in
 esac
 case $kind in other | changes) kind=accepted ends=9 ;; *) ends=$status ;; esac
 echo "qc: one" >&2; echo "qc: told last" >&2
-session=$(cut -d ' ' -f 6 /proc/$$/stat)
-[ "$kind" = silent ] ||
-    sed "s|WORDS|$words|; s|OWN|$((session == $$))|; s|FILES|$files|" "${0%/*}/$kind" \
-        >"${object:-$out/$name.json}"
+[ "$kind" = silent ] || sed "s|WORDS|$words|" "${0%/*}/$kind" >"${object:-$out/$name.json}"
 exit $ends
 """
-TOLD = ["WORDS", "OWN", "FILES"]  # in whose place the call has how it was called
+TOLD = ["WORDS"]  # in whose place the call has how it was called
 
 
 class Judged(Case):
@@ -290,21 +291,11 @@ class Judged(Case):
             self.must("row", self.judged(calls, item).name == "pair" and calls.path(item) == path)
             have = object_at(path)
             kept = f"-o {out}{' --keep' * is_kept}" if out else f"--json {path}"
-            called, own, files = have["notes"] if have else TOLD
+            [called] = have["notes"] if have else TOLD
             self.must("words", called.startswith(
                 f"--name=pair --claimed {kept} -p {self.typed.program_path} --every 50 ") and
                 called.endswith(f" -- {self.path('one.stl')} {self.path('one.ts')}")
-                and own == "1" and files.split() == [os.devnull, os.devnull]
                 and not calls.running, have)
-
-    def test_all_words(self) -> None:
-        """What is asked of a pair is asked of its call, also where it is 0."""
-        for words in ("", "--origin 0 --pid 0", "--start tcp", "--origin 5 --pid 257 --within 3",
-                      "--strict --allow-lost --no-complete --severity file --breaks 2 --pes 3-9",
-                      "--page 1A0 --every 7 --option german"):
-            asked = asked_for("a.stl", "a.ts", *words.split())
-            again = request_of(parser_of("").parse_args(call_words(asked)))
-            self.must(words, again == asked, again)
 
     def test_one(self) -> None:
         """The row by its object; where that is another call's, or files changed, none, and nothing
@@ -326,7 +317,7 @@ class Judged(Case):
         none = self.judged(calls, Item("two", None, "no pair"))
         self.must("no pair", (none.name, none.verdict, none.line) == (
             "two", "not judged", "no pair") and object_at(self.path("out/two.json")) == unjudged(
-                "two", "no pair"))
+                "two", "no pair") and {*os.listdir(self.path("out"))} == {"one.json", "two.json"})
         with mock.patch("os.fork", side_effect=BlockingIOError(11, "Try again")):
             gone = self.judged(calls, self.item("accepted"))
         self.must("no call", gone.line == "no process was begun: Try again", gone)
@@ -361,13 +352,17 @@ class Judged(Case):
 
     def test_one_that_dies(self) -> None:
         """It costs its own pair alone, however it ends; what it told last is its reason."""
-        def written() -> None:
-            put_object(self.path("out/dies.json"), result("accepted"))
+        def killed() -> None:
             os.kill(os.getpid(), signal.SIGKILL)
 
+        def written(end: Callable[[], object]) -> None:
+            put_object(self.path("out/dies.json"), result("accepted"))
+            end()
+
         kinds: list[tuple[str, Callable[[], object], str]] = [
-            ("killed behind its result", written, "it did not end by itself"),
-            ("killed", lambda: os.kill(os.getpid(), signal.SIGKILL), "it did not end by itself"),
+            ("killed behind its result", lambda: written(killed), "it did not end by itself"),
+            ("an error behind it", lambda: written(lambda: 1 // 0), "it did not end by itself"),
+            ("killed", killed, "it did not end by itself"),
             ("an error", lambda: 1 // 0, "it did not end by itself"),
             ("no memory", lambda: os.abort(), "it did not end by itself"),
             ("no words", lambda: qc(["--none"]), "--none"),
@@ -449,7 +444,7 @@ class Judged(Case):
     def test_stopped_when_others_are_over(self) -> None:
         """What was judged by then counts, though nobody had looked at it yet."""
         calls = Calls(self.typed, self.path("temporary"), self.path("out"), False)
-        items = [self.item("accepted", f"name{at}") for at in range(3)]
+        items, taken = [self.item("accepted", f"name{at}") for at in range(3)], list[Row]()
 
         def are_over() -> bool:
             running = calls.running  # none, where all ended before the first look
@@ -462,8 +457,9 @@ class Judged(Case):
 
         with mock.patch("subtitles.request.commands.Progress.show", stopped), \
                 mock.patch.object(batch, "ignore_signals"):
-            rows = all_rows(calls, items, {}, 3)
-        self.must("all", sorted(rows) == ["name0", "name1", "name2"], rows)
+            rows = all_rows(calls, items, {}, 3, taken.append)
+        self.must("all", sorted(rows) == sorted(one.name for one in taken) == [
+            "name0", "name1", "name2"], rows)
 
     def test_kept(self) -> None:
         """What an earlier call has judged as it would be judged now; not what it did not judge, and

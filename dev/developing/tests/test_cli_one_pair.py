@@ -7,12 +7,14 @@ import json
 import os
 import re
 from typing import Any, Sequence
+from unittest import mock
 
-from subtitles.cli import collection
+from subtitles.cli import collection, single
 from subtitles.cli.single import (
-    Files, KEPT_SECONDS, Output, PairCall, clear, end_pair, now, pair_title, refuse_outputs,
-    say_verdict)
+    Files, KEPT_SECONDS, Output, PairCall, clear, end_pair, judge_pair, now, pair_title,
+    refuse_outputs, say_verdict)
 from subtitles.clock.start import Clock, FITTED, Found, GIVEN, RECORDING
+from subtitles.common.command_line import Stop, Unanswered
 from subtitles.common.markup import HEAD
 from subtitles.judging.check import Answer
 from subtitles.judging.part import Explanation, Part
@@ -21,7 +23,7 @@ from subtitles.judging.verdict import Gap, Unjudged, Verdict
 from subtitles.recording.notices import Notice
 from subtitles.report import page as report_page
 from subtitles.request.commands import CommandWords, Names
-from subtitles.request.request import Request
+from subtitles.request.request import Request, Unclear, Unsaid
 from subtitles.results.files import Row, found
 from subtitles.stream.gaps import Place
 from .bench import Case, example
@@ -308,21 +310,41 @@ class Writes(Case):
                   pair_title(asked_for("a.stl", "b.ts")) == "a.stl b.ts")
 
     def test_end_that_fails(self) -> None:
-        """Where the verdict can't be said it is not judged, in the object too."""
-        class Failing(Heard):
-            """Says nothing."""
+        """Where the verdict can't be said, or a signal comes meanwhile, it is not judged, in the
+        object too; nor where a signal comes while files are written."""
+        for reason in (OSError(28, "No space left on device"), KeyboardInterrupt()):
+            verdict, heard = self.verdict(), Heard()
+            files = self.files(verdict, json=self.path("one.json"))
+            files.write()
+            self.must("before", json.loads(self.read("one.json"))["status"] == 1)
+            with contextlib.redirect_stderr(io.StringIO()), mock.patch.object(
+                    single, "ignore_signals"), mock.patch.object(single, "silence"), \
+                    mock.patch.object(heard, "say", side_effect=[reason, *[None] * 9]):
+                end_pair(verdict, heard, files)
+            self.must(f"{reason!r}", json.loads(self.read("one.json"))["status"] == 2 and
+                      verdict.status == 2, verdict.failed)
+        pair = mock.Mock(verdict=self.verdict())
+        with mock.patch.object(single, "ignore_signals"), mock.patch.object(
+                files, "write", side_effect=[KeyboardInterrupt(), None]) as written:
+            judge_pair(pair, files)
+        self.must("written again", pair.verdict.status == 2 and written.call_count == 2)
 
-            def say(self, line: str) -> None:
-                raise OSError(28, "No space left on device")
-
-        verdict = self.verdict()
-        files = self.files(verdict, json=self.path("one.json"))
-        files.write()
-        self.must("before", json.loads(self.read("one.json"))["status"] == 1)
-        with contextlib.redirect_stderr(io.StringIO()), contextlib.redirect_stdout(io.StringIO()):
-            end_pair(verdict, Failing(), files)
-        self.must("after", json.loads(self.read("one.json"))["status"] == 2 and
-                  verdict.status == 2, verdict.failed)
+    def test_what_ends_judging(self) -> None:
+        """It is not judged then; whether it would be so another time, too."""
+        rows: list[tuple[BaseException | None, bool]] = [
+            (None, True), (Unclear("a", "b"), True), (Unsaid("a"), False), (Stop("a"), True),
+            (Unanswered("a"), False), (OSError(5, "a"), False), (MemoryError(), False),
+            (ValueError("a"), True), (KeyboardInterrupt(), False)]
+        for reason, is_final in rows:
+            verdict = self.verdict()
+            pair = mock.Mock(verdict=verdict, **{"judge.side_effect": reason})
+            with mock.patch.object(single, "ignore_signals"):
+                judge_pair(pair, mock.Mock())
+            is_stopped = isinstance(reason, KeyboardInterrupt)
+            self.must(f"{reason!r}", (verdict.is_final, verdict.is_stopped, verdict.status) ==
+                      (is_final, is_stopped, 1 if reason is None else 2), verdict.unjudged)
+        verdict.unjudged, verdict.failed = None, ["an output"]
+        self.must("an output", not verdict.is_final)
 
 
 class Overview(Case):

@@ -135,20 +135,20 @@ class Statuses(Case):
 
     ROW = Row("one", "one.stl", "accepted", 0, "accepted", 0, {}, [], 0.0, "")
 
-    def end(self, outputs: dict[str, str], is_stopped: bool = False) -> int:
+    def end(self, outputs: dict[str, str], *more: Any) -> int:
         """The status where some outputs are asked for."""
         self.write("one.json", b'{"format": 3, "verdict": "accepted", "status": 0, "line": "a"}')
         words = argparse.Namespace(csv=None, junit=None, json=None)
         vars(words).update(outputs)
         with contextlib.redirect_stdout(io.StringIO()), contextlib.redirect_stderr(io.StringIO()):
-            return collection.write_collection(words, [self.ROW], [self.path("one.json")],
-                                               is_stopped)
+            return collection.write_collection(words, [self.ROW], [self.path("one.json")], *more)
 
     def test_outputs_that_fail(self) -> None:
         """Each of the three, whether others are written or not."""
         nowhere = self.path("nowhere/at/all")
         self.must("none", self.end({}) == 0)
         self.must("stopped", self.end({}, True) == 2)
+        self.must("the page", self.end({}, False, nowhere) == 2)
         for name in ("csv", "junit", "json"):
             for others in ((), ("csv", "junit", "json")):
                 outputs = {one: self.path(f"out.{one}") for one in others if one != name}
