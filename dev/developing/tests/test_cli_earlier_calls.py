@@ -87,6 +87,8 @@ class EarlierCalls(Case):
         self.must("the prover's line is no matter",
                   is_current(known, asked, PROGRAM._replace(proved="logic=proved")))
         self.must("none", not is_current(unjudged("one", "why"), asked, PROGRAM))
+        sums = {about_program(self.write("program", data)).sha256 for data in (b"one", b"two")}
+        self.must("written anew", len(sums) == 2)
 
     def test_object_of_files_that_changed(self) -> None:
         """Of the first file, the second and the third: another size, another time, and none."""

@@ -2,6 +2,8 @@
 from __future__ import annotations
 
 import contextlib
+import errno
+import fcntl
 import io
 import json
 import os
@@ -11,8 +13,8 @@ from unittest import mock
 
 from subtitles.cli import collection, single
 from subtitles.cli.single import (
-    Files, KEPT_SECONDS, Output, PairCall, clear, end_pair, judge_pair, now, pair_title,
-    refuse_outputs, say_verdict)
+    Files, InUse, KEPT_SECONDS, Output, PairCall, claimed, clear, end_pair, judge_pair, now,
+    pair_title, refuse_outputs, say_verdict)
 from subtitles.clock.start import Clock, FITTED, Found, GIVEN, RECORDING
 from subtitles.common.command_line import Stop, Unanswered
 from subtitles.common.markup import HEAD
@@ -230,6 +232,33 @@ class Writes(Case):
                                (KEPT_SECONDS * 10**9, False), (-1, False)):
             os.utime(kept, ns=(at - before, at - before))
             self.must(f"{before} ns before a result", bool(self.refused(asked, out=out)) != is_own)
+
+    def test_locks(self) -> None:
+        """A link in the place of one goes; one that another call took away just then is none; where
+        there are no locks, none is waited for. Nothing stays open, and no file."""
+        path, kept, calls = self.path("out/.one.lock"), self.write("kept", b"1"), list[int]()
+
+        def taken(handle: int, _: int) -> None:
+            calls.append(handle)
+            if len(calls) == 1:
+                os.unlink(path)
+
+        rows: list[tuple[object, int]] = [
+            (fcntl.flock, 1), (taken, 2), (OSError(errno.ENOLCK, "none"), 1)]
+        for does, count in rows:
+            os.symlink(kept, path)
+            before = os.listdir("/proc/self/fd")
+            with mock.patch("fcntl.flock", side_effect=does) as locked, \
+                    claimed(self.path("out"), "one"):
+                self.must(f"{does}", locked.call_count == count and os.path.isfile(path) and
+                          not os.path.islink(path), calls)
+            self.must("left", (os.listdir("/proc/self/fd"), os.listdir(self.path("out")),
+                               self.read("kept")) == (before, [], b"1"))
+        with claimed(self.path("out"), "one"):
+            before = os.listdir("/proc/self/fd")
+            for _ in range(2):
+                self.assertRaises(InUse, claimed(self.path("out"), "one").__enter__)
+            self.must("in use", os.listdir("/proc/self/fd") == before and os.path.exists(path))
 
     def test_sums(self) -> None:
         """They are needed for a folder, an object and lines of CSV, not for a CI."""

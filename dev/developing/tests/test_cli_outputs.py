@@ -153,13 +153,10 @@ class Statuses(Case):
             for others in ((), ("csv", "junit", "json")):
                 outputs = {one: self.path(f"out.{one}") for one in others if one != name}
                 self.must(f"{name} {others}", self.end({**outputs, name: nowhere}) == 2)
+            if name != "json":
+                self.must("its object", json.loads(self.read("out.json"))["status"] == 2)
         written = {one: self.path(f"good.{one}") for one in ("csv", "junit", "json")}
         self.must("all written", self.end(written) == 0)
-
-    def test_object_after_the_others(self) -> None:
-        """It has the status that says that another output failed."""
-        self.end({"csv": self.path("nowhere/at/all"), "json": self.path("all.json")})
-        self.must("2", json.loads(self.read("all.json"))["status"] == 2)
 
 
 class Members(unittest.TestCase):

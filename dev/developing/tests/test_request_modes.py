@@ -103,14 +103,15 @@ class Modes(Case):
                 ("--no-complete --complete", COLLECT, "--complete goes with"),
                 ("--jobs 2 --settled 3", BATCH,
                  "--settled goes with --watch, and not with --batch"),
-                ("--resume --patience 5 --breaks 1", CHANNEL, "--breaks goes with")):
+                ("--resume --patience 5 --breaks 1", CHANNEL, "--breaks goes with"),
+                # Also where the value is the one that is taken without.
+                ("--pes=1-2", CHANNEL, "--pes goes with"),
+                ("--breaks 0", CHANNEL, "--breaks goes with"),
+                ("--breaks=0", CHANNEL, "--breaks goes with"),
+                ("--start tcp", CHANNEL, "--start goes with")):
             with self.assertRaises(Stop) as refused:
                 refuse_options(parser_of(""), [*CALLS[mode], *words.split()], mode)
             self.must(words, str(refused.exception).startswith(said), refused.exception)
-        for words in ("--batch a --collect b", "--watch a --channel b -", "--channel a",
-                      "--channel a b c", "--batch a b.stl"):
-            with self.assertRaises(Stop):
-                mode_of(parser_of("").parse_args(words.split()))
 
     def test_what_is_called(self) -> None:
         """Each call by its own function, with what is taken where nothing is said, and 0 as it is.
@@ -158,15 +159,6 @@ class Modes(Case):
                      ["--channel", "a"], ["--channel", "a", "b", "c"], ["--batch", "a", "b.stl"]):
             with self.assertRaises(Stop):
                 mode_of(parser_of("").parse_args(line))
-
-    def test_values_that_are_those_left_out(self) -> None:
-        """An option counts as given also where its value is the one that is taken without."""
-        for words in (["--pes=1-2"], ["--breaks", "0"], ["--start", "tcp"], ["--breaks=0"]):
-            line = [*CALLS[CHANNEL], *words]
-            with self.assertRaises(Stop) as raised:
-                refuse_options(parser_of(""), line, CHANNEL)
-            self.must(words[0], words[0].partition("=")[0] in str(raised.exception),
-                      raised.exception)
 
     def test_ends_a_call(self) -> None:
         """Nothing is done: one line, and status 2."""

@@ -18,7 +18,7 @@ from subtitles.common.command_line import Stop
 from subtitles.common.program import MadeWith, TOP, read
 from subtitles.common.shapes import Integer, Listed
 from subtitles.formats.listing import SILENT, UNDECIDED
-from subtitles.judging.verdict import Unjudged
+from subtitles.judging.verdict import Unjudged, Verdict
 from subtitles.request.commands import CommandWords
 from subtitles.request.lines import Item
 from subtitles.results import files
@@ -146,9 +146,11 @@ class Written(Case):
         found.verdict.unjudged = Unjudged("why")
         known = json.loads("".join(object_of(found.verdict, program)))
         self.must("not judged", known["verdict"] == "not judged" and misfit(known) is None)
-        for name, value in (("seconds", -1.0), ("date", "today")):
-            vars(found.verdict)[name] = value
-            with self.assertRaises(ValueError):
+        with mock.patch.object(Verdict, "status", 0), self.assertRaises(ValueError):
+            list(object_of(found.verdict, program))
+        for name, value in (("notes", [5]), ("seconds", -1.0), ("date", "today")):
+            with mock.patch.dict(vars(found.verdict), {name: value}), \
+                    self.assertRaises(ValueError):
                 list(object_of(found.verdict, program))
 
     def test_random_calls(self) -> None:
