@@ -122,6 +122,7 @@ class Told(Channel):
         super().open()
         ended = self.queue.ended and self.queue.ended - self.back
         known = Begin(ended, (BEGIN + ended) % CLOCK, True) if ended else None
+        self.known = self.hearing.known
         self.hearing = Pages("none", self.words.pid, known, lambda: ())
         self.segments.between = lambda *times: [Read(1, 0)]  # type: ignore[assignment]
         self.segments.known = -2

@@ -10,9 +10,12 @@ from unittest import mock
 from subtitles.cli.channel.channel import BEFORE_IT
 from subtitles.cli.channel.feed import MINUTE
 from subtitles.cli.channel.hearing import Move
-from subtitles.cli.channel.spool import ERROR
+from subtitles.cli.channel.recorder import Begin
+from subtitles.cli.channel.spool import ERROR, path_of
+from subtitles.cli.channel.results import UNREADABLE
 from subtitles.cli.channel.schedule import AT_ONCE, LATER
 from subtitles.clock.start import FITTED_SHORT
+from subtitles.common.command_line import Unanswered
 from subtitles.common.times import CLOCK, TICKS
 from .listings import BEGIN, LAST, Judging, Lines, Pages, Programmes, Told, texts_of
 from .results import FAULT, result
@@ -166,7 +169,8 @@ class Steps(Programmes):
         for back in (0, 60, 600):
             over = channel.queue.ended
             channel = Told(self, self.listed("one", "two"), out, spool=spool, back=back * SECOND)
-            self.must(f"{back}: since", channel.queue.since == over, channel.queue.since)
+            self.must(f"{back}: since", channel.queue.since == over and channel.known == Begin(
+                over, None, False), channel.queue.since)
             lines = Lines()
             channel.give(lines.pes(BEGIN + over + SECOND * at) for at in range(-back, 91, 30))
             self.must(f"{back}: waits", "not judged" not in channel.results.verdicts, channel.said)
@@ -260,6 +264,23 @@ class Steps(Programmes):
                       (BEGIN + 60 * SECOND - TICKS * FIRST) % CLOCK, channel.said)
             self.must("time", channel.queue.ended == 60 * SECOND + TICKS * LAST)
 
+    def test_program_that_dies(self) -> None:
+        """What is kept is heard once more, after a while that grows, until it has died five times
+        where nothing new came; each time that is said."""
+        for places, waits in ((range(1), [1, 2, 4, 8]), (range(2), [1, 1, 2, 4, 8])):
+            channel, at = Told(self, self.listed("one")), [*places, *[places[-1]] * 9]
+
+            def follow(_: object) -> None:
+                channel.segments.at = at.pop(0)
+                raise Unanswered("it was killed")
+
+            with mock.patch.object(channel, "follow", follow), mock.patch("time.sleep") as slept:
+                why = channel.hear(channel.folder)
+            self.must(f"{places}", [call[0][0] for call in slept.call_args_list] == waits and (
+                why, channel.machine.state) == ("it was killed", UNREADABLE) and channel.said == [
+                    "it was killed: what is kept is heard once more"] * len(waits) + [
+                    "the feed can't be read any further: it was killed"], channel.said)
+
     def test_heard_once_more(self) -> None:
         """What an earlier call has judged is of no other programme, though something is lost before
         it, or an encoder begins anew there: that is heard once more, too."""
@@ -314,9 +335,12 @@ class Steps(Programmes):
                  "the feed ended at 11:06:49:00, in mid-programme")):
             channel = Told(self, self.listed("one"), self.path("out"))
             channel.give([*Lines().sent(texts_of("one"), BEGIN, 20)][first:last])
+            channel.segments.at = 1
+            kept = self.write(path_of(channel.folder, 1), b"1")
             channel.stop(BEFORE_IT)
             self.must(why, not Judging.made and channel.said == [f"one  not judged: {why}"],
                       channel.said)
+            self.must("the feed stays for the next call", os.path.exists(kept) == is_open)
             known = json.loads(self.read("out/one.json"))
             self.must("open", known.get("open", False) == is_open, known)
             os.unlink(self.path("out/one.json"))
@@ -348,9 +372,9 @@ class Steps(Programmes):
         before the last one was over, with a margin."""
         channel = Told(self, self.listed("one", "two"), patience=60)
         channel.give([*Lines().sent(texts_of("one"), BEGIN)][:14])
-        floors = list[int]()
-        channel.segments.drop = (  # type: ignore[assignment]
-            lambda floor, needed=None: floors.append(floor))
+        floors = list[object]()
+        channel.results.needed = lambda since: since  # type: ignore[assignment]
+        channel.segments.drop = lambda *words: floors.append(words)  # type: ignore[assignment]
         assert channel.running
         for is_sent, later, ended, floor in (
                 (True, 0, 0, -2), (True, 9, 0, -2), (False, 30, 0, -12), (False, 50, 40, 28),
@@ -360,7 +384,8 @@ class Steps(Programmes):
             channel.hearing.by_page[0, 0x88].clock.now = MINUTE * later
             channel.queue.ended, channel.next_write = MINUTE * ended, 0.0
             channel.keep()
-            self.must(f"{later} {ended}", floors.pop() == MINUTE * floor, floors)
+            self.must(f"{later} {ended}", floors.pop() == (
+                MINUTE * floor, MINUTE * (later - 60)), floors)
 
     def test_progress(self) -> None:
         """What is sent or waited for, and the time of the feed."""

@@ -105,11 +105,11 @@ class Machine(Programmes):
             f"nobody records into {channel.folder}", "one: No space left"], told)
 
     def test_end_of_a_loss(self) -> None:
-        """It stands until something of the feed comes behind it."""
+        """It stands until something of the feed comes behind it; what came last is read, too."""
         channel = Told(self, self.listed("one"))
         channel.hearing = mock.MagicMock(**{"has_ended.return_value": False,
                                             "begin.return_value": None, "now": 0})
-        stands, parts = list[bool](), iter([b"", None, b"more", b""])
+        stands, parts = list[bool](), iter([b"", None, b"", b"more", b""])
 
         def read() -> bytes | None:
             stands.append(channel.loss is not None)
@@ -119,7 +119,7 @@ class Machine(Programmes):
         with mock.patch.object(channel.segments, "read", read), \
                 mock.patch.multiple(channel, take=mock.DEFAULT, keep=mock.DEFAULT):
             channel.follow(recording)
-        self.must("stands", stands == [False, False, True, False], stands)
+        self.must("stands", stands == [False, False, True, True, False], stands)
 
     def test_when(self) -> None:
         """When something changes, and every ten seconds; where it can't be written nothing else
