@@ -124,8 +124,13 @@ class Told(Channel):
         known = Begin(ended, (BEGIN + ended) % CLOCK, True) if ended else None
         self.known = self.hearing.known
         self.hearing = Pages("none", self.words.pid, known, lambda: ())
-        self.segments.between = lambda *times: [Read(1, 0)]  # type: ignore[assignment]
+        self.segments.between = self.between  # type: ignore[assignment]
         self.segments.known = -2
+
+    def between(self, *times: int) -> list[Read]:
+        """Keeps which times of the feed are asked for."""
+        self.times = times
+        return [Read(1, 0)]
 
     def judge_beside(self, record: Outcome, due: Due) -> Judged:
         """Stands for another process that judges."""

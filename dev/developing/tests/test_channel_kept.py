@@ -4,16 +4,16 @@ from __future__ import annotations
 import contextlib
 import errno
 import os
-from typing import Iterator, Tuple
+from typing import Any, Iterator, Tuple
 from unittest import mock
 
 from developing.pes import MARK, pes_packet
 from subtitles.cli.batch import beside
-from subtitles.cli.channel import recorder
+from subtitles.cli.channel import recorder, spool
 from subtitles.cli.channel.recorder import (
     AHEAD, Begin, LEAST, MANY, NotWanted, PART, Recorder, Segments)
 from subtitles.cli.channel.spool import (
-    ERROR, Exchange, FILE, HEARD, Journal, RESTARTS, numbers_in, path_of)
+    ERROR, Exchange, FILE, HEARD, Journal, KeptRoom, RESTARTS, numbers_in, path_of)
 from subtitles.common.command_line import Stop
 from subtitles.common.files import Input
 from .bench import Case
@@ -187,6 +187,20 @@ class Read(Folders):
                 self.path("index.damaged")) and "is damaged: it is index.damaged now" in
                 one.said[0], one.said)
             os.unlink(self.path("index.damaged"))
+
+    def test_room(self) -> None:
+        """It is given away where the disk is full: what was to be written is, then."""
+        room = KeptRoom(self.new("one"))
+        for code, is_kept, count in ((errno.ENOSPC, True, 2), (errno.ENOSPC, False, 1),
+                                     (errno.EDQUOT, True, 2), (errno.EIO, True, 1)):
+            does = mock.Mock(side_effect=[OSError(code, "x"), None])
+            with mock.patch.object(spool, "ROOM", 4096):
+                room.keep() if is_kept else room.give()
+            fails: Any = contextlib.nullcontext() if count == 2 else self.assertRaises(OSError)
+            with fails:
+                room.put(does)
+            self.must(f"{code} {is_kept}", does.call_count == count and
+                      room.is_there() == room.give() == (code == errno.EIO))
 
     def test_state(self) -> None:
         """Numbers, at once; of a file that is gone none."""

@@ -55,6 +55,8 @@ class Steps(Programmes):
                           os.path.exists(self.path("out/index.html")) == (out is not None))
                 self.must("waits since then", channel.queue.since == channel.queue.ended ==
                           TICKS * LAST, channel.queue.since)
+                self.must("of the feed", channel.times == (
+                    -TICKS * 300, -2 * MINUTE, TICKS * (LAST + 250) + LATER), channel.times)
                 for name in os.listdir(out) if out else ():
                     os.unlink(os.path.join(out or "", name))
 
@@ -73,6 +75,7 @@ class Steps(Programmes):
         for ticks, is_judged in ((LATER - SECOND, False), (LATER + SECOND, True)):
             channel.give([lines.pes(BEGIN + TICKS * LAST + ticks, "")])
             self.must(f"{ticks}", bool(Judging.made) == is_judged)
+        self.must("of the feed", channel.times[1] == -TICKS * 9000, channel.times)
 
     def test_several(self) -> None:
         """The second and the third, each by its own clock; what stands before one that is sent was
@@ -178,14 +181,18 @@ class Steps(Programmes):
         self.must("two", self.names() == ["two"], channel.said)
 
     def test_page_that_moved(self) -> None:
-        """What begins behind the move lies on one PID; what it lies within, on two."""
+        """What begins behind the move lies on one PID; what it lies within, on two, which is said
+        where that is not judged."""
         for before, pid in ((121, OTHER), (60, OTHER), (1, OTHER), (0, None), (-2, None)):
             channel, lines = Told(self, self.listed("one")), Lines(OTHER)
             told = [*lines.sent(texts_of("one"), BEGIN, 20)]
             channel.give(told[:8])
             channel.hearing.by_page[0, 0x88].moves.append(Move(-before * SECOND, "it"))
-            channel.give(told[8:])
-            self.must(f"{before}", [one.words.pid for one in Judging.made] == [pid], channel.said)
+            with mock.patch.multiple(Judging, ended=2, left=result("not judged", reason="why")):
+                channel.give(told[8:])
+            moved = f"it at 11:06:4{-before}:00: " if pid is None else ""
+            self.must(f"{before}", [one.words.pid for one in Judging.made] == [pid] and
+                      channel.said == [f"one  not judged: {moved}why"], channel.said)
 
     def test_origin_that_is_given(self) -> None:
         """It is begun with its first TCI, and is not said to be fitted."""
