@@ -2,6 +2,7 @@
 from __future__ import annotations
 
 import argparse
+import contextlib
 import dataclasses
 import os
 import shutil
@@ -107,7 +108,9 @@ class Told(Channel):
         words = argparse.Namespace(**{
             **vars(defaults(*more)), "channel": case.write("list", lines.encode()), "name": None,
             "patience": patience, "out": out, "is_kept": is_kept, "stall": 10, "stl": "-",
-            "program": case.bench.program, "on_result": command, "on_alarm": alarm, "json": None})
+            "program": case.path("program"), "on_result": command, "on_alarm": alarm, "json": None})
+        with contextlib.suppress(FileExistsError):
+            os.symlink(case.bench.program, case.path("program"))
         Judging.made = []
         self.said: list[str] = []
         self.feed, self.back = Lines(), back
@@ -122,7 +125,7 @@ class Told(Channel):
         super().open()
         ended = self.queue.ended and self.queue.ended - self.back
         known = Begin(ended, (BEGIN + ended) % CLOCK, True) if ended else None
-        self.known = self.hearing.known
+        self.own = self.hearing
         self.hearing = Pages("none", self.words.pid, known, lambda: ())
         self.segments.between = self.between  # type: ignore[assignment]
         self.segments.known = -2

@@ -46,6 +46,8 @@ class Steps(Programmes):
                     "one", "-", (begin - TICKS * FIRST) % CLOCK, 0x101) and
                     words.is_fitted and words.given and words.is_kept == is_kept and
                     words.stl == self.files["one"] and words.out == out and
+                    words.program == channel.own.program == self.path("program") and
+                    channel.own.pid == 0x101 and
                     (words.here is None) == (out is None) == (words.json is not None), words)
                 self.must("said", channel.said == [f"one  accepted 5 frames; {FITTED_SHORT}"],
                           channel.said)
@@ -172,8 +174,8 @@ class Steps(Programmes):
         for back in (0, 60, 600):
             over = channel.queue.ended
             channel = Told(self, self.listed("one", "two"), out, spool=spool, back=back * SECOND)
-            self.must(f"{back}: since", channel.queue.since == over and channel.known == Begin(
-                over, None, False), channel.queue.since)
+            self.must(f"{back}: since", channel.queue.since == over and channel.own.known ==
+                      Begin(over, None, False), channel.queue.since)
             lines = Lines()
             channel.give(lines.pes(BEGIN + over + SECOND * at) for at in range(-back, 91, 30))
             self.must(f"{back}: waits", "not judged" not in channel.results.verdicts, channel.said)

@@ -302,15 +302,17 @@ class Watched(Case):
             change(count)
 
         def judge(calls: Calls, waiting: collections.deque[Item], jobs: int) -> Iterator[Row]:
-            self.must("its words", (calls.is_kept, calls.limit, jobs) == (True, 7, 3) and
-                      calls.inputs.names and waiting[0].asked.every == 99)  # type: ignore
+            self.must("its words", (calls.typed.program_path, calls.is_kept, calls.limit, jobs) ==
+                      (self.path("program"), True, 7, 3) and calls.inputs.names and
+                      waiting[0].asked.every == 99)  # type: ignore[union-attr]
             while waiting:
                 yield judged(calls, waiting.popleft())
 
         with mock.patch("signal.signal"), mock.patch("time.sleep", next_look), \
                 mock.patch.object(batch, "judged_next", judge), \
                 contextlib.redirect_stdout(io.StringIO()) as out:
-            status = batch.watch(self.words(program=self.bench.program), "tools/qc")
+            os.symlink(self.bench.program, self.path("program"))
+            status = batch.watch(self.words(program=self.path("program")), "tools/qc")
         self.must("its status", status == 2, status)
         return [line[21:] for line in out.getvalue().splitlines()]
 

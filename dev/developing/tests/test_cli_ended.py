@@ -3,6 +3,7 @@ from __future__ import annotations
 
 import contextlib
 import csv
+import io
 import itertools
 import json
 import os
@@ -14,6 +15,7 @@ import xml.etree.ElementTree as tree
 from typing import Any, NamedTuple
 from unittest import mock
 
+from subtitles.cli import single
 from subtitles.cli.main import main
 from subtitles.cli.single import SIGNALS
 from subtitles.common.command_line import Stop, run
@@ -21,6 +23,7 @@ from subtitles.common.program import TOP
 from subtitles.formats.stl import stl_bytes
 from .bench import Case, example, tool_path
 from .judged import FEW
+from .parts import asked_for
 
 QC = tool_path("qc")
 HELLO = [example("hello.stl"), example("hello.pes")]
@@ -173,6 +176,22 @@ class Programs(Story):
         self.assertEqual((self.object()["verdict"], self.object()["asked"]["strict"]),
                          ("warned", True))
         self.assertEqual(self.judge(program, "--strict").status, 0)
+        self.assertEqual(self.judge(program, "--quiet").printed, self.judge(program).printed[-2:])
+
+    def test_of_a_channel(self) -> None:
+        """A clock that the caller has found is a fitted one; the feed is in a file that is given,
+        and what is written stands for a while in another folder, under the caller's name."""
+        os.mkdir(self.path("here"))
+        asked = asked_for(HELLO[0], "-", "--origin", "0", "--strict")
+        for is_fitted, verdict in ((False, "accepted"), (True, "warned")):
+            with mock.patch.object(single, "ignore_signals"), \
+                    contextlib.redirect_stdout(io.StringIO()), \
+                    contextlib.redirect_stderr(io.StringIO()):
+                found = single.judged(asked, single.PairCall(
+                    self.saying(ACCEPTED), self.path("out"), name="own", here=self.path("here"),
+                    is_claimed=True, is_fitted=is_fitted, given=HELLO[1]), QC)
+            self.assertEqual((found.word, sorted(os.listdir(self.path("here"))), os.path.exists(
+                self.path("out"))), (verdict, ["own.html", "own.json", "own.txt"], False))
 
 
 class Words(Story):

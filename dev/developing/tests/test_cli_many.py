@@ -145,7 +145,7 @@ class Batches(Case):
         these verdicts by and by, some of which stand in no file."""
         words = argparse.Namespace(**{**vars(defaults()), "batch": self.write("list", "".join(
             f"{self.path(name)}.stl {self.path('one.ts')}\n" for name in ("one", "two", "three")
-        ).encode()), "out": None, "program": self.bench.program, "is_kept": False, "jobs": None,
+        ).encode()), "out": None, "program": self.path("program"), "is_kept": False, "jobs": None,
             "limit": 7, "is_resumed": False, "line": None, "json": None, "csv": None,
             "junit": None, **more})
 
@@ -153,7 +153,8 @@ class Batches(Case):
                 -> dict[str, Row]:
             self.seen = calls, [item.name for item in items], kept, jobs
             self.must("folders", os.path.isdir(words.out or calls.folder) and
-                      (calls.out, calls.is_kept, calls.limit) == (words.out, words.is_kept, 7))
+                      (calls.typed.program_path, calls.out, calls.is_kept, calls.limit) ==
+                      (self.path("program"), words.out, words.is_kept, 7))
             rows = {}
             for item, verdict in reversed(list(zip(items, judged.split(", ")))):
                 with open(calls.path(item), "w", encoding="ascii") as file:
@@ -173,6 +174,7 @@ class Batches(Case):
         super().setUp()
         for name in ("one.stl", "two.stl", "three.stl", "one.ts"):
             self.write(name, b"")
+        os.symlink(self.bench.program, self.path("program"))
 
     def test_status(self) -> None:
         """The worst of all, in the order of the list; 2 where a signal left some."""
