@@ -67,6 +67,9 @@ class Blocks(unittest.TestCase):
                 self.assertEqual([(one.number, one.text) for one in found], wanted, row)
                 self.assertEqual(told, words if words and "no last" not in words or not rest else
                                  f"block {len(row) + 1} is cut")
+        [one] = stl.subtitles_in(gsi_block(b"", 0, 0) + b"".join(
+            tti_block(1, at, at + 2, 20 + at, at, b"x", ebn) for at, ebn in ((0, 0), (1, last))))
+        self.assertEqual((stl.subtitle_times(one), one.row, one.justify), ((0, 2), 20, 0))
         group = gsi_block(b"", 0, 0) + self.block(1, 0) + self.block(1, last, group=1)
         self.assertTrue(refused(lambda: list(stl.subtitles_in(group)), Damaged))
 
