@@ -18,7 +18,7 @@ from unittest import mock
 from subtitles.cli import single
 from subtitles.cli.main import main
 from subtitles.cli.single import SIGNALS
-from subtitles.common.command_line import Stop, run
+from subtitles.common.command_line import run
 from subtitles.common.program import TOP
 from subtitles.formats.stl import stl_bytes
 from .bench import Case, example, tool_path
@@ -29,7 +29,6 @@ QC = tool_path("qc")
 HELLO = [example("hello.stl"), example("hello.pes")]
 ACCEPTED = "accepted 51 frames 2 transmissions"
 CONTROL = "refused 67 Control frame 10:00:00:00 packet 0"
-FULL = "/dev/full"
 # A program that knows the subtitle file of the example; what it says of the recording is told it.
 PROGRAM = r"""#!/bin/sh
 case "$*" in
@@ -67,13 +66,13 @@ class Story(Case):
         return self.write_program("program", PROGRAM.replace("{said}", said).replace("{program}",
                                                                                self.bench.program))
 
-    def qc(self, *words: str, out: str = "out.txt") -> Ended:
+    def qc(self, *words: str) -> Ended:
         """Calls qc; what it prints goes into a file."""
         before = os.getcwd()
         heard = [(one, signal.getsignal(one)) for one in SIGNALS]
         os.chdir(self.folder)
         try:
-            with open(out, "w", encoding="utf-8") as printed, \
+            with open("out.txt", "w", encoding="utf-8") as printed, \
                     open("told.txt", "w", encoding="utf-8") as told, \
                     mock.patch.multiple(sys, stdout=printed, stderr=told, argv=[QC, *words]):
                 try:
@@ -82,9 +81,7 @@ class Story(Case):
                     status = int(ended.code or 0)
                 except Exception as reason:
                     raise AssertionError(f"it ended by {reason!r}") from reason
-                with contextlib.suppress(OSError):  # of a disk that is full
-                    printed.close()
-            lines = [] if out == FULL else self.text(out).splitlines()
+            lines = self.text("out.txt").splitlines()
             said = self.text("told.txt").splitlines()
             return Ended(status, lines, [line for line in said if not line.endswith(FEW)])
         finally:
@@ -252,42 +249,6 @@ class Words(Story):
         self.assertEqual(kept, self.read("in/one.json"))
 
 
-class Outputs(Story):
-    """Files that can't be written: what stands in the others, and the status."""
-
-    def test_each_output(self) -> None:
-        """One that fails, and the others tell it."""
-        if not os.path.exists(FULL):
-            self.skipTest(f"there is no {FULL}")
-        program = self.saying(ACCEPTED)
-        for failing in ("--json", "--csv", "--junit"):
-            with self.subTest(failing):
-                others = {option: f"one.{option.strip('-')}" for option in
-                          ("--json", "--csv", "--junit") if option != failing}
-                words = [word for pair in others.items() for word in pair]
-                done = self.judge(program, failing, FULL, *words)
-                self.assertEqual((done.status, len(done.told)), (2, 1), done)
-                if "--json" in others:
-                    known = self.object()
-                    self.assertEqual((known["verdict"], known["status"], known["line"]),
-                                     ("not judged", 2, None))
-                    self.assertIn(FULL, known["reason"])
-                if "--csv" in others:
-                    rows = list(csv.DictReader(self.text("one.csv").splitlines()))
-                    self.assertEqual([row["verdict"] for row in rows], ["not judged"])
-                if "--junit" in others:
-                    suite = tree.fromstring(self.read("one.junit"))
-                    self.assertEqual(suite.get("errors"), "1")
-
-    def test_standard_output(self) -> None:
-        """A disk that is full under what is said."""
-        if not os.path.exists(FULL):
-            self.skipTest(f"there is no {FULL}")
-        done = self.qc(*HELLO, "--origin", "0", "-p", self.saying(ACCEPTED), "--json", "one.json",
-                       out=FULL)
-        self.assertEqual((done.status, self.object()["status"]), (2, 2), done)
-
-
 class Mistakes(Story):
     """Mistakes of the tools themselves."""
 
@@ -305,22 +266,12 @@ class Mistakes(Story):
         self.assertIn(str(error).strip("'"), known["reason"])
 
     def test_each_step(self) -> None:
-        """An error of any kind in the first step."""
-        for error in (ValueError("odd"), KeyError("none"), RecursionError(), MemoryError(),
-                      AssertionError("never"), IndexError("far"), OSError("read"), Stop("stopped")):
-            with self.subTest(error=error):
-                self.failing("judging.pair.Pair.judge", error)
-        for place in ("judging.pair.check_alone", "judging.timing.find",
+        """An error in a step, before these, while words are read, and while a file is made."""
+        for place in ("judging.pair.Pair.judge", "judging.pair.check_alone", "judging.timing.find",
                       "judging.pair.Explainer.explained", "judging.part.Part.is_read",
-                      "judging.check.Answer.take"):
-            with self.subTest(place):
-                self.failing(place, ValueError("odd"))
-
-    def test_what_is_outside_of_the_steps(self) -> None:
-        """An error before judging, while words are read, and while a file is made."""
-        for place in ("cli.main.parser_of", "cli.single.request_of", "cli.single.CommandWords",
-                      "cli.single.found", "results.files.listed", "results.files.fitting",
-                      "cli.single.about_program"):
+                      "judging.check.Answer.take", "cli.main.parser_of", "cli.single.request_of",
+                      "cli.single.CommandWords", "cli.single.found", "results.files.listed",
+                      "results.files.fitting", "cli.single.about_program"):
             with self.subTest(place):
                 self.failing(place, ValueError("odd"))
 

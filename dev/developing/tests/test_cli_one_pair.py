@@ -5,6 +5,7 @@ import contextlib
 import errno
 import fcntl
 import io
+import itertools
 import json
 import os
 import re
@@ -288,8 +289,8 @@ class Writes(Case):
 
     def test_failed(self) -> None:
         """What could not be written stands in what was written before, and after."""
-        nowhere = self.path("no/where")
-        for name in ("csv", "junit", "json"):
+        for name, nowhere in itertools.product(("csv", "junit", "json"), (
+                self.path("no/where"), *["/dev/full"] * os.path.exists("/dev/full"))):
             outputs = {one: self.path(f"{name}.{one}") for one in ("csv", "junit", "json")}
             outputs[name] = nowhere
             files = self.files(self.verdict(), **outputs, out=self.path("out"))
@@ -363,7 +364,7 @@ class Writes(Case):
         rows: list[tuple[BaseException | None, bool]] = [
             (None, True), (Unclear("a", "b"), True), (Unsaid("a"), False), (Stop("a"), True),
             (Unanswered("a"), False), (OSError(5, "a"), False), (MemoryError(), False),
-            (ValueError("a"), True), (KeyboardInterrupt(), False)]
+            (KeyError("a"), True), (RecursionError(), True), (KeyboardInterrupt(), False)]
         for reason, is_final in rows:
             verdict = self.verdict()
             pair = mock.Mock(verdict=verdict, **{"judge.side_effect": reason})
