@@ -253,6 +253,8 @@ class Words(Case):
                 12: ("Three", "third", "mend it, twice")})
         with mock.patch.object(listing, "CHAPTER", self.path("none")):
             self.assertEqual(listing.meanings(), {})
+        self.assertTrue({50, 72} <= {*listing.meanings()} and all(map(all, listing.meanings(
+            ).values())))
 
     def test_outputs(self) -> None:
         """What is written takes a name whole or not at all, and never that of an input."""
