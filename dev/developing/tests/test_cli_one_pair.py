@@ -179,10 +179,11 @@ class Writes(Case):
 
     def test_before(self) -> None:
         """What an earlier call left goes; an input is never written, by whatever name."""
-        for name in ("one.json", "one.html", "one.txt", "one.1.html", "two.json"):
+        others = {"two.json", "one~2.json", "onex.1.txt", "one.0.txt", "one.1.json", "one.x.txt"}
+        for name in ("one.json", "one.html", "one.txt", "one.1.html", "one.12.txt", *others):
             self.write(f"out/{name}", b"")
         clear(self.path("out"), "one")
-        self.must("left", sorted(os.listdir(self.path("out"))) == ["two.json"])
+        self.must("left", {*os.listdir(self.path("out"))} == others)
         os.symlink(example("story.stl"), self.path("link"))
         asked = self.verdict().request
         for name in ("json", "csv", "junit"):
