@@ -138,9 +138,8 @@ class Batches(Case):
 
     seen: Any = None  # how the judging was called
 
-    def batch(self, judged: str, *, is_stopped: bool = False,
-              unwritten: dict[str, dict[str, Any]] = {}, **more: Any) \
-            -> tuple[int, list[str], list[str]]:
+    def batch(self, judged: str, *, is_stopped: bool = False, unwritten: dict[str, Any] = {},
+              **more: Any) -> tuple[int, list[str], list[str]]:
         """The status, the lines of the table, and what is told, where the pairs of a list have
         these verdicts by and by, some of which stand in no file."""
         words = argparse.Namespace(**{**vars(defaults()), "batch": self.write("list", "".join(
@@ -236,7 +235,7 @@ done
 kind=$(cat "$stl")
 [ "$kind" = waits ] && exec sleep SECONDS
 [ "$kind" = busy ] && while :; do :; done
-[ "$kind" = deaf ] && { trap '' TERM; sh -c 'while :; do :; done'; }
+[ "$kind" = deaf ] && { trap '' TERM; sh -c 'echo $$ >"$0"; while :; do :; done' "${0%/*}/its"; }
 [ "$kind" = changes ] && echo more >>"$stl"
 case $kind in
     accepted | changes | other | silent) status=0 ;; refused) status=1 ;; *) status=2 ;;
@@ -246,7 +245,6 @@ echo "qc: one" >&2; echo "qc: told last" >&2
 [ "$kind" = silent ] || sed "s|WORDS|$words|" "${0%/*}/$kind" >"${object:-$out/$name.json}"
 exit $ends
 """
-TOLD = ["WORDS"]  # in whose place the call has how it was called
 
 
 class Judged(Case):
@@ -256,7 +254,7 @@ class Judged(Case):
         super().setUp()
         path = self.write_program("call", CALL.replace("SECONDS", f"{SECONDS}"))
         for verdict in ("accepted", "refused", "not judged"):
-            self.write(verdict, json.dumps(result(verdict, notes=TOLD)).encode())
+            self.write(verdict, json.dumps(result(verdict, notes=["WORDS"])).encode())
         self.typed = CommandWords("tools/qc", self.bench.program)
 
         def execute(asked: Request, call: PairCall) -> int:
@@ -293,7 +291,7 @@ class Judged(Case):
             self.must("row", self.judged(calls, item).name == "pair" and calls.path(item) == path)
             have = object_at(path)
             kept = f"-o {out}{' --keep' * is_kept}" if out else f"--json {path}"
-            [called] = have["notes"] if have else TOLD
+            [called] = have["notes"] if have else [""]
             self.must("words", called.startswith(
                 f"--name=pair --claimed {kept} -p {self.typed.program_path} --every 50 ") and
                 called.endswith(f" -- {self.path('one.stl')} {self.path('one.ts')}")
@@ -342,6 +340,8 @@ class Judged(Case):
                 and rows["one"].verdict == "accepted" and not calls.over, rows)
             have = object_at(calls.path(self.item(kind, "long")))
             self.must("its object", have is not None and have["reason"] == rows["long"].line, have)
+        self.must("all is gone", until(
+            lambda: not os.path.exists(f"/proc/{int(self.read('its'))}/fd/0")))
 
     def test_limits(self) -> None:
         """By the sizes of the files, where none is given."""
