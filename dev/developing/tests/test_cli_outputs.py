@@ -25,10 +25,10 @@ from subtitles.judging.verdict import Gap
 from subtitles.results.files import (
     Row, TestCase, cell_words, column_rows, junit_file as junit_of, modified, part_columns, said,
     table_lines as csv_of, unjudged)
-from subtitles.results.schema import ASKED, GAP, JUDGED_PART, PartOf
+from subtitles.results.schema import GAP, JUDGED_PART, PartOf
 from subtitles.stream.gaps import Place
 from .bench import Case
-from .parts import asked_for, part_with
+from .parts import part_with
 from .results import ASKED as PLAIN, FAULT, result
 
 NO_CELL = {"code": "00", "character": ""}
@@ -181,23 +181,6 @@ class Members(unittest.TestCase):
                     "after": "00:00:01:00", "before": None, "after_pts": 5, "before_pts": 9,
                     "pes": 7, "ts_packets": 3, "scrambled": 2, "missing": 4,
                     "judged": is_judged})
-
-    def test_asked(self) -> None:
-        """Each option under its own name."""
-        own = asked_for("a.stl", "a.ts", *(
-            "--page 8A1 --every 7 --option german --origin 9 --no-complete --pid 0x101 --breaks 3 "
-            "--pes 3-9 --within 5 --severity file --allow-lost --to 10:00:00:00").split())
-        own = dataclasses.replace(own, start="tcp")
-        words = {"stl": "a.stl", "recording": "a.ts", "page": "8A1", "every": 7, "option": "german",
-                 "origin": 9, "complete": False, "pid": 257, "allow_lost": True,
-                 "severity": "file", "breaks": 3, "pes": [3, 9], "start": "tcp", "within": 5,
-                 "strict": False, "layout": None, "open": False, "keeping": False,
-                 "pace": None, "late": None, "profile": None, "from": None, "to": "10:00:00:00"}
-        for asked in (own, dataclasses.replace(own, is_loss_allowed=False, is_strict=True)):
-            self.assertEqual(ASKED.made(asked), {**words, "strict": asked.is_strict,
-                                                  "allow_lost": not asked.is_strict})
-        drawn = dataclasses.replace(own, layout="fit", is_open=True)
-        self.assertEqual(ASKED.made(drawn), {**words, "layout": "fit", "open": True})
 
     def test_part(self) -> None:
         """What is judged of a recording, and by which clock; what was judged of a feed has a name

@@ -1,4 +1,4 @@
-"""One pair by qc: as a file, through a pipe, with warnings, in a batch."""
+"""One pair by qc: as a file, through a pipe; a folder of two batches, and ends by a signal."""
 from __future__ import annotations
 
 import json
@@ -6,7 +6,6 @@ import os
 import shutil
 import signal
 import subprocess
-from typing import Any
 from unittest import mock
 
 from subtitles.cli.single import claimed_for_batch
@@ -17,8 +16,6 @@ from subtitles.recording import recording
 from .bench import Case, Done, SECONDS, example, example_bytes, tool_path
 from .channels import until
 from .judged import judged
-from .muxed import beside_video, teletext_descriptor
-from .results import agrees
 from .sent import in_pipe
 
 
@@ -101,45 +98,6 @@ class Batches(Case):
     def test_object_on_standard_output(self) -> None:
         done = qc(self, STORY, RECORDING, "--json", "-")
         self.must("alone", json.loads(done.out)["line"] == done.told[-1] == ACCEPTED, done)
-
-
-# What tools/qc finds strange of a recording: said, in the report and the object, the status stays.
-
-
-def warnings(case: Case, name: str, done: Done, kinds: list[str]) -> list[Any]:
-    """Tests that these are the kinds of warnings, and that each is said and stands in the report;
-    the object is one.json, the report in the folder out."""
-    verdict = json.loads(case.read("one.json"))
-    agrees(case, verdict, f"{name}: the schema")
-    found: list[Any] = verdict["warnings"]
-    case.must(f"{name}: kinds", [one["kind"] for one in found] == kinds, (found, done))
-    lines = [one["line"] for one in found]
-    said = [line.removeprefix("qc: warning: ") for line in done.told
-            if line.startswith("qc: warning: ")]
-    case.must(f"{name}: said", said == lines, done.told)
-    report = case.read("out/story.html").decode()
-    case.must(f"{name}: in the report", all(
-        f'<p class="note">warning: {line}</p>' in report for line in lines), lines)
-    return found
-
-
-class Warnings(Case):
-    """What is strange, and does not change the status."""
-
-    def test_said_everywhere(self) -> None:
-        """On the terminal, in the report, in the result: also what a terminal would obey."""
-        rows: list[tuple[bytes, list[str], str]] = [
-            (teletext_descriptor(), [], ""),
-            (teletext_descriptor(b"\x1b[2"), ["language"],
-             "the PMT announces page 888 in \\x1b[2; the LC of the GSI block is 09, eng")]
-        for descriptor, kinds, words in rows:
-            done = qc(self, STORY, self.write("one.ts", beside_video(
-                example_bytes("story.pes"), descriptor)), "-o", "out", "--json", "one.json")
-            self.must(f"{kinds}: accepted", done.status == 0 and lines_of(done)[-1] == ACCEPTED,
-                      done)
-            found = warnings(self, f"{kinds}", done, kinds)
-            self.must(f"{kinds}: its line", [one["line"] for one in found] == [words] * len(kinds),
-                      found)
 
 
 # tools/qc on recordings that come through a pipe; signals, a reader that leaves, no room.

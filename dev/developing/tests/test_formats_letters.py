@@ -4,9 +4,10 @@ from __future__ import annotations
 import csv
 import ctypes
 import dataclasses
+import json
 import os
 import unittest
-from typing import Iterator, NamedTuple
+from typing import Any, Iterator, NamedTuple
 
 from developing.pes import (
     NATIONAL, address_of, data_field, header_of, packet, pes_packet, pts_in, teletext_packets)
@@ -21,10 +22,11 @@ from subtitles.formats.teletext import (
 from subtitles.judging.subtitles import advice_of
 from subtitles.recording.notices import of_character_sets, of_option
 from subtitles.request.request import Request
-from .bench import Case, example_bytes
+from .bench import Case, Done, example_bytes
 from .parts import packets_told
+from .results import agrees
 from .sent import packets
-from .test_cli_pairs import STORY, lines_of, qc, warnings
+from .test_cli_pairs import STORY, lines_of, qc
 
 
 # The table of national options, beside the tables of an outside decoder; and the advice for a
@@ -338,6 +340,23 @@ def with_bits(data: bytes, *bits: int) -> bytes:
     for bit in bits:
         found[bit >> 3] ^= 1 << (bit & 7)
     return bytes(found)
+
+
+def warnings(case: Case, name: str, done: Done, kinds: list[str]) -> list[Any]:
+    """Tests that these are the kinds of warnings, and that each is said and stands in the report;
+    the object is one.json, the report in the folder out."""
+    verdict = json.loads(case.read("one.json"))
+    agrees(case, verdict, f"{name}: the schema")
+    found: list[Any] = verdict["warnings"]
+    case.must(f"{name}: kinds", [one["kind"] for one in found] == kinds, (found, done))
+    lines = [one["line"] for one in found]
+    said = [line.removeprefix("qc: warning: ") for line in done.told
+            if line.startswith("qc: warning: ")]
+    case.must(f"{name}: said", said == lines, done.told)
+    report = case.read("out/story.html").decode()
+    case.must(f"{name}: in the report", all(
+        f'<p class="note">warning: {line}</p>' in report for line in lines), lines)
+    return found
 
 
 class Warnings(Case):
