@@ -127,7 +127,7 @@ class Changed(Case):
         near = TICKS - EARLY - 1
         for some, times in (
                 ([(0, b""), (10, b"a"), (5000, b""), (5010, b"b")], [0, 0, 5000, 5000]),
-                ([(0, b"a"), (10, b"b"), (20, b"")], [0, 10, 20]),
+                ([(0, b"a"), (10, b"b"), (20, b""), (30, b"c")], [0, 10, 20, 20]),
                 ([(0, b""), (near, b"a")], [0, 0]), ([(0, b""), (near + 1, b"a")], [0, near + 1]),
                 ([(0, b""), (5, b""), (9, b"a")], [0, 0, 0])):
             for within, wanted in ((False, [time for time, _ in some]), (True, times)):

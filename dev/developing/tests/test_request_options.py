@@ -404,6 +404,8 @@ class Verdicts(Case):
         asked = asked_for("a.stl", "a.ts", "--profile", path, "--every", "50")
         self.must("line", asked.profile and profile_line(asked.profile) ==
                   f"profile {path}: --every 25 --no-complete --layout fit,up")
+        none = profile_at(self.write("none", b"#\n"))
+        self.must("nothing", profile_line(none) == f"profile {none.name}: it says nothing")
         found = judged(self, STORY, RECORDING, "--profile", path, "--layout", "up", "--every", "50")
         known = found.result["asked"]
         self.must("result", known["profile"] == {
