@@ -76,6 +76,11 @@ class Ends(Case):
             "part 2, from 00:00:00:10 to 00:00:00:19: accepted 10 frames 2 transmissions"], said)
         self.must("fitted", FITTED in said and said[-1] ==
                   "accepted 20 frames 4 transmissions in 2 parts", said)
+        causes: list[Any] = ["first", None, "third"]
+        with mock.patch.object(single, "count_line", lambda some: f"{some}"):
+            said = self.said(self.verdict([part_with(0, 9, 0, explanation=Explanation(
+                causes=one, was_read=True)) for one in causes]))
+        self.must("causes of all parts", said[0] == "['first', 'third']", said)
 
     def test_lost(self) -> None:
         """Each place, twenty at most; whether it is judged."""
