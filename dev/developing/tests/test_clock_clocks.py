@@ -78,39 +78,6 @@ class Clocks(OfProgramme):
         found = judged(self, self.stl, in_pipe(self, joined(self.sent)), *WORDS, "--origin", "7200")
         self.must("a feed that is early", found.told[0] == "all subtitles are 2 frames early")
 
-    def later_each(self, frames: int) -> Sent:
-        """So many frames more each five subtitles."""
-        sent = self.sent
-        for at in range(5, 20, 5):
-            sent = late(frames, sent[next(number for number, (pts, _) in enumerate(self.sent)
-                                          if pts == self.due[at][0] * TICKS)][0])(sent)
-        return sent
-
-    def test_later_and_later(self) -> None:
-        """5.2 seconds more each five subtitles: no break was said, or too few, or too many."""
-        sent = self.later_each(130)
-        found = self.judge(sent)
-        self.must("refused", found.word == "refused" and found.told[-1].startswith(
-            f"from {time_of(self.due[15][0])} on subtitles are 15.60 s (390 frames) late"),
-            found.told)
-        for count in (1, 2, 4):
-            found = self.judge(sent, "--breaks", str(count))
-            self.must(f"{count}", found.word == "not judged" and f"3 breaks found, where --breaks "
-                      f"{count} is said" in found.told and
-                      not any(line.startswith("type ") for line in found.told), found.told)
-
-    def test_delays_that_add_up(self) -> None:
-        """Three delays of three seconds are no break, but for one that comes with a real one."""
-        for count in (1, 3):
-            found = self.judge(self.later_each(75), "--breaks", str(count))
-            self.must(f"{count}", found.word == "not judged" and found.told[0] ==
-                      f"no break found, where --breaks {count} is said", found.told)
-        at = self.due[10][0] * TICKS
-        found = self.judge(late(400, at)(late(3, self.due[15][0] * TICKS)(self.sent)),
-                           "--breaks", "2")
-        self.must("a delay in place of the second", found.word == "not judged" and found.told[0] ==
-                  "1 break found, where --breaks 2 is said", found.told)
-
     def test_shorter_junctions(self) -> None:
         """They are judged by two calls, as the manual shows; a delay of one side is refused."""
         middle = time_of(self.due[10][0])

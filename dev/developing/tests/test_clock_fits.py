@@ -9,8 +9,8 @@ from typing import Callable, Sequence
 from developing.multiplex import Multiplex, TENTH
 from subtitles.cli.channel.feed import FeedClock
 from subtitles.clock.alignment import (
-    Agreed, Base, Drift, Early, Edge, FEW_TEXTS, RARE, Shown, UNSEEN_SHARE, back_at, bases_of,
-    drift_of, edges_of, settled, usual_delay)
+    AGAIN, Agreed, Base, Drift, Early, Edge, FEW_TEXTS, RARE, Shown, UNSEEN_SHARE, back_at,
+    bases_of, drift_of, edges_of, settled, usual_delay)
 from subtitles.clock.origin import Origin
 from subtitles.clock.start import Clock, Found, RECORDING
 from subtitles.clock.stretches import are_alike, is_again
@@ -87,12 +87,24 @@ class Again(Case):
             self.must(f"{origin}, not blank", back_at(changes, 2, 5) is None)
 
 
+    def test_as_soon_as_it_is_due(self) -> None:
+        """A page that is erased and back is no change, but where the same is due so soon."""
+        for due, away in itertools.product(range(1, 9), repeat=2):
+            edges = edges_of([Shown(100, 130, 1, b"text"), Shown(130 + due, 160, 1, b"text")])
+            frames = [100, 110, 110 + away, 130, 130 + due, 160]
+            base = Base(edges, [Change(TICKS * frame, b"" if at % 2 else b"text", at, () if at % 2
+                                       else TEXT) for at, frame in enumerate(frames)],
+                        0, 1000 * TICKS, (0, 5), 0)
+            if away <= min(AGAIN, due - 1):
+                del frames[1:3]
+            self.must(f"{due} {away}", [*base.changes] == frames, base.changes)
+            self.must("some", [*base.limited(edges, 100, 160).changes] == frames[1:-1])
+
+
 # Delays of cues: which clock they tell within N frames, by their shares and without; a clock that
 # drifts; and airings by their times. Tables of what decides, and inserters as they are.
 
 Inserter = Callable[[random.Random, bool], int]  # how late a begin is, or an end
-UNIFORM = {within: late_word("/".join([",".join(f"{by}:1" for by in range(within + 1))] * 2))
-           for within in (1, 2, 5)}
 # Right inserters, each with its N: rows need a frame, or one a row, an erasing header none.
 INSERTERS: dict[str, tuple[int, Inserter]] = {
     "on time": (1, lambda chance, is_begin: 0),

@@ -12,7 +12,7 @@ from subtitles.clock.origin import (
     Origin, Sought, packets_of as packets_of_run, take_one, take_parts)
 from subtitles.clock.stretches import by_breaks, find_row, parts_of, runs_of
 from subtitles.common.command_line import Lateness
-from subtitles.common.times import CLOCK, FRAMES_A_SECOND, FRAMES_OF_A_DAY, TICKS, frame_in
+from subtitles.common.times import CLOCK, FRAMES_A_SECOND, FRAMES_OF_A_DAY, TICKS
 from subtitles.stream.packets import Change, Packets, Run
 from subtitles.stream.ranges import SentPacket, begin_of, cut_of
 
@@ -254,15 +254,6 @@ class Cuts(unittest.TestCase):
             row = [SentPacket(0, 90, "heo", False), SentPacket(1, frame, "o", False),
                    SentPacket(2, 90, "ob", True), SentPacket(3, 100, "heo", True)]
             self.assertEqual([begin_of(row, 100, within) for within in (0, 1)], [3, 0], frame)
-
-    def test_a_range_and_a_wrong_pts(self) -> None:
-        """PES packets outside of a range are not taken; one PTS that is far off ends nothing."""
-        made = Packets(0, [Run(at, 1, TICKS * (100 + at), 0, "ho", "") for at in range(20)])
-        self.assertEqual(cut_of(made, 100, 119, 0, inside=(3, 7)).range, (3, 7))
-        made.runs[5] = made.runs[5]._replace(pts=TICKS * 10 ** 6)
-        self.assertEqual(cut_of(made, 100, 110, 0).range, (0, 10))
-        self.assertEqual(cut_of(made, 300, 400, 0).range, None)
-        self.assertEqual(frame_in(TICKS * 105, 0), 105)
 
 
 def plain(packets: Packets, frames: Sequence[int], begin: int, end: int,

@@ -1,6 +1,7 @@
 """The origin of transmissions that are known, in process, and what is said of them."""
 from __future__ import annotations
 
+import itertools
 import random
 import unittest
 from collections import Counter
@@ -8,10 +9,12 @@ from typing import Sequence
 
 from developing.pes import MARK, data_field, packet, pes_packet, pts_in, teletext_packets
 from developing.stl import boxed
-from subtitles.clock.alignment import Base, Edge, bases_of, delays_of
+from subtitles.clock.alignment import Base, Edge, Shown as Due, bases_of, delays_of, edges_of
 from subtitles.clock.origin import Origin, Sought, find, subtitles_between
+from subtitles.clock.stretches import Stretch, Track, best_row, find_row
 from subtitles.common.command_line import Stop
-from subtitles.common.times import ALL_DAY, CLOCK, TICKS, time_of
+from subtitles.common.times import ALL_DAY, Between, CLOCK, TICKS, time_of
+from subtitles.stream.packets import Change
 from .bench import Case, example, example_bytes
 from .parts import asked_for, packets_told
 from .sent import (
@@ -41,6 +44,18 @@ class Origins(Case):
         asked = asked_for(stl, "one.pes", *words)
         return find(Sought(stl, "one.pes", asked.page, asked.option, asked.origin, asked.within,
                            asked.breaks, asked.pes), packets_told(self, b"".join(pes), asked.page))
+
+    def test_which_subtitles(self) -> None:
+        """Those that come in some frames, from the first of the day on, but for those that are left
+        out, and those that go when they come."""
+        stl = self.stl([(0, 50, b"a"), (60, 60, b"b"), (100, 150, b"c"), (200, 300, b"d")])
+        rows: list[tuple[Between, Sequence[int], list[int]]] = [
+            (ALL_DAY, (), [0, 100, 200]), (Between(0, 100), (), [0]), (ALL_DAY, (1,), [100, 200]),
+            (Between(100, 201), (), [100, 200]), (Between(1, 200), (), [100]),
+            (ALL_DAY, (3, 4), [0])]
+        for between, gone, wanted in rows:
+            found = [one.begin for one in subtitles_between(stl, "english", between, gone)]
+            self.must(f"{between} {gone}", found == wanted, found)
 
     def test_of_nothing(self) -> None:
         """PES packets in which the page does not change, files that end within the first one or
@@ -189,20 +204,6 @@ class Origins(Case):
             self.must(f"{row}", (found.status, found.printed, found.parts) == (1, [], []) and
                       found.lines[0].startswith("2 parts: "), found)
 
-    def test_runs(self) -> None:
-        """Each time that it is there, with its PES packets, of which one is looked for then."""
-        gap = TICKS * 70 * (COUNT + 20)
-        for runs in (1, 2, 3):
-            pes = [one for number in range(runs) for one in self.sent(gap * number)]
-            found = self.find(self.own(), pes)
-            with self.subTest(runs=runs):
-                self.assertEqual((found.status, len(found.runs)),
-                                 (int(runs > 1), runs * (runs > 1)))
-            for number, (first, last) in enumerate(found.runs):
-                one = self.find(self.own(), pes, "--pes", f"{first}-{last}")
-                self.assertEqual(one.printed,
-                                 [f"--origin {(gap * number - TICKS * FIRST) % CLOCK}"])
-
     def test_late_from_one_on(self) -> None:
         """From when on, and by how much; how late the first is of what is known."""
         late = [0] * 6 + [50] * 6
@@ -250,19 +251,6 @@ class Origins(Case):
                 f"the first cue that does not agree is {time_of(FIRST + 350)}"] * (
                     not are_all), others)
 
-    def test_breaks(self) -> None:
-        """As many as are said, each part with its frames; else how many there are."""
-        late = [0] * 6 + [1600] * 6
-        for said, status, breaks in ((1, 0, None), (2, 1, 1)):
-            found = self.find(self.own(), self.sent(0, late), "--breaks", str(said))
-            self.must(f"{said}", (found.status, found.breaks) == (status, breaks) and (
-                "1 break found, where --breaks 2 is said" in found.lines) == (said == 2), found)
-        found = self.find(self.own(), self.sent(0, late), "--breaks", "1")
-        self.must("parts", [one.frames for one in found.parts] == [
-            (FIRST, FIRST + 70 * 5 + 40), (FIRST + 70 * 6, FIRST + 70 * 11 + 40)], found.parts)
-        found = self.find(self.own(), self.sent(0), "--breaks", "1")
-        self.must("none", found.lines[0] == "no break found, where --breaks 1 is said", found.lines)
-
     def test_what_is_sent(self) -> None:
         """What has no PTS, marks, another page: each is told, with how many they are."""
         good = self.sent(0)[:3]
@@ -289,6 +277,76 @@ class Origins(Case):
             lines = [line.replace("one.pes", "a.pes") for line in found.lines]
             self.must(name, all(line.startswith(begin) for line, begin in zip(lines, told)) and
                       len(lines) >= len(told) and (len(lines) > len(told)) == is_page, lines)
+
+
+class Tracks(unittest.TestCase):
+    """Origins one after another: six subtitles, with edges each fifty frames."""
+
+    edges = edges_of([Due(100 * at, 100 * at + 50, at, b"%d" % at) for at in range(1, 7)])
+
+    def base(self, changes: dict[int, bytes], within: int = 0) -> Base:
+        """A time base in which the page changes at some frames."""
+        return Base(self.edges, [Change(TICKS * frame, letters, frame, ((20, letters),))
+                                 for frame, letters in sorted(changes.items())],
+                    0, 1000 * TICKS, (0, 999), within)
+
+    def test_points(self) -> None:
+        """Of a text that comes, a page that is erased, another text, and nothing; within some
+        frames also of one that is late, and of no other text."""
+        due = {edge.frame: edge.letters for edge in self.edges}
+        sent = {**due, 200: b"x", 301: due[300]}
+        del sent[250], sent[300]
+        for within, points, late, places in ((0, [3, 2, 1, 0, 0, 2], 0, [150, 200, 350]),
+                                             (1, [3, 2, 0, 0, 3, 2], 1, [150, 301, 350])):
+            track = Track(0, 0, self.base(sent, within))
+            self.assertEqual(track.points, points + [3, 2] * 3)
+            self.assertEqual(track.rank(), (-sum(track.points), late, 0))
+            self.assertEqual(Stretch(track, 1, 6).agreeing(), places)
+            self.assertEqual(max(track.in_a_row), 7 if not within else 8)
+
+    def test_may_follow(self) -> None:
+        """In a later time base, or in the same one where it is sent later."""
+        base = self.base({})
+        for one, before, frames, wanted in (
+                ((0, 0), (0, 0), 1, True), ((0, 0), (0, 0), 0, False), ((0, 5), (0, 0), 5, False),
+                ((0, 5), (0, 0), 6, True), ((0, 0), (0, 5), 1, True), ((1, 9), (0, 0), 1, True),
+                ((0, 0), (1, 9), 99, False)):
+            found = Track(*one, base).may_follow(Track(*before, base), frames)
+            self.assertEqual(found, wanted, (one, before, frames))
+
+    def test_rows(self) -> None:
+        """Five changes in a row at least, in whichever time base; of two halves of a file each has
+        its own, and an edge that agrees with either goes with the one before."""
+        due = {edge.frame: edge.letters for edge in self.edges}
+        few = [self.base(dict([*due.items()][:count])) for count in (4, 5, 12)]
+        for bases, number in (([few[0]], None), ([few[1]], 0), ([few[0], few[2]], 1), (few, 2)):
+            row = find_row(bases)
+            self.assertEqual([stretch.track.base for stretch in row],
+                             [] if number is None else [number])
+        later = {frame + 40 * (frame > 350): letters for frame, letters in due.items()}
+        row = find_row([self.base(later)])
+        self.assertEqual([(stretch.track.start, stretch.first, stretch.end) for stretch in row],
+                         [(0, 0, 6), (-40, 6, 12)])
+
+    def test_which_way(self) -> None:
+        """Two tracks are as good: the one that is nearer, of the same time base before others. An
+        edge that agrees with both goes with the second, one with neither with the first."""
+        def row(*several: tuple[int, int, list[int]]) -> list[tuple[int, int]]:
+            tracks = list[Track]()
+            for number, start, points in several:
+                tracks.append(Track(number, start, self.base({})))
+                tracks[-1].points = points
+            return [(one.track.start, one.end) for one in best_row(self.edges, tracks)]
+
+        first, second = (0, 0, [3] * 6 + [0] * 6), [0] * 6 + [3] * 6
+        for near, far in (((0, -40), (0, -500)), ((0, 40), (0, -41)), ((0, -4000), (1, 0))):
+            for some in itertools.permutations([first, (*near, second), (*far, second)]):
+                self.assertEqual(row(*some), [(0, 6), (near[1], 12)], some)
+        for before, own, end in (
+                ([3] * 6 + [1, 1, 0, 0, 0, 0], second, 6), (first[2], [0] * 5 + [3] * 7, 5),
+                (first[2], [0] * 7 + [3] * 5, 7), ([3] * 7 + [0] * 5, second, 6),
+                ([3] * 5 + [0, 1] + [0] * 5, [0] * 5 + [3, 0] + [3] * 5, 5)):
+            self.assertEqual(row((0, 0, before), (0, -40, own)), [(0, end), (-40, 12)], own)
 
 
 class Delays(unittest.TestCase):

@@ -1,6 +1,7 @@
 """What is said of an origin, and of the first picture; the programme that comes next."""
 from __future__ import annotations
 
+import itertools
 import unittest
 from types import SimpleNamespace
 from typing import Any, Sequence
@@ -9,13 +10,19 @@ from developing.pes import packet
 from subtitles.clock.alignment import Early
 from subtitles.clock.origin import (
     Origin, Sought, break_lines, measure, part_lines, shift_lines, take_parts)
-from subtitles.clock.start import Clock, First, NoFirst, START, first_picture, left_out
+from subtitles.clock.start import (
+    Clock, FITTED, First, Found, GIVEN, NoFirst, RECORDING, START, TCP, began, first_picture,
+    left_out, off_words)
 from subtitles.clock.stretches import Stretch
 from subtitles.common.times import CLOCK, TICKS
+from subtitles.request.request import ORIGIN_CHOICE, Selection, Unclear
+from subtitles.stream.packets import Packets, Run
+from subtitles.stream.ranges import Stage
 from subtitles.stream.receiver import control_text, national_option, printed_rows
 from subtitles.stream.survey import Survey
 from .judged import OfProgramme
 from .muxed import HEVC, H_264, MPEG_2
+from .parts import asked_for
 from .sent import Sent, late, programme, sendings
 
 
@@ -195,6 +202,55 @@ class Pictures(unittest.TestCase):
         self.assertIn("PTS 9, HEVC of PID 0x200; 1 PES packet of video before it skipped",
                       First(VIDEO, HEVC, 9, 1).line())
 
+    def test_by_what_is_told(self) -> None:
+        """Of all PMT of the programme; also before all is told, and where the last are cut off."""
+        first = First(VIDEO, MPEG_2, 0, 0)
+        begun, none = [f"video {VIDEO} 0", f"picture {VIDEO} 0"], programme_with()
+        own = programme_with((VIDEO, MPEG_2))
+        for tables in ([*none, *own], [*own, *none]):
+            for is_whole in (True, False):
+                self.assertEqual(self.said([*tables, *begun], is_whole), first)
+        lines = [*programme_with((VIDEO, MPEG_2)), *begun, f"picture {VIDEO} {3 * TICKS}"]
+        self.assertIn("leave out 2 frames", str(self.said(lines)))
+        self.assertEqual(self.said([*lines, f"pictures {VIDEO} 0 0 0 0"]), first)
+
+    def test_clocks(self) -> None:
+        """The PTS of the first picture less its frame, moved to those of the Teletext by less than
+        half a frame: at half a frame it is not clear. Which clock is chosen, and by what."""
+        rows: list[tuple[list[int], int, int | None, str]] = [
+            ([0], 0, 0, "agree with"), ([1], 0, 1, "moved by 1 tick forward"),
+            ([1799], 0, 1799, "forward"), ([1800], 0, None, ""), ([1801], 0, -1799, "back"),
+            ([3599], 0, -1, "moved by 1 tick back"), ([1800, 1800, 5], 0, None, ""),
+            ([1800, 1800, 5], 1, 5, "moved by 5 ticks forward")]
+        for shift, (several, within, moved, words) in itertools.product((0, CLOCK - 3), rows):
+            lines = [*programme_with((VIDEO, MPEG_2)), f"video {VIDEO} 0",
+                     f"picture {VIDEO} {shift}"]
+            packets = Packets(TELETEXT, [Run(at, 1, (shift + TICKS * (7 + at) + after) % CLOCK, 0,
+                                             "h", "") for at, after in enumerate(several)])
+            asked = asked_for("a.stl", "a.ts", "--start", "00:00:00:02", "--within", str(within))
+            if moved is None:
+                with self.assertRaises(Unclear):
+                    began(asked, surveyed(lines), packets)
+                continue
+            found = began(asked, surveyed(lines), packets)
+            origin = (shift - 2 * TICKS + moved) % CLOCK
+            self.assertEqual((found.clock, found.frame), (Clock(origin, START), 2))
+            self.assertIn(words, found.lines[1])
+        lines = [*programme_with((VIDEO, MPEG_2)), f"video {VIDEO} 0", f"picture {VIDEO} {TICKS}",
+                 f"picture {VIDEO} 0", f"group {VIDEO} 0 0 open"]
+        self.assertEqual(began(asked, surveyed(lines), packets).clock.away, -1)
+        self.assertEqual(off_words(180), "PTS are up to 2.0 ms off the frame")
+        for source, evidence in itertools.product((RECORDING, GIVEN, START, TCP), (
+                None, Selection(ORIGIN_CHOICE, "8", "words"))):
+            chosen = (evidence or Selection(ORIGIN_CHOICE, "7", FITTED))._replace(part=2)
+            self.assertEqual(Clock(7, source, evidence=evidence).chosen(2),
+                             chosen if source == RECORDING else None)
+        for other, away in ((None, 0), (0, -3), (5 * TICKS + 9, 2), (5 * TICKS - 9, 2),
+                            (CLOCK - TICKS, -4)):
+            self.assertEqual(First(VIDEO, MPEG_2, 3 * TICKS, 0, other).away, away)
+        for stage, pid in ((Stage(Packets(5), (0, 1)), 5), (None, None)):
+            self.assertEqual(Found(0, 9, Clock(0, GIVEN), stage=stage, goes=7).pid, pid)
+
     def test_groups(self) -> None:
         """Of a closed group the smallest; of one that is open or unknown the one with the flag;
         both are said where they differ."""
@@ -239,7 +295,7 @@ class Pictures(unittest.TestCase):
                  "come with the random_access_indicator"),
                 ([*programme_with((VIDEO, MPEG_2)), f"pictures {VIDEO} 0 0 7 0"], True,
                  "none of 7 PES packets of MPEG-2 of PID 0x200 has the random_access_indicator"),
-                (shown([0, 1], "2 0"), True, "2 TS packets of MPEG-2 of PID 0x200 lost among"),
+                (shown([0, 1], "1 0"), True, "1 TS packet of MPEG-2 of PID 0x200 lost among"),
                 (shown([0, 1], "1 1"), True, "is scrambled"),
                 (shown([0, None]), True, "a picture of MPEG-2 of PID 0x200 has no PTS"),
                 (shown([None]), True, "a picture of MPEG-2 of PID 0x200 has no PTS"),

@@ -2,14 +2,16 @@
 judged where nobody can tell which programme is meant, or whether something was due."""
 from __future__ import annotations
 
+import itertools
 import json
 from typing import Sequence
 
 from developing.pes import pes_packet, pts_in
 from subtitles.common.times import CLOCK, TICKS
 from subtitles.recording.notices import (
-    Announcement, announcements_of, is_due_in, silent_beside, unsent_by)
+    Announcement, Notice, announcements_of, is_due_in, of_timing, silent_beside, unsent_by)
 from subtitles.stream.gaps import SECOND
+from subtitles.stream.packets import Packets
 from subtitles.stream.survey import Survey
 from .bench import Case
 from .judged import Judged, OfProgramme, judged
@@ -52,6 +54,18 @@ class Announced(Case):
             Announcement(1, frozenset({ONE}), None, SECOND),
             Announcement(1, frozenset({TWO}), SECOND, 9 * SECOND),
             Announcement(2, frozenset({THREE}), None, None)], found)
+
+    def test_timing(self) -> None:
+        """From when on PTS are behind the PCR, wherever they begin anew; before the day by its PTS.
+        """
+        for origin, frame in itertools.product((0, CLOCK - 60 * TICKS), (50, 90, -5)):
+            pts = (origin + frame * TICKS) % CLOCK
+            packets = Packets(1, samples=[(pts, -SECOND // 10), (pts, 9), (pts, 9)])
+            time = None if frame < 0 else f"00:00:{frame // 25:02}:{frame % 25:02}"
+            where = f"from {time or f'PTS {pts}'} on"
+            self.must(f"{origin} {frame}", [*of_timing(packets, origin)] == [Notice(
+                "pts_behind", f"{where} PTS of the Teletext are behind the PCR, by up to 0.10 s: 1 "
+                "of 3 that were looked at", time)], [*of_timing(packets, origin)])
 
     def test_unsent(self) -> None:
         """Of the subtitles' time, from 10 to 20 seconds, by the programme that carries the page,
