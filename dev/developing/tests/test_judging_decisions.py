@@ -4,6 +4,7 @@ from __future__ import annotations
 import argparse
 import contextlib
 import io
+import itertools
 import os
 from dataclasses import replace
 from typing import Callable
@@ -269,7 +270,8 @@ class Pages(Case):
         held = self.held(data)
         for frame, wanted in ((5, 5), (9, 9), (10, 20), (15, 20), (20, 20), (25, 25), (30, 40),
                               (39, 40), (40, 40), (99, 99)):
-            self.must(f"from {frame}", held.closed_from(frame) == wanted, held.closed_from(frame))
+            for one in (held, held.alone()):
+                self.must(f"from {frame}", one.closed_from(frame) == wanted, one.closed_from(frame))
         held = self.held(data[:len(data) // 2 + 1])
         self.must("open and closed once", (held.closed_from(15), held.closed_from(20)) == (20, 20))
 
@@ -318,15 +320,25 @@ class Pages(Case):
         rows: list[tuple[list[tuple[int, Rows]], list[int], list[Rows]]] = [
             ([(5, a), (10, b)], [5, 10], [a, b]), ([(5, a), (10, a)], [5], [a]),
             ([(5, a), (10, b), (10, a)], [5], [a]), ([(5, a), (5, b)], [5], [b]),
+            ([(5, a), (10, b), (12, a)], [5, 10, 12], [a, b, a]),
             ([(5, a), (10, b), (10, BLANK_PAGE), (11, b)], [5, 10, 11], [a, BLANK_PAGE, b])]
         for changes, frames, pages in rows:
             held = Timeline(Packets(0), PAGE, 0)
             for frame, page in changes:
                 held.change(frame, page)
+                self.must(f"{frame}: when", all(at in held.when.get(one, [])
+                                                for at, one in zip(held.frames, held.pages)))
             self.must(f"{frames}", (list(held.frames), held.pages) == (frames, pages), held.frames)
             self.must(f"{frames}: when", {page: list(some) for page, some in held.when.items()
                                           if some} == {page: [
                 frame for frame, one in zip(frames, pages) if one == page] for page in pages})
+            for begin, end in itertools.combinations(range(4, 14), 2):
+                numbers = [at for at, frame in enumerate(frames) if frame < end and
+                           begin < [*frames, 99][at + 1]]
+                self.must(f"{begin} {end}", [*held.numbers(begin, end)] == numbers and
+                          held.page_at(begin) == (BLANK_PAGE if begin < 5 else pages[numbers[0]]))
+            held.forget()
+            self.must("forgotten", not held.when)
 
     def test_pauses(self) -> None:
         """More than two frames without a PES packet, of what sends one in each but few."""

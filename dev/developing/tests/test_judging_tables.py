@@ -81,7 +81,7 @@ class Warnings(Case):
     def test_jumps(self) -> None:
         """Those of the frames that are judged, the first and the last too, each in its direction.
         """
-        for origin in (0, CLOCK - 5 * TICKS):
+        for origin in (0, CLOCK - 15 * TICKS):
             jumps = [ClockJump(None, 90_000), *(ClockJump((origin + TICKS * frame) % CLOCK, ticks)
                                            for frame, ticks in (
                 (9, 1), (10, 90_000), (15, -90_000), (20, 8_640_000), (21, 5)))]
@@ -105,7 +105,7 @@ class Warnings(Case):
         asked = asked_for(stl, "one.ts")
         of_pages: list[tuple[list[list[Announced]], str]] = [
             ([], ""), ([[own]], ""), ([[other, own]], ""), ([[], [own]], ""),
-            ([[other], [own]], ""),
+            ([[other], [own]], ""), ([[own], [other]], ""), ([[own, other]], ""),
             ([[]], "announces no page of PID 0x101: receivers do not find page 888"),
             ([[], []], "announces no page of PID 0x101: receivers do not find page 888"),
             ([[other]], "announces 150 ger subtitles for the hard of hearing, and not page 888"),
@@ -439,7 +439,9 @@ class Repeats(unittest.TestCase):
                 (steady, [15, 25, 35, 45, 55, 65, 75, 85, 95, 105, 115, 125, 135, 145, 155, 165],
                  None), (steady[:8], [45], 10), (steady[:8], [36, 45], 10),
                 (steady[:8], [35, 45], None), (steady[:5], [46], 10), (steady[:5], [45], None),
-                (steady[:5] * 2, [46], 10),
+                (steady[:5] * 2, [46], 10), (steady[:4] * 2, [], None),
+                (sorted(steady[:4] * 2), [], None), ([0, 1, 2, 3, 4, 8], [], 4),
+                (steady[:7], [20], 10),
                 ([0, 1, 25, 26, 50, 51, 75, 76], [], 24), ([], [], None),
                 ([0, 10, 20, 30, 50, 90], [], 20)]
         for frames, edges, every in of_frames:

@@ -9,17 +9,21 @@ from typing import Any, Sequence
 from subtitles.clock.alignment import Apart, Early, Fit, MOST_APART
 from subtitles.clock.origin import as_good, is_clear
 from subtitles.clock.start import Began, Clock, TCP, after_frame, refuse_outside
-from subtitles.common.times import CLOCK, EARLY, FRAMES_A_SECOND, NO_FRAME, TICKS
+from subtitles.common.times import CLOCK, EARLY, FRAMES_A_SECOND, NO_FRAME, Span, TICKS
 from subtitles.request.request import Unclear
 from subtitles.stream.gaps import (
     Lull, NEAR, Pauses, Place, SECOND, TOLD, USUAL_EVERY, first_lines, idle_of, is_within,
-    marks_told)
-from subtitles.stream.packets import Mark, Packets, Run
-from subtitles.stream.ranges import MOST_OVERLAP, MOST_PAUSE, Stage, goes_on, stage_of
-from subtitles.stream.receiver import HeardRun, Order
+    marks_told, repeats_in)
+from subtitles.stream.packets import Clocked, Mark, Packets, Run, Texts
+from subtitles.stream.ranges import (
+    MOST_OVERLAP, MOST_PAUSE, Stage, goes_on, named_in_turn, stage_of, way_of)
+from subtitles.stream.receiver import (
+    BLANK_PAGE, HIT, HeardRun, Meeting, OLD, OLD_PAGE, Order, Timeline, cleared, heard_of,
+    timeline_near)
+from subtitles.stream.survey import Announced, ProgramMap
 from .parts import asked_for
 
-ORIGINS = 0, 7, CLOCK - 20 * SECOND, CLOCK - 5
+ORIGINS = 0, 7, CLOCK - 100 * SECOND - 5, CLOCK - 20 * SECOND, CLOCK - 5
 
 
 def at(seconds: float | None, origin: int = 0) -> int | None:
@@ -70,6 +74,36 @@ class Moves(unittest.TestCase):
         self.assertEqual(stage_of(sent([None, 1, 2, None]), at(1), at(0)).inside, (0, 3))
 
 
+    def test_named_in_turn(self) -> None:
+        """The PID that each PMT announces the page on, else the only one that it names, of those
+        that carry it; nothing behind one that is not clear. The way from one of them goes by the
+        PMT of its programme alone."""
+        other = Announced((1, 0x50), "eng", 2)
+        own = Announced((0, 0x88), "eng", 2)
+        rows: list[tuple[list[tuple[int, set[int], set[int]]], list[tuple[int, int]], list[int]]]
+        rows = [
+            ([], [], [1]), ([(7, {1}, set())], [(1, 0)], [1]), ([(7, {1, 2}, {2})], [(2, 0)], [1]),
+            ([(7, {1}, set()), (7, {1}, set()), (7, {3}, {3})], [(1, 0)], [1, 3]),
+            ([(7, {1, 2}, {1}), (7, {1, 2}, {2}), (7, {1}, set())], [(1, 0), (2, 1), (1, 2)], [1]),
+            ([(7, {1}, set()), (7, {1, 2}, set()), (7, {2}, set())], [(1, 0)], [1]),
+            ([(7, {1}, {1}), (8, {1, 2}, {1, 2}), (7, {2}, {2})], [(1, 0)], [1, 2]),
+            ([(7, {1}, {1}), (8, {2}, {2}), (7, {3}, {2, 3})], [(1, 0), (2, 1)], [1])]
+        for maps, wanted, way in rows:
+            records = [ProgramMap(number, 9, dict.fromkeys(kinds, 6), {
+                pid: [other, own] if pid in pages else [other] for pid in kinds | pages}, at)
+                for at, (number, kinds, pages) in enumerate(maps)]
+            self.assertEqual([*named_in_turn(records, (0, 0x88), {1, 2})], wanted, maps)
+            self.assertEqual(way_of(records, (0, 0x88), 1), way, maps)
+
+    def test_headers_of_a_stage(self) -> None:
+        """Their frames, also within some frames, and of no other PES packet."""
+        runs = [Run(0, 2, 0, TICKS, "he", ""), Run(2, 1, 2 * TICKS, 0, "-", ""),
+                Run(3, 9, 4 * TICKS - EARLY, TICKS, "h", "")]
+        for within, wanted in ((0, [1, 3, 4]), (1, [1, 4, 5])):
+            found = [*Stage(Packets(5, runs), (1, 4)).frames(0, within)]
+            self.assertEqual(found, wanted)
+
+
 class Silences(unittest.TestCase):
     """Times at which nothing comes, of which something may be missing."""
 
@@ -111,8 +145,26 @@ class Silences(unittest.TestCase):
                                       for at, length in enumerate(others, 1))]
             self.assertEqual(idle_of([silence], 50, pauses), [silence] * wanted, others)
 
+    def test_repeats(self) -> None:
+        """The longest time without a header of the page, up to the end of the recording, and from
+        when on it is; what is usual while nothing of the page changes."""
+        steady = [*range(0, 100, 10)]
+        rows: list[tuple[list[float], float | None, list[int], tuple[object, ...] | None]] = [
+            ([], None, [], None), ([], 9, [], None), ([5, 5], None, [], None),
+            ([5], 5, [], (1, 1, 5, None)), ([0, 10, 20, 25], None, [], (4, 10, 0, None)),
+            ([0, 10, 25], 19, [], (3, 15, 10, None)), ([0, 10, 25], 39, [], (3, 15, 10, None)),
+            ([0, 10, 25], 40, [], (3, 16, 25, None)), ([25, 0, 10], 30, [], (3, 15, 10, None)),
+            ([-9, 0, 10], -1, [], (2, 10, 0, None)), ([0, 9.75, 15], None, [], (3, 10, 0, None)),
+            ([*steady], None, [], (10, 10, 0, 10)), ([*steady], 99, [20, 50], (10, 10, 0, 10)),
+            ([*steady], None, [20, 40, 60, 80], (10, 10, 0, None))]
+        for origin, (frames, last, edges, wanted) in itertools.product(ORIGINS, rows):
+            pts = [round(origin + TICKS * one) % CLOCK for one in frames]
+            end = None if last is None else round(origin + TICKS * last) % CLOCK
+            found = repeats_in(pts, end, origin, [*zip(edges, edges[1:])])
+            self.assertEqual(found, wanted, (origin, frames, last, edges))
+
     def test_how_many_are_told(self) -> None:
-        """Twenty, then how many more."""
+        """Twenty, then how many more; a hole that the PCR alone tells is no mark."""
         for count in (0, 1, TOLD - 1, TOLD, TOLD + 1, TOLD + 2):
             lines = [f"{number}" for number in range(count)]
             more = count - TOLD
@@ -121,6 +173,7 @@ class Silences(unittest.TestCase):
             packets = Packets(5, [Run(at, 1, None if at % 2 else at * TICKS, 0, "", "")
                                   for at in range(2 * count + 1)])
             packets.marks = [Mark(at, (at - 1) * TICKS, 1, 0) for at in range(1, 2 * count, 2)]
+            packets.clocked = [Clocked(TICKS * 90, TICKS * 91, TICKS * 9, 9, 1, 9, "broken")]
             found = marks_told(packets)
             self.assertEqual((len(found), found[-1:] == [f"and at {more + 1} more places"]),
                              (min(count, TOLD), more > 0), count)
@@ -144,7 +197,8 @@ class Pictures(unittest.TestCase):
         """A subtitle before the first picture, and one that goes over a second after the last PTS.
         """
         asked, last = asked_for("a.stl", "a.ts"), 1000
-        for origin, (begin, end, is_told, is_refused) in itertools.product(ORIGINS, (
+        for origin, (begin, end, is_told, is_refused) in itertools.product((
+                *ORIGINS, CLOCK - last * TICKS), (
                 (100, last + FRAMES_A_SECOND, True, False),
                 (100, last + FRAMES_A_SECOND + 1, True, True),
                 (100, last + FRAMES_A_SECOND + 1, False, False), (99, 200, True, True))):
@@ -182,6 +236,134 @@ class Heard(unittest.TestCase):
                              [number for number, one in known.items() if one == frame], frame)
         self.assertEqual((order.first, order.last, order.count), (10, 30, 8))
         self.assertEqual(Order().first, NO_FRAME)
+
+
+    def test_order(self) -> None:
+        """All rows of four frames, of which something is not heard before one, and some are lost:
+        what is heard, from where on nothing is, and which frames are seen."""
+        for frames, least, gap in itertools.product(itertools.product(range(4), repeat=4), (0, 1),
+                                                    range(5)):
+            lost = [Span(3, 3)] * (gap % 2)
+            order = Order(least, lost)
+            for at, frame in enumerate(frames):
+                order.is_doubted = order.is_doubted or at == gap
+                order.goes_on(HeardRun(Run(at, 1, 0, 0, "h", ""), [frame]))
+            falls = [at for at in range(1, 4) if frames[at] < frames[at - 1] + least]
+            count = falls[0] if falls else 4
+            doubts = [Span(frames[gap - 1] if gap else 0, frames[gap])] if gap < count else []
+            self.assertEqual((order.count, order.halt, order.falls, order.doubts), (
+                count, falls[0] if falls else None, [frames[at] for at in falls], doubts))
+            for first, last in itertools.combinations_with_replacement(range(5), 2):
+                is_seen = (not falls or last <= frames[count - 1]) and not any(
+                    one.first <= last and first <= one.last for one in doubts + lost)
+                self.assertEqual(order.is_seen(first, last), is_seen, (frames, least, gap))
+
+    def test_spans_that_meet(self) -> None:
+        """In any order, and more of them after a question."""
+        some = [Span(*one) for one in itertools.combinations_with_replacement(range(4), 2)]
+        for several in itertools.permutations(some, 3):
+            meeting = Meeting()
+            for count, (first, last) in itertools.product(range(4), some):
+                self.assertEqual(meeting.has(several[:count], first, last), any(
+                    one.first <= last and first <= one.last for one in several[:count]))
+
+    @staticmethod
+    def timeline(sent: str, **more: Any) -> Timeline:
+        """What is held of PES packets: of each its frame, with ! where it is refused, what it does,
+        and the text that is told behind it."""
+        packets = Packets(5)
+        for number, word in enumerate(filter(None, sent.split(" "))):
+            frame, does, *told = word.split(":")
+            packets.runs.append(Run(number, 1, round(TICKS * float(frame.rstrip("!"))), 0, does,
+                                    "0" * ("h" in does), fault=33 * ("!" in frame)))
+            packets.held += [(number, ((20, text.encode("latin-1").ljust(40)),))
+                             for text in told]
+        return Timeline(packets, (0, 0x88), 0, **more)
+
+    def test_timelines(self) -> None:
+        """The pages that are held, when the page turns open or closed, and its headers."""
+        rows: list[tuple[str, str, str, list[int], list[int]]] = [
+            ("none", "", "", [], []), ("before a header", "5:c 7:o:a 10:heo:b", "10 b", [10], [10]),
+            ("a space that was hit", "10:heo:a\xa0b", "10 a b", [10], [10]),
+            ("there and back", "10:heo:a 20:c 30:heo:a 40:c", "10 a", [10, 20, 30, 40], [10, 30]),
+            ("in one frame", "10:heo:a 20:c 20:heo 30:c", "10 a", [10, 30], [10, 20]),
+            ("twice in a frame", "10:heo:a 10:ho:b 20:ho", "10 b", [10], [10, 20]),
+            ("one not heard", "10:heo:a 15!:heo:b 30:ho", "10 a", [10], [10, 30]),
+            ("nor one behind it", "10:heo:a 15!:heo:b 16!:- 30:ho", "10 a", [10], [10, 30]),
+            ("one of no frame", "10:heo:a 15.5:heo:b 30:ho", "10 a", [10], [10, 30]),
+            ("then erased", "10:heo:a 15!:heo:b 30:heo", "10 a 30 b", [10], [10, 30]),
+            ("then told", "10:heo:a 15!:heo:b 20:o:c 30:ho", "10 a 20 c", [10], [10, 30])]
+        for name, sent, pages, turns, sendings in rows:
+            held = self.timeline(sent)
+            found = " ".join(f"{frame} {page[19].decode().strip()}"
+                             for frame, page in zip(held.frames, held.pages))
+            self.assertEqual((found, [*held.turns], [*held.sendings]), (pages, turns, sendings),
+                             name)
+            self.assertEqual(held.closed_from(99), None if len(turns) % 2 else 99, name)
+
+    def test_how_a_timeline_is_heard(self) -> None:
+        """Where it begins, what goes back, and what is lost of it."""
+        for frame, halt in ((299, None), (300, 2), (310, 2)):
+            held = self.timeline(f"200:he {frame}:he 290:he", begin=300)
+            self.assertEqual(held.halt, halt, frame)
+        twice = "10:heo:a 10:c 11:c"
+        for is_single, within, halt in ((True, 0, 1), (True, 1, None), (False, 0, None)):
+            held = self.timeline(twice, is_single=is_single, within=within)
+            self.assertEqual(held.halt, halt, (is_single, within))
+        self.assertEqual([run.first for run in held.members(10)], [0, 1])
+        self.assertEqual([self.timeline(twice, came=came).first for came in (NO_FRAME, 0, 7)],
+                         [10, 0, 7])
+        held = self.timeline(twice, lost=[Span(5, 6)])
+        self.assertEqual([held.is_lost(*one) for one in ((6, 9), (7, 9))], [True, False])
+        runs = [Run(0, 3, 0, 5 * TICKS, "s", ""), Run(3, 1, 20 * TICKS, 0, "s", ""),
+                Run(4, 1, 30 * TICKS, 0, "s", "")]
+        texts = [((20, b"a"),), ((20, b"b"),)]
+        held = Timeline(Packets(5, runs, strays=[(0, texts[0]), (4, texts[1])]), (0, 0x88), 0)
+        self.assertEqual(held.strays, [(Span(0, 10), texts[0]), (Span(20, 20), texts[0]),
+                                       (Span(30, 30), texts[1])])
+        self.assertEqual([*held.ends], [10, 20, 30])
+
+    def test_parts_of_a_run(self) -> None:
+        """All runs of three frames, or of none: in each part all have one, or none; they rise."""
+        for frames, least in itertools.product(itertools.product(range(-1, 3), repeat=3), (0, 1)):
+            parts = [*heard_of(Run(5, 3, 70, 10, "h", ""), frames, least)]
+            self.assertEqual(tuple(frame for one in parts for frame in one.frames), frames)
+            firsts = [0, *(at for at in (1, 2) if (frames[at] < 0) != (frames[at - 1] < 0)
+                           or frames[at] < frames[at - 1] + least > NO_FRAME)]
+            self.assertEqual([one.run for one in parts], [
+                Run(5 + first, end - first, 70 + 10 * first, 10, "h", "")
+                for first, end in zip(firsts, [*firsts[1:], 3])], (frames, least))
+
+    def test_near_what_is_due(self) -> None:
+        """From 250 frames before it, or as many as the repeat bound, to as many behind it; of some
+        PES packets alone; nothing where none comes then."""
+        runs = [Run(at, 1, TICKS * 10 * at, 0, "heo" if at != 75 else "-", "0" * (at != 75))
+                for at in range(300)]
+        packets = Packets(5, runs, held=[(at, ((20, b"%d" % at),)) for at in range(300)])
+        for every, inside, first, last in ((25, None, 750, 1450), (400, None, 600, 1600),
+                                           (25, (90, 110), 900, 1100)):
+            held = timeline_near(packets, (0, 0x88), 0, 0, Span(1000, 1200), every, inside,
+                                 [Span(5, 6)])
+            self.assertEqual((held.first, held.last, held.is_lost(6, 7)), (first, last, True))
+            self.assertEqual([held.stretch(at) for at in (0, len(held.frames) - 1)], [
+                Span(held.frames[0], held.frames[0] + 9), Span(last, last)])
+        held = timeline_near(packets, (0, 0x88), 0, 0, Span(9000, 9100), 25)
+        self.assertEqual((held.count, held.first), (0, NO_FRAME))
+
+    def test_what_was_told_before(self) -> None:
+        """Of a range: the rows that were told last, and whether the page was erased before it."""
+        for does, is_told in itertools.product(("he", "h"), (True, False)):
+            runs = [Run(at, 1, TICKS * at, 0, one, "0") for at, one in enumerate(
+                (does, "h", "ho", "he"))]
+            held: list[tuple[int, Texts]] = [(at, ((20, text),)) for at, text in enumerate(
+                (b"w", b"x", b"y", b"z"))]
+            packets = Packets(5, runs, held=held if is_told else held[:2] + held[3:])
+            rows = Timeline(packets, (0, 0x88), 0, 0, (2, 2)).state.rows
+            self.assertEqual((rows[0], rows[19]), ((BLANK_PAGE if "e" in does else OLD_PAGE)[0],
+                                                   b"y" if is_told else b"x"))
+        for marks in ((), (OLD,), (HIT,), (HIT, OLD)):
+            self.assertEqual(cleared((b"a", bytes([*marks, 0x62]))), (
+                b"a", b" " * len(marks) + b"b"))
 
 
 class Clear(unittest.TestCase):

@@ -11,16 +11,15 @@ from typing import Sequence
 from developing.multiplex import Multiplex
 from developing.pes import packet, pes_packet, pts_in
 from subtitles.clock.start import Clock, Found, RECORDING
-from subtitles.common.command_line import Unanswered
 from subtitles.common.times import Between, CLOCK, TICKS
 from subtitles.formats.stl import Subtitle
 from subtitles.judging.part import found_on, moves_told
 from subtitles.recording.recording import silent_in
-from subtitles.stream.gaps import SECOND, marks_told, why_refused
+from subtitles.stream.gaps import why_refused
 from subtitles.stream.packets import Change, Mark, Packets, Run
 from subtitles.stream.ranges import (
     MOST_STAGES, Stage, joined_stages, part_inside, stages_of, up_to)
-from subtitles.stream.survey import Survey, VERSION, names_of, survey
+from subtitles.stream.survey import Survey, names_of, survey
 from .bench import Case, SECONDS
 from .judged import OfProgramme, judged
 from .muxed import Carried, NEW, OLD, Packet, Shape, TELETEXT_PID, THIRD, in_turn, multiplexed
@@ -37,29 +36,6 @@ def moved_to(pid: int, one: Packet) -> bytes:
     return one.data[:1] + bytes([one.data[1] & 0xE0 | pid >> 8, pid & 255]) + one.data[3:]
 
 
-class Answered(Case):
-    """Whether a program's `survey` told all."""
-
-    def test_answered(self) -> None:
-        """By its last line and its status; whatever else it says, of another version too."""
-        begin, over = f"survey {VERSION}", "over 0 9"
-        for lines, status, why in (
-                ([begin, over], 0, None), ([begin], 0, "it did not end, status 0"),
-                ([begin, over], 1, "it did not end, status 1"), (["survey 2", over], 0,
-                                                                 "survey 2, status 0"),
-                ([begin, "fault 2 Read", over], 2, "fault 2 Read, status 2"),
-                (["usage 0 Words"], 2, "usage 0 Words, status 2"),
-                ([begin, "refused 60 Empty", over], 0, "refused 60 Empty, status 0")):
-            heard = Survey()
-            for line in lines:
-                heard.take(line)
-            if why is None:
-                heard.refuse(status)
-            else:
-                with self.subTest(why), self.assertRaisesRegex(Unanswered, f": {why}$"):
-                    heard.refuse(status)
-
-
 class Moves(OfProgramme):
     """Ten subtitles, with a page transmission a second."""
 
@@ -70,16 +46,20 @@ class Moves(OfProgramme):
         return [(one.pid, one.inside) for one in stages_of(found, (0, 0x88))]
 
     def test_many(self) -> None:
-        """A page moves 64 times at most: each costs a look at all that came."""
-        for count, wanted in ((MOST_STAGES, MOST_STAGES), (MOST_STAGES + 1, 0)):
+        """A page moves 64 times at most: each costs a look at all that came. Time goes on each
+        time; what came before the first PCR is of the first PID."""
+        for count, away, wanted in ((MOST_STAGES, 0, MOST_STAGES), (MOST_STAGES + 1, 0, 0),
+                                    (3, 3000, 3), (3, 4000, 0)):
             heard = Survey()
             for number in range(count):
-                pid, pts = (OLD, NEW)[number % 2], 90_000 * 20 * number
-                for line in (f"pcr 100 {pts}", "programme 1 100", f"stream {pid} 6",
+                pid = (OLD, NEW)[number % 2]
+                pcr = 90_000 * (20 * number + away * (number == count - 1))
+                pts = (pcr + 90_000 * (5 if number else -1)) % CLOCK
+                for line in (f"pcr 100 {pcr}", "programme 1 100", f"stream {pid} 6",
                              f"announce {pid} 888 656e67 2",
-                             f"pes {pid} {number // 2} 1 {pts + 90_000 * 5} 0 heo/80080810 3 0"):
+                             f"pes {pid} {number // 2} 1 {pts} 0 heo/80080810 3 0"):
                     heard.take(line)
-            self.must(f"{count}", len(stages_of(heard, PAGE)) == wanted)
+            self.must(f"{count} {away}", len(stages_of(heard, PAGE)) == wanted)
 
     def test_stages(self) -> None:
         """By what the PMT names when, with what may have come in that time."""
@@ -160,7 +140,11 @@ class Moves(OfProgramme):
 
     def test_up_to(self) -> None:
         """Up to the PES packet before the first header on the next PID, or the last header."""
-        new = Stage(Packets(NEW, [Run(0, 1, 50, 0, "he", ""), Run(1, 9, 60, 10, "-", "")]), (0, 9))
+        def stage(pid: int, runs: Sequence[Run], inside: tuple[int, int], shift: int) -> Stage:
+            return Stage(Packets(pid, [one._replace(pts=None if one.pts is None else (
+                one.pts + shift) % CLOCK) for one in runs]), inside)
+
+        own = [Run(0, 1, 20, 0, "he", ""), Run(1, 1, 50, 0, "he", ""), Run(2, 9, 60, 10, "-", "")]
         header = Run(10, 1, 100, 0, "he", "")
         for runs, inside, wanted in (
                 ([Run(0, 10, 0, 10, "-", "")], (0, 9), (0, 4)),
@@ -172,8 +156,9 @@ class Moves(OfProgramme):
                 ([Run(0, 2, 0, 10, "-", ""), Run(2, 1, None, 0, "-", ""),
                   Run(3, 3, 50, 10, "-", "")], (0, 5), (0, 1)),
                 ([Run(0, 10, 0, 10, "-", "")], (3, 9), (3, 4))):
-            stage = up_to(Stage(Packets(OLD, runs), inside), new)
-            self.must(f"{runs} {inside}", stage.inside == wanted, stage.inside)
+            for shift in (0, CLOCK - 30, CLOCK - 50):
+                found = up_to(stage(OLD, runs, inside, shift), stage(NEW, own, (1, 10), shift))
+                self.must(f"{runs} {inside} {shift}", found.inside == wanted, found.inside)
         none = Stage(Packets(NEW, [Run(0, 9, 0, 10, "-", "")]), (0, 8))
         self.must("no header", up_to(none, none).inside == (0, 8))
 
@@ -339,12 +324,13 @@ class Pieces(Case):
                     [(number, ((20, b"held"),)) for number in range(length)],
                     [(number, ((21, b"stray"),)) for number in range(length)],
                     [Change(0, b"changed", number) for number in range(length)],
-                    [Mark(number, None, 1, 0) for number in range(length)])
+                    [Mark(number, None, 1, 0) for number in range(length)], seams=[3], begun=pid)
             for pid, length, begin in ((OLD, 10, 0), (NEW, 4, 20)))
         stages = [Stage(one, (2, 7)), Stage(other, (1, 3))]
         whole = joined_stages(stages)
         self.must("numbers", [(run.first, run.length, run.pts) for run in whole.runs] == [
-            (0, 6, 2 * TICKS), (6, 3, 21 * TICKS)], whole.runs)
+            (0, 6, 2 * TICKS), (6, 3, 21 * TICKS)] and not whole.seams and whole.begun == NEW,
+                  whole)
         for name, found in (("held", [number for number, _ in whole.held]),
                             ("strays", [number for number, _ in whole.strays]),
                             ("changes", [change.number for change in whole.changes]),
@@ -389,19 +375,6 @@ class Written(Case):
             [one] = found.programmes
             self.must("its PCR", (one.number, one.pcr_pid, one.kinds) == (1, 0x1FF0, {PID: 6}), one)
 
-    def test_places(self) -> None:
-        """Where something is missing: twenty lines at most, the last of which counts the others."""
-        for count in (1, 20, 21, 25):
-            made = Packets(PID)
-            for number in range(0, 2 * count, 2):
-                made.runs += [Run(number, 1, SECOND * number, 0, "h", ""),
-                              Run(number + 1, 1, None, 0, "m", "")]
-                made.marks.append(Mark(number + 1, SECOND * number, 1, 0))
-            lines = marks_told(made)
-            more = [f"and at {count - 19} more places"] * (count > 20)
-            self.must(f"{count}", len(lines) == min(count, 20) and [
-                line for line in lines if not line.endswith("1 TS packet lost")] == more, lines)
-
     def test_why_nothing(self) -> None:
         """Why nothing is given of a PID, or nothing more; those of which nothing is are told in
         the order of the PIDs."""
@@ -409,6 +382,8 @@ class Written(Case):
         for pid, packets, scrambled, refusal, count, words in (
                 (6, 3, 2, 0, 0, "PID 0x6 has no whole PES packet in 3 TS packets"),
                 (5, 3, 3, 0, 0, "PID 0x5 is scrambled: all 3 TS packets of it"),
+                (9, 1, 1, 0, 0, "PID 0x9 is scrambled: all 1 TS packet of it"),
+                (10, 9, 9, 0, 1, None),
                 (4, 9, 0, 31, 1, "PID 0x4 has other than PES packets of private_stream_1 from PES "
                                  "packet 1 on: refused 31 Start pes 1"),
                 (7, 9, 1, 32, 2, "PID 0x7 has other than PES packets of 184 to 1656 bytes from PES "
@@ -421,7 +396,7 @@ class Written(Case):
             known.by_pid[pid] = one
             self.must(f"{pid:#x}", why_refused(one) == words, why_refused(one))
         silent = [one.pid for one in silent_in(known)]
-        self.must("silent", silent == [1, 2, 5, 6], silent)
+        self.must("silent", silent == [1, 2, 5, 6, 9], silent)
 
     def test_languages(self) -> None:
         """EBU Tech 3264, appendix 3: those that national options are for, and others."""

@@ -7,7 +7,7 @@ import os
 import random
 import unittest
 from types import SimpleNamespace
-from typing import Any, Callable, Optional, Sequence
+from typing import Any, Optional, Sequence
 from unittest import mock
 
 from developing.multiplex import ADAPTATION_ALONE, BEGINS, PACKET, PAYLOAD, head
@@ -19,11 +19,10 @@ from subtitles.judging.timing import NOT_CHECKED, departures_in, late_jumps, lef
 from subtitles.stream.gaps import Pace, REGULAR
 from subtitles.stream.packets import Packets, Run, announced_in, jumps_at, jumps_told, packets_in
 from subtitles.stream.survey import Departure, Distance, FEW, Line, Step, Survey, departures_of
-from .bench import Case, example_bytes
+from .bench import Case
 from .judged import judged
-from .muxed import Programme, TELETEXT_PID, shown, with_pictures
+from .muxed import Programme, TELETEXT_PID, shown
 from .sent import programme, scheduled, times
-from .test_clock_clocks import BEGIN, FIRST_PTS, STORY
 
 
 # Whether the pictures leave the Teletext: by the lines of `survey`, as tables.
@@ -95,47 +94,12 @@ class Departures(unittest.TestCase):
                      *distances(50, 3, TICKS * 200), *distances(after, 0, TICKS * 300)]
             self.assertEqual(departures_of(lines, PID), [Departure(TICKS * 200, 3 * TICKS)])
         self.assertEqual(departures_of([], PID), [])
-
-    def test_at_random(self) -> None:
-        """Multiplexes with a jitter of up to a frame: none is told that does not leave, and each
-        that leaves is."""
-        kinds: dict[str, Callable[[int], tuple[list[int], float]]] = {
-            "nothing": lambda by: ([], 0), "pictures lost": lambda by: ([by], 0),
-            "both jump": lambda by: ([by], 0), "the multiplexer": lambda by: ([], by),
-            "leaves": lambda by: ([by], -by)}
-        for seed in range(60):
-            chance = random.Random(seed)
-            by, jitter = chance.choice([1, 2, 3, 5, 12, 250]), chance.choice([0, 0.5, 1])
-            count = chance.choice([10, 25, 50])
-            for kind, made in kinds.items():
-                steps, moved = made(by)
-                lines = [*distances(count, jitter=jitter, chance=chance), *map(step, steps),
-                         *distances(count, 6 + moved, TICKS * 100, jitter=jitter, chance=chance)]
-                wanted = [Departure(TICKS * 100, by * TICKS)] * (kind == "leaves")
-                self.assertEqual(departures_of(lines, PID), wanted, (kind, seed))
-
-    def surveyed(self, lines: Sequence[str]) -> Survey:
-        survey = Survey()
-        for line in lines:
-            survey.take(line)
-        return survey
-
-    def test_lines(self) -> None:
-        """Those of `survey`; a program that tells none, and fields of a later one."""
-        lines = [*(f"apart {PID} {TICKS * at} {TICKS * 6} {VIDEO}" for at in range(9)),
-                 f"step {VIDEO} 0 {TICKS * 3} {TICKS} more",
-                 *(f"apart {PID} {TICKS * at} {TICKS * 4} {VIDEO}" for at in range(9, 18)),
-                 f"steps {VIDEO} 1 {TICKS}"]
-        survey = self.surveyed(lines)
-        self.assertEqual(departures_of(survey.picture_clocks[VIDEO].lines, PID),
-                         [Departure(TICKS * 9, 2 * TICKS)])
-        self.assertEqual(survey.picture_clocks[VIDEO].untold, 0)
-        self.assertEqual(self.surveyed([]).picture_clocks, {})
-        for line, has_step, untold in ((f"steps {VIDEO} 0 -", False, 0),
-                                       (f"steps {VIDEO} 0 {TICKS}", True, 0),
-                                       (f"steps {VIDEO} 3 {TICKS}", True, 3)):
-            clock = self.surveyed([line]).picture_clocks[VIDEO]
-            self.assertEqual((clock.has_step, clock.untold), (has_step, untold), line)
+        # One that is far off, and two steps with nothing between.
+        far = Distance(PID, 5, 10 ** 6)
+        lines = [*distances(20), far, step(3), *distances(20, 3, TICKS * 100), step(2), step(2),
+                 *distances(20, 1, TICKS * 200)]
+        self.assertEqual(departures_of(lines, PID), [
+            Departure(TICKS * 100, 3 * TICKS), Departure(TICKS * 200, None, True)])
 
 
 # Pictures that leave the subtitles, judged: what is early or late for viewers, by tables, and a
@@ -220,29 +184,6 @@ class Left(unittest.TestCase):
 class Pairs(Case):
     """A pair of which the program tells it."""
 
-    def test_refused(self) -> None:
-        """By a name of its own, with the time; another programme's video says nothing."""
-        data = with_pictures(example_bytes("story.pes"), FIRST_PTS).data
-        path, end = self.write("one.ts", data), Survey.take_over
-        rows: list[tuple[int, list[str], str]] = [
-            (12, [], "refused"), (-3, [], "refused"), (-3, ["--within", "3"], "accepted"),
-            (0, [], "accepted")]
-        for frames, words, word in rows:
-            def take_over(survey: Survey, *more: str) -> None:
-                for line in lines_of_step(frames, BEGIN + 100) if frames else []:
-                    survey.take(line)
-                end(survey, *more)
-
-            with mock.patch.object(Survey, "take_over", take_over):
-                found = judged(self, STORY, path, "--origin", "0", *words)
-            self.must(f"{frames} {words}", found.word == word, found.said)
-            line = "refused pictures left frame 20:15:04:00"
-            self.must(f"{frames} {words}: line", (line == found.result["line"]) ==
-                      (word == "refused"), found.result["line"])
-            way = "12 frames early" if frames > 0 else "3 frames late"
-            self.must(f"{frames}: sentence", word != "refused" or f"from 20:15:04:00 on subtitles "
-                      f"come {way} for viewers" in found.verdict.sentence, found.verdict.sentence)
-
     def test_by_recordings(self) -> None:
         """Of recordings in which they do so in the middle, a minute behind the first group."""
         stl = programme(self, times(20))
@@ -277,7 +218,7 @@ def ts_packet(pid: int = PID, begin: Optional[int] = None, field: Optional[int] 
         bytes([30, field]).ljust(31, b"\xff")
     if not has_payload:
         made = bytes([PACKET - 5]) + made[1:].ljust(PACKET - 5, b"\xff")
-    data = b"\x55" * PACKET if begin is None else pes_packet(begin, [])
+    data = b"\xd5" * PACKET if begin is None else pes_packet(begin, [])
     control = PAYLOAD * has_payload | ADAPTATION_ALONE * (field is not None)
     return (head(pid, BEGINS * (begin is not None), control) + made + data)[:PACKET]
 
@@ -299,7 +240,7 @@ class Announced(Case):
                 ("last", [first, says, plain], []), ("two", [says, alone, first], [5]),
                 ("each", [both, second, says, first], [9, 5]),
                 ("another flag", [ts_packet(field=0x40), first], []),
-                ("an empty field", [ts_packet(begin=9, field=0), first], [])]
+                ("an empty field", [ts_packet(field=0), first], [])]
         for name, packets, wanted in rows:
             told = [*announced_in(iter(packets))]
             self.must(name, told == wanted, told)
@@ -318,8 +259,10 @@ class Announced(Case):
                                ("between", b"junk ".join(cut)),
                                ("at the end", b"".join(cut) + b"G"),
                                ("often", b"junk ".join(often))):
-                told = [*packets_in(io.BytesIO(data), size, PID)]
-                self.must(f"{size} {name}", told == own, len(told))
+                for most in (1 << 22, 7000, 2000):
+                    with mock.patch("subtitles.stream.packets.AT_A_TIME", most):
+                        told = [*packets_in(io.BytesIO(data), size, PID)]
+                    self.must(f"{size} {name} {most}", told == own, len(told))
         self.must("no packet", not [*packets_in(io.BytesIO(b""), 188, PID)]
                   and not [*packets_in(io.BytesIO(b"G" * 100), 188, PID)])
 
@@ -341,7 +284,7 @@ class Announced(Case):
                 pairs = [(pts[frames.index(one)], pts[frames.index(other)])
                          for one, other in wanted]
                 self.must(f"{origin} {usual} {inside}", told == pairs, told)
-                packets.seams = [frames.index(frame) for frame in (2, 5, 8)]
+                packets.seams = [frames.index(frame) for frame in (2, 5, 5, 8)]
                 told = jumps_told(packets, inside, usual)
                 self.must(f"{origin} {usual} {inside}: as survey tells", told == pairs, told)
         self.must("before the first", jumps_told(Packets(PID, packets.runs, seams=[0, 99]), (0, 7),
@@ -367,12 +310,3 @@ class Announced(Case):
             told = late_jumps(part, Pace(REGULAR, apart))
             self.must(f"{origin} {apart}", told == ([
                 (pts_of(one, origin), pts_of(other, origin)) for one, other in late], others), told)
-
-    def test_lines(self) -> None:
-        """Those of a program that tells jumps; of another one the stream is looked at."""
-        for line, is_told in ((f"seam {PID} 7", True), (f"seam {PID} 7 more", True),
-                              ("steps 512 0 -", True), (f"teletext {PID}", False)):
-            survey = Survey()
-            survey.take(line)
-            self.must(line, survey.tells_seams == is_told and (
-                "seam" not in line or survey.by_pid[PID].seams == [7]))

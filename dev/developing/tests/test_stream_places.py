@@ -18,8 +18,7 @@ from subtitles.request.request import request_of
 from subtitles.results.files import found, is_current
 from subtitles.results.schema import ASKED
 from subtitles.stream.gaps import (
-    ClockJump, MOST_LATE, Place, SECOND, jumps_of, late_of, overlap, places_of, reach_of, what_of,
-    why_refused)
+    ClockJump, MOST_LATE, Place, SECOND, jumps_of, late_of, overlap, places_of, reach_of, what_of)
 from subtitles.stream.packets import Clocked, Mark, Packets, Run
 from subtitles.stream.survey import ProgramMap, Survey, survey
 from ..cited import too_long
@@ -27,34 +26,14 @@ from ..definitions import Library, counts
 from ..promises import clauses_in, unknown_clauses
 from .bench import Case
 from .judged import judged
-from .listings import Lines
 from .muxed import Packet, Shape, TELETEXT_PID, in_frames, multiplexed, stream, without
 from .parts import asked_for, call_words
 from .sent import packets, programme, scheduled
 
 
-# Why nothing of a PID is given, or nothing more; where something is missing, and how late PTS are.
+# Where something is missing, and how late PTS are.
 
 Jump = Tuple[int, int]  # the PTS around one
-ONE = [Run(0, 1, 0, 0, "-", "")]
-
-
-class Refused(Case):
-    """The whole table, with one of several TS packets that is scrambled."""
-
-    def test_why(self) -> None:
-        for packets, wanted in (
-                (Packets(5), "PID 0x5 carries nothing"),
-                (Packets(5, packets=1, scrambled=1),
-                 "PID 0x5 is scrambled: all 1 TS packet of it"),
-                (Packets(5, packets=9, scrambled=9),
-                 "PID 0x5 is scrambled: all 9 TS packets of it"),
-                *((Packets(5, packets=9, scrambled=count),
-                   "PID 0x5 has no whole PES packet in 9 TS packets") for count in (0, 1, 8)),
-                (Packets(5, ONE, packets=9, scrambled=9), None),
-                (Packets(5, ONE, packets=9), None)):
-            told = why_refused(packets)
-            self.must(f"{packets.packets} {packets.scrambled}", told == wanted, told)
 
 
 class Places(Case):
@@ -70,7 +49,8 @@ class Places(Case):
                 ([], [], [jump, (7 * TICKS, 8 * TICKS)],
                  [(jump, True), ((7 * TICKS, 8 * TICKS), True)]),
                 ([], [clocked], [jump], [(jump, False)]),
-                ([Mark(4, 3 * TICKS, 2, 0)], [], [jump], [(jump, False)])]
+                ([Mark(4, 3 * TICKS, 2, 0)], [], [jump, (7 * TICKS, 8 * TICKS)],
+                 [(jump, False), ((7 * TICKS, 8 * TICKS), True)])]
         for marks, clocks, jumps, wanted in rows:
             own = [run._replace(pts=None, fault=45) if run.first in {mark.number for mark in marks}
                    else run for run in runs]
@@ -80,17 +60,6 @@ class Places(Case):
             self.must(f"{marks} {clocks} {jumps}", told == wanted, told)
         self.must("said", what_of(Place(1, 2, is_announced=True)) == "more time passes than usual, "
                   "and a jump of the counter is announced")
-
-    def test_marks(self) -> None:
-        """Each is behind the last PTS before it, which several PES packets in a row end with."""
-        one, last = Lines(TELETEXT_PID), SECOND + 4 * TICKS
-        lines = [one.gap(1), one.pes(SECOND, "", 5, TICKS), one.gap(2), one.gap(3),
-                 one.pes(9 * SECOND, ""), one.gap(4)]
-        known = Survey()
-        for line in lines:
-            known.take(line)
-        found = [mark.before for mark in known.by_pid[TELETEXT_PID].marks]
-        self.must("before", found == [None, last, last, 9 * SECOND], found)
 
     def test_which_are_one(self) -> None:
         """Two places are one where both lack what is between the same PES packets: not where one
@@ -134,10 +103,11 @@ class Late(Case):
             known = Survey()
             self.must(f"{samples}: no PCR", reach_of(known, packets) is None)
             known.programmes = [ProgramMap(1, 0x200, {5: 6})]
-            known.clocks[0x200] = 1000, 90_000
             self.must(f"{samples}", late_of(packets) == late)
-            reach = 1000 + ahead, 90_000 - late
-            self.must(f"{samples}: reach", reach_of(known, packets) == reach)
+            for first in (1000, CLOCK - 1, CLOCK - 8):
+                known.clocks[0x200] = first, 90_000
+                self.must(f"{samples}: reach", reach_of(known, packets) == (
+                    (first + ahead) % CLOCK, 90_000 - late))
 
 
 # Holes of a recording that the counters of its PID do not tell, and clocks that jump.

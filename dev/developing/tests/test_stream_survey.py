@@ -1,18 +1,25 @@
-"""The lines of `survey`: decoding times, first pictures, clocks, PES packets, and what ends them.
+"""The lines of `survey`: decoding times, first pictures, clocks, PES packets, and what ends them;
+what the tools know by them.
 
 Recordings are made here, and the lines that there are of them by docs/manual/survey.md.
 """
 from __future__ import annotations
 
-from typing import Collection, Iterable, Sequence
+import os
+from typing import Callable, Collection, Iterable, Sequence
 
 from developing.pes import packet, pes_packet
+from subtitles.common.command_line import Unanswered
 from subtitles.common.times import CLOCK, TICKS
+from subtitles.stream.packets import Change, Clocked, Mark, Packets, Run, Texts
+from subtitles.stream.survey import (
+    Announced, Distance, Lines, PictureClock, ProgramMap, Step, Survey, VERSION, Video, runs_told,
+    survey)
 from .bench import Case
 from .muxed import (
     AHEAD, AUDIO_PID, SLICES, TELETEXT_PID, VIDEO_PID, Maker, Programme, components, filler,
     mpeg_2_picture, shown, spaced, video_packet)
-from .sent import CLOSING, HEADER
+from .sent import CLOSING, HEADER, PAGE
 
 FIRST = 1_000_000  # the PTS of a first picture, and of a first PES packet of Teletext
 LAST = FIRST + 100_000 * TICKS  # that of a last one
@@ -310,3 +317,156 @@ class PesPackets(Case):
             self.must(f"a file, {cut}", lines == [
                 f"pes 0 {run}", *["damaged 0 1500 cut"][:cut], f"end 0 1500 0 0 0 0 0 {last}",
                 "over 0 0"], lines)
+
+
+# What is known by such lines.
+
+class Answered(Case):
+    """Whether a program's `survey` told all."""
+
+    def test_answered(self) -> None:
+        """By its last line and its status; whatever else it says, of another version too."""
+        begin, over = f"survey {VERSION}", "over 0 9"
+        for lines, status, why in (
+                ([begin, over], 0, None), ([begin], 0, "it did not end, status 0"),
+                ([begin, over], 1, "it did not end, status 1"), (["survey 2", over], 0,
+                                                                 "survey 2, status 0"),
+                ([begin, "fault 2 Read", over], 2, "fault 2 Read, status 2"),
+                (["usage 0 Words"], 2, "usage 0 Words, status 2"),
+                ([begin, "refused 60 Empty", over], 0, "refused 60 Empty, status 0")):
+            heard = Survey()
+            for line in lines:
+                heard.take(line)
+            if why is None:
+                heard.refuse(status)
+            else:
+                with self.subTest(why), self.assertRaisesRegex(Unanswered, f": {why}$"):
+                    heard.refuse(status)
+
+
+    def test_lines(self) -> None:
+        """What is known by each kind of line, the first and the last of it; what is told besides is
+        for later versions."""
+        def on_5(heard: Survey) -> Packets:
+            return heard.by_pid[5]
+
+        rows: list[tuple[str, Callable[[Survey], object], object]] = [
+            ("head 4740", lambda it: it.head, b"G@"), ("head ", lambda it: it.head, b""),
+            ("size 0", lambda it: it.size, 0), ("size 204", lambda it: it.size, 204),
+            ("over 12 9", lambda it: (it.skipped, it.is_whole), (12, True)),
+            ("teletext 5", lambda it: [*it.by_pid], [5]), ("later 1 2", vars, vars(Survey())),
+            ("pcr 9 7; pcr 9 5; pcr 8 0", lambda it: it.clocks, {9: (7, 5), 8: (0, 0)}),
+            ("programme 2 9; stream 5 6; stream 9 27; announce 5 888 656e67 2; "
+             "announce 5 150 e96e67 5; announce 5 8FF 656e67 1; programme 1 8; stream 9 2",
+             lambda it: it.programmes,
+             [ProgramMap(2, 9, {5: 6, 9: 27}, {5: [
+                 Announced((0, 0x88), "eng", 2), Announced((1, 0x50), "\xe9ng", 5),
+                 Announced((0, 0xFF), "eng", 1)]}), ProgramMap(1, 8, {9: 2})]),
+            ("sub 5 888; subs 5 888 9; subs 5 150 7", lambda it: on_5(it).sent,
+             {"888": 9, "150": 7}),
+            ("programme 1 9; stream 5 6; announce 5 888 656e67 2; announce 5 888 656e67 2; "
+             "sub 5 889; " + "; ".join(f"sub 5 2{page}" for page in range(10, 22)),
+             lambda it: it.lines(), [
+                 "PID 0x5: announced 888 eng subtitles in programme 1; subtitle pages sent: 210 "
+                 "211 212 213 214 215 216 217 218 219 220 221 and 1 more"]),
+            # The PCR before a PMT is that of its PID, or of a PID before, of eight at most.
+            *((f"pcr 9 5; programme 1 9; pcr 9 8; {more}",
+               lambda it: [one.after for one in it.programmes[1:]], wanted) for more, wanted in (
+                   ("pcr 8 20; programme 1 8; programme 1 7; programme 2 7; programme 1 9",
+                    [20, 20, None, 8]),
+                   ("; ".join(["programme 1 7"] * 9), [8] * 9),
+                   ("; ".join(f"programme 1 {pid}" for pid in range(10, 20)),
+                    [8] * 8 + [None] * 2))),
+            ("pes 5 3 2 - 0 -/ 4 33; pes 5 5 9 0 -10 he/08080810+0 1 0", lambda it: on_5(it).runs,
+             [Run(3, 2, None, 0, "-", "", 4, 33), Run(5, 9, 0, -10, "he", "08080810+0", 1)]),
+            ("gap 5 0 1 2; pes 5 1 5 7 10 -/ 1 0; gap 5 6 3 0; gap 5 7 0 4; pes 5 8 1 9 0 -/ 1 0; "
+             "gap 5 9 1 0", lambda it: (on_5(it).marks, [run.first for run in on_5(it).runs]),
+             ([Mark(0, None, 1, 2), Mark(6, 47, 3, 0), Mark(7, 47, 0, 4), Mark(9, 9, 1, 0)],
+              [0, 1, 6, 7, 8, 9])),
+            ("clock 5 - 9 900 8 90 7 broken; clock 5 0 - -1 2 3 4 whole",
+             lambda it: on_5(it).clocked, [Clocked(None, 9, 900, 8, 90, 7, "broken"),
+                                           Clocked(0, None, -1, 2, 3, 4, "whole")]),
+            ("ahead 5 9 -7; ahead 5 0 3", lambda it: on_5(it).samples, [(9, -7), (0, 3)]),
+            ("set 5 28 0 1 -; set 5 29 4 - 7", lambda it: on_5(it).sets,
+             [(28, 0, 1, None), (29, 4, None, 7)]),
+            ("strays 5 3 20:41,21:4243; strays 5 9 -", lambda it: on_5(it).strays,
+             [(3, ((20, b"A"), (21, b"BC"))), (9, ())]),
+            # A space that was hit, and a row of spaces, change no text.
+            ("pes 5 0 1 100 0 he/ 1 0; rows 5 0 20:2041a042; pes 5 1 3 200 50 o/ 1 0; "
+             "rows 5 1 20:20412042,21:2020; rows 5 3 -; pes 5 4 1 9 0 o/ 1 0; rows 5 4 20:20412042",
+             lambda it: (on_5(it).held, on_5(it).changes),
+             ([(0, ((20, b" A\xa0B"),)), (1, ((20, b" A B"), (21, b"  "))), (3, ()),
+               (4, ((20, b" A B"),))],
+              [Change(100, b"AB", 0, ((20, b" A B"),)), Change(300, b"", 3),
+               Change(9, b"AB", 4, ((20, b" A B"),))])),
+            ("damaged 5 3 start", lambda it: on_5(it).damage,
+             "PES packet 3 does not begin with 00 00 01 BD"),
+            ("damaged 5 0 cut", lambda it: on_5(it).damage, "PES packet 0 is cut"),
+            *((f"end 5 7 8 30 4 {refusal} {cut} {begun}", lambda it: (
+                on_5(it).packets, on_5(it).scrambled, on_5(it).refusal, on_5(it).is_cut,
+                on_5(it).begun), (30, 4, refusal, bool(cut), pts))
+              for refusal, cut, begun, pts in ((31, 1, "77", 77), (0, 0, "-", None), (0, 0, 0, 0))),
+            ("seam 5 7; seam 5 9", lambda it: (on_5(it).seams, it.tells_seams), ([7, 9], True)),
+            ("video 9 3; picture 9 0; picture 9 -; group 9 0 1 open", lambda it: (
+                it.videos, it.tells_seams), ({9: Video(3, [0, None], form="open")}, True)),
+            ("pictures 9 1 2", lambda it: it.videos, {9: Video(0, [], 1, 2)}),
+            ("video 9 3; pictures 9 1 2 0 1", lambda it: it.videos, {9: Video(3, [], 1, 2, True)}),
+            ("pictures 9 0 0 7 0", lambda it: it.videos, {9: Video(7, [], 0, 0, True)}),
+            ("apart 5 7 -9 9; step 9 1 2 3; apart 5 8 0 9; steps 9 4 -; steps 8 2 5",
+             lambda it: (it.picture_clocks, it.tells_seams),
+             ({9: PictureClock([Distance(5, 7, -9), Step(1, 2, 3), Distance(5, 8, 0)], 3, False),
+               8: PictureClock([], 2, True)}, True))]
+        for lines, known, wanted in rows:
+            for more in ("", " more")[:1 if "sub" in lines or "pictures" in lines else 2]:
+                heard = Survey()
+                for line in lines.split("; "):
+                    heard.take(line + more)
+                self.must(f"{lines}{more}", known(heard) == wanted, known(heard))
+
+    def teller(self, lines: Sequence[str], status: int = 0) -> str:
+        """One that tells these lines, its words as bytes of the head, and what is not ASCII."""
+        path = self.write("program", "\n".join([
+            "#!/bin/sh", "echo survey 1", r"printf 'later \377\n'",
+            "echo head $(printf %s \"$*\" | od -An -v -tx1 | tr -d ' \\n')",
+            *(f"echo '{line}'" for line in lines), "echo over 0 9", f"exit {status}"]).encode())
+        os.chmod(path, 0o755)
+        return path
+
+    def test_calls(self) -> None:
+        """What the program is asked for, a look after each line, and its status."""
+        looks = list[int]()
+        found = survey(self.teller([]), "-one.ts", PAGE, 5, 204, lambda: looks.append(1))
+        self.must("words", found.head == b"survey --page 888 --pid 0x5 --packet-size 204 -- -one.ts"
+                  and len(looks) == 4, found.head)
+        found = survey(self.teller([]), "one.ts", PAGE)
+        self.must("no more", found.head == b"survey --page 888 -- one.ts", found.head)
+        with self.assertRaises(Unanswered):
+            survey(self.teller([], 3), "one.ts", PAGE)
+
+    def test_runs(self) -> None:
+        """Each run of a file with what is told behind it, before all is told; then the status."""
+        runs = [f"pes 0 {number} 1 {number} 0 -/ 1 0" for number in range(4)]
+        rows = "rows 0 0 20:41", "rows 0 2 -", "rows 0 3 20:41"
+        lines = [runs[0], rows[0], runs[1], runs[2], rows[1], runs[3], rows[2]]
+        for count, wanted in enumerate([[], [((20, b"A"),)], [((20, b"A"),), None]]):
+            told = [*runs_told(self.teller(lines[:2 * count - (count == 2)]), "one.pes", PAGE)]
+            self.must(f"{count}", [texts for _, texts in told] == wanted, told)
+        told = list[tuple[Run, Texts | None]]()
+        with self.assertRaises(Unanswered):
+            for one in runs_told(self.teller(lines, 3), "one.pes", PAGE):
+                told.append(one)
+        self.must("all", [(run.first, texts) for run, texts in told] == [
+            (0, ((20, b"A"),)), (1, None), (2, ())], told)
+
+    def test_lines_of_a_feed(self) -> None:
+        """Each that has come whole, once it is taken; up to the end."""
+        reading, writing = os.pipe()
+        taken = Survey()
+        with os.fdopen(reading, "rb") as out:
+            lines, known = Lines(out, taken), list[tuple[str, object]]()
+            for data in (b"pcr 9 7\npc", b"r 9 8\npcr 9 9\n", b"pc", b""):
+                os.write(writing, data) if data else os.close(writing)
+                known += [(line, taken.clocks.get(9)) for line in lines.take()]
+                self.must(f"{data!r}", lines.has_ended == (not data))
+        self.must("lines", known == [("pcr 9 7", (7, 7)), ("pcr 9 8", (7, 8)),
+                                     ("pcr 9 9", (7, 9))], known)

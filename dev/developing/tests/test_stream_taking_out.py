@@ -1,5 +1,4 @@
-"""Which PES packets are taken of a recording; ts2pes and pes2ts, called: what they write, print and
-tell."""
+"""ts2pes and pes2ts, called: what they write, print and tell."""
 from __future__ import annotations
 
 import os
@@ -8,19 +7,16 @@ import resource
 import select
 import subprocess
 import time
-from typing import Any, NamedTuple, Sequence
+from typing import Any, Sequence
 
 from developing.pes import MARK, pes_packet
-from subtitles.common.times import CLOCK, TICKS, frame_of
-from subtitles.stream.ranges import cut_of
+from subtitles.common.times import TICKS
 from ..every_place.recordings import carried
 from .bench import Case, Done, SECONDS, example, example_bytes, tool_path
-from .parts import packets_told
-from .sent import CLOSING, HEADER, moved, packets, row
+from .sent import HEADER, packets, row
 
 PES = example("story.pes")
 STORY = packets(example_bytes("story.pes"))  # at the seconds 0, 3, 5.5, 7 and 9
-WHOLE = frame_of("20:15:00:00") or 0, frame_of("20:15:09:00") or 0
 PID, PAYLOAD = "0x101", 184
 # MB of transport stream a second of a processor that goes through PLAIN in a plain loop: where
 # --speed is asked for, and on a machine that does other things too; and how often that is tried.
@@ -60,74 +56,6 @@ class Fed:
         """Hands on no more."""
         assert self.process.stdin
         self.process.stdin.close()
-
-
-class Taken(NamedTuple):
-    """What is asked of `cut_of`."""
-
-    begin: int = WHOLE[0]
-    end: int = WHOLE[1]
-    origin: int = 0
-    every: int | None = None
-    within: int = 0
-    inside: tuple[int, int] | None = None
-
-
-class Cuts(Case):
-    """Which PES packets are of some frames."""
-
-    @staticmethod
-    def rows() -> list[tuple[str, list[bytes], Taken, tuple[int, int] | None, str]]:
-        """PES packets and what is asked; the numbers of those that are taken; what is told."""
-        broken = [STORY[0], moved(STORY[1], lambda _, pts: pts + 17),
-                  STORY[2][:7] + b"\0" + STORY[2][8:], STORY[3][:100] + b"\0" * 84, STORY[4]]
-        hidden = [one[:46] + b"\xff" + one[47:] if number in (0, 1, 3) else one
-                  for number, one in enumerate(STORY)]
-        far = moved(STORY[1], lambda _, pts: pts + 10_000 * TICKS)
-        early, first, none_of = (pes_packet(6561000000 - frames * TICKS, [HEADER, CLOSING])
-                                 for frames in (20, 250, 251))
-        last = moved(STORY[4], lambda _, pts: pts + TICKS)
-        whole, bound = "from 20:15:00:00 to 20:15:09:00", Taken(every=250)
-        some = "2 of 4 PES packets, from 20:15:03:00 to 20:15:05:12"
-        none = "is of these frames and comes with, or after, a header of the page there"
-        return [
-            ("all", STORY, Taken(), (0, 4), f"5 of 5 PES packets, {whole}"),
-            ("with a bound", STORY, bound, (0, 4), f"5 of 5 PES packets, {whole}"),
-            ("some", STORY, Taken(WHOLE[0] + 74, WHOLE[0] + 137), (1, 2), some),
-            ("one", STORY, Taken(WHOLE[0] + 137, WHOLE[0] + 137), (2, 2),
-             "1 of 4 PES packets, from 20:15:05:12 to 20:15:05:12"),
-            ("numbers", STORY, Taken(inside=(1, 2)), (1, 2), some),
-            ("none", STORY, Taken(90_000, 180_000), None, f"none of 5 PES packets {none}"),
-            ("an origin", [moved(one, lambda _, pts: pts + CLOCK - TICKS) for one in STORY],
-             Taken(origin=CLOCK - TICKS), (0, 4), f"5 of 5 PES packets, {whole}"),
-            ("another origin", STORY, Taken(origin=3600), (1, 4),
-             "4 of 5 PES packets, from 20:15:02:24 to 20:15:08:24"),
-            ("a bound of 20", [early, *STORY], Taken(every=20), (0, 5),
-             "6 of 6 PES packets, from 20:14:59:05 to 20:15:09:00"),
-            ("a bound too short", [early, *STORY], Taken(every=19), (1, 5),
-             f"5 of 6 PES packets, {whole}"),
-            ("a bound of 250", [first, *STORY], bound, (0, 5),
-             "6 of 6 PES packets, from 20:14:50:00 to 20:15:09:00"),
-            ("behind that", [none_of, *STORY], bound, (1, 5), f"5 of 6 PES packets, {whole}"),
-            ("a tick early", [moved(one, lambda _, pts: pts - 1) for one in STORY], Taken(), (1, 4),
-             "4 of 5 PES packets, from 20:15:02:24 to 20:15:08:24"),
-            ("within", [moved(one, lambda _, pts: pts - 1) for one in STORY],
-             Taken(within=1), (0, 4), f"5 of 5 PES packets, {whole}"),
-            ("broken", broken, Taken(), (0, 4), f"5 of 5 PES packets, {whole}"),
-            ("begins with a header", hidden, Taken(), (2, 4),
-             "3 of 5 PES packets, from 20:15:05:12 to 20:15:09:00"),
-            ("a wrong PTS alone", [STORY[0], far, *STORY[2:], last, last, b"no PES packet"], bound,
-             (0, 4), f"5 of 6 PES packets, {whole}"),
-            ("it is cut", [*STORY[:4], STORY[4][:-1]], Taken(), (0, 3),
-             "4 of 4 PES packets, from 20:15:00:00 to 20:15:07:00")]
-
-    def test_are_taken(self) -> None:
-        """The numbers of the PES packets that are taken, and what is told of them."""
-        for name, pes, asked, wanted, told in self.rows():
-            found = cut_of(packets_told(self, b"".join(pes)), *asked)
-            self.must(name, (found.range, found.words()) == (wanted, told), found)
-        found = cut_of(packets_told(self, b"".join(STORY), (1, 0)), *Taken())
-        self.must("another page", found.range is None, found)
 
 
 class Streams(Case):

@@ -12,13 +12,12 @@ from typing import Any, Sequence
 from subtitles.clock.alignment import MOST_BASES, Shown, bases_of
 from subtitles.clock.start import Clock, Found, RECORDING
 from subtitles.clock.stretches import LACKED, LEAST_BREAK, Stretch, by_breaks, find_row
-from subtitles.common.command_line import Unanswered
 from subtitles.common.times import (
-    CLOCK, FRAMES_OF_A_DAY, Spans, TICKS, joined_spans, ticks_within)
+    CLOCK, FRAMES_OF_A_DAY, Spans, TICKS, joined_spans, ticks_between, ticks_within)
 from subtitles.judging.timing import last_time
 from subtitles.stream.gaps import (
     ClockJump, Place, SECOND, jumps_of, place_line, places_of, strange_of, what_of)
-from subtitles.stream.packets import Change, Clocked, Mark, Packets, Run
+from subtitles.stream.packets import Change, Clocked, Mark, Packets, Run, headers_in
 from subtitles.stream.ranges import cut_of
 from subtitles.stream.survey import Survey
 from .parts import asked_for
@@ -77,6 +76,36 @@ class Times(unittest.TestCase):
             for later in (-room, -1, 0, 1, length // 2, length, length + room - 1):
                 self.assertEqual(ticks_within(first, length, (first + later) % CLOCK), later,
                                  (length, first))
+
+    def test_packets(self) -> None:
+        """What is said of PES packets, held against a plain list of them."""
+        chance = random.Random(7)
+        for _ in range(400):
+            packets, known = Packets(5), list[tuple[int, int | None, str]]()
+            for _ in range(chance.randrange(7)):
+                pts = chance.choice((None, 0, CLOCK - 2 * TICKS, 5 * TICKS, 9 * TICKS))
+                run = Run(len(known), chance.randrange(1, 8), pts,
+                          chance.choice((0, TICKS, -TICKS)), chance.choice(("h", "oh", "-")), "")
+                known += [(run.first + at, None if pts is None else (pts + run.step * at) % CLOCK,
+                           run.does) for at in range(run.length)]
+                packets.runs.append(run)
+                self.assertEqual((run.last, packets.count), (known[-1][1], len(known)))
+            first, last = chance.randrange(-1, 20), chance.randrange(-1, 40)
+            inside = [one for one in known if first <= one[0] <= last]
+            self.assertEqual([one for run in packets.inside(first, last)
+                              for one in Packets(5, [run])], inside)
+            self.assertEqual(list(packets), known)
+            for does, some, several in (("", None, known), ("h", (first, last), inside)):
+                self.assertEqual(list(packets.pts(some, does)), [
+                    pts for _, pts, done in several if pts is not None and does in done])
+            self.assertEqual([packets.pts_at(number) for number in range(-1, len(known) + 1)],
+                             [None, *(pts for _, pts, _ in known), None])
+            timed = [(number, pts) for number, pts, _ in known if pts is not None]
+            begins = [0] + [timed[at][0] for at in range(2, len(timed) - 1) if all(
+                ticks_between(new, old) > 0 for _, old in timed[at - 2:at]
+                for _, new in timed[at:at + 2])]
+            self.assertEqual([base.start for base in packets.bases()], begins)
+        self.assertEqual(headers_in("0808081f+10"), (bytes([0, 8, 0, 8, 0, 8, 1, 15]), b"\1\0"))
 
     def test_bases(self) -> None:
         """PTS may go on over 2^33; two in a row before the two that came before begin a base, also
@@ -139,21 +168,6 @@ class Times(unittest.TestCase):
                                 9 * at, 9 * at + 9) for at, (base, start) in enumerate(tracks)]
             self.assertEqual([one.end for one in by_breaks(row)], ends, tracks)
 
-    def test_what_is_no_survey(self) -> None:
-        """A program that fails, knows no such words or refuses has its line told; one that ends
-        early, or fails behind its last line, is no answer either."""
-        for lines, status, said in (
-                (["fault 41 Read pes 3"], 2, "fault 41 Read pes 3, status 2"),
-                (["usage 0 Words"], 2, "usage 0 Words, status 2"),
-                (["refused 31 Start pes 0"], 1, "refused 31 Start pes 0, status 1"),
-                (["pcr 513 7"], 0, "it did not end, status 0")):
-            survey = Survey()
-            for line in lines:
-                survey.take(line)
-            with self.assertRaises(Unanswered) as told:
-                survey.refuse(status)
-            self.assertEqual(str(told.exception), f"survey was not answered: {said}")
-
     def test_clock_of_the_last_map(self) -> None:
         """Of several programmes with a PID the last one that was told."""
         survey = Survey()
@@ -166,17 +180,18 @@ class Times(unittest.TestCase):
 
     def test_strange(self) -> None:
         """From which PTS on, how many, and the worst of them, early or late."""
-        usual = [(SECOND * at, 1000) for at in range(9)]
         rows: list[tuple[list[int], list[tuple[str, int, int]]]] = [
                 ([], []), ([-5, -700, -20], [("behind", 3, -700)]), ([-1], [("behind", 1, -1)]),
                 ([SECOND, SECOND + 1], [("early", 1, SECOND + 1), ("changed", 2, SECOND - 999)]),
-                ([1000 + SECOND // 2], []), ([1001 + SECOND // 2], [("changed", 1, 45_001)]),
+                ([1000 + SECOND // 2], []), ([1001 + SECOND // 2] * 20, [("changed", 20, 45_001)]),
                 ([-45_000, 47_000], [("behind", 1, -45_000), ("changed", 2, -46_000)])]
-        for more, wanted in rows:
-            samples = [*usual, *((SECOND * at, ahead) for at, ahead in enumerate(more, 9))]
+        # Behind the first minute, and before it, where PTS begin anew in that.
+        for begin, (more, wanted) in itertools.product((61, -100), rows):
+            ahead = [*enumerate([30_000, *[1000] * 8]), *enumerate(more, begin)]
+            samples = [(SECOND * (at - 3) % CLOCK, one) for at, one in ahead]
             found = list(strange_of(packets_with([], samples=samples)))
             self.assertEqual([(one.kind, one.number, one.worst) for one in found], wanted, more)
-            self.assertTrue(all(one.among == len(samples) and one.pts >= SECOND * 9
+            self.assertTrue(all(one.among == len(samples) and one.pts in dict(samples[9:])
                                 for one in found))
 
     def test_places(self) -> None:
@@ -188,7 +203,7 @@ class Times(unittest.TestCase):
                 ([], [hole, hole], [(500, 90_000)] * 2),
                 ([1], [], [(100, 0)]), ([1], [hole], [(100, 0), (500, 90_000)]),
                 ([1], [clocked(150, 99_000, "broken")], [(100, 0)]),
-                ([], [clocked(500, 99_000, "whole")], [])]
+                ([], [clocked(500, 99_000, "whole"), clocked(500, 99_000, "unknown")], [])]
         for marks, several, wanted in rows:
             packets = packets_with([100, None, 200, 600], clocked=several, marks=[
                 Mark(number, 100, 3, 0) for number in marks])
@@ -228,6 +243,10 @@ class Times(unittest.TestCase):
              True, False, 4),
             ("with one in two PES packets of a frame", "80 he, 80 b, 100 he, 200 heb", late,
              (0, 3), True, False, 4),
+            ("whose header is in the second", "79 he, 80 -, 80 hb, 100 he, 200 heb", late, (1, 4),
+             True, False, 5),
+            ("with the last blank one, before a mark", "80 heb, m, 100 hex, 200 heb", every, (0, 3),
+             True, False, 4),
             ("which is no sending within 0", "80 he, 80 b, 100 he, 200 heb", every, (2, 3), True,
              False, 4),
             # Where it ends.
@@ -247,6 +266,12 @@ class Times(unittest.TestCase):
              True, 4),
             ("late: with one that ends, where one before did",
              "100 heo, 101 c, 200 heob, 201 cb, 202 -", late, (0, 3), True, True, 5),
+            ("late: what is a little early is of its frame", "74.8 heb, 99.8 he, 199.8 heb, 203 -",
+             late, (0, 2), True, True, 4),
+            ("late: what ended it before tells nothing",
+             "80 heo, 81 c, 100 heo, 200 heob, 201 -, 210 -", late, (2, 3), True, True, 5),
+            ("late: that again, in two PES packets of a frame",
+             "100 heo, 101 c, 200 heob, 201 cb, 202 heob, 225 heob", late, (0, 3), True, True, 5),
             ("late: as late as may be", "100 he, 201 he, 202 he, 203 -", late, (0, 2), True, True,
              4),
             # Which PES packets lie in the time.
@@ -257,21 +282,41 @@ class Times(unittest.TestCase):
             ("marks between and behind", "100 he, m, 200 heb, m, 201 -", every, (0, 3), True, True,
              5),
             ("marks before", "m, 100 he, 200 heb", every, (1, 2), True, False, 3),
+            ("a header without a PTS", "80 -, m heb, 100 -, 200 heb", every, (1, 3), True, False,
+             4),
+            ("two behind, and no header", "100 -, 201 -, 202 -", whole, None, False, True, 3),
             ("nothing", "", every, None, False, False, 0)]
         for name, sent, asked, wanted, has_end, is_over, read in rows:
             known = [one.split() for one in sent.split(", ") if one]
             made = Packets(257, [
-                Run(at, 1, None if one[0] == "m" else TICKS * int(one[0]), 0,
+                Run(at, 1, None if one[0] == "m" else round(TICKS * float(one[0])), 0,
                     "".join(one[1:]).strip("x-"), "") for at, one in enumerate(known)],
                 changes=[Change(0, b"", at) for at, one in enumerate(known) if "x" in one[-1]])
             begin, end, bound, within = (*asked, None, 0)[:4] if len(asked) < 4 else asked
             found = cut_of(made, begin or 0, end or 0, 0, bound, within or 0)
+            low, high = 100 - (bound or 0), 200 + (bound or 0)
+            frames = [round(float(one[0].replace("m", "-1"))) for one in known]
+            came = [frame for frame in frames if low <= frame <= high]
+            taken = [frame for frame in frames[wanted[0]:] if frame >= 0] if wanted else []
             with self.subTest(name):
                 self.assertEqual((found.range, found.has_end, found.is_over, found.read),
                                  (wanted, has_end, is_over, read))
+                self.assertEqual((found.came, found.first),
+                                 (came[0] if came else None, taken[0] if taken else None))
+                words = f"{read} PES packet{'s' * (read != 1)}"
+                self.assertTrue(found.words().startswith(f"none of {words} is of" if wanted is None
+                                else f"{wanted[1] - wanted[0] + 1} of {words}, from 00:00:0"))
         made = Packets(257, [Run(at, 1, TICKS * (100 + at), 0, "he", "") for at in range(9)])
         found = cut_of(made, 100, 200, 0, 25, inside=(3, 5))
         self.assertEqual((found.range, found.came, found.read), ((3, 5), 103, 7))
+        # At the ends of the day.
+        for frames, begin, end, wanted in (([0, 5], 0, 9, (0, 1)), ([-50, -20, 0, 1], -50, -20,
+                                                                    (0, 1))):
+            first, last = (one % FRAMES_OF_A_DAY for one in (begin, end))
+            made = Packets(257, [Run(at, 1, TICKS * (first + one - begin), 0, "h-h-"[at], "")
+                                 for at, one in enumerate(frames)])
+            found = cut_of(made, first, last, 0, 25)
+            self.assertEqual((found.range, found.came, found.has_end), (wanted, first, False))
 
     def test_marks_at_the_ends_of_a_cut(self) -> None:
         """A mark just behind the last frame, up to the first PES packet of a later one, is judged;
@@ -301,17 +346,7 @@ class Times(unittest.TestCase):
                 self.assertEqual(found, wanted, (hours, before, after, length, origin))
 
     def test_ends_within_some_frames(self) -> None:
-        """The last page is blank, and where a header had ended it before, that too; or it is so
-        many frames behind the last TCO."""
-        closed = [(0, "heo"), (1, "c"), (100, "heob"), (101, "cb"), (102, "heob"), (125, "heob")]
-        for sent, last in ((closed, 3), ([one for one in closed if one[1] != "c"], 1),
-                           ([*closed[:3], *closed[4:]], 3), ([*closed[:3], (125, "heob")], 3),
-                           ([(0, "heo"), (100, "heo"), (101, "heob"), (125, "heob")], 2),
-                           ([(0, "heo"), (100, "heo"), (102, "heo"), (125, "heob")], 2)):
-            made = Packets(257, [Run(at, 1, TICKS * frame, 0, does, "")
-                                 for at, (frame, does) in enumerate(sent)])
-            self.assertEqual(cut_of(made, 0, 100, 0, 25, 2).range, (0, last), sent)
-        # Up to the longer of both bounds.
+        """Up to the longer of both bounds."""
         for (every, within), more in itertools.product(((25, 2), (25, 40), (2, 40)), (0, 1)):
             last = 100 + max(every, within) + more
             made = Packets(257, [Run(at, 1, TICKS * frame, 0, "heo", "") for at, frame in
@@ -325,6 +360,7 @@ class Times(unittest.TestCase):
         there: the clock was set anew."""
         for one, wanted in ((clocked(5, 99_000, "whole"), [ClockJump(5, 90_000)]),
                             (clocked(5, 99_000, "broken"), []),
+                            (clocked(5, 99_000, "unknown"), []),
                             (clocked(5, 99_000, "whole", 109), [ClockJump(5, 90_000)]),
                             (clocked(5, 99_000, "whole", 110), []),
                             (clocked(5, -99_000, "whole"), [ClockJump(5, -108_000)])):
