@@ -32,15 +32,16 @@ CALLS = "SUBTTX_CALLS"  # in which a process finds the file that takes the funct
 # What each process does that is watched: it writes down each function when it is first called.
 WATCH = """
 import os, sys, threading
-file = os.open(os.environ["SUBTTX_CALLS"], os.O_WRONLY | os.O_APPEND | os.O_CREAT, 0o666)
-known = set()
+path, known = os.environ["SUBTTX_CALLS"], set()
 def seen(frame, event, arg):
     code = frame.f_code
     if code not in known:
         known.add(code)
         if code.co_flags & 1 and "/subtitles/" in code.co_filename:
             module = code.co_filename.rpartition("/subtitles/")[2]
+            file = os.open(path, os.O_WRONLY | os.O_APPEND | os.O_CREAT, 0o666)
             os.write(file, f"{module}:{code.co_qualname}\\n".encode())
+            os.close(file)  # a forked process may close all that is open
 threading.settrace(seen)
 sys.settrace(seen)
 """
