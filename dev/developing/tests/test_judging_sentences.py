@@ -16,7 +16,7 @@ from subtitles.formats.teletext import OPTIONS
 from subtitles.judging.causes import Cause, IN_PAUSE, NAMES
 from subtitles.judging.check import Answer, check
 from subtitles.judging.pages import Sight, hidden_words, letters_in, sight_of
-from subtitles.judging.sentence import Facts, SAID, WORDS, of_causes, sentence_of
+from subtitles.judging.sentence import Count, Facts, SAID, WORDS, of_causes, sentence_of
 from subtitles.judging.status import ACCEPTED, LOST, NOT_JUDGED, REFUSALS, REFUSED, WAIVED, WARNED
 from subtitles.judging.transmissions import control_words
 from subtitles.request.request import Unclear
@@ -35,35 +35,15 @@ VERB = re.compile(r"\b(is|are|has|have|was|were|does|ends|comes|begin|differs|fa
                   r"cannot)\b")
 
 
-def header(erase: int = 8, subtitle: int = 8, suppress: int = 1, national: int = 0) -> bytes:
-    """The eight numbers of a header of page 888, as some control bits have them."""
-    return bytes([8, 8, 0, erase, 0, subtitle, suppress, national << 1])
-
-
 class Words(unittest.TestCase):
     """In words, of a header that is refused."""
 
-    def test_control_bits(self) -> None:
-        cases: list[tuple[str, bytes, str, list[str]]] = [
-            ("C11, serial mode", header()[:7] + b"\x01", "english", []),
-            ("C8 and C9", header(suppress=1 | 2 | 4), "english", []),
-            ("back", header(), "french", ["the header is English, and french is asked for"]),
-            ("reserved", header(national=7), "czech",
-             ["C12, C13 and C14 are set, which is reserved"]),
-            ("two", header(subtitle=0, national=4), "english",
-             ["C6 (subtitle) is clear", "the header is German, and english is asked for"]),
-        ]
-        for name, numbers, option, words in cases:
-            with self.subTest(name):
-                self.assertEqual(control_words(numbers, option), words)
-
     def test_each_option_in_each_other(self) -> None:
-        for sent in OPTIONS:
-            for asked in OPTIONS:
-                words = f"the header is {sent.name}, and {asked.word} is asked for"
-                with self.subTest(sent=sent.word, asked=asked.word):
-                    self.assertEqual(control_words(header(national=sent.bits), asked.word),
-                                     [words] * (sent != asked))
+        for sent, asked in itertools.product(OPTIONS, repeat=2):
+            words = f"the header is {sent.name}, and {asked.word} is asked for"
+            with self.subTest(sent=sent.word, asked=asked.word):
+                self.assertEqual(control_words(bytes([8, 8, 0, 8, 0, 8, 1, sent.bits << 1]),
+                                               asked.word), [words] * (sent != asked))
 
 
 class Sentences(unittest.TestCase):
@@ -72,7 +52,7 @@ class Sentences(unittest.TestCase):
     def test_words(self) -> None:
         """Each verdict, whatever is known."""
         fault = fault_of_line("refused 73 Gap frame 10:00:00:00")
-        packet = fault_of_line("refused 34 Pts pes 7")
+        packet = fault_of_line("refused 34 Pts pes 0")
         block = fault_of_line("refused 24 Unfinished block 12")
         for seen, wanted in (
                 (Facts(NOT_JUDGED, 0, reason="no\nmore"), "Not judged: no."),
@@ -84,15 +64,24 @@ class Sentences(unittest.TestCase):
                  "Not accepted: a, and in 2 more places; what was seen is as it is due."),
                 (Facts(LOST, 2, first=fault, faults=1, lost=["a"]),
                  "Not accepted: a; all faults that were seen are named warnings."),
+                (Facts(LOST, 2, faults=1, named="pictures", lost=["a"]),
+                 "Not accepted: a; all faults that were seen are named warnings."),
+                (Facts(WARNED, 1, refused="one", warnings=["page"]), "Not accepted: there are "
+                 "warnings, which count (page); all faults that were seen are named warnings."),
+                (Facts(WAIVED, 2, first=fault, faults=1, hint="no header"), "Waived, since these "
+                 "faults are named warnings: from 10:00:00:00 on no header."),
                 (Facts(WARNED, 2, warnings=["page", "page", "fitted"]), "Not accepted: there are "
                  "warnings, which count (page, fitted); what was seen is as it is due."),
+                (Facts(REFUSED, 2, first=fault_of_line("refused 45 Lost pes 7"), faults=3, lost=[
+                    "a", "b"], counts=[Count(45, "Lost", 2), Count(73, "Gap", 1)]), "Refused: a, "
+                 "and in 1 more place; that part was not recorded; also 73 Gap."),
                 (Facts(REFUSED, 2, first=fault, faults=1, hint="no header"),
                  "Refused: from 10:00:00:00 on no header."),
                 (Facts(REFUSED, 2, first=fault, faults=3, hint="no header"),
                  "Refused: from 10:00:00:00 on no header; in all 3 faults.")):
             found = sentence_of(seen)
             self.assertEqual(found, wanted)
-        for told, begin in ((packet, "Refused: in PES packet 7 "), (block, "Refused: in block 12 "),
+        for told, begin in ((packet, "Refused: in PES packet 0 "), (block, "Refused: in block 12 "),
                             (fault, "Refused: at 10:00:00:00 ")):
             found = sentence_of(Facts(WAIVED if told is None else REFUSED, 1, first=told, faults=1))
             self.assertTrue(found.startswith(begin) and found.endswith(".") and
@@ -106,7 +95,7 @@ class Sentences(unittest.TestCase):
         self.assertLessEqual(known - OF_PACKETS, set(WORDS))
         for number, words in WORDS.items():
             for place, begin in (("frame 10:00:00:00", "at 10:00:00:00"),
-                                 ("pes 7", "in PES packet 7"), ("block 12", "in block 12"),
+                                 ("pes 7", "in PES packet 7"), ("block 0", "in block 0"),
                                  ("", "")):
                 told = fault_of_line(f"refused {number} Name {place}".rstrip())
                 found = sentence_of(Facts(REFUSED, 1, first=told, faults=1))
@@ -194,14 +183,15 @@ class First(OfProgramme):
 class Places(OfProgramme):
     """What is said of headers and letters: of which subtitle, and what a viewer sees."""
 
-    due, text = TIMES, b"Number %d, Oslo"
+    due, words = TIMES, ("--origin", "0", "--option", "german")
 
     def test_headers_and_letters(self) -> None:
-        """The first of them; in a pause behind which subtitle; where old text is left in which."""
-        sent = self.sent
-        name = 'subtitle 3, "Number 3, Oslo"'
+        """The first of them; in a pause behind which subtitle; where old text is left in which; by
+        the letters of the national option."""
+        sent = sendings(self, programme(self, TIMES, text=b"Number %d, \xc8Osl"), *self.words[2:])
+        name = 'subtitle 3, "Number 3, Ösl"'
 
-        def header(c4: int = 8, c5: int = 8, c7: int = 1, option: int = 0) -> bytes:
+        def header(c4: int = 8, c5: int = 8, c7: int = 1, option: int = 8) -> bytes:
             return packet(0, 0, [8, 8, 0, c4, 0, c5, c7, option], b" " * 32)
 
         def even(letter: bytes) -> Callable[[bytes], bytes]:
@@ -213,8 +203,8 @@ class Places(OfProgramme):
 
         at, end, first = "10:00:04:00", "10:00:05:15", TIMES[2]
         rows: tuple[tuple[int, str, Callable[[list[bytes]], list[bytes]]], ...] = (
-            (first[0], f'at {at} the letter "O" of {name}, comes with even parity',
-             lambda some: [*map(even(b"O"), some)]),
+            (first[0], f'at {at} the letter "Ö" of {name}, comes with even parity',
+             lambda some: [*map(even(b"\\"), some)]),
             (first[0], f"at {at} a byte, start box, of {name}, comes with even parity",
              lambda some: [some[0], even(b"\x0b")(some[1]), *some[2:]]),
             (first[0], f"at {at} {name}, hides the picture on some sets: C6 (subtitle) is clear",
@@ -271,6 +261,7 @@ ROWS: tuple[tuple[bytes, Sight, str], ...] = (
     (b"\x0b\x0b\x03\x1d\x04Hi", Sight.ALL, ""),  # blue on yellow
     (b"\x0b\x0b\x1d\x1cHi", Sight.ALL, ""),  # black again
     (b"\x0b\x0b\x1d\x01Hi", Sight.ALL, ""),  # red on white
+    (b"\x0b\x0b\x1d\x11HI\x07", Sight.ALL, ""),  # mosaic red, in which these are letters
     (b"Hi\x0b", Sight.NONE, NO_BOX), (b"Hi\x0b\x0b", Sight.NONE, NO_BOX),
     (b"\x0b\x0b\x0a\x0aHi", Sight.NONE, NO_BOX), (b"Hi", Sight.NONE, NO_BOX),
     (b"\x0b\x0b\x1dHi", Sight.NONE, ALIKE), (b"\x0b\x0b\x03\x1dHi", Sight.NONE, ALIKE),
@@ -324,18 +315,20 @@ class Rows(Case):
         """A row of which nobody sees a letter is refused, with its block, also where it is sent as
         it is due; of one that some show there is a warning. `check` accepts both."""
         times = [(900_000 + 50 * at, 900_040 + 50 * at) for at in range(3)]
-        for text, word, words in (
-                (b"\x1dHi", "refused", f"at 10:00:00:00, row 22: {ALIKE}"),
-                (b"Hi\x0b", "refused", f"at 10:00:00:00, row 22: {NO_BOX}"),
-                (b"\x0bHi", "accepted", f"at 10:00:00:00, row 22: {ONE}"), (b"Hi", "accepted", "")):
-            stl = programme(self, times, text=text)
-            sent = self.write("one.pes", joined(sendings(self, stl)))
+        option, first = ("--option", "german"), "subtitle 1 (SN 7) at 10:00:00:00, row 22: "
+        for text, word, why in (
+                (b"\x1dHi", "refused", ALIKE), (b"Hi\x0b", "refused", NO_BOX),
+                (b"\x0a\x0aHi", "refused", NO_BOX), (b"\x0bHi", "accepted", ONE),
+                (b"Hi", "accepted", "")):
+            stl = programme(self, times, text=text.replace(b"Hi", b"Hi\xc8O"), first=7)
+            words = why and first + why.replace("Hi", "HiÖ")
+            sent = self.write("one.pes", joined(sendings(self, stl, *option)))
             for more in ((), (sent, "--origin", "0")):
-                told = judged(self, stl, *more)
+                told = judged(self, stl, *more, *option)
                 self.must(f"{text!r} {more}", told.word == word, told.said)
                 if word == "refused":
                     self.must(f"{text!r}: sentence", told.result["sentence"].startswith(
-                        f"Refused: subtitle 1 {words}; in all 3 faults"), told.result["sentence"])
+                        f"Refused: {words}; in all 3 faults"), told.result["sentence"])
                     self.must(f"{text!r}: lines", told.result["lead"] == told.said[-1] ==
                               "refused not shown block 1" and told.said[-2].endswith(
                                   " See refusals.md#not-shown."), told.said)
@@ -344,8 +337,11 @@ class Rows(Case):
                         told.result["faults"]] == [("not shown", None, at) for at in (1, 2, 3)],
                         told.result["faults"])
                 warned = [one["line"] for one in told.result["warnings"] if one["kind"] == "hidden"]
-                self.must(f"{text!r}: warnings", warned[:1] == [f"subtitle 1 {words}"] * (
+                self.must(f"{text!r}: warnings", warned[:1] == [words] * (
                     word == "accepted" and bool(words)), warned)
+        told = judged(self, stl, *option, "--layout", "before=0B")
+        self.must("by a layout", [one["kind"] for one in told.result["warnings"]] ==
+                  ["hidden"] * 3, told.said)
         mild = self.write("mild", b"not shown warning\n")
         told = judged(self, programme(self, times, text=b"\x1dHi"), "--severity", mild)
         self.must("waived", told.word == "waived", told.said)
@@ -397,12 +393,3 @@ class Answers(unittest.TestCase):
                     self.assertIn("check was not answered: ", reason.reason)
                 said = lines if wanted else list(itertools.takewhile(ACCEPTED_LINE.__ne__, lines))
                 self.assertEqual((found, heard), (wanted, said))
-
-    def test_first_fault_is_the_line(self) -> None:
-        """And counts, of a list with faults of several numbers."""
-        answer = Answer(os.devnull)
-        other = "refused 38 UnitLength pes 4"
-        check(["sh", "-c", script([TRUSTED, FAULT, ENDED, other, FAULT, "3 faults"], 1)], answer,
-              lambda line: None)
-        self.assertEqual((answer.line, answer.count, answer.numbers, answer.last),
-                         (FAULT, 3, {72, 38}, "3 faults"))

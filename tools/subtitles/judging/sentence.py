@@ -246,8 +246,8 @@ def sentence_of(seen: Facts) -> str:
         return f"Refused: {what_is_wrong(seen)}."
     if seen.word == WAIVED:
         return f"Waived, since these faults are named warnings: {what_is_wrong(seen)}."
-    good = "what was seen is as it is due" if seen.first is None else \
-        "all faults that were seen are named warnings"
+    good = "all faults that were seen are named warnings" if seen.faults or seen.refused else \
+        "what was seen is as it is due"
     if seen.word == LOST:
         more = f", and in {counted(len(seen.lost) - 1, 'more place')}" if len(seen.lost) > 1 else ""
         lost = seen.lost[0] if seen.lost else "TS packets are lost"
