@@ -18,12 +18,13 @@ from subtitles.formats.listing import fault_of_line
 from subtitles.formats.stl import SubtitleFile
 from subtitles.judging.check import Answer
 from subtitles.judging.subtitles import AT_MIDNIGHT, falls_at_midnight, midnight_words
-from subtitles.judging.verdict import places_on
+from subtitles.judging.verdict import is_in_move, places_on
 from subtitles.report.report import readable
 from subtitles.request.lines import request_of_line
 from subtitles.request.request import Unclear, add_options
 from subtitles.stream.gaps import Place
-from subtitles.stream.packets import Change
+from subtitles.stream.packets import Change, Packets, Run
+from subtitles.stream.ranges import Stage
 from subtitles.stream.receiver import Timeline, pauses_in, timeline_near
 from .bench import Case, example, example_bytes
 from .judged import judged
@@ -47,7 +48,7 @@ class Answers(Case):
     STRANGE = ("hello", GOOD + " more", "refused")
     # Lists without a fault that are no answer, each with a status; more stand in test_helpers.
     NONE: list[tuple[list[str], int]] = [
-        ([GOOD], 2), ([], 0), ([GOOD, TRUSTED], 0), ([GOOD, "hello"], 0), (["hello", GOOD], 0),
+        ([GOOD], 2), ([], 0), ([GOOD, TRUSTED], 0), ([GOOD, "hello"], 0), (["hello", "?", GOOD], 0),
         ([GOOD + " more"], 0), (["refused", "1 faults"], 1)]
     # Lists: the status, the verdict or none, the line, how many faults there are and their numbers.
     LISTS: list[tuple[list[str], int, str | None, str, int, set[int]]] = [
@@ -275,6 +276,14 @@ class Values(Case):
             one = part_with(0, 100, 0, places=places,
                             alignment=Found(0, 100, Clock(0, GIVEN), came=came))
             self.must(f"{came}", [*places_on(one, None)] == wanted)
+        stage = Stage(Packets(5, [Run(0, 3, 0, TICKS, "h", "")]), (0, 1))
+        for goes, before, mark, is_there in ((6, TICKS, None, True), (6, 2 * TICKS, None, False),
+                                             (6, 0, None, False), (None, TICKS, None, False),
+                                             (6, TICKS, 1, False), (6, None, None, False)):
+            one = part_with(0, 100, 0, alignment=Found(0, 100, Clock(0, GIVEN), stage=stage,
+                                                       goes=goes))
+            self.must(f"{goes} {before} {mark}", is_there == is_in_move(
+                Place(before, 3 * TICKS, mark=mark), one))
 
     def test_held_before(self) -> None:
         """Of PES packets from one in the middle on, which says nothing new: what is held is what

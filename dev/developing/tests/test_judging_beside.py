@@ -21,12 +21,11 @@ from subtitles.formats.listing import fault_of_line
 from subtitles.formats.stl import SubtitleFile
 from subtitles.judging.subtitles import Counts, beside_of, due_beside, is_judged_beside
 from subtitles.results.files import row_of_object
-from subtitles.stream.packets import Packets, Run
 from .bench import Case, example_bytes
 from .judged import Judged, judged
-from .parts import answer, part_with
-from .sent import Shown, joined, late, packets, sendings, times
+from .sent import Shown, joined, late, moved, packets, sendings, times
 from .test_judging_pairs import UNREAD, broken
+from .test_judging_reasons import KEEPING_HEADER
 
 
 # Beside refused subtitles the others are judged, where the program does so: by one that stands in
@@ -158,14 +157,19 @@ class Beside(Case):
                   found.told[0], found.told)
 
     def test_parts(self) -> None:
-        """After a break, with a refused subtitle in the second part alone, and in both."""
-        moved = [(pts + 3600 * 500 * (pts >= 3600 * 480), some) for pts, some in self.sent]
-        path = self.write("two.pes", joined(moved))
-        for bad in ((7,), (2, 7)):
-            found = judged(self, self.file(*bad), path, "--breaks", "1", "--every", "100")
-            self.must(f"{bad}", found.word == "refused" and len(found.result["parts"]) == 2 and
-                      found.verdict.counts == Counts(10 - len(bad), len(bad)) and
-                      "each of them is as it is due" in found.verdict.sentence, found.said)
+        """After a break, with a refused subtitle in the second part alone, and in both; and with a
+        header in each part that keeps the page."""
+        two = [(pts + 3600 * 500 * (pts >= 3600 * 480), some) for pts, some in self.sent]
+        kept = [(pts, [KEEPING_HEADER, *some[1:]] if at in (3, 40) else some)
+                for at, (pts, some) in enumerate(two)]
+        for bad, sent, said in (((7,), two, "each of them is as it is due"),
+                                ((2, 7), two, "each of them is as it is due"),
+                                ((7,), kept, "; in all 2 faults.")):
+            found = judged(self, self.file(*bad), self.write("two.pes", joined(sent)), "--breaks",
+                           "1", "--every", "100")
+            self.must(f"{bad} {said}", found.word == "refused" and said in found.verdict.sentence
+                      and len(found.result["parts"]) == 2 and
+                      found.verdict.counts == Counts(10 - len(bad), len(bad)), found.said)
 
     def test_reports(self) -> None:
         """The report draws the refused subtitles as undecided, and pictures of those of the others
@@ -193,15 +197,21 @@ class Beside(Case):
                           "It is drawn as undecided" in page and "Refused subtitles" in page)
 
     def test_layouts(self) -> None:
-        """A layout draws what is due of the subtitles that are judged."""
-        self.blocks = [(begin, end, b"Number %d" % number)
+        """A layout draws what is due of the subtitles that are judged, with the letters of the
+        national option."""
+        self.blocks = [(begin, end, b"N\xc8umber %d" % number)
                        for number, (begin, end) in enumerate(times(14), 1)]
-        self.schedule(self.file(), "house.pes", "--every", "25", "--layout", "row=-2")
-        for bad, words in (((), ""), ((3,), "13 other subtitles were judged: each of them is as it "
-                                      "is due from the first frame on")):
-            found = self.judge(self.file(*bad), self.path("house.pes"), "--layout", "row=-2")
-            self.must(f"{bad}", found.word == ("refused" if bad else "accepted") and
-                      words in found.verdict.sentence and
+        words = "--layout", "row=-2", "--option", "german"
+        self.schedule(self.file(), "house.pes", "--every", "25", *words)
+        others = "13 other subtitles were judged: "
+        for bad, by, said in (
+                ((), 0, ""), ((3,), 0, f"{others}each of them is as it is due from the first"),
+                ((3,), 5, f'{others}at 00:00:24:00 subtitle 6, "Nümber 6", is 5 frames late')):
+            path = self.write("one.pes", moved(self.read("house.pes"), lambda _, pts, by=by: (
+                pts + 3600 * by * (pts == 3600 * 600))))
+            found = self.judge(self.file(*bad), path, *words)
+            self.must(f"{bad} {by}", found.word == ("refused" if bad else "accepted") and
+                      said in found.verdict.sentence and
                       " --layout " in found.lines("+ ")[-1], found.said)
 
     def test_not_judged(self) -> None:
@@ -245,22 +255,6 @@ class Judgeable(unittest.TestCase):
             self.assertEqual(is_judged_beside(numbers), wanted, numbers)
 
 
-    def test_was_read(self) -> None:
-        """Of a recording something was read where a line of the list is of it."""
-        refused, trusted = "refused 50 Character block 1 at 4", "trusted frames 10:00:00:00 " \
-            "10:00:01:24"
-        rows: list[tuple[list[str], bool]] = [
-            ([refused, "1 faults"], False), ([refused, trusted, "1 faults"], True),
-            ([refused, "refused 78 Undecided frame 10:00:02:00", "2 faults"], True),
-            ([refused, "refused 33 Flags pes 0", "2 faults"], True),
-            ([refused, "refused 33 Flags pes 0", "ended 33 Flags pes 1", "2 faults"], False),
-            (["accepted 51 frames 2 transmissions"], True)]
-        for lines, wanted in rows:
-            part = part_with(0, 9, 0, answer(lines), pes=(0, 1),
-                             packets=Packets(0, [Run(0, 2, 0, 0, "h", "")]))
-            self.assertEqual(part.is_read(), wanted, lines)
-
-
 class AtRandom(Case):
     """Files at random in which something is refused, held against the second implementation."""
 
@@ -274,8 +268,9 @@ class AtRandom(Case):
             text = chance.choice([b"Number %d" % number, b"Number %d" % number, BAD, b"x" * 45])
             blocks.append((max(begin, 0), max(end, 0), text))
             frame = max(begin, end, 1)
-        changes = {number: chance.choice([{4: 1}, {14: 4}, {13: 0}, {12: 25}, {15: 1}, {8: 99}])
-                   for number in range(1, len(blocks) + 1) if chance.random() < 0.15}
+        changes = {number: chance.choice([{4: 1}, {14: 4}, {13: 0}, {12: 25}, {15: 1}, {8: 99},
+                                          {14: 1}, {14: 3, 13: 20}])
+                   for number in range(1, len(blocks) + 1) if chance.random() < 0.25}
         return stl_of(blocks, changes)
 
     def test_at_random(self) -> None:

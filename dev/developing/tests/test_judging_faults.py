@@ -19,7 +19,7 @@ from subtitles.formats.stl import Subtitle
 from subtitles.judging.causes import (
     ATTRIBUTE, Cause, EARLY, Faulty, LATE, NEVER, NOT_ERASED, Namer, OTHER, PLACE, TEXT, UNKNOWN)
 from subtitles.judging.faults import fault_place, gap_words, hints_of
-from subtitles.judging.part import tell_causes
+from subtitles.judging.part import Explanation, tell_causes
 from subtitles.judging.sentence import Count, Facts, of_causes, what_is_wrong
 from subtitles.judging.transmissions import DuePages, program_answer
 from subtitles.request.commands import CLEAR, Listener, Progress, Speech
@@ -44,13 +44,14 @@ def cause(place: int, name: str, frames: int | None = None, words: str = "") -> 
     return Cause(place, name, frames, None, None, words, 0)
 
 
-def causes_of(*several: Cause, count: int = 9) -> Any:
-    """Causes of a programme with so many subtitles, a second each."""
+def causes_of(*several: Cause, count: int = 9, text: bytes = b"text") -> Any:
+    """Causes of a programme with so many subtitles, a second each, of such a text."""
     subtitles = [SimpleNamespace(begin=25 * at, end=25 * at + 20, name=f"subtitle {at + 1}")
                  for at in range(count)]
-    page = (b" " * 40,) * 19 + (b"text".ljust(40),) + (b" " * 40,) * 4
+    page = (b" " * 40,) * 19 + (text.ljust(40),) + (b" " * 40,) * 4
     return SimpleNamespace(programme=SimpleNamespace(subtitles=subtitles, pages=[page] * count),
-                           all=lambda: list(several), named=dict(enumerate(several)))
+                           all=lambda: list(several), named=dict(enumerate(several)), of_edge={},
+                           first_frames={})
 
 
 class Words(Case):
@@ -91,6 +92,13 @@ class Words(Case):
                 ([cause(8, ATTRIBUTE)],
                  'at 00:00:08:00 subtitle 9, "text", has a wrong colour or attribute')):
             self.assertEqual(of_causes(causes_of(*several), "english"), wanted)
+        wrong = cause(0, TEXT)._replace(sent=(b"]".ljust(40),) + BLANK_PAGE[1:])
+        part = part_with(0, 9, 0, answer(["refused 72 X frame 00:00:00:00", "1 faults"]),
+                         explanation=Explanation(causes_of(wrong, text=b"[")))
+        verdict = verdict_of([part])
+        verdict.request = asked_for("one.stl", "one.pes", "--option", "german")
+        self.assertEqual(verdict.sentence, 'Refused: at 00:00:00:00 subtitle 1, "Ä", has a wrong '
+                         'text, sent: "Ü".')
 
     def test_faults_beside_a_cause(self) -> None:
         """How many there are of which number, the worst first, of many the first four; none of the
@@ -203,11 +211,11 @@ class Words(Case):
         """Of a frame's end the last of its PES packets; of a gap the first, which it is told
         before, but where several are one frame's."""
         data = b"".join(pes_packet(ticks, [HEADER, CLOSING])
-                        for ticks in (0, 10 * TICKS, 10 * TICKS + 1800, 20 * TICKS))
+                        for ticks in (0, 10 * TICKS, 10 * TICKS, 20 * TICKS))
         for line, within, pes in (
                 ("refused 73 Gap frame 00:00:00:10", 0, 1),
                 ("refused 73 Gap frame 00:00:00:10", 1, 2),
-                ("refused 77 Incomplete frame 00:00:00:10", 0, 1),
+                ("refused 77 Incomplete frame 00:00:00:10", 0, 2),
                 ("refused 77 Incomplete frame 00:00:00:10", 1, 2),
                 ("refused 73 Gap frame 00:00:00:15", 1, None),
                 ("refused 68 Parity frame 00:00:00:10 packet 1", 1, 1),
@@ -217,37 +225,38 @@ class Words(Case):
             assert fault
             found = fault_place(fault, packets, timeline_of(self, data, 0, within))
             self.must(f"{line} {within}", found.pes == pes, found)
+        data = b"".join(pes_packet(10 * TICKS, [HEADER, row(20, text)]) for text in (b"a", b"b"))
+        fault, held = fault_of_line("refused 72 X frame 00:00:00:10 row 20 column 2"), timeline_of(
+            self, data)
+        assert fault
+        for number in (0, 1):  # the last behind which the cell is another one
+            due = held.state_after(1 - number).rows
+            self.must(f"{number}", fault_place(fault, held.packets, held, due).pes == number)
 
     def test_gaps(self) -> None:
         """The longest gap, the last among them, and behind the last header, where all that was sent
-        is known."""
+        is known; and what is usual, but where the page comes by the times of subtitles."""
         each = tuple(range(0, 1001, 100))
-        for frames, last, every, numbers, wanted in (
-                (each, 1000, 50, {73},
-                 "the longest gap is 100 frames"),
-                (each, 1000, 99, {73},
-                 "the longest gap is 100 frames"),
-                (each, 1000, 100, {73}, ""), (each, 1000, 50, {73, 38}, ""),
-                (each, 1000, 50, {73, 72}, "the longest gap is 100 frames"),
-                (each, 1000, 50, {73}, "the longest gap is 100 frames"),
-                ((*each[:5], *each[6:]), 1000, 100, {73},
-                 "the longest gap is 200 frames, and 100 are usual"),
-                ((*each[:5], *each[6:]), 1000, 99, {73}, "the longest gap is 200 frames"),
-                (each[1:], 1000, 50, {73},
-                 "the longest gap is 100 frames"),
-                (each, 1100, 100, {73},
-                 "the longest gap is 101 frames, and 100 are usual"),
-                (each, 1098, 99, {73},
-                 "the longest gap is 100 frames"),
-                ((0, 101), 101, 100, {73}, "the longest gap is 101 frames"),
-                ((), 5, 1, {73}, "")):
-            for origin in (ORIGIN, CLOCK - 60 * TICKS):
-                headers, ends = ([(origin + TICKS * frame) % CLOCK for frame in some]
+        less, begins = (*each[:5], *each[6:]), [(frame, frame + 9) for frame in each]
+        rows: list[tuple[tuple[int, ...], int, int, set[int], list[tuple[int, int]], str]] = [
+            (each, 1000, 50, {73}, [], "100 frames"), (each, 1000, 99, {73}, [], "100 frames"),
+            (each, 1000, 100, {73}, [], ""), (each, 1000, 50, {73, 38}, [], ""),
+            (each, 1000, 50, {73, 72}, [], "100 frames"), (less, 1000, 99, {73}, [], "200 frames"),
+            (less, 1000, 100, {73}, [], "200 frames, and 100 are usual"),
+            (less, 1000, 100, {73}, begins, "200 frames"),
+            (each[1:], 1000, 50, {73}, [], "100 frames"),
+            (each, 1100, 100, {73}, [], "101 frames, and 100 are usual"),
+            (each, 1098, 99, {73}, [], "100 frames"), ((0, 101), 101, 100, {73}, [], "101 frames"),
+            ((), 5, 1, {73}, [], "")]
+        for frames, last, every, numbers, times, wanted in rows:
+            for origin, off in ((ORIGIN, 0), (CLOCK - 60 * TICKS, 0), (ORIGIN, 5), (ORIGIN, -5)):
+                headers, ends = ([(origin + TICKS * frame + off) % CLOCK for frame in some]
                                  for some in (frames, (last,)))
-                asked = asked_for("one.stl", "one.pes", "--every", str(every))
-                found = gap_words((headers, ends), origin, asked, numbers, [])
-                self.must(f"{frames} {numbers} {origin}", found.replace(",", "") ==
-                          wanted.replace(",", ""), found)
+                asked = asked_for("one.stl", "one.pes", "--every", str(every), "--within",
+                                  str(abs(off)))
+                found = gap_words((headers, ends), origin, asked, numbers, times)
+                self.must(f"{frames} {numbers} {origin} {off}", found ==
+                          (wanted and f"the longest gap is {wanted}"), found)
 
     def test_hints(self) -> None:
         """Of each number the first fault; of each part its own, by its own clock."""
@@ -299,8 +308,9 @@ class Words(Case):
             for count in (0, 40, 41, 45):
                 heard = Heard()
                 causes: Any = SimpleNamespace(all=lambda: list(range(count)))
-                tell_causes(Listener(heard), causes, "english")
-                self.must(f"{count} causes", heard.lines == [
+                tell_causes(Listener(heard), causes, "german")
+                self.must(f"{count} causes", wording.call_args.args[1] == "german" and
+                          heard.lines == [
                     *(f"cause {at}" for at in range(min(count, 40))),
                     *[f".. {count - 40} more causes"] * (count > 40)], heard.lines)
 

@@ -126,15 +126,13 @@ class Words(Case):
             due, sent = (page_rows(lines) for layout in (PLAIN, layout_of(text)) if layout and
                          not isinstance(lines := drawn(b"Hi", 18, 2, layout, ENGLISH), Refused))
             self.must(text, cells_words(due, sent) == wanted, cells_words(due, sent))
-        one, two = (drawn(text, 18, 2, PLAIN, ENGLISH) for text in (b"Hi Ho", b"Hi\x8aHo"))
-        assert not isinstance(one, Refused) and not isinstance(two, Refused)
-        self.must("rows", cells_words(page_rows(one), page_rows(two)) ==
-                  "in 2 rows, where 1 are due")
-        inner = drawn(b"H\x02i", 18, 2, PLAIN, ENGLISH)
-        plain = drawn(b"H i", 18, 2, PLAIN, ENGLISH)
-        assert not isinstance(inner, Refused) and not isinstance(plain, Refused)
-        self.must("between", cells_words(page_rows(plain), page_rows(inner)) ==
-                  "row 18, other codes between its letters")
+        for first, second, wanted in (
+                (b"Hi Ho", b"Hi\x8aHo", "in 2 rows, where 1 are due"),
+                (b"H i", b"H\x02i", "row 18, other codes between its letters"),
+                (b"Hi\x8aH o", b"Hi\x8aH\x02o", "row 19, other codes between its letters")):
+            due, sent = (page_rows(lines) for text in (first, second) if not isinstance(
+                lines := drawn(text, 18, 2, PLAIN, ENGLISH), Refused))
+            self.must(f"{second!r}", cells_words(due, sent) == wanted, cells_words(due, sent))
 
 
 class Open(Case):
@@ -142,7 +140,7 @@ class Open(Case):
 
     def test_open(self) -> None:
         """A refusal names the option, and with it the pair is judged and its report is drawn."""
-        texts = [(b"Number %d" % at, 2) for at in range(12)]
+        texts = [(b"Number %d\x0a" % at, 2) for at in range(12)]  # a code that may hide
         for dsc, kind in ((b"0", "0, open subtitles"), (b" ", "a space, none"), (b"3", None)):
             stl = file_of(self, texts, "open.stl", dsc)
             alone = judged(self, stl)

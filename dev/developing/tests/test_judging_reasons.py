@@ -332,6 +332,8 @@ class RowsLeftOut(Case):
                 (99, "rows 20 and 22"), (100, "")):
             found = left_at(held, due, frame, self.told_at(frame))
             self.must(f"{frame}", found == wanted, found)
+        self.must("the row", [self.told_at(frame).row_at(9) for frame in (0, 9, 10)] ==
+                  [22, 22, None])
         self.must("nothing told", left_at(held, due, 50, None) == "a row")
         self.must("another page is due", left_at(held, BLANK_PAGE, 50, None) == "")
         nothing = timeline_of(self, at([(5, [CLOSING])]))

@@ -137,19 +137,6 @@ class Decided(unittest.TestCase):
         self.assertEqual(decide(Grounds([], warned, names=[NEVER_SENT])),
                          Decision(NOT_JUDGED, UNREAD))
 
-    def test_severity_of_names(self) -> None:
-        """As of numbers; a word that is no name is told."""
-        for lines, severities in (((), ("error",) * 3), (("others warning",), ("warning",) * 3),
-                                  (("never sent warning",), ("warning", "error", "error")),
-                                  (("others warning", "not shown error"),
-                                   ("warning", "warning", "error"))):
-            severity = severity_of(*lines)
-            self.assertEqual(tuple(map(severity.of, FAULT_NAMES)), severities, lines)
-            self.assertEqual(severity.of(45), "error", lines)
-        for line in ("sent error", "never error", "never sent", "never  sent wrong", "not error"):
-            with self.assertRaisesRegex(Stop, "line 1: a line is"):
-                severity_of(line)
-
     def decides(self, name: str, seen: Grounds, is_allowed: bool) -> None:
         """One of these: --allow-lost, and a severity file that names 45 a warning, are one rule."""
         found, losses, warnings = decide(seen), seen.losses, seen.warnings
@@ -186,33 +173,6 @@ class Decided(unittest.TestCase):
             self.assertEqual(decide(Grounds(parts, NAMED)), Decision(NOT_JUDGED, wanted))
         self.assertEqual(decide(Grounds([accepted], NAMED)), Decision(ACCEPTED))
 
-    def test_each_severity(self) -> None:
-        """All errors, one warning, all warnings; what ends reading is an error in each."""
-        rows: list[tuple[list[str], bool, dict[int, int]]] = [
-            ([], False, {ERROR: 1, WARNING: 1, NUMBER: 1, LOST_PACKETS: 1}),
-            ([f"{WARNING} warning"], False, {ERROR: 1, WARNING: 0, NUMBER: 1, LOST_PACKETS: 1}),
-            (["others warning"], False, {ERROR: 0, WARNING: 0, NUMBER: 0, LOST_PACKETS: 1}),
-            (["others warning", f"{ERROR} error"], False,
-             {ERROR: 1, WARNING: 0, LOST_PACKETS: 1}),
-            ([f"{LOST_PACKETS} warning"], False, {ERROR: 1, LOST_PACKETS: 0}),
-            ([], True, {ERROR: 1, WARNING: 1, LOST_PACKETS: 0, SILENT: 0}),
-            ([], False, {SILENT: 1}), ([f"{LOST_PACKETS} warning"], False, {SILENT: 0}),
-            ([f"{LOST_PACKETS} warning", f"{SILENT} error"], False, {SILENT: 1}),
-            ([f"{SILENT} error"], True, {SILENT: 1}),
-            ([f"{SILENT} warning"], False, {SILENT: 0, LOST_PACKETS: 1}),
-            (["others warning"], False, {SILENT: 0}),
-            ([f"{LOST_PACKETS} error"], True, {LOST_PACKETS: 0}),
-            ([f"{number} warning" for number in ENDS_READING], True, {WARNING: 1})]
-        for lines, is_allowed, wanted in rows:
-            severity = severity_of(*lines, is_loss_allowed=is_allowed)
-            for number, status in {**wanted, **dict.fromkeys(ENDS_READING, 1)}.items():
-                for places in ("x", ".x", "x..", ".x."):
-                    said = [Said(1, False, 1, 1, {number}) if place == "x" else RIGHT["accepted"]
-                            for place in places]
-                    with self.subTest(lines=lines, allowed=is_allowed, number=number, at=places):
-                        self.assertEqual(decide(Grounds(said, severity)).word,
-                                         REFUSED if status else WAIVED)
-
 
 class Several(unittest.TestCase):
     """The status of several verdicts, and of the call that made one."""
@@ -239,14 +199,46 @@ class Several(unittest.TestCase):
 
 
 class Severities(unittest.TestCase):
-    """Lines of a severity file that are none."""
+    """Numbers and names, and whether they count, by the lines of a file."""
+
+    def test_lines(self) -> None:
+        """Of no line, of one, of several in each order; of all others, whoever is named; of what is
+        lost. What ends reading is an error whatever a file says, and each other number what it says
+        of that."""
+        each, ends = dict.fromkeys(REFUSALS, "warning"), dict.fromkeys(ENDS_READING, "error")
+        names, mild = dict.fromkeys(FAULT_NAMES, "error"), dict.fromkeys(FAULT_NAMES, "warning")
+        rows: list[tuple[str, bool, dict[int | str, str]]] = [
+            ("", False, {72: "error", 67: "error", 45: "error", 79: "error", **names}),
+            ("", True, {72: "error", 67: "error", 45: "warning", 79: "warning"}),
+            ("67 warning", False, {72: "error", 67: "warning", 45: "error"}),
+            ("others warning", False, {72: "warning", 45: "error", 79: "warning", **mild}),
+            ("others warning\n72 error", False, {72: "error", 67: "warning", 45: "error"}),
+            ("72 error\nothers warning", False, {72: "error", 67: "warning", 45: "error"}),
+            ("72 warning\n72 error", False, {72: "error"}), ("others error", False, {72: "error"}),
+            ("# 72 warning", False, {72: "error"}), ("\n072 warning # so", False, {72: "warning"}),
+            ("45 warning", False, {72: "error", 45: "warning", 79: "warning"}),
+            ("45 warning\n79 error", False, {79: "error"}), ("79 error", True, {79: "error"}),
+            ("79 warning", False, {79: "warning", 45: "error"}),
+            ("45 error", True, {45: "warning"}),
+            ("never sent warning", False, {**names, "never sent": "warning", 45: "error"}),
+            ("others warning\nnot shown error", False, {**mild, "not shown": "error"}),
+            ("\n".join(f"{number} warning" for number in REFUSALS), False, each)]
+        for lines, is_allowed, wanted in rows:
+            severity = severity_of(lines, is_loss_allowed=is_allowed)
+            for one, word in {**wanted, **ends}.items():
+                with self.subTest(lines=lines, allowed=is_allowed, of=one):
+                    self.assertEqual((severity.of(one), severity.is_error(one)),
+                                     (word, word == "error"))
+        self.assertEqual((Severity(None).of(72), Severity(None, True).of(45)),
+                         ("error", "warning"))
 
     def test_wrong_lines(self) -> None:
         none = (0, 5, 9, 26, 29, 41, 43, 46, 49, 58, 59, 75, 81, 83, 90, 100)
         for line in ("72", "72 fatal", "x error", "others", "72 warning now", "warning 72",
-                     "٧٢ error", *(f"{number} warning" for number in none)):
-            with self.subTest(line), self.assertRaises(Stop):
-                severity_of(line)
+                     "٧٢ error", "sent error", "never error", "never sent", "never  sent wrong",
+                     "not error", *(f"{number} warning" for number in none)):
+            with self.subTest(line), self.assertRaisesRegex(Stop, "line 2: (a line is|no refusal)"):
+                severity_of("", line)
 
 
 # What is said first of what is refused: by rank, and by place among those of one rank.
@@ -360,9 +352,11 @@ class Worst(Case):
             causes.all = lambda causes=causes: [*causes.named.values()]
             lead = lead_of(told(*some, path=self.path("list")), causes)
             self.must(f"{names}", lead and lead.fault.line == wanted, lead)
-        causes.of_edge = {63: 0}
-        lead = lead_of(told(BEGIN, *lines, path=self.path("list")), causes)
-        self.must("at the begin", lead and lead.fault.line == BEGIN, lead)
+        for edges, wanted in (({63: 0}, BEGIN), ({74: 0, 63: 0}, BEGIN), ({63: 1}, at(1)),
+                              ({74: 0, 63: 1}, END)):
+            causes.of_edge = edges
+            lead = lead_of(told(BEGIN, *lines, END, path=self.path("list")), causes)
+            self.must(f"{edges}", lead and lead.fault.line == wanted, lead)
         causes.of_edge, causes.first_frames = {}, {0: 900_000 + SECOND + 9}
         lead = lead_of(told(*lines, path=self.path("list")), causes)
         self.must("the fault that stands then", lead and lead.fault.line == at(1), lead)

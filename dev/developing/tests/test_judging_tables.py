@@ -19,7 +19,8 @@ from subtitles.common.times import CLOCK, TICKS
 from subtitles.formats.stl import SubtitleFile
 from subtitles.judging import timing
 from subtitles.judging.pages import (
-    ATTRIBUTES, attribute_words, code_words, is_moved, is_part, moved_words, page_text, words_on)
+    ATTRIBUTES, attribute_words, beside_words, code_words, is_moved, is_part, moved_words,
+    page_text, words_on)
 from subtitles.judging.subtitles import OptionAdvice
 from subtitles.judging.timing import PartSearch, found_in, run_of
 from subtitles.judging.transmissions import control_words
@@ -366,6 +367,13 @@ class Pages(Case):
                  "row 22 column 0: alpha green instead of a space, begins 2 columns early, ends a "
                  "column early")):
             self.assertEqual(attribute_words(own, other), words)
+        for other, words in (
+                (own, ""), (page_with((20, self.ONE), (22, b"  two"), (2, b"x")),
+                            "another row beside it: row 2"),
+                (page_with((20, self.ONE), (22, b"  two"), (2, b"x"), (24, b"y")),
+                 "other rows beside it: rows 2 and 24"),
+                (page_with((20, self.TWO), (22, b"  two"), (2, b"x")), "")):
+            self.assertEqual(beside_words(own, other), words)
         for sent, due, moved in (
                 (own, own, False), (page_with((20, b" " + self.ONE), (22, b"  two")), own, True),
                 (page_with((21, self.ONE), (22, b"  two")), own, True),
@@ -379,6 +387,7 @@ class Pages(Case):
         self.assertEqual((words_on(own), page_text(own, 0),
                           page_text(page_with((1, b"\x5b[#")), 4)),
                          ("Hello two", "Hello / two", "ÄÄ#"))
+        self.assertEqual(words_on(page_with((3, b"a \x03 b"))), "a b")
         self.assertEqual([code_words(code) for code in (0, 7, 0x1F, 0x20, 0x21, 0x7F)],
                          ["alpha black", "alpha white", "release mosaics", "a space", "21", "7F"])
         self.assertEqual((len(ATTRIBUTES), ATTRIBUTES[0x0D]), (32, "double height"))
@@ -388,8 +397,8 @@ class Pages(Case):
         good = [8, 8, 0, 8, 0, 8, 1, 0]
         of_bits: list[tuple[int, int, list[str]]] = [
             (0, 8, []), (3, 0, []), (5, 0, ["C6"]), (6, 0, ["C7"]), (5, 12, ["C5"]),
-            (6, 9, ["C10"]), (5, 4, ["C6", "C5"]), (7, 8, ["the header is German"]),
-            (7, 14, ["C12, C13 and C14"])]
+            (6, 9, ["C10"]), (5, 4, ["C6", "C5"]), (7, 8, ["the header is German"]), (6, 7, []),
+            (7, 1, []), (7, 14, ["C12, C13 and C14"])]
         for place, value, words in of_bits:
             header = bytes(value if at == place else one for at, one in enumerate(good))
             found = control_words(header, "english")

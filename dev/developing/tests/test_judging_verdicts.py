@@ -3,23 +3,26 @@
 from __future__ import annotations
 
 import dataclasses
+import itertools
 from types import SimpleNamespace
 from typing import Any, Sequence
 
-from developing.pes import pes_packet
 from subtitles.clock.start import FITTED, FITTED_LATER, GIVEN, RECORDING
 from subtitles.common.program import MadeWith
 from subtitles.common.times import CLOCK, TICKS, time_of
+from subtitles.formats.listing import NEVER_SENT, NamedFault, PICTURES_LEFT
 from subtitles.judging.check import Answer, NO_END
-from subtitles.judging.part import Explanation, Part
-from subtitles.judging.status import ERROR, REFUSALS, Severity, WARNING
+from subtitles.judging.part import Explanation, Part, is_in
+from subtitles.judging.status import Severity
 from subtitles.judging.verdict import (
-    Gap, MOVED, Spread, Unjudged, Verdict, gap_of, gaps_in, gaps_of, lacks, spread_of)
+    Gap, MOVED, Spread, Unjudged, Verdict, counts_of_numbers, gap_of, gaps_in, gaps_of, lacks,
+    spread_of)
+from subtitles.recording.notices import Notice
 from subtitles.results.schema import Writing, trusted_of
 from subtitles.stream.gaps import Place
+from subtitles.stream.packets import Packets, Run
 from .bench import Case
-from .parts import answer, asked_for, packets_told, part_with
-from .sent import CLOSING, HEADER
+from .parts import answer, asked_for, part_with
 
 REFUSED = ("refused 72 Content frame 00:00:05:00 row 20 column 1", "1 faults")
 OTHER = ("refused 38 UnitLength pes 7", "refused 70 Repeat frame 00:00:09:00", "2 faults")
@@ -38,18 +41,69 @@ class Verdicts(Case):
         return [part_with(100 * at, 100 * at + 99, 5, answer(REFUSED if at in refused else
                           ("accepted 10 frames 2 transmissions",)), at + 1) for at in range(3)]
 
+    def test_lines(self) -> None:
+        """What became of it, the line that says so, and the one that is said first: by its parts,
+        by faults without a number, by what is lost and strange, and by the profile."""
+        left, never = NamedFault(PICTURES_LEFT, "away", "00:00:01:00"), NamedFault(NEVER_SENT, "")
+        lost = [Gap(None, None, "", Place(1, 2, missing=9), True)]
+        strange = [Notice(kind, kind, None) for kind in ("pause", "page", "pause")]
+        mild = self.write("mild", b"72 warning\nnever sent warning\n")
+        self.write("house", b"--allow-lost\n--severity %s\n" % mild.encode())
+        of_house = {"request": asked_for("one.stl", "one.pes", "--profile", self.path("house"))}
+        strict = {"request": asked_for("one.stl", "one.pes", "--strict"), "warnings": strange}
+        good, content, first = "accepted 10 frames 2 transmissions", REFUSED[0], OTHER[0]
+        has = "; the profile has --allow-lost and --severity"
+        warned, of_loss = "not accepted, since warnings count (pause, page)", \
+            "not accepted, since TS packets are lost"
+        rows: list[tuple[str, dict[str, Any], str, str | None, str | None]] = [
+            ("a", {}, "accepted", good, good),
+            ("aa", {}, "accepted", "accepted 20 frames 4 transmissions in 2 parts", None),
+            ("aor", {}, "refused", first, content), ("ro", {}, "refused", content, content),
+            ("r", {"named": [left]}, "refused", content, content),
+            ("o", {"named": [left, never]}, "refused", first, never.line),
+            ("a", {"named": [left, never]}, "refused", left.line, never.line),
+            ("", {"named": [never]}, "refused", never.line, never.line),
+            ("a", {"named": [never, left], "is_mild": True}, "refused", never.line, never.line),
+            ("a", {"named": [never], "is_mild": True}, "waived", f"waived: {never.line}", None),
+            ("r", {"is_mild": True, **of_house}, "waived", f"waived: {content}{has}", None),
+            ("a", {"gaps": lost, **of_house}, "lost", f"{of_loss}: {good}{has}", None),
+            ("ra", {"gaps": lost, "is_mild": True}, "lost", f"{of_loss}: waived: {content}", None),
+            ("a", strict, "warned", f"{warned}: {good}", None),
+            ("r", {**strict, "is_mild": True}, "warned", f"{warned}: waived: {content}", None),
+            ("f", {**strict, "warnings": []}, "warned", f"not accepted, since warnings count "
+             f"(fitted): {good}", None), ("f", {}, "accepted", good, good)]
+        for names, known, word, line, lead in rows:
+            is_mild = known.get("is_mild", False)
+            verdict = dataclasses.replace(verdict_of(
+                [part_with(0, 99, 0, answer({"r": REFUSED, "o": OTHER}.get(name, (good,))), number,
+                           RECORDING if name == "f" else GIVEN)
+                 for number, name in enumerate(names, 1)], Severity(mild if is_mild else None)),
+                **{name: value for name, value in known.items() if name != "is_mild"})
+            self.must(f"{names} {known}", (verdict.word, verdict.line, verdict.lead) ==
+                      (word, line, lead or line), (verdict.word, verdict.line, verdict.lead))
+
     def test_reasons(self) -> None:
-        """Whatever is said of the parts, a reason and an output that failed are not judged."""
-        places: list[tuple[int, ...]] = [(), (0,), (2,)]
-        values: list[tuple[str, Any]] = [
-            ("unjudged", Unjudged("why")), ("failed", ["full", "broken"])]
-        for refused in places:
-            for name, value in values:
-                verdict = verdict_of(self.three(*refused))
-                setattr(verdict, name, value)
-                self.must(f"{refused} {name}", (verdict.word, verdict.status, verdict.line) ==
-                          ("not judged", 2, None) and verdict.why_not ==
-                          ("why" if name == "unjudged" else "full\nbroken"), verdict.why_not)
+        """Whatever is said of the parts, a reason and outputs that failed are not judged, and each
+        is told; it is so another time too, where the machine did what was asked."""
+        rows: list[tuple[Unjudged | None, list[str], str, bool]] = [
+            (Unjudged("why"), [], "why", True), (None, ["full", "broken"], "full\nbroken", False),
+            (Unjudged("why"), ["full"], "why\nfull", False),
+            (Unjudged("why", is_passing=True), [], "why", False),
+            (Unjudged("why", is_stopped=True), [], "why", False)]
+        for refused, (unjudged, failed, why, is_final) in itertools.product(((), (0,), (2,)), rows):
+            verdict = dataclasses.replace(verdict_of(self.three(*refused)), unjudged=unjudged,
+                                          failed=failed)
+            self.must(f"{refused} {unjudged} {failed}", (
+                verdict.word, verdict.status, verdict.line, verdict.counts, verdict.why_not,
+                verdict.is_final) == ("not judged", 2, None, None, why, is_final), verdict.why_not)
+        self.must("judged", verdict_of(self.three()).is_final)
+
+    def test_warnings(self) -> None:
+        """Each once, of one call and of two; others of a kind are others."""
+        one, other, verdict = Notice("pause", "1", None), Notice("pause", "2", None), verdict_of([])
+        verdict.warn([one, one])
+        verdict.warn([other, one])
+        self.must("each", verdict.warnings == [one, other], verdict.warnings)
 
     def test_sentence_of_losses(self) -> None:
         """The first place that is judged, and how many more there are."""
@@ -73,6 +127,19 @@ class Verdicts(Case):
                 found = verdict_of(parts, warned).status
                 self.must(f"{at} {said[0]}", found == int(is_error), found)
         self.must("none", verdict_of(self.three(), warned).status == 0)
+
+    def test_places_of_a_part(self) -> None:
+        """A mark that is judged with it; where none stands each hole that one of its frames may be
+        in, also where one end is not known. What has no clock has none."""
+        part = part_with(100, 199, 0, pes=(5, 9))
+        marks = [mark for mark in range(12) if is_in(Place(None, None, 1, mark=mark), part)]
+        self.must("marks", marks == [*range(5, 10)], marks)
+        ends = (None, 0, 99, 100, 101, 198, 199, 200)
+        for before, after in itertools.product(ends, repeat=2):
+            place = Place(*(None if one is None else TICKS * one for one in (before, after)))
+            is_of = (after is None or after > 100) and (before is None or before < 199)
+            self.must(f"{before} {after}", is_in(place, part) == is_of)
+            self.must("no clock", not is_in(place, part_with(None, None, None)))
 
     def test_losses(self) -> None:
         """A loss in the first part, the second and the last, and the one between them or after."""
@@ -100,11 +167,12 @@ class Verdicts(Case):
         recording: Any = SimpleNamespace(stages=[], places=lambda jumps: [
             Place(before, after, is_announced=True) for before, after in jumps])
         for own in ((0,), (1,), (2,), (0, 2), (0, 1, 2), ()):
-            parts = [part_with(100 * at, 100 * at + 99, 0, number=at + 1, jumps=[
+            parts = [part_with(100 * at, 100 * at + 99, 0, recording=recording, jumps=[
                 (TICKS * (100 * at + 50), TICKS * (100 * at + 60))] * (at in own))
                 for at in range(3)]
             found = [(gap.after, gap.is_judged) for gap in gaps_in(recording, parts)]
-            self.must(f"{own}", found == [(time_of(100 * at + 50), True) for at in own], found)
+            self.must(f"{own}", found == [(time_of(100 * at + 50), True) for at in own] and [
+                len(part.places()) for part in parts] == [at in own for at in range(3)], found)
 
     def test_clocks_of_losses(self) -> None:
         """A loss has the times of its part; one that is in none those of the first."""
@@ -136,11 +204,12 @@ class Verdicts(Case):
         """A part lacks something where `check` told it, or something is missing at a first place or
         a second."""
         inside, outside = (Place(TICKS * at, TICKS * (at + 1), missing=9) for at in (150, 250))
-        lost = answer(["refused 45 Lost pes 3", "1 faults"], path=self.path("list"))
+        lost, silent = (answer([f"refused {told}", "1 faults"]) for told in (
+            "45 Lost pes 3", "79 Silent frame 00:00:05:00"))
         rows: list[tuple[Answer, list[Place], bool]] = [
             (answer(REFUSED), [], False), (answer(REFUSED), [inside], True),
             (answer(REFUSED), [outside], False), (answer(REFUSED), [outside, inside], True),
-            (lost, [], True)]
+            (lost, [], True), (silent, [], True)]
         for said, places, wanted in rows:
             part = part_with(100, 199, 0, said, pes=(0, 9))
             self.must(f"{said.numbers} {places}", lacks(part, places) == wanted)
@@ -159,18 +228,28 @@ class Verdicts(Case):
         """Of each part, in the result as on its page, without the frames of a hole that the PCR
         alone tells."""
         said = ["trusted frames 00:00:04:00 00:00:07:24", "accepted 10 frames 2 transmissions"]
-        hole, mark = Place(TICKS * 150, TICKS * 160, missing=9), Place(TICKS * 170, TICKS * 180, 1,
-                                                                       mark=7)
-        cases: list[tuple[list[Place], list[tuple[int, int]]]] = [
-            ([], [(100, 199)]), ([mark], [(100, 199)]), ([hole], [(100, 149), (160, 199)]),
-            ([mark, hole], [(100, 149), (160, 199)])]
-        for places, wanted in cases:
+        hole, other = (Place(TICKS * at - 5, TICKS * (at + 10) - 5, missing=9) for at in (151, 121))
+        mark, early = Place(TICKS * 170, TICKS * 180, 1, mark=7), ("--within", "1")
+        cases: list[tuple[list[Place], Sequence[str], list[tuple[int, int]]]] = [
+            ([], (), [(100, 199)]), ([mark], (), [(100, 199)]),
+            ([hole], (), [(100, 149), (160, 199)]), ([hole], early, [(100, 150), (161, 199)]),
+            ([mark, hole, other], (), [(100, 119), (130, 149), (160, 199)])]
+        for places, words, wanted in cases:
             parts = [part_with(100, 199, 0, answer(said), 1),
-                     part_with(100, 199, 0, answer(said), 2, places=places)]
+                     part_with(100, 199, 0, answer(said), 2, places=places,
+                               request=asked_for("a.stl", "a.pes", *words))]
             known = Writing(verdict_of(parts), MadeWith("1", "0" * 64, None))
             found = [(one["part"], one["from"], one["to"]) for one in trusted_of(known)]
-            self.must(f"{places}", found == [(1, time_of(100), time_of(199)), *(
+            self.must(f"{places} {words}", found == [(1, time_of(100), time_of(199)), *(
                 (2, time_of(first), time_of(last)) for first, last in wanted)], found)
+
+    def test_numbers(self) -> None:
+        """How many faults there are of each number in all parts, but for some; and in all."""
+        verdict = verdict_of([part_with(0, 9, 0, answer(one)) for one in (REFUSED, OTHER, OTHER)])
+        counts = [tuple(one) for one in counts_of_numbers(verdict.parts, {70})]
+        verdict.named.append(NamedFault(NEVER_SENT, ""))
+        self.must("each", counts == [(72, "Content", 1), (38, "UnitLength", 2)], counts)
+        self.must("in all", verdict.faults == 6, verdict.faults)
 
     def test_delays(self) -> None:
         of_spreads: list[tuple[list[int | None], Spread | None]] = [
@@ -188,31 +267,46 @@ class Read(Case):
     """Whether something of a recording could be read."""
 
     def test_is_read(self) -> None:
-        """Three PES packets, of which some were passed over: each, two, the first or the last; a
-        run of them; with faults of other kinds; and a file without any."""
-        pes = b"".join(pes_packet(TICKS * at, [HEADER, CLOSING]) for at in range(3))
-        none = b""
-        of_lists: list[tuple[bytes, tuple[str, ...], bool]] = [
-            (pes, ("refused 38 UnitLength pes 0", "ended 38 UnitLength pes 2", "1 faults"), False),
-            (pes, ("refused 38 UnitLength pes 0", "ended 38 UnitLength pes 1", "1 faults"), True),
-            (pes, ("refused 38 UnitLength pes 1", "ended 38 UnitLength pes 2", "1 faults"), True),
-            (pes, tuple(f"refused 38 UnitLength pes {at}" for at in range(3)) + ("3 faults",),
-             False),
-            (pes, ("refused 38 UnitLength pes 0", "refused 61 OffFrame pes 1",
-                   "refused 38 UnitLength pes 2", "3 faults"), False),
-            (pes, ("refused 38 UnitLength pes 0", "refused 61 OffFrame pes 2", "2 faults"), True),
-            (pes, ("refused 38 UnitLength pes 0", "ended 38 UnitLength pes 2",
-                   "refused 72 Content frame 00:00:00:00 row 1 column 1", "2 faults"), True),
-            (none, ("refused 60 Empty", "1 faults"), False),
-            (pes, ("accepted 10 frames 2 transmissions",), True)]
-        for data, lines, wanted in of_lists:
-            said = Answer(self.path("list"))
-            for line in lines:
-                said.take(line)
-            said.end(int(said.frames is None))
-            part = part_with(0, 9, 0, said, packets=packets_told(self, data), pes=(0, 2))
-            self.must(f"{lines}", part.is_read() == wanted)
-        self.must("no recording", not dataclasses.replace(part, pes=None).is_read())
+        """PES packets of which some were passed over: each, two, the first or the last; a run of
+        them; with faults of other kinds; some of a recording's, or more than it has; a file without
+        any; and beside refused subtitles, where a line of the list is of them."""
+        refused, accepted = "50 Character block 1 at 4", "accepted 51 frames 2 transmissions"
+        trusted = "trusted frames 10:00:00:00 10:00:01:24"
+        of_lists: list[tuple[int, tuple[int, int] | None, list[str], bool]] = [
+            (3, (0, 2), ["38 X pes 0", "ended 38 X pes 2"], False),
+            (3, (0, 2), ["38 X pes 0", "ended 38 X pes 1"], True),
+            (3, (0, 2), ["38 X pes 1", "ended 38 X pes 2"], True),
+            (3, (1, 2), ["38 X pes 1", "ended 38 X pes 2"], False),
+            (3, (1, 99), ["38 X pes 1", "ended 38 X pes 2"], False),
+            (3, (0, 2), ["38 X pes 0", "38 X pes 1", "38 X pes 2"], False),
+            (3, (0, 2), ["38 X pes 0", "61 X pes 1", "38 X pes 2"], False),
+            (3, (0, 2), ["38 X pes 0", "61 X pes 2"], True),
+            (3, (0, 2), ["38 X pes 0", "ended 38 X pes 2", "72 X frame 00:00:00:00 row 1 column 1"],
+             True), (0, (0, 2), ["60 Empty"], False), (3, (0, 2), [accepted], True),
+            (3, None, [accepted], False), (2, (0, 1), [refused], False),
+            (2, (0, 1), [refused, trusted], True),
+            (2, (0, 1), [refused, "78 Undecided frame 10:00:02:00"], True),
+            (2, (0, 1), [refused, "33 Flags pes 0"], True),
+            (2, (0, 1), [refused, "33 Flags pes 0", "ended 33 Flags pes 1"], False)]
+        for count, pes, some, wanted in of_lists:
+            lines = [line if line[0].isalpha() else f"refused {line}" for line in some]
+            faults = sum(line.startswith("refused ") for line in lines)
+            said = answer([*lines, *[f"{faults} faults"] * bool(faults)])
+            packets = Packets(0, [Run(0, count, 0, TICKS, "h", "")] * bool(count))
+            part = part_with(0, 9, 0, said, packets=packets, pes=pes)
+            self.must(f"{count} {pes} {lines}", part.is_read() == wanted)
+
+    def test_headers(self) -> None:
+        """Those of its own PES packets: each that is heard, as often as it was sent; and the
+        national options of all, but for the one that is reserved."""
+        runs = [Run(0, 2, 0, 9, "h", "88080812"), Run(2, 4, 20, 9, "h", "88080810"),
+                Run(6, 1, 60, 0, "hh", "88080818+88080810"), Run(7, 1, None, 0, "h", "88080814"),
+                Run(8, 1, 80, 0, "h", "8808081E", fault=38), Run(9, 1, 90, 0, "h", "8808081A")]
+        part = part_with(0, 9, 0, packets=Packets(0, runs), pes=(3, 8))
+        english, german = (bytes([8, 8, 0, 8, 0, 8, 1, last]) for last in (0, 8))
+        self.must("heard", part.headers_sent() == {english: 4, german: 1}, part.headers_sent())
+        self.must("options", part.options_sent() == {"english", "german", "swedish"},
+                  part.options_sent())
 
     def test_passed_over(self) -> None:
         """Runs of PES packets that were passed over: one that ends is a run up to there, if it is
@@ -236,34 +330,8 @@ class Read(Case):
             self.must(f"{lines}", found == wanted, found)
 
 
-class Severities(Case):
-    """Numbers, and whether they count."""
-
-    def test_what_ends_reading(self) -> None:
-        """Whatever a file says, it is an error; each other number is what the file says."""
-        ends, lost = {30, 31, 32, 44}, 45
-        lines = "".join(f"{number} warning\n" for number in REFUSALS)
-        for name, text, errors in (("each", lines, ends), ("others", "others warning\n",
-                                                           {*ends, lost})):
-            severity = Severity(self.write("severity", text.encode()))
-            wrong = [number for number in REFUSALS | ends
-                     if severity.is_error(number) != (number in errors)]
-            self.must(name, not wrong, wrong)
-        for number in ends:
-            self.must(f"{number} with lost packets allowed", Severity(None, True).is_error(number))
-        self.must("lost packets allowed", not Severity(None, True).is_error(lost))
-
-    def test_lines(self) -> None:
-        for text, numbers in (
-                ("", {72: ERROR}), ("72 warning", {72: WARNING, 70: ERROR}),
-                ("72 error\nothers warning", {72: ERROR, 70: WARNING}),
-                ("others warning\n72 error", {72: ERROR, 70: WARNING}),
-                ("72 warning\n72 error", {72: ERROR}), ("# 72 warning", {72: ERROR}),
-                ("072 warning # so", {72: WARNING, 70: ERROR}), ("others error", {72: ERROR})):
-            severity = Severity(self.write("severity", text.encode()))
-            found = {number: severity.of(number) for number in numbers}
-            self.must(repr(text), found == numbers, found)
-        self.must("no file", Severity(None).of(72) == ERROR and Severity(None).others == ERROR)
+class Numbers(Case):
+    """Numbers, and what is told of them."""
 
     def test_sets_of_numbers(self) -> None:
         """Where pages are moved."""
@@ -284,3 +352,4 @@ class Severities(Case):
         found = [tuple(ends.get(index, NO_END)) for index in range(5)]
         self.must("ends", found == [("00:00:02:00", None), (None, 9), (None, None), (None, None),
                                     ("00:00:05:00", None)], found)
+        self.must("marks", [*answer.marks[72]] == [(25, 50), (75, 75), (100, 125)], answer.marks)

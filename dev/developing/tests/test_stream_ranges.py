@@ -8,12 +8,13 @@ from subtitles.cli.channel.feed import Awaited
 from subtitles.cli.channel.schedule import Queue
 from subtitles.common.times import Between, FRAMES_OF_A_DAY, TICKS, time_of
 from subtitles.formats.stl import Subtitle, SubtitleFile, subtitles_read
-from subtitles.judging.pair import pauses_near
+from subtitles.judging.pair import adjoining_at, pauses_near
 from subtitles.judging.subtitles import HOUR, title_words
 from subtitles.judging.transmissions import subtitles_in
+from subtitles.stream.packets import Packets
 from .bench import Case
 from .judged import OfProgramme, judged, shown_files
-from .parts import defaults
+from .parts import answer, asked_for, defaults, part_with
 from .sent import CLOSING, HEADER, joined, late, programme, row, sendings, subtitle_file
 
 MINUTE = 1500  # frames
@@ -231,6 +232,32 @@ class Adjoining(OfProgramme):
         for name, sent in (("another page", other), ("another fault", one_late)):
             told = self.judge(sent, "--to", time_of(250))
             self.must(name, told.word == "refused", told.said)
+
+    def test_as_it_is_asked(self) -> None:
+        """What is due then is as the call says it: of an open file, by a layout and an option."""
+        words = "--open", "--layout", "row=-2", "--option", "german"
+        stl = subtitle_file(self, [(*one, b"Gr\xc8u\xfbe %d" % one[0]) for one in self.due], row=20)
+        with open(stl, "r+b") as file:
+            file.seek(11)
+            file.write(b"0")  # DSC: open subtitles
+        pes = self.schedule(stl, "one.pes", "--every", "25", *words)
+        told = judged(self, stl, pes, "--origin", "0", *words, "--to", time_of(250))
+        self.must("not judged", told.word == "not judged" and len(told.verdict.to_type) == 2,
+                  told.said)
+
+    def test_adjoining(self) -> None:
+        """The last TCO, where one fault of the content is all, and is told there, or within as many
+        frames as are allowed."""
+        for number, within, frames, wanted in (
+                (72, 0, [200], 200), (72, 0, [199], None), (72, 0, [201], None), (72, 0, [], None),
+                (72, 2, [202], 200), (72, 2, [203], None), (67, 0, [200], None),
+                (72, 0, [200, 200], None)):
+            lines = [f"refused {number} Name frame {time_of(frame)}" for frame in frames]
+            said = answer([*lines, f"{len(lines)} faults"] if lines else ["accepted 9 frames 2 "
+                                                                          "transmissions"])
+            part = part_with(100, 200, 0, said, packets=Packets(0), request=asked_for(
+                "a.stl", "a.pes", "--within", str(within)))
+            self.assertEqual(adjoining_at(part), wanted, (number, within, frames))
 
     def test_pauses(self) -> None:
         """Before a frame and behind it; the end of the file is one."""
