@@ -10,6 +10,7 @@ import time
 import unittest
 import xml.etree.ElementTree as tree
 from typing import Sequence
+from unittest import mock
 
 from developing.every_place import due as defined
 from developing.every_place.words import options_of
@@ -223,6 +224,12 @@ class Beside(Case):
             found.result["subtitle_counts"] is None and
             f"the other subtitles were not judged: {empty} is empty" in found.verdict.notes and
             found.verdict.sentence.startswith("Refused: in block 3 a letter "), found.said)
+        found = judged(self, self.file(3), self.pes, *WORDS,
+                       by=self.program_but("check*--pes*--all*", "exit 9"))
+        self.must("not answered", found.word == "not judged", found.said)
+        with mock.patch("subtitles.judging.pair.parts_of", side_effect=ValueError):
+            found = judged(self, self.file(3), self.pes, *WORDS)
+        self.must("a mistake", found.word == "not judged", found.said)
 
     def test_many(self) -> None:
         """800 subtitles, of which 1, 5 and 40 are refused: judged in little time more."""

@@ -12,8 +12,8 @@ from subtitles.formats.teletext import CODE_WORDS
 from subtitles.judging.causes import EVEN, Faulty, IN_PARTS, Namer, REPEATED, UNSEEN
 from subtitles.judging.check import Answer
 from subtitles.judging.transmissions import (
-    DuePages, Headed, REPEATS, control_words, headed, kept_in, left_at, left_rows_words,
-    unerased_words)
+    DuePages, Headed, REPEATS, control_words, effect_of, header_words, headed, kept_in, left_at,
+    left_rows_words, unerased_words)
 from subtitles.recording.recording import header_bytes, pes_header_words
 from subtitles.stream.gaps import Place, places_of, what_of
 from subtitles.stream.packets import Clocked, Mark, Packets, Run, subcode_of, turns_of
@@ -260,6 +260,24 @@ class Headers(Case):
                 (Headed(KEEPS, None, True), "--keeping", is_open)):
             found = unerased_words(header, asked_for("one.stl", "one.pes", *words.split()))
             self.must(f"{header} {words}", found == wanted, found)
+
+    def test_several(self) -> None:
+        """Of several headers the first of which something is wrong, by what is asked: what that is,
+        and what the page does."""
+        good, keeps, german, plain = map(Headed, (
+            NUMBERS, KEEPS, bytes([*NUMBERS[:7], 8]), bytes([*NUMBERS[:5], 0, 1, 0])))
+        other, clear = "the header is German, and english is asked for", "C6 (subtitle) is clear"
+        for headers, words, effect, said in (
+                ([good, keeps, plain], "", "may stand over old text", REPEATS),
+                ([good, keeps, plain], "--keeping", "hides the picture", clear),
+                ([german, keeps], "", "has other letters", other),
+                ([german, plain], "--option german", "hides the picture",
+                 f"{clear}; the header is English, and german is asked for"),
+                ([german, keeps, good], "--option german --keeping", "has other letters",
+                 "the header is English, and german is asked for"), ([good], "", None, "")):
+            asked = asked_for("one.stl", "one.pes", *words.split())
+            self.must(f"{headers} {words}", header_words(headers, asked) == said and
+                      effect in (None, effect_of(headers, asked)), effect_of(headers, asked))
 
     def test_other_bits(self) -> None:
         """C4 is told first, and nothing of it where it may be clear."""

@@ -66,6 +66,7 @@ class Verdicts(Case):
             ("a", {"named": [never, left], "is_mild": True}, "refused", never.line, never.line),
             ("a", {"named": [never], "is_mild": True}, "waived", f"waived: {never.line}", None),
             ("r", {"is_mild": True, **of_house}, "waived", f"waived: {content}{has}", None),
+            ("ror", {"is_mild": True}, "refused", content, content),
             ("a", {"gaps": lost, **of_house}, "lost", f"{of_loss}: {good}{has}", None),
             ("ra", {"gaps": lost, "is_mild": True}, "lost", f"{of_loss}: waived: {content}", None),
             ("a", strict, "warned", f"{warned}: {good}", None),
@@ -107,26 +108,11 @@ class Verdicts(Case):
 
     def test_sentence_of_losses(self) -> None:
         """The first place that is judged, and how many more there are."""
-        rows: list[tuple[tuple[bool, ...], str]] = [
-            ((True,), "between 1 and 9: 0 lost;"), ((False, True), "between 1 and 9: 1 lost;"),
-            ((True, False, True, True), "between 1 and 9: 0 lost, and in 2 more places;")]
-        for judged, words in rows:
-            verdict = verdict_of(self.three())
-            verdict.gaps = [Gap("1", "9", f"{at} lost", Place(1, 2, 3), one)
-                            for at, one in enumerate(judged)]
-            self.must(f"{judged}", verdict.sentence.startswith(f"Not accepted: {words}"),
-                      verdict.sentence)
-
-    def test_errors(self) -> None:
-        """A fault that is an error counts in each part, and beside warnings."""
-        warned = Severity(self.write("severity", b"72 warning\n70 warning\n"))
-        for at in range(3):
-            for said, is_error in ((REFUSED, False), (OTHER, True)):
-                parts = self.three(0, 1, 2)
-                parts[at] = dataclasses.replace(parts[at], answer=answer(said))
-                found = verdict_of(parts, warned).status
-                self.must(f"{at} {said[0]}", found == int(is_error), found)
-        self.must("none", verdict_of(self.three(), warned).status == 0)
+        verdict = verdict_of(self.three())
+        verdict.gaps = [Gap("1", "9", f"{at} lost", Place(1, 2, 3), one)
+                        for at, one in enumerate((False, True, False, True, True))]
+        self.must("judged", verdict.sentence.startswith(
+            "Not accepted: between 1 and 9: 1 lost, and in 2 more places;"), verdict.sentence)
 
     def test_places_of_a_part(self) -> None:
         """A mark that is judged with it; where none stands each hole that one of its frames may be
@@ -142,25 +128,17 @@ class Verdicts(Case):
             self.must("no clock", not is_in(place, part_with(None, None, None)))
 
     def test_losses(self) -> None:
-        """A loss in the first part, the second and the last, and the one between them or after."""
+        """Those of the first part, the second and the last, and of none, in any order."""
         for shift in (0, CLOCK - 150 * TICKS):
-            for places, judged in (
-                    ([(10, 12)], [True]), ([(110, 112)], [True]), ([(210, 212)], [True]),
-                    ([(99, 100)], [False]), ([(299, 320)], [False]), ([(-5, 0)], [False]),
-                    ([(99, 100), (150, 151)], [False, True]),
-                    ([(150, 151), (99, 100)], [True, False]),
-                    ([(10, 11), (299, 320), (-9, -5)], [True, False, False]),
-                    ([(99, 100), (299, 320)], [False, False])):
-                verdict = verdict_of([])
-                verdict.parts = [part_with(100 * at, 100 * at + 99, shift, number=at + 1)
-                                 for at in range(3)]
-                verdict.gaps += gaps_of([Place((shift + TICKS * before) % CLOCK,
-                                               (shift + TICKS * after) % CLOCK, 1)
-                                         for before, after in places], verdict.parts)
-                found = [gap.is_judged for gap in verdict.gaps]
-                self.must(f"{shift} {places}", found == judged and verdict.is_lost == any(judged),
-                          found)
-                self.must("what decides", verdict.seen().losses == judged, verdict.seen().losses)
+            verdict = verdict_of([part_with(100 * at, 100 * at + 99, shift, number=at + 1)
+                                  for at in range(3)])
+            for frames in ([10, 110, 210], [99, 299, -5], [99, 150], [150, 99], [10, 299, -9]):
+                verdict.gaps = gaps_of([Place(*((shift + TICKS * one) % CLOCK for one in (
+                    frame, frame + 1)), 1) for frame in frames], verdict.parts)
+                found, judged = verdict.seen().losses, [frame % 100 < 99 and 0 < frame < 300
+                                                        for frame in frames]
+                self.must(f"{shift} {frames}", found == judged and
+                          verdict.is_lost == any(judged), found)
 
     def test_announced_jumps(self) -> None:
         """Those of each part, whichever has some."""

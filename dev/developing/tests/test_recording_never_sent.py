@@ -147,7 +147,8 @@ class Judgements(OfProgramme):
             "refused", 1, "refused never sent", "refused never sent") and (
                 fault["number"], fault["name"], fault["means"]) == (None, "never sent", words)
                   and told.verdict.sentence == f"Refused: {words}." and known["parts"] == []
-                  and known["subtitle_counts"] is None, told.said)
+                  and known["subtitle_counts"] is None and known["inputs"]["recording"]["sha256"]
+                  and any("announced 888" in line for line in told.said), told.said)
 
     def test_elsewhere(self) -> None:
         """On a PID that no PMT announces, from the beginning or from some time on; not where that
