@@ -2,21 +2,25 @@
 from __future__ import annotations
 
 import dataclasses
+import itertools
 import os
+import re
 from types import SimpleNamespace
 from typing import Any
+from unittest import mock
 
 from developing.pes import pes_packet
 from developing.stl import gsi_block
 from subtitles.cli.channel.feed import Losses
-from subtitles.cli.channel.schedule import Queue, Queue
+from subtitles.cli.channel.schedule import Queue
 from subtitles.clock.alignment import back_at
 from subtitles.clock.start import Clock, Found, GIVEN
 from subtitles.common.command_line import Stop, Words
 from subtitles.common.times import CLOCK, FRAMES_OF_A_DAY, NO_FRAME, Span, TICKS
 from subtitles.formats.listing import fault_of_line
 from subtitles.formats.stl import SubtitleFile
-from subtitles.judging.check import Answer
+from subtitles.judging.check import Answer, check
+from subtitles.judging.pair import Pair
 from subtitles.judging.subtitles import AT_MIDNIGHT, falls_at_midnight, midnight_words
 from subtitles.judging.verdict import is_in_move, places_on
 from subtitles.report.report import readable
@@ -29,70 +33,84 @@ from subtitles.stream.receiver import Timeline, pauses_in, timeline_near
 from .bench import Case, example, example_bytes
 from .judged import judged
 from .muxed import TELETEXT_PID, in_stream
-from .parts import answer, asked_for, defaults, in_page, packets_told, part_with
+from .parts import asked_for, defaults, in_page, packets_told, part_with, script
 from .sent import CLOSING, HEADER, PAGE, in_pipe, programme, row
 from .test_channel_feed import sent
+from .test_judging_verdicts import verdict_of
 
 
 # What `check --all` answered, line by line; what is advised of times that fall at midnight; what a
 # line of a list asks.
 
+FIRST, SECOND = "refused 72 Content frame 00:00:05:00 row 20 column 1", \
+    "refused 38 UnitLength pes 7"
+GOOD, TRUSTED, ENDED = "accepted 10 frames 2 transmissions", \
+    "trusted frames 00:00:06:00 00:00:07:00", "ended 72 Content frame 00:00:07:00"
+NONE = [f"refused {number} Flags pes 0" for number in ("\u0663\u0663", "+33", "")]
+STRANGE = ("hello", f"{GOOD} more", "accepted of course", "refused", *NONE[1:])
+# Lines, the status, and what that is; `None` is no answer.
+LISTS: list[tuple[list[str], int, str | None]] = [
+    ([GOOD], 0, "accepted"), ([GOOD, GOOD], 0, "accepted"), ([TRUSTED, GOOD], 0, "accepted"),
+    ([FIRST, "1 faults"], 1, "refused"), ([FIRST, FIRST, "2 faults"], 1, "refused"),
+    ([SECOND, "ended 38 UnitLength pes 9", FIRST, ENDED, TRUSTED, "2 faults"], 1, "refused"),
+    # Silent, or without the line that tells the status.
+    ([], 0, None), ([], 1, None), ([], 2, None), ([], -9, None), ([TRUSTED], 0, None),
+    (["0 faults"], 0, None), (["0 faults"], 1, None), ([""], 0, None),
+    # A status that says something else than the lines.
+    *(([GOOD], status, None) for status in (1, 2, -9, -15)),
+    *(([FIRST, "1 faults"], status, None) for status in (0, 2, -9)),
+    # A list that is cut, or counts otherwise.
+    ([FIRST], 1, None), ([FIRST, ENDED], 1, None), ([FIRST, "2 faults"], 1, None),
+    ([FIRST, SECOND, "1 faults"], 1, None), ([FIRST, "1 faults", FIRST], 1, None),
+    # Accepted and refused, or accepted before the end.
+    ([FIRST, GOOD], 0, None), ([FIRST, GOOD, "1 faults"], 0, None),
+    ([GOOD, FIRST, "1 faults"], 1, None), ([GOOD, "0 faults"], 0, None),
+    ([GOOD, "0 faults"], 1, None), ([GOOD, TRUSTED], 0, None),
+    # Something that the program could not do.
+    (["fault 91 Memory"], 2, None), (["usage 80 Every"], 2, None),
+    ([FIRST, "fault 41 Read pes 4"], 2, None),
+    # Lines that are none of its own.
+    ([GOOD, "hello"], 0, None), (["hello", "?", GOOD], 0, None),
+    ([FIRST, "hello", "1 faults"], 1, None), ([f"{GOOD} more"], 0, None),
+    (["accepted of course"], 0, None), (["refused", "1 faults"], 1, None),
+    (["refused 67", "1 faults"], 1, None), (["refused 3 3 Flags pes 0", "1 faults"], 1, None),
+    *(([line, "1 faults"], 1, None) for line in NONE)]
+
 
 class Answers(Case):
-    """What `check --all` answered, line by line."""
-
-    FIRST, SECOND = "refused 72 Content frame 00:00:05:00 row 20 column 1", \
-        "refused 38 UnitLength pes 7"
-    GOOD, TRUSTED = "accepted 10 frames 2 transmissions", \
-        "trusted frames 00:00:06:00 00:00:07:00"
-    STRANGE = ("hello", GOOD + " more", "refused")
-    # Lists without a fault that are no answer, each with a status; more stand in test_helpers.
-    NONE: list[tuple[list[str], int]] = [
-        ([GOOD], 2), ([], 0), ([GOOD, TRUSTED], 0), ([GOOD, "hello"], 0), (["hello", "?", GOOD], 0),
-        ([GOOD + " more"], 0), (["refused", "1 faults"], 1)]
-    # Lists: the status, the verdict or none, the line, how many faults there are and their numbers.
-    LISTS: list[tuple[list[str], int, str | None, str, int, set[int]]] = [
-        ([GOOD], 0, "accepted", GOOD, 0, set()), ([GOOD, GOOD], 0, "accepted", GOOD, 0, set()),
-        ([TRUSTED, GOOD], 0, "accepted", GOOD, 0, set()),
-        ([FIRST, "1 faults"], 1, "refused", FIRST, 1, {72}),
-        ([FIRST, SECOND, "2 faults"], 1, "refused", FIRST, 2, {72, 38}),
-        ([SECOND, "ended 38 UnitLength pes 9", FIRST, TRUSTED, "2 faults"], 1, "refused", SECOND, 2,
-         {72, 38}),
-        ([FIRST, "hello", "1 faults"], 1, None, "", 1, {72}),
-        ([GOOD, FIRST, "1 faults"], 1, None, "", 1, {72}),
-        ([FIRST, SECOND, "1 faults"], 1, None, "", 2, {72, 38}),
-        (["refused 67", "1 faults"], 1, None, "", 1, {67})]
+    """What `check --all` answered: lines, and a status."""
 
     def test_answers(self) -> None:
-        """Each kind of list: its verdict, its line, its numbers, or that it is none."""
-        rows = [*self.LISTS, *((*one, None, "", 0, set[int]()) for one in self.NONE)]
-        for lines, status, verdict, line, count, numbers in rows:
-            made = Answer(self.path("list"))
-            for one in lines:
-                made.take(one)
+        """Each kind of list: its verdict, or why it is none; its line and faults, and what is heard
+        as it comes."""
+        for lines, status, wanted in LISTS:
+            made, heard, reason = Answer(self.path("list")), list[str](), ""
             try:
-                made.end(status)
-                found: str | None = made.verdict
-            except Unclear as reason:
-                found = None
-                told = next((one for one in lines if one in self.STRANGE), "".join(lines[-1:])) or \
-                    "it printed nothing"
-                self.assertEqual(reason.reason, f"check was not answered: {told}, status {status}")
-            self.assertEqual((found, made.count, made.numbers), (verdict, count, numbers), lines)
-            if found:
-                self.assertEqual(made.line, line)
-            self.assertEqual(list(made.lines()), list(lines))
-            self.assertEqual([one.line for one, _ in made.told()],
-                             [one for one in lines
-                              if one.startswith("refused ") and fault_of_line(one)])
-            self.assertEqual([begin for begin, _ in made.trusted],
-                             [150] * (self.TRUSTED in lines))
+                check(["sh", "-c", script(lines, status)], made, heard.append)
+            except Unclear as why:
+                reason = why.reason
+            last = next((one for one in lines if one in STRANGE), "".join(lines[-1:]))
+            faults = [one for one in lines if re.match(r"refused \d+( |$)", one, re.ASCII)]
+            with self.subTest(lines=lines, status=status):
+                self.assertEqual((None if reason else made.verdict, reason), (
+                    wanted, "" if wanted else "check was not answered: "
+                    f"{last or 'it printed nothing'}, status {status}"))
+                self.assertEqual(heard, [*itertools.takewhile(GOOD.__ne__, lines),
+                                         *[GOOD] * (wanted == "accepted")])
+                self.assertEqual((made.count, made.numbers, [*made.lines()]), (
+                    len(faults), {int(one.split()[1]) for one in faults}, lines))
+                self.assertTrue(not wanted or made.line == [*faults, lines[-1]][0])
+                self.assertEqual([one.line for one, _ in made.told()],
+                                 [one for one in lines if one[:8] == "refused " and
+                                  fault_of_line(one)])
+                self.assertEqual([begin for begin, _ in made.trusted],
+                                 [150] * (TRUSTED in lines))
 
     def test_stopped(self) -> None:
         """Up to when it was told; what is accepted without a list; and where its file is then."""
         of_times: list[tuple[list[str], str | None]] = [
-            ([], None), ([self.FIRST], "00:00:05:00"),
-            ([self.FIRST, "refused 38 UnitLength pes 7"], None),
+            ([], None), ([FIRST], "00:00:05:00"),
+            ([FIRST, "refused 38 UnitLength pes 7"], None),
             (["trusted frames 00:00:06:00 00:00:07:00"], "00:00:07:00")]
         for lines, wanted in of_times:
             made = Answer(self.path("list"))
@@ -101,13 +119,23 @@ class Answers(Case):
             made.stop()
             self.assertEqual((made.told_up_to(), made.verdict, made.said().status),
                              (wanted, "not judged", None))
+        verdict, nothing = verdict_of([]), mock.Mock()
+        pair = Pair(verdict, nothing, nothing, nothing, False)
+        self.assertEqual(pair.stop("10:00"), "10:00")
+        for lines, told in (([FIRST], "all up to 00:00:05:00"), ([], "nothing yet")):
+            pair.begun = part_with(0, 9, 0, Answer(self.path("list")))
+            for one in lines:
+                pair.begun.answer.take(one)
+            for words in (f"10:00, when check had reported {told}", "10:00"):  # it is taken once
+                self.assertEqual((pair.stop("10:00"), verdict.parts[-1]), (words, pair.begun))
+        self.assertEqual(len(verdict.parts), 2)
         made = Answer(self.path("list"))
-        made.take(self.FIRST)
+        made.take(FIRST)
         made.take("1 faults")
         made.end(1)
         made.move(self.path("other"))
         self.assertEqual((made.path, list(made.lines())), (self.path("other"),
-                                                           [self.FIRST, "1 faults"]))
+                                                           [FIRST, "1 faults"]))
         made.accept("2 subtitles")
         self.assertEqual((made.verdict, made.line, made.count, made.numbers, list(made.lines())),
                          ("accepted", "2 subtitles", 0, set(), []))
@@ -232,22 +260,6 @@ class Kept(Case):
 
 class Values(Case):
     """Functions that decide."""
-
-    def test_letters_at_0(self) -> None:
-        """A refused letter that is the first of its text has its byte, as any other one."""
-        for text, at in ((b"\xc9 letter", 0), (b"A \xc9 letter", 2)):
-            stl = programme(self, [(10, 60)], text=text)
-            [fault] = judged(self, stl).result["faults"]
-            self.must(f"{at}", (fault["text_at"], fault["byte"]) == (at, "C9"), fault)
-
-    def test_count_sent(self) -> None:
-        """Beside refused subtitles the faults of the transmission count, without what stands for
-        stretches that are not decided (78)."""
-        lines = ["refused 50 Character block 3 at 2",
-                 "refused 78 Undecided frame 00:00:01:00", "refused 73 Gap frame 00:00:02:00",
-                 "refused 78 Undecided frame 00:00:03:00", "4 faults"]
-        said = answer(lines, path=self.path("list"))
-        self.must("count", said.count_sent == 1, said.count_sent)
 
     def test_end_of_a_feed(self) -> None:
         """By a PCR that is ahead of the Teletext a programme is not over before the PTS of that

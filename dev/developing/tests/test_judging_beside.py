@@ -32,7 +32,7 @@ from .test_judging_reasons import KEEPING_HEADER
 # Beside refused subtitles the others are judged, where the program does so: by one that stands in
 # for it. By the program of today a refused file is refused, and nothing else changes.
 
-BAD = b"no letter: \xe6"
+BAD = b"\xe6: no letter"
 CURE = "it needs another region, or packets X/26, which are refused (70): write it otherwise"
 WORDS = "--origin", "0", "--every", "100"
 PAGE = 0, 0x88
@@ -80,7 +80,7 @@ class Beside(Case):
             self.must(pes, found.word == "refused" and found.verdict.sentence ==
                       f"Refused: {first}; 9 other subtitles were judged: {end}.",
                       found.verdict.sentence)
-            self.must(f"{pes}: line", found.said[-1] == "refused 50 Character block 3 at 11" and
+            self.must(f"{pes}: line", found.said[-1] == "refused 50 Character block 3 at 0" and
                       found.verdict.status == 1 and found.lines("undecided: ") == [
                           first.replace(" is refused", ", to 00:00:14:10, is refused", 1)],
                       found.said)
@@ -134,6 +134,9 @@ class Beside(Case):
                                 (b"others warning\n", self.pes, "waived")):
             found = self.judge(self.file(3), pes, "--severity", self.write("severity", text))
             self.must(f"{text!r} {pes}", found.word == word, found.said)
+            self.must(f"{text!r} {pes}: each", {
+                (one["number"], one["severity"]) for one in found.result["faults"]} >= {
+                    (50, "error" if text[:2] == b"78" else "warning")}, found.result["faults"])
             self.must(f"{text!r} {pes}: said", pes == slow or found.verdict.sentence.endswith(
                 "9 other subtitles were judged: each of them is as it is due from the first frame "
                 "on."), found.verdict.sentence)
@@ -165,7 +168,7 @@ class Beside(Case):
                 for at, (pts, some) in enumerate(two)]
         for bad, sent, said in (((7,), two, "each of them is as it is due"),
                                 ((2, 7), two, "each of them is as it is due"),
-                                ((7,), kept, "; in all 2 faults.")):
+                                ((7,), kept, " see --keeping in the profile; in all 2 faults.")):
             found = judged(self, self.file(*bad), self.write("two.pes", joined(sent)), "--breaks",
                            "1", "--every", "100")
             self.must(f"{bad} {said}", found.word == "refused" and said in found.verdict.sentence
@@ -220,13 +223,13 @@ class Beside(Case):
         empty = self.write("empty.pes", b"")
         found = judged(self, self.file(3), empty, *WORDS)
         self.must("refused", found.word == "refused" and found.listed == [
-            "refused 50 Character block 3 at 11", "1 faults"] and
+            "refused 50 Character block 3 at 0", "1 faults"] and
             found.result["subtitle_counts"] is None and
             f"the other subtitles were not judged: {empty} is empty" in found.verdict.notes and
             found.verdict.sentence.startswith("Refused: in block 3 a letter "), found.said)
-        found = judged(self, self.file(3), self.pes, *WORDS,
-                       by=self.program_but("check*--pes*--all*", "exit 9"))
-        self.must("not answered", found.word == "not judged", found.said)
+        for stl, when in ((self.file(3), "check*--pes*--all*"), (self.stl, "show*")):
+            found = judged(self, stl, self.pes, *WORDS, by=self.program_but(when, "exit 9"))
+            self.must(f"{when}: not answered", found.word == "not judged", found.said)
         with mock.patch("subtitles.judging.pair.parts_of", side_effect=ValueError):
             found = judged(self, self.file(3), self.pes, *WORDS)
         self.must("a mistake", found.word == "not judged", found.said)
@@ -242,7 +245,7 @@ class Beside(Case):
                            for at, one in enumerate(blocks, 1)])
             file = SubtitleFile(self.write("bad.stl", data))
             faults = [told for at in sorted(bad)
-                      if (told := fault_of_line(f"refused 50 Character block {at} at 11"))]
+                      if (told := fault_of_line(f"refused 50 Character block {at} at 0"))]
             began = time.process_time()
             found = beside_of(file, faults, "english")
             due = due_beside(found.judged, PAGE, "english")
@@ -300,8 +303,9 @@ class AtRandom(Case):
             pages = defined.Due(wanted.records, wanted.others, options)
             held = due.timeline
             for one, rows in zip(found.judged, due.pages):
-                self.must("page", b"".join(rows) == pages.at(one.begin) and held and
-                          held.page_at(one.begin) == rows, rows)
+                self.must("page", b"".join(rows) == pages.at(one.begin) and held and all(
+                    b"".join(held.page_at(frame)) == pages.at(frame)
+                    for frame in (one.begin, one.end - 1, one.end)), rows)
         self.must("some", beside > 60, beside)
 
 
@@ -344,6 +348,6 @@ class WholeInputs(Case):
         status, lines = self.program("check", self.write("bad.stl", stl_of(blocks)),
                                      self.path("sent.pes"), "--all")
         self.must("status", status == 1, status)
-        self.must("the subtitle", lines[0] == "refused 50 Character block 13 at 11", lines)
+        self.must("the subtitle", lines[0] == "refused 50 Character block 13 at 0", lines)
         self.must("the others", [line for line in lines[1:] if line.startswith("refused ")] == [
             f"refused 78 Undecided frame {when}" for when in ("00:00:50:10",)], lines)

@@ -130,12 +130,6 @@ class Words(Case):
                 "refused 68 Parity frame 00:00:01:00 packet 1"), False, 3, counts, "a letter"))
             self.must(wanted, words == f"at 00:00:01:00 a letter{wanted}", words)
 
-    def test_numbers_of_other_digits(self) -> None:
-        """What int takes and the program does not print is no answer."""
-        for number in ("\u0663\u0663", "+33", "3 3", ""):
-            with self.assertRaises(Unclear):
-                answer([f"refused {number} Flags pes 0", "1 faults"], 1)
-
     def test_faulty_frames(self) -> None:
         """Of a subtitle: the first stretch while it is due, and the first from its TCO on."""
         one = Subtitle(1, 1, 100, 150, 20, 2, b"")

@@ -4,7 +4,7 @@ from __future__ import annotations
 
 from developing.pes import STUFFING_UNIT, pes_packet
 from subtitles.common.times import TICKS
-from .judged import OfProgramme, judged
+from .judged import OfProgramme
 from .muxed import Packet, Shape, multiplexed, of_teletext, with_loss
 from .sent import CLOSING, HEADER, Sent, programme, row, sendings
 from .test_stream_pace import BEGIN, TIMES, filled

@@ -280,7 +280,9 @@ class Said(OfProgramme):
             found.said)
         found = judged(self, programme(self, times(1), text=b"\xa35"), "--option", "german")
         self.must("by the option", found.result["hints"][0].startswith(
-            "50: the whole file draws in --option english, "), found.result["hints"])
+            "50: the whole file draws in --option english, ") and [
+                (one["text_at"], one["byte"]) for one in found.result["faults"]] == [(0, "A3")],
+                  found.result)
         data = bytearray(example_bytes("hello.pes"))
         at = DATA + 4 + 2 + 7  # in the first PES packet: C11 to C14 of its first header
         data[at:at + 1] = mirrored(b"\xd0")  # the code word of 8: C12 to C14 are those of German

@@ -23,7 +23,7 @@ from .judged import Judged, OfProgramme, judged
 from .muxed import OLD, Shape, TELETEXT_PID, beside_video, in_turn, multiplexed, stream, without
 from .parts import answer, asked_for, timeline_of
 from .sent import (
-    CLOSING, HEADER, PAGE, Sent, in_pipe, joined, packets, programme, row, scheduled, times)
+    CLOSING, HEADER, PAGE, Sent, in_pipe, joined, programme, row, scheduled, times)
 
 
 # Why a recording is refused, or not judged: the reason that is told is the sender's fault.

@@ -4,7 +4,6 @@ from __future__ import annotations
 import ctypes
 import itertools
 import json
-import os
 import re
 import unittest
 from typing import Callable
@@ -14,15 +13,12 @@ from subtitles.common.times import CLOCK
 from subtitles.formats.listing import fault_of_line, meanings
 from subtitles.formats.teletext import OPTIONS
 from subtitles.judging.causes import Cause, IN_PAUSE, NAMES
-from subtitles.judging.check import Answer, check
 from subtitles.judging.pages import Sight, hidden_words, letters_in, sight_of
 from subtitles.judging.sentence import Count, Facts, SAID, WORDS, of_causes, sentence_of
 from subtitles.judging.status import ACCEPTED, LOST, NOT_JUDGED, REFUSALS, REFUSED, WAIVED, WARNED
 from subtitles.judging.transmissions import control_words
-from subtitles.request.request import Unclear
 from .bench import Case
 from .judged import OfProgramme, judged
-from .parts import script
 from .sent import CLOSING, HEADER, Sent, joined, programme, row, sendings
 from .test_formats_letters import ANY_SUBCODE, CHARACTER, LEVEL_1, Receiver, TEXT_AT
 from .test_judging_faults import cause, causes_of
@@ -344,52 +340,5 @@ class Rows(Case):
                   ["hidden"] * 3, told.said)
         mild = self.write("mild", b"not shown warning\n")
         told = judged(self, programme(self, times, text=b"\x1dHi"), "--severity", mild)
-        self.must("waived", told.word == "waived", told.said)
-
-
-# Programs that a tool calls, and that fail: silent, killed, or with an answer that is none.
-
-ACCEPTED_LINE = "accepted 226 frames 5 transmissions"
-FAULT = "refused 72 Content frame 20:15:05:12 row 22 column 9"
-ENDED = "ended 72 Content frame 20:15:05:20"
-TRUSTED = "trusted frames 20:15:00:00 20:15:05:11"
-
-# Lines of `check --all`, the status, and what that is; `None` is no answer.
-ANSWERS: list[tuple[list[str], int, str | None]] = [
-    ([ACCEPTED_LINE], 0, "accepted"), ([FAULT, "1 faults"], 1, "refused"),
-    ([TRUSTED, FAULT, ENDED, "1 faults"], 1, "refused"),
-    ([FAULT, FAULT, "2 faults"], 1, "refused"), ([TRUSTED, ACCEPTED_LINE], 0, "accepted"),
-    # Silent, or without the line that tells the status.
-    ([], 0, None), ([], 1, None), ([], 2, None), ([], -9, None), ([TRUSTED], 0, None),
-    (["0 faults"], 0, None), (["0 faults"], 1, None), ([""], 0, None),
-    # A status that says something else than the lines.
-    ([ACCEPTED_LINE], 1, None), ([ACCEPTED_LINE], 2, None), ([ACCEPTED_LINE], -9, None),
-    ([ACCEPTED_LINE], -15, None),
-    ([FAULT, "1 faults"], 0, None), ([FAULT, "1 faults"], 2, None),
-    ([FAULT, "1 faults"], -9, None),
-    # A list that is cut, or counts otherwise.
-    ([FAULT], 1, None), ([FAULT, ENDED], 1, None), ([FAULT, "2 faults"], 1, None),
-    ([FAULT, FAULT, "1 faults"], 1, None), ([FAULT, "1 faults", FAULT], 1, None),
-    # Both accepted and refused.
-    ([FAULT, ACCEPTED_LINE], 0, None), ([FAULT, ACCEPTED_LINE, "1 faults"], 0, None),
-    ([ACCEPTED_LINE, "0 faults"], 0, None), ([ACCEPTED_LINE, "0 faults"], 1, None),
-    # Something that the program could not do.
-    (["fault 91 Memory"], 2, None), (["usage 80 Every"], 2, None),
-    ([FAULT, "fault 41 Read pes 4"], 2, None), (["accepted of course"], 0, None)]
-
-
-class Answers(unittest.TestCase):
-    """What `check` answered."""
-
-    def test_answers(self) -> None:
-        for lines, status, wanted in ANSWERS:
-            answer, heard = Answer(os.devnull), list[str]()
-            with self.subTest(lines=lines, status=status):
-                try:
-                    check(["sh", "-c", script(lines, status)], answer, heard.append)
-                    found: str | None = answer.verdict
-                except Unclear as reason:
-                    found = None
-                    self.assertIn("check was not answered: ", reason.reason)
-                said = lines if wanted else list(itertools.takewhile(ACCEPTED_LINE.__ne__, lines))
-                self.assertEqual((found, heard), (wanted, said))
+        self.must("waived", told.word == "waived" and {
+            one["severity"] for one in told.result["faults"]} == {"warning"}, told.said)

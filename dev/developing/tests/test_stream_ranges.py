@@ -235,7 +235,7 @@ class Adjoining(OfProgramme):
 
     def test_as_it_is_asked(self) -> None:
         """What is due then is as the call says it: of an open file, by a layout and an option."""
-        words = "--open", "--layout", "row=-2", "--option", "german"
+        words = "--open", "--layout", "row=-2", "--option", "german", "--page", "150"
         stl = subtitle_file(self, [(*one, b"Gr\xc8u\xfbe %d" % one[0]) for one in self.due], row=20)
         with open(stl, "r+b") as file:
             file.seek(11)
