@@ -86,12 +86,12 @@ class Beside(Case):
                       found.said)
             self.must(f"{pes}: list", found.listed[0] == found.said[-1] and
                       "refused 78 Undecided frame 00:00:10:10" in found.listed, found.listed)
-        for bad, words in (((3, 5), "2 of 10 subtitles are refused, subtitle 3 at "),
-                           (range(2, 9), "7 of 10 subtitles are refused, subtitle 2 at ")):
-            found = self.judge(self.file(*bad), self.pes)
-            self.must(f"{bad}", words in found.verdict.sentence and (
-                " and 4 more; 3 other subtitles were judged: " in found.verdict.sentence) ==
-                (len(bad) > 3), found.verdict.sentence)
+        for bad, words, more in (((3, 5), "2 of 10 subtitles are refused, subtitle 3 at ", ""),
+                                 (range(2, 6), "4 of 10 subtitles are refused, ", " and 1 more; 6"),
+                                 (range(2, 9), "7 of 10 subtitles are ", " and 4 more; 3 other")):
+            said = self.judge(self.file(*bad), self.pes).verdict.sentence
+            self.must(f"{bad}", words in said and more in said and (" more; " in said) ==
+                      bool(more), said)
 
     def test_results(self) -> None:
         """Both counts stand in the result, the tables, and what collects them."""
@@ -299,6 +299,18 @@ class AtRandom(Case):
             found = beside_of(file, filter(None, map(fault_of_line, wanted.lines)), "english")
             self.must(f"{wanted.lines}", [(one.begin, one.end) for one in found.judged] == [
                 (one.tci, one.tco) for one in wanted.records], found)
+            first, places = dict[int, str](), {one.index for one in found.judged}
+            for line in wanted.lines:
+                told = fault_of_line(line)
+                one = file.at_block(told.block) if told and told.block is not None else None
+                first.setdefault(one.position, line) if one else None
+            self.must(f"{wanted.lines}: refused", [
+                (one.subtitle.position, one.fault.line) for one in found.refused] ==
+                sorted(first.items()), found.refused)
+            self.must("left out", not places & found.left_out and (between != ALL_DAY or (
+                places | found.left_out) == {*range(1, len(file.starts) + 1)}), found)
+            self.must("words", len(first) < 2 or found.words().startswith(
+                f"{len(first)} of {len(places | found.left_out)} subtitles "), found.words())
             due = due_beside(found.judged, PAGE, "english")
             pages = defined.Due(wanted.records, wanted.others, options)
             held = due.timeline

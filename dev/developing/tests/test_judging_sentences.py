@@ -329,9 +329,9 @@ class Rows(Case):
                               "refused not shown block 1" and told.said[-2].endswith(
                                   " See refusals.md#not-shown."), told.said)
                     self.must(f"{text!r}: faults", [
-                        (one["name"], one["number"], one["block"]) for one in
-                        told.result["faults"]] == [("not shown", None, at) for at in (1, 2, 3)],
-                        told.result["faults"])
+                        (one["name"], one["number"], one["block"], one["subtitle"]["position"])
+                        for one in told.result["faults"]] == [
+                        ("not shown", None, at, at) for at in (1, 2, 3)], told.result["faults"])
                 warned = [one["line"] for one in told.result["warnings"] if one["kind"] == "hidden"]
                 self.must(f"{text!r}: warnings", warned[:1] == [words] * (
                     word == "accepted" and bool(words)), warned)

@@ -7,22 +7,27 @@ import itertools
 from types import SimpleNamespace
 from typing import Any, Sequence
 
-from subtitles.clock.start import FITTED, FITTED_LATER, GIVEN, RECORDING
+from developing.pes import pes_packet
+from subtitles.clock.start import Clock, FITTED, FITTED_LATER, Found, GIVEN, RECORDING
 from subtitles.common.program import MadeWith
 from subtitles.common.times import CLOCK, TICKS, time_of
 from subtitles.formats.listing import NEVER_SENT, NamedFault, PICTURES_LEFT
 from subtitles.judging.check import Answer, NO_END
-from subtitles.judging.part import Explanation, Part, is_in
+from subtitles.judging.part import (
+    Explanation, Part, PartFrames, PartPace, PartRange, answered_part, is_in, nothing_due)
 from subtitles.judging.status import Severity
+from subtitles.judging.subtitles import Counts, JudgedBeside
 from subtitles.judging.verdict import (
     Gap, MOVED, Spread, Unjudged, Verdict, counts_of_numbers, gap_of, gaps_in, gaps_of, lacks,
     spread_of)
 from subtitles.recording.notices import Notice
+from subtitles.request.commands import Names
 from subtitles.results.schema import Writing, trusted_of
 from subtitles.stream.gaps import Place
 from subtitles.stream.packets import Packets, Run
 from .bench import Case
-from .parts import answer, asked_for, part_with
+from .parts import answer, asked_for, packets_told, part_with
+from .sent import CLOSING, HEADER, row
 
 REFUSED = ("refused 72 Content frame 00:00:05:00 row 20 column 1", "1 faults")
 OTHER = ("refused 38 UnitLength pes 7", "refused 70 Repeat frame 00:00:09:00", "2 faults")
@@ -228,6 +233,11 @@ class Verdicts(Case):
         verdict.named.append(NamedFault(NEVER_SENT, ""))
         self.must("each", counts == [(72, "Content", 1), (38, "UnitLength", 2)], counts)
         self.must("in all", verdict.faults == 6, verdict.faults)
+        self.must("subtitles", verdict.counts == Counts(0, 0), verdict.counts)
+        verdict.beside = JudgedBeside([], [], frozenset({4, 5}))
+        self.must("beside", verdict.counts == Counts(0, 2), verdict.counts)
+        letter = answer(["refused 50 Character block 1 at 4", "1 faults"])
+        self.must("a file", verdict_of([*self.three(), part_with(0, 9, 0, letter)]).counts is None)
 
     def test_delays(self) -> None:
         of_spreads: list[tuple[list[int | None], Spread | None]] = [
@@ -285,6 +295,18 @@ class Read(Case):
         self.must("heard", part.headers_sent() == {english: 4, german: 1}, part.headers_sent())
         self.must("options", part.options_sent() == {"english", "german", "swedish"},
                   part.options_sent())
+
+    def test_what_is_held(self) -> None:
+        """Of the PES packets that are judged, in the frames that are asked for."""
+        packets = packets_told(self, b"".join(pes_packet(TICKS * at - 5, [
+            HEADER, row(20, b"%d" % at), CLOSING]) for at in range(10, 60, 10)))
+        recording: Any = SimpleNamespace(packets=packets)
+        asked = asked_for("a.stl", "a.pes", "--within", "1")
+        frames = PartFrames(1, asked, Names("a", "", None), Found(10, 50, Clock(0, GIVEN)),
+                            recording)
+        held = answered_part(PartPace(PartRange(frames, (1, 2)), asked), answer(),
+                             nothing_due).held
+        self.must("two", held and [*held.frames] == [20, 30], held and held.frames)
 
     def test_passed_over(self) -> None:
         """Runs of PES packets that were passed over: one that ends is a run up to there, if it is

@@ -270,7 +270,7 @@ class Pieces(Case):
     def test_pieces(self) -> None:
         """The frames of each, and those in which its subtitles come."""
         def stage(pid: int, first: int, count: int) -> Stage:
-            run = Run(0, count, TICKS * first, TICKS, "heb", "00000000")
+            run = Run(0, count, TICKS * first - 5, TICKS, "heb", "00000000")
             return Stage(Packets(pid, [run]), (0, count - 1))
 
         def subtitle(begin: int, end: int) -> Subtitle:
@@ -296,7 +296,7 @@ class Pieces(Case):
             silent = Stage(Packets(OLD, [Run(0, 1, None, 0, "m", "")]), (0, 0))
             for several in (stages, [stages[0], silent, stages[1]]):
                 made = [(one.pid, one.begin, one.end, tuple(one.between), one.came, one.goes)
-                        for one in found_on(found, several, own, 0)]
+                        for one in found_on(found, several, own, 1)]
                 self.must(f"{name}, {len(several)}", made == wanted, made)
             self.must(f"{name}: each", all(any(Between(*one[3]).has(each.begin) for one in made)
                                            for each in own))
