@@ -22,7 +22,7 @@ from subtitles.formats.stl import SubtitleFile
 from subtitles.judging.check import Answer, check
 from subtitles.judging.pair import Pair
 from subtitles.judging.subtitles import AT_MIDNIGHT, falls_at_midnight, midnight_words
-from subtitles.judging.verdict import is_in_move, places_on
+from subtitles.judging.verdict import is_in_move
 from subtitles.report.report import readable
 from subtitles.request.lines import request_of_line
 from subtitles.request.request import Unclear, add_options
@@ -279,15 +279,8 @@ class Values(Case):
                     Span(11, 899), Span(901, 989)]), (NO_FRAME, [900, 990], [Span(901, 989)])):
             self.must(f"{before} {frames}", [*pauses_in(before, frames)] == wanted)
 
-    def test_places_where_a_page_moves(self) -> None:
-        """A hole that the PCR alone tells on the PID to which the page moved; but for one before
-        its first PES packet, where that is no loss of the page."""
-        places = [Place(None, TICKS, missing=9), Place(TICKS, 2 * TICKS, missing=9),
-                  Place(None, TICKS, 1, mark=0), Place(TICKS, 2 * TICKS, 1, mark=1)]
-        for came, wanted in ((None, places), (5, places[1:])):
-            one = part_with(0, 100, 0, places=places,
-                            alignment=Found(0, 100, Clock(0, GIVEN), came=came))
-            self.must(f"{came}", [*places_on(one, None)] == wanted)
+    def test_where_a_page_moves(self) -> None:
+        """What is missing behind the last PES packet on the PID that it leaves, without a mark."""
         stage = Stage(Packets(5, [Run(0, 3, 0, TICKS, "h", "")]), (0, 1))
         for goes, before, mark, is_there in ((6, TICKS, None, True), (6, 2 * TICKS, None, False),
                                              (6, 0, None, False), (None, TICKS, None, False),

@@ -164,11 +164,11 @@ class Beside(Case):
         """After a break, with a refused subtitle in the second part alone, and in both; and with a
         header in each part that keeps the page."""
         two = [(pts + 3600 * 500 * (pts >= 3600 * 480), some) for pts, some in self.sent]
-        kept = [(pts, [KEEPING_HEADER, *some[1:]] if at in (3, 40) else some)
+        kept = [(pts, [KEEPING_HEADER, *some[1:]] if at in (2, 40) else some)
                 for at, (pts, some) in enumerate(two)]
         for bad, sent, said in (((7,), two, "each of them is as it is due"),
                                 ((2, 7), two, "each of them is as it is due"),
-                                ((7,), kept, " see --keeping in the profile; in all 2 faults.")):
+                                ((2, 7), kept, " see --keeping in the profile; in all 2 faults.")):
             found = judged(self, self.file(*bad), self.write("two.pes", joined(sent)), "--breaks",
                            "1", "--every", "100")
             self.must(f"{bad} {said}", found.word == "refused" and said in found.verdict.sentence

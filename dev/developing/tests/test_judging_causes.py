@@ -295,6 +295,10 @@ BY_HAND: list[tuple[str, str, list[tuple[int, str, int | None, int | None, str |
     ("100-150 a", "0:- 100:z 125:y", [(0, "wrong text", None, None, "z")]),
     ("100-150 a", "0:- 100:z 120:a 150:-", [(0, "wrong text", None, None, "z")]),
     ("100-150 a", "0:z 120:a 150:-", [(0, "late", 20, None, "a")]),
+    ("100-150 a", "0:- 50:z 160:-", [(0, "wrong text", None, None, "z")]),
+    # Before anything is held.
+    ("10-50 a;100-150 b", "60:b 150:-", [
+        (0, "never sent", None, None, None), (1, "early", 40, None, "b")]),
     # One of no subtitle comes in a pause, and stays in the time of the next: there it is wrong too.
     ("100-150 a;200-250 b", "0:- 100:a 150:- 180:z 220:b 250:-", [
         (0, "another text in a pause", None, None, "z"), (1, "wrong text", None, None, "z")]),

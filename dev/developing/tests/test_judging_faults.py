@@ -16,17 +16,16 @@ from subtitles.clock.start import Clock, Found, GIVEN
 from subtitles.common.program import proved_line
 from subtitles.common.times import CLOCK, Span, TICKS
 from subtitles.formats.listing import fault_of_line
-from subtitles.formats.stl import Subtitle
 from subtitles.judging.causes import (
-    ATTRIBUTE, Cause, EARLY, Faulty, LATE, NEVER, NOT_ERASED, Namer, OTHER, PLACE, TEXT, UNKNOWN)
+    ATTRIBUTE, Cause, EARLY, LATE, NEVER, NOT_ERASED, OTHER, PLACE, TEXT, UNKNOWN)
 from subtitles.judging.faults import end_words, fault_place, gap_words, hints_of
 from subtitles.judging.part import Explanation, tell_causes
 from subtitles.judging.sentence import Count, Facts, of_causes, what_is_wrong
-from subtitles.judging.transmissions import DuePages, program_answer
+from subtitles.judging.transmissions import program_answer
 from subtitles.request.commands import CLEAR, Listener, Progress, Speech
 from subtitles.request.request import Unclear
 from subtitles.stream.packets import Packets, Run
-from subtitles.stream.receiver import BLANK_PAGE, Meeting, OLD
+from subtitles.stream.receiver import BLANK_PAGE, Meeting
 from .bench import Case
 from .judged import Heard
 from .parts import answer, asked_for, packets_told, part_with, script, timeline_of
@@ -35,11 +34,6 @@ from .test_judging_verdicts import verdict_of
 
 BEFORE = CLOCK - 60 * TICKS  # an origin whose frames go on over the wrap
 NO_C4 = packet(0, 0, [8, 8, 0, 0, 0, 8, 1, 0], b" " * 32)
-
-
-def text_in(rows: tuple[bytes, ...] | None) -> bytes | None:
-    """The text of row 20; of a page that nobody sent none."""
-    return None if rows is None or rows[19][0] == OLD else rows[19].strip(b"\x0b ")
 
 
 def cause(place: int, name: str, frames: int | None = None, words: str = "") -> Cause:
@@ -129,55 +123,6 @@ class Words(Case):
             words = what_is_wrong(Facts("refused", 9, fault_of_line(
                 "refused 68 Parity frame 00:00:01:00 packet 1"), False, 3, counts, "a letter"))
             self.must(wanted, words == f"at 00:00:01:00 a letter{wanted}", words)
-
-    def test_faulty_frames(self) -> None:
-        """Of a subtitle: the first stretch while it is due, and the first from its TCO on."""
-        one = Subtitle(1, 1, 100, 150, 20, 2, b"")
-        rows: list[tuple[tuple[int, ...], int | None, int | None]] = [
-            ((), None, None), ((90, 99), None, None), ((100,), 100, None), ((149,), 149, None),
-            ((150,), None, 150), ((110, 120, 130), 110, None), ((150, 160, 170), None, 150),
-            ((90, 110, 120, 155, 160), 110, 155), ((160, 120, 155, 110), 120, 160)]
-        for spans, within, after in rows:
-            faulty = Faulty()
-            for first in spans:
-                faulty.add(Span(first, first + 1), one)
-            self.must(f"{spans}", [part and part.first for part in (faulty.within, faulty.after)] ==
-                      [within, after], spans)
-
-    def test_owners(self) -> None:
-        """Whose fault it is: of the one that is due or was last, before anything is held too, or
-        of the one that came at another time."""
-        sent: list[tuple[int, list[bytes]]] = [
-            (0, [CLOSING]), (60, [HEADER, row(20, b"two"), CLOSING])]
-        pes = [pes_packet(TICKS * frame, packets) for frame, packets in sent]
-        held = timeline_of(self, b"".join(pes))
-        pages: list[tuple[bytes, ...]] = [
-            (b" " * 40,) * 19 + ((b"\x0b\x0b" + text).ljust(40),) + (b" " * 40,) * 4
-            for text in (b"one", b"two")]
-        due = DuePages([Subtitle(1, 1, 10, 50, 20, 2, b""), Subtitle(2, 2, 100, 150, 20, 2, b"")],
-                       pages)
-        nothing = DuePages(due.subtitles[:1], [BLANK_PAGE])
-        self.assertIsNone(nothing.of_page(BLANK_PAGE, 5))  # erased, or that of an empty text
-        owners = {frame: Namer(due, held).owner(frame) for frame in (5, 20, 55, 60, 99, 100, 149)}
-        self.assertEqual(owners, {5: 0, 20: 0, 55: 0, 60: 1, 99: 1, 100: 1, 149: 1})
-
-    def test_what_is_sent_instead(self) -> None:
-        """Of a subtitle whose page never came a page of none that came after the one before it; of
-        the first one whose own page came later, none from before its TCI."""
-        pages: list[tuple[bytes, ...]] = [
-            (b" " * 40,) * 19 + ((b"\x0b\x0b" + text).ljust(40),) + (b" " * 40,) * 4
-            for text in (b"one", b"two")]
-        due = DuePages([Subtitle(1, 1, 100, 150, 20, 2, b""), Subtitle(2, 2, 200, 250, 20, 2, b"")],
-                       pages)
-        for sent, wanted in (({50: b"x", 160: b""}, [b"x", None, None]),
-                             ({50: b"x", 110: b"y", 115: b"z", 260: b""}, [b"z", b"y", None]),
-                             ({160: b"x", 260: b""}, [None, None, b"x"])):
-            held = timeline_of(self, b"".join(pes_packet(TICKS * frame, [
-                HEADER, *[row(20, text)] * bool(text), CLOSING]) for frame, text in sent.items()))
-            namer = Namer(due, held)
-            numbers = [namer.strange(0, None), namer.strange(0, 112), namer.strange(1, None)]
-            found = [None if one is None else text_in(held.pages[one]) for one in numbers]
-            self.must(f"{sent}", found == wanted, found)
 
     def test_what_meets(self) -> None:
         """Spans at random, of which some meet, against each of them; and where more come."""

@@ -390,11 +390,13 @@ class Times(unittest.TestCase):
 
     def test_what_is_near_in_a_feed(self) -> None:
         """Of the time bases the last in which PES packets come near the time of the subtitles."""
-        asked = asked_for("a.stl", "a.pes", "--every", "25")
-        for frames, wanted in (([0, 110, 120, 600] * 2, (4, 6)), ([600, 700], None),
-                               ([0, 110, 120, 600, -9, -8], (0, 2)),
-                               ([600, 700, 800, 900, 50, 60], (4, 5)),
-                               ([110, 120, 600, 700, 400, 410], (0, 1))):
-            found = last_time(packets_with([TICKS * one for one in frames]),
-                              Found(110, 120, Clock(0, RECORDING)), asked)
-            self.assertEqual(found, wanted, frames)
+        near = [110, 120, 600, 700, 400, 410]
+        for frames, words, wanted in (
+                ([0, 110, 120, 600] * 2, "--every 25", (4, 6)), ([600, 700], "--every 25", None),
+                ([0, 110, 120, 600, -9, -8], "--every 25", (0, 2)),
+                ([600, 700, 800, 900, 50, 60], "--every 25", (4, 5)),
+                (near, "--every 25", (0, 1)), (near, "--every 300", (4, 5)),
+                (near, "--every 25 --within 50", (4, 5))):
+            found = last_time(packets_with([TICKS * one for one in frames]), Found(110, 120, Clock(
+                0, RECORDING)), asked_for("a.stl", "a.pes", *words.split()))
+            self.assertEqual(found, wanted, (frames, words))
