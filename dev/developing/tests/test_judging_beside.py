@@ -6,7 +6,6 @@ import json
 import random
 import re
 import subprocess
-import time
 import unittest
 import xml.etree.ElementTree as tree
 from typing import Sequence
@@ -20,10 +19,13 @@ from subtitles.cli.collection import pair_line, table_of
 from subtitles.common.times import ALL_DAY, Between
 from subtitles.formats.listing import fault_of_line
 from subtitles.formats.stl import SubtitleFile
+from subtitles.formats.teletext import OPTIONS, has_characters
+from subtitles.judging import subtitles
 from subtitles.judging.subtitles import Counts, beside_of, due_beside, is_judged_beside
 from subtitles.results.files import row_of_object
 from .bench import Case, example_bytes
 from .judged import Judged, judged
+from .parts import fault_of
 from .sent import Shown, joined, late, moved, packets, sendings, times
 from .test_judging_pairs import UNREAD, broken
 from .test_judging_reasons import KEEPING_HEADER
@@ -235,23 +237,16 @@ class Beside(Case):
         self.must("a mistake", found.word == "not judged", found.said)
 
     def test_many(self) -> None:
-        """800 subtitles, of which 1, 5 and 40 are refused: judged in little time more."""
-        blocks = [(200 * at, 200 * at + 100, b"Number %d" % at) for at in range(1, 801)]
-        good = self.write("many.stl", stl_of(blocks))
-        self.schedule(good, "many.pes", "--every", "200")
-        for count in (1, 5, 40):
-            bad = {at * 800 // count + 1 for at in range(count)}
-            data = stl_of([(*one[:2], BAD if at in bad else one[2])
-                           for at, one in enumerate(blocks, 1)])
-            file = SubtitleFile(self.write("bad.stl", data))
-            faults = [told for at in sorted(bad)
-                      if (told := fault_of_line(f"refused 50 Character block {at} at 0"))]
-            began = time.process_time()
+        """Of 800 subtitles 40 are refused: the letters of the file are looked through once."""
+        bad = range(20, 820, 20)
+        file = SubtitleFile(self.write("many.stl", stl_of([
+            (200 * at, 200 * at + 100, BAD if at in bad else b"Number %d" % at)
+            for at in range(1, 801)])))
+        faults = [fault_of(f"refused 50 Character block {at} at 0") for at in bad]
+        with mock.patch.object(subtitles, "has_characters", side_effect=has_characters) as asked:
             found = beside_of(file, faults, "english")
-            due = due_beside(found.judged, PAGE, "english")
-            took = time.process_time() - began
-            self.must(f"{count}", len(found.judged) == len(due.pages) == 800 - count and took < 5,
-                      took)
+        self.must("once", len(found.judged) == 760 and asked.call_count <= 761 * len(OPTIONS),
+                  asked.call_count)
 
 
 class Judgeable(unittest.TestCase):

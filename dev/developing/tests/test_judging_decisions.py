@@ -10,13 +10,13 @@ from dataclasses import replace
 from typing import Callable
 
 from developing.pes import pes_packet
-from developing.stl import gsi_block, tti_block
+from developing.stl import gsi_block
 from subtitles.cli.batch import Sighting, Watch
 from subtitles.cli.channel.spool import spool_of
 from subtitles.clock.origin import Origin
 from subtitles.clock.start import Clock, Found, RECORDING, START
 from subtitles.common.times import Between, Span, TICKS
-from subtitles.formats.stl import NamedSubtitle, Subtitle, SubtitleFile
+from subtitles.formats.stl import Subtitle
 from subtitles.judging.part import parted, refuse_others
 from subtitles.judging.timing import unclear_origin, with_delay
 from subtitles.judging.verdict import frames_until
@@ -173,28 +173,7 @@ def subtitle(index: int, begin: int) -> Subtitle:
 
 
 class Files(Case):
-    """Subtitle files and PES packets."""
-
-    def test_subtitles_of_blocks(self) -> None:
-        """Comments and user data before, within and after a subtitle are of none."""
-        user = tti_block(9, 0, 0, 20, 2, b"user", 0xFE)
-        blocks = [user, tti_block(1, 25, 50, 20, 2, b"a", 0), user,
-                  tti_block(1, 25, 50, 20, 2, b"b"), user, tti_block(2, 75, 99, 20, 2, b"c")]
-        path = self.write("one.stl", gsi_block(b"", 6, 2) + b"".join(blocks))
-        file = SubtitleFile(path)
-        one, two = (NamedSubtitle(1, 1, "00:00:01:00", "00:00:02:00"),
-                    NamedSubtitle(2, 2, "00:00:03:00", "00:00:03:24"))
-        self.must("all", list(file.all()) == [one, two])
-        for block, wanted in ((0, None), (2, one), (4, one), (6, two), (7, None)):
-            self.must(f"block {block}", file.at_block(block) == wanted, file.at_block(block))
-        for block in (1, 3, 5):
-            found = file.at_block(block)
-            self.must(f"block {block} is its own", found is not None and found.number == 9, found)
-        for frame, subtitle in ((24, None), (25, one), (49, one), (50, None), (75, two),
-                                (98, two), (99, None)):
-            self.must(f"frame {frame}", file.at_frame(frame) == subtitle, file.at_frame(frame))
-        for at, wanted_text in ((0, ("61", "a")), (1, ("62", "b")), (2, (None, None))):
-            self.must(f"letter {at}", file.letter(4, at) == wanted_text, file.letter(4, at))
+    """What is announced of a subtitle file."""
 
     def test_announced(self) -> None:
         """One of the pages has to be of subtitles, and one in the language of the file."""

@@ -17,7 +17,7 @@ from subtitles.common.program import proved_line
 from subtitles.common.times import CLOCK, Span, TICKS
 from subtitles.formats.listing import fault_of_line
 from subtitles.judging.causes import (
-    ATTRIBUTE, Cause, EARLY, LATE, NEVER, NOT_ERASED, OTHER, PLACE, TEXT, UNKNOWN)
+    ATTRIBUTE, Cause, EARLY, IN_PAUSE, LATE, NEVER, NOT_ERASED, OTHER, PLACE, TEXT, UNKNOWN)
 from subtitles.judging.faults import end_words, fault_place, gap_words, hints_of
 from subtitles.judging.part import Explanation, tell_causes
 from subtitles.judging.sentence import Count, Facts, of_causes, what_is_wrong
@@ -85,6 +85,10 @@ class Words(Case):
                  "of 9)"),
                 ([cause(0, OTHER), cause(7, OTHER)], "from 00:00:00:00 to 00:00:07:00 the "
                  "subtitles have other subtitles' texts (2 of 9)"),
+                ([cause(2, IN_PAUSE, None, "at 10:00")],
+                 "another text was sent in a pause, at 10:00"),
+                ([cause(at, IN_PAUSE, None, f"at 10:0{at}") for at in (2, 4)],
+                 "another text was sent in 2 pauses, the first at 10:02"),
                 ([cause(8, ATTRIBUTE)],
                  'at 00:00:08:00 subtitle 9, "text", has a wrong colour or attribute')):
             self.assertEqual(of_causes(causes_of(*several), "english"), wanted)
@@ -173,6 +177,9 @@ class Words(Case):
         for number in (0, 1):  # the last behind which the cell is another one
             due = held.state_after(1 - number).rows
             self.must(f"{number}", fault_place(fault, held.packets, held, due).pes == number)
+        held = timeline_of(self, pes_packet(0, [HEADER]) + pes_packet(9, [CLOSING]), 0, 1)
+        fault = fault_of_line("refused 67 Control frame 00:00:00:00 packet 0")
+        self.must("headers", fault and len(fault_place(fault, held.packets, held).headers) == 1)
 
     def test_ends(self) -> None:
         """Where the page comes from, and goes to; of what goes on as no Teletext, why that is."""

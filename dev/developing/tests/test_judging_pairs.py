@@ -11,7 +11,7 @@ from .bench import example, example_bytes
 from .judged import FEW, OfProgramme, judged
 from .results import agrees
 from .sent import (
-    ORIGIN, Sent, joined, moved, one_late, packets, programme, random_subtitles, subtitle_file,
+    ORIGIN, Sent, joined, one_late, packets, programme, random_subtitles, subtitle_file,
     times)
 
 STORY, HELLO, ACCENT = example("story.stl"), example("hello.stl"), example("accent.stl")
@@ -89,23 +89,6 @@ class Unread(OfProgramme):
             found = judged(self, self.stl, self.path("one.pes"), *EVERY, *words)
             self.must(f"{words}", found.word == word, found.said)
 
-    def test_promises(self) -> None:
-        """What is lost is where something else is refused too; no option is promised."""
-        first = [MARK, *self.pes[1:]]
-        for name, some, is_promised in (("a repeat", [*self.pes[:2], MARK, *self.pes[3:]], True),
-                                        ("a subtitle", [*self.pes[:5], MARK, *self.pes[6:]], False),
-                                        ("the last", [*self.pes[:-1], MARK], False),
-                                        ("before the first", [MARK, *self.pes], None),
-                                        ("the first", first, None)):
-            path = self.write("one.pes", b"".join(some))
-            found = judged(self, self.stl, path, *EVERY, "--origin", str(ORIGIN))
-            told = [line for line in found.told if "not recorded" in line]
-            self.must(name, told == ([] if is_promised is None else
-                                     ["that part was not recorded"]), found.said)
-            again = judged(self, self.stl, path, *EVERY, "--origin", str(ORIGIN), "--allow-lost")
-            self.must(f"{name}: allowed", (again.word != "refused") ==
-                      (is_promised or name == "before the first"), again.said)
-
     def test_nothing_is_read(self) -> None:
         """Of a subtitle file that is refused, or of PES packets none of which can be read: not
         judged where all faults are warnings, whatever else there is."""
@@ -180,16 +163,6 @@ class Said(OfProgramme):
                                                   if name != "part"}
                   and (causes[0]["cause"], causes[0]["frames"], causes[0]["text"]) ==
                   ("late", 7, "Number 52"), causes)
-
-    def test_list_of_a_subtitle_file(self) -> None:
-        """Its first forty lines, how many more there are, and the last."""
-        found = judged(self, programme(self, times(45), text=b"\xc2e", name="accents.stl"))
-        said = [f"refused 50 Character block {number} at 0" for number in range(1, 41)]
-        at = found.said.index(said[0])
-        self.must("lines", found.said[at:at + 42] == [*said, ".. 5 more lines", "45 faults"],
-                  found.said)
-        found = judged(self, programme(self, times(1), text=b"Gr\xc8u", name="german.stl"))
-        self.must("what to know of it", "german" in found.result["sentence"], found.said)
 
     def test_texts_of_others(self) -> None:
         """A subtitle in whose place another one is sent, the first too: which, and what; also where

@@ -77,18 +77,6 @@ class Reasons(OfProgramme):
         found = Namer(DuePages([], []), held).hidden_words(5)
         self.must("behind one that goes back", found == UNSEEN, found)
 
-    def test_another_option(self) -> None:
-        """A header of another national option is told, and none is advised: in all headers, in one.
-        """
-        for wrong in (range(99), [0], [5]):
-            sent = [(pts, [changed(one, 7, 14, 8) for one in some] if at in wrong else some)
-                    for at, (pts, some) in enumerate(self.sent)]
-            found = self.judge(sent, *WORDS)
-            words = "the header is German, and english is asked for"
-            self.must(f"{wrong}", found.word == "refused" and
-                      found.result["hints"] == [f"67: {words}"] and all(
-                          one["means"] == words for one in found.result["faults"]), found.said)
-
     def test_scrambled(self) -> None:
         """A PID that is scrambled is told so, in files and feeds; no other page is advised."""
         data = bytearray(beside_video(b"".join(self.pes)))

@@ -12,7 +12,7 @@ from developing.pes import packet
 from subtitles.common.times import CLOCK
 from subtitles.formats.listing import fault_of_line, meanings
 from subtitles.formats.teletext import OPTIONS
-from subtitles.judging.causes import Cause, IN_PAUSE, NAMES
+from subtitles.judging.causes import IN_PAUSE, NAMES
 from subtitles.judging.pages import Sight, hidden_words, letters_in, sight_of
 from subtitles.judging.sentence import Count, Facts, SAID, WORDS, of_causes, sentence_of
 from subtitles.judging.status import ACCEPTED, LOST, NOT_JUDGED, REFUSALS, REFUSED, WAIVED, WARNED
@@ -99,13 +99,6 @@ class Sentences(unittest.TestCase):
                     self.assertEqual(found, " ".join(["Refused:", *begin.split(), words]) + ".")
                     self.assertRegex(words, VERB)
                     self.assertNotRegex(words, r"TIME|\bN frames|\bK\b|`|[;.] |--complete")
-
-    def test_another_text_in_a_pause(self) -> None:
-        """It is no fault of a subtitle, and none is named."""
-        several = [Cause(at, IN_PAUSE, None, None, None, f"at 10:00:0{at}:00", 0) for at in (2, 4)]
-        for count, wanted in ((1, "another text was sent in a pause, at 10:00:02:00"),
-                              (2, "another text was sent in 2 pauses, the first at 10:00:02:00")):
-            self.assertEqual(of_causes(causes_of(*several[:count]), "english"), wanted)
 
     def test_each_cause(self) -> None:
         """The sentence of each cause, of one subtitle and of two: what is wrong, and with which."""

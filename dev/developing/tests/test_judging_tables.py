@@ -428,6 +428,9 @@ class Pages(Case):
         self.assertEqual([one and (one.position, one.number, one.begin) for one in found], [
             None, (0, 7, "00:00:01:00"), (1, 7, "00:00:01:00"), (1, 7, "00:00:01:00"),
             (1, 7, "00:00:01:00"), (1, 7, "00:00:01:00"), (2, 300, "00:00:03:00"), None])
+        self.assertEqual([file.at_frame(frame) for frame in (24, 25, 49, 50, 75, 98, 99)], [
+            None, found[2], found[2], None, found[6], found[6], None])
+        self.assertEqual([*file.all()], [found[2], found[6]])
         advice = OptionAdvice(file, "english")
         self.assertTrue(advice.of(5, 4).startswith("ø is in no option"))
         self.assertEqual((advice.of(5, 6), advice.drawing), ("", []))

@@ -8,7 +8,7 @@ from types import SimpleNamespace
 from typing import Any, Sequence
 
 from developing.pes import pes_packet
-from subtitles.clock.start import Clock, FITTED, FITTED_LATER, Found, GIVEN, RECORDING
+from subtitles.clock.start import Clock, Found, GIVEN, RECORDING
 from subtitles.common.program import MadeWith
 from subtitles.common.times import CLOCK, TICKS, time_of
 from subtitles.formats.listing import NEVER_SENT, NamedFault, PICTURES_LEFT
@@ -215,16 +215,6 @@ class Verdicts(Case):
         for said, places, wanted in rows:
             part = part_with(100, 199, 0, said, pes=(0, 9))
             self.must(f"{said.numbers} {places}", lacks(part, places) == wanted)
-
-    def test_fitted(self) -> None:
-        """The clock of the first part, or of a later one, was found in the recording."""
-        for sources, wanted in (
-                ((GIVEN,), None), ((RECORDING,), FITTED), ((GIVEN, RECORDING), FITTED_LATER),
-                ((RECORDING, GIVEN), FITTED), ((GIVEN, GIVEN, RECORDING), FITTED_LATER),
-                ((GIVEN, GIVEN, GIVEN), None)):
-            parts = [part_with(0, 9, 0, source=source) for source in sources]
-            found = verdict_of(parts).fitted
-            self.must(f"{sources}", found == wanted, found)
 
     def test_trusted(self) -> None:
         """Of each part, in the result as on its page, without the frames of a hole that the PCR
