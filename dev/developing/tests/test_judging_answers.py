@@ -122,10 +122,9 @@ class Answers(Case):
         verdict, nothing = verdict_of([]), mock.Mock()
         pair = Pair(verdict, nothing, nothing, nothing, False)
         self.assertEqual(pair.stop("10:00"), "10:00")
-        for lines, told in (([FIRST], "all up to 00:00:05:00"), ([], "nothing yet")):
+        for line, told in ((FIRST, "all up to 00:00:05:00"), (SECOND, "nothing yet")):
             pair.begun = part_with(0, 9, 0, Answer(self.path("list")))
-            for one in lines:
-                pair.begun.answer.take(one)
+            pair.begun.answer.take(line)
             for words in (f"10:00, when check had reported {told}", "10:00"):  # it is taken once
                 self.assertEqual((pair.stop("10:00"), verdict.parts[-1]), (words, pair.begun))
         self.assertEqual(len(verdict.parts), 2)

@@ -213,8 +213,10 @@ class Beside(Case):
         for bad, by, said in (
                 ((), 0, ""), ((3,), 0, f"{others}each of them is as it is due from the first"),
                 ((3,), 5, f'{others}at 00:00:24:00 subtitle 6, "Nümber 6", is 5 frames late')):
-            path = self.write("one.pes", moved(self.read("house.pes"), lambda _, pts, by=by: (
-                pts + 3600 * by * (pts == 3600 * 600))))
+            def with_late(_: int, pts: int, by: int = by) -> int:
+                return pts + 3600 * by * (pts == 3600 * 600)
+
+            path = self.write("one.pes", moved(self.read("house.pes"), with_late))
             found = self.judge(self.file(*bad), path, *words)
             self.must(f"{bad} {by}", found.word == ("refused" if bad else "accepted") and
                       said in found.verdict.sentence and
@@ -297,10 +299,11 @@ class AtRandom(Case):
             first, places = dict[int, str](), {one.index for one in found.judged}
             for line in wanted.lines:
                 told = fault_of_line(line)
-                one = file.at_block(told.block) if told and told.block is not None else None
-                first.setdefault(one.position, line) if one else None
+                own = file.at_block(told.block) if told and told.block is not None else None
+                if own:
+                    first.setdefault(own.position, line)
             self.must(f"{wanted.lines}: refused", [
-                (one.subtitle.position, one.fault.line) for one in found.refused] ==
+                (each.subtitle.position, each.fault.line) for each in found.refused] ==
                 sorted(first.items()), found.refused)
             self.must("left out", not places & found.left_out and (between != ALL_DAY or (
                 places | found.left_out) == {*range(1, len(file.starts) + 1)}), found)

@@ -205,8 +205,10 @@ class Severities(unittest.TestCase):
         """Of no line, of one, of several in each order; of all others, whoever is named; of what is
         lost. What ends reading is an error whatever a file says, and each other number what it says
         of that."""
-        each, ends = dict.fromkeys(REFUSALS, "warning"), dict.fromkeys(ENDS_READING, "error")
-        names, mild = dict.fromkeys(FAULT_NAMES, "error"), dict.fromkeys(FAULT_NAMES, "warning")
+        each: dict[int | str, str] = {number: "warning" for number in REFUSALS}
+        ends: dict[int | str, str] = {number: "error" for number in ENDS_READING}
+        names: dict[int | str, str] = {name: "error" for name in FAULT_NAMES}
+        mild: dict[int | str, str] = {name: "warning" for name in FAULT_NAMES}
         rows: list[tuple[str, bool, dict[int | str, str]]] = [
             ("", False, {72: "error", 67: "error", 45: "error", 79: "error", **names}),
             ("", True, {72: "error", 67: "error", 45: "warning", 79: "warning"}),

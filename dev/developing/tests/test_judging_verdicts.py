@@ -39,6 +39,13 @@ def verdict_of(parts: Sequence[Part], severity: Severity | None = None) -> Verdi
     return Verdict(asked_for("one.stl", "one.pes"), severity or Severity(None), "now", list(parts))
 
 
+def place_of(before: int | None, after: int | None, shift: int = 0, **more: Any) -> Place:
+    """A place between two frames."""
+    first, last = (None if one is None else (shift + TICKS * one) % CLOCK
+                   for one in (before, after))
+    return Place(first, last, **more)
+
+
 class Verdicts(Case):
     """Several parts."""
 
@@ -128,10 +135,9 @@ class Verdicts(Case):
         self.must("marks", marks == [*range(5, 10)], marks)
         ends = (None, 0, 99, 100, 101, 198, 199, 200)
         for before, after in itertools.product(ends, repeat=2):
-            place = Place(*(None if one is None else TICKS * one for one in (before, after)))
             is_of = (after is None or after > 100) and (before is None or before < 199)
-            self.must(f"{before} {after}", is_in(place, part) == is_of)
-            self.must("no clock", not is_in(place, part_with(None, None, None)))
+            self.must(f"{before} {after}", is_in(place_of(before, after), part) == is_of)
+        self.must("no clock", not is_in(place_of(1, 2), part_with(None, None, None)))
 
     def test_losses(self) -> None:
         """Those of the first part, the second and the last, and of none, in any order."""
@@ -139,8 +145,8 @@ class Verdicts(Case):
             verdict = verdict_of([part_with(100 * at, 100 * at + 99, shift, number=at + 1)
                                   for at in range(3)])
             for frames in ([10, 110, 210], [99, 299, -5], [99, 150], [150, 99], [10, 299, -9]):
-                verdict.gaps = gaps_of([Place(*((shift + TICKS * one) % CLOCK for one in (
-                    frame, frame + 1)), 1) for frame in frames], verdict.parts)
+                verdict.gaps = gaps_of([place_of(frame, frame + 1, shift) for frame in frames],
+                                       verdict.parts)
                 found, judged = verdict.seen().losses, [frame % 100 < 99 and 0 < frame < 300
                                                         for frame in frames]
                 self.must(f"{shift} {frames}", found == judged and
@@ -167,14 +173,16 @@ class Verdicts(Case):
             (Found(10, 99, Clock(0, GIVEN), stage=stage, goes=6), [(2, 5), (50, 60), (99, None)]),
             (Found(120, 200, Clock(0, GIVEN), stage=stage, came=5), [
                 (None, 125), (130, 140), (300, 310)])]
-        for mark, more in ((None, []), (3, [(None, time_of(125))])):
-            parts = [part_with(0, 9, 0, alignment=alignment, places=[Place(*(
-                one and TICKS * one for one in ends), mark=None if ends[0] else mark)
-                for ends in several]) for alignment, several in known]
+        of_mark: list[tuple[str | None, str | None]] = [(None, time_of(125))]
+        for mark in (None, 3):
+            parts = [part_with(0, 9, 0, alignment=alignment, places=[
+                place_of(*ends, mark=None if ends[0] else mark) for ends in several])
+                for alignment, several in known]
             recording: Any = SimpleNamespace(stages=[stage])
             found = [(gap.after, gap.before) for gap in gaps_in(recording, parts) if gap.is_judged]
             self.must(f"{mark}", found == [(time_of(50), time_of(60)), (time_of(99), time_of(120)),
-                                           *more, (time_of(130), time_of(140))], found)
+                                           *of_mark * (mark is not None),
+                                           (time_of(130), time_of(140))], found)
 
     def test_clocks_of_losses(self) -> None:
         """A loss has the times of its part; one that is in none those of the first."""

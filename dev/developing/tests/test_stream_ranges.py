@@ -248,10 +248,11 @@ class Adjoining(OfProgramme):
     def test_adjoining(self) -> None:
         """The last TCO, where one fault of the content is all, and is told there, or within as many
         frames as are allowed."""
-        for number, within, frames, wanted in (
-                (72, 0, [200], 200), (72, 0, [199], None), (72, 0, [201], None), (72, 0, [], None),
-                (72, 2, [202], 200), (72, 2, [203], None), (67, 0, [200], None),
-                (72, 0, [200, 200], None)):
+        rows: list[tuple[int, int, list[int], int | None]] = [
+            (72, 0, [200], 200), (72, 0, [199], None), (72, 0, [201], None), (72, 0, [], None),
+            (72, 2, [202], 200), (72, 2, [203], None), (67, 0, [200], None),
+            (72, 0, [200, 200], None)]
+        for number, within, frames, wanted in rows:
             lines = [f"refused {number} Name frame {time_of(frame)}" for frame in frames]
             said = answer([*lines, f"{len(lines)} faults"] if lines else ["accepted 9 frames 2 "
                                                                           "transmissions"])
