@@ -13,7 +13,8 @@ from unittest import mock
 from developing.pes import pes_packet
 from developing.stl import gsi_block, subtitle_blocks, tti_block
 from subtitles.clock.origin import OfPart, Origin
-from subtitles.clock.start import Clock, Found, GIVEN, RECORDING, most_off, start_frame
+from subtitles.clock.start import (
+    Clock, Found, GIVEN, RECORDING, START, TCP, most_off, start_frame)
 from subtitles.common.command_line import HIDDEN
 from subtitles.common.times import CLOCK, TICKS
 from subtitles.formats.stl import SubtitleFile
@@ -22,7 +23,7 @@ from subtitles.judging.pages import (
     ATTRIBUTES, attribute_words, beside_words, code_words, is_moved, is_part, moved_words,
     page_text, words_on)
 from subtitles.judging.subtitles import OptionAdvice
-from subtitles.judging.timing import PartSearch, found_in, run_of
+from subtitles.judging.timing import PartSearch, found_in, left_by_pictures, run_of
 from subtitles.judging.transmissions import control_words
 from subtitles.recording.notices import (
     Notice, count_notices, length_words, of_character_sets, of_jumps, of_pauses, of_repeat,
@@ -36,7 +37,7 @@ from subtitles.stream.gaps import ClockJump, longest_gap, repeat_distance
 from subtitles.stream.packets import Packets
 from subtitles.stream.ranges import Cut
 from subtitles.stream.receiver import BLANK_PAGE
-from subtitles.stream.survey import Announced
+from subtitles.stream.survey import Announced, Departure, PictureClock
 from .bench import Case
 from .parts import asked_for, packets_told
 from .sent import CLOSING, HEADER, PAGE
@@ -74,6 +75,23 @@ class Clocks(unittest.TestCase):
             with mock.patch.object(timing, "cut_within", return_value=Cut(own, 50)):
                 self.assertEqual(run_of(programme, recording, whole.clock, runs), runs[wanted])
         self.assertEqual(run_of(programme, recording, None, runs), runs[0])
+
+
+    def test_pictures(self) -> None:
+        """Each video of each programme with the Teletext leaves it, and no other one: what is wrong
+        has the number of the part, and what is not clear is counted in its time; a clock that the
+        first picture tells counts what was before all PES packets too."""
+        away, unclear = Departure(TICKS * 50, 5 * TICKS), Departure(TICKS * 60, None)
+        before, behind = Departure(TICKS * 5, 2 * TICKS, True), Departure(TICKS * 101, None)
+        clocks: Any = {video: PictureClock([*several]) for video, several in (
+            (1, [before]), (2, [away, unclear, behind]), (3, [away]), (4, [away]))}
+        survey: Any = SimpleNamespace(picture_clocks=clocks, programmes_of=lambda pid: [
+            SimpleNamespace(kinds={pid: 6, 1: 2, 2: 2}), SimpleNamespace(kinds={pid: 6, 3: 27})])
+        with mock.patch.object(timing, "departures_of", lambda lines, pid: lines):
+            for source, count in ((GIVEN, 2), (RECORDING, 2), (START, 3), (TCP, 3)):
+                found = left_by_pictures(survey, 9, Found(10, 100, Clock(0, source)), 0, 7)
+                self.assertEqual([one.part for one in found.faults], [7] * count, source)
+                self.assertEqual([" at 1 place where " in note for note in found.notes], [True])
 
 
 class Warnings(Case):
