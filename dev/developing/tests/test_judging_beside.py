@@ -239,16 +239,18 @@ class Beside(Case):
         self.must("a mistake", found.word == "not judged", found.said)
 
     def test_many(self) -> None:
-        """Of 800 subtitles 40 are refused: the letters of the file are looked through once."""
-        bad = range(20, 820, 20)
+        """Of 800 subtitles 42 are refused: the letters of the file are looked through once, and 40
+        have a line."""
+        bad = range(19, 800, 19)
         file = SubtitleFile(self.write("many.stl", stl_of([
             (200 * at, 200 * at + 100, BAD if at in bad else b"Number %d" % at)
             for at in range(1, 801)])))
         faults = [fault_of(f"refused 50 Character block {at} at 0") for at in bad]
         with mock.patch.object(subtitles, "has_characters", side_effect=has_characters) as asked:
             found = beside_of(file, faults, "english")
-        self.must("once", len(found.judged) == 760 and asked.call_count <= 761 * len(OPTIONS),
+        self.must("once", len(found.judged) == 758 and asked.call_count <= 759 * len(OPTIONS),
                   asked.call_count)
+        self.must("lines", [*found.lines()][40:] == ["undecided: 2 more subtitles"])
 
 
 class Judgeable(unittest.TestCase):

@@ -12,7 +12,7 @@ from unittest import mock
 
 from developing.pes import pes_packet
 from developing.stl import gsi_block, subtitle_blocks, tti_block
-from subtitles.clock.origin import OfPart, Origin
+from subtitles.clock.origin import OfPart, Origin, Sought
 from subtitles.clock.start import (
     Clock, Found, GIVEN, RECORDING, START, TCP, most_off, start_frame)
 from subtitles.common.command_line import HIDDEN
@@ -23,7 +23,8 @@ from subtitles.judging.pages import (
     ATTRIBUTES, attribute_words, beside_words, code_words, is_moved, is_part, moved_words,
     page_text, words_on)
 from subtitles.judging.subtitles import OptionAdvice
-from subtitles.judging.timing import PartSearch, found_in, left_by_pictures, run_of
+from subtitles.judging.timing import (
+    PartSearch, cut_within, found_in, left_by_pictures, run_of, search_in)
 from subtitles.judging.transmissions import control_words
 from subtitles.recording.notices import (
     Notice, count_notices, length_words, of_character_sets, of_jumps, of_pauses, of_repeat,
@@ -77,14 +78,28 @@ class Clocks(unittest.TestCase):
         self.assertEqual(run_of(programme, recording, None, runs), runs[0])
 
 
+    def test_search(self) -> None:
+        """All that is asked is looked for, and cut out; of a part its own PES packets."""
+        asked = asked_for("a.stl", "a.pes", *"--page 150 --option german --within 3 --breaks 2 "
+                          "--every 30 --from 00:00:01:00 --late 0:9,3:1/0:12".split())
+        programme = PartSearch(asked, Found(3, 9, Clock(7, GIVEN)), (2, 8), frozenset({4}))
+        self.assertEqual(search_in(programme, "name", Clock(5, GIVEN)), Sought(
+            asked.stl_path, "name", (1, 0x50), "german", 5, 3, 2, (2, 8), asked.between,
+            frozenset({4}), asked.late))
+        recording: Any = SimpleNamespace(packets="packets")
+        with mock.patch.object(timing, "cut_of") as cut:
+            for packets, inside in ((None, (2, 8)), ((4, 5), (4, 5))):
+                cut_within(programme, recording, programme.whole._replace(packets=packets), 6)
+                self.assertEqual(cut.call_args.args, ("packets", 3, 9, 7, 30, 6, inside))
+
     def test_pictures(self) -> None:
         """Each video of each programme with the Teletext leaves it, and no other one: what is wrong
         has the number of the part, and what is not clear is counted in its time; a clock that the
         first picture tells counts what was before all PES packets too."""
         away, unclear = Departure(TICKS * 50, 5 * TICKS), Departure(TICKS * 60, None)
         before, behind = Departure(TICKS * 5, 2 * TICKS, True), Departure(TICKS * 101, None)
-        clocks: Any = {video: PictureClock([*several]) for video, several in (
-            (1, [before]), (2, [away, unclear, behind]), (3, [away]), (4, [away]))}
+        known: dict[int, Any] = {1: [before], 2: [away, unclear, behind], 3: [away], 4: [away]}
+        clocks = {video: PictureClock(several) for video, several in known.items()}
         survey: Any = SimpleNamespace(picture_clocks=clocks, programmes_of=lambda pid: [
             SimpleNamespace(kinds={pid: 6, 1: 2, 2: 2}), SimpleNamespace(kinds={pid: 6, 3: 27})])
         with mock.patch.object(timing, "departures_of", lambda lines, pid: lines):
