@@ -1,12 +1,12 @@
-"""Which tests are of which module of the tools, or of which script: by a table, which dev/plant
-makes anew."""
+"""Which tests are of which module of the tools, or of which script: by a table, to which dev/plant
+adds what tests call."""
 from __future__ import annotations
 
 import inspect
 import os
 import re
 import sys
-from typing import AbstractSet, Collection, Iterator, Mapping, NamedTuple, Type
+from typing import AbstractSet, Collection, Iterator, Mapping, NamedTuple, Sequence, Type
 
 from .. import DEV, TOOLS
 
@@ -43,43 +43,54 @@ def tests_of(name: str) -> list[str]:
 
 
 def chosen(functions: Collection[str], classes: Mapping[str, Called],
-           near: Collection[str] = ()) -> list[str]:
-    """The classes of tests that call each of some functions several times, where there are so many:
-    one after another the one that calls the most, for its time, that are called too seldom; those
-    that are near before the others."""
+           near: Collection[str] = (), standing: Collection[str] = ()) -> list[str]:
+    """The classes of tests that stand in the table, and those that call each of some functions
+    several times, where there are so many: one after another the one that calls the most, for its
+    time, that are called too seldom; those that are near before the others."""
     wanted = {name: min(TIMES, sum(name in one.functions for one in classes.values()))
               for name in functions}
     found = list[str]()
 
+    def take(name: str) -> None:
+        found.append(name)
+        for one in classes[name].functions & wanted.keys() if name in classes else ():
+            wanted[one] -= 1
+
     def lacking(name: str) -> int:
         return sum(wanted.get(one, 0) > 0 for one in classes[name].functions)
 
+    for name in standing:
+        take(name)
     for some in ({*near}, {*classes}):
         while rest := [name for name in sorted(some - {*found}) if lacking(name)]:
-            best = max(rest, key=lambda name: lacking(name) / (1 + classes[name].seconds))
-            found.append(best)
-            for one in classes[best].functions & wanted.keys():
-                wanted[one] = max(wanted[one] - 1, 0)
+            take(max(rest, key=lambda name: lacking(name) / (1 + classes[name].seconds)))
     return sorted(found)
 
 
-def lines(classes: Mapping[str, Called], kinds: Collection[Type[object]]) -> Iterator[str]:
-    """The rows anew: of each module by the functions that classes of tests call, and before others
-    those whose module takes something of it; of each script by its name in their text."""
+def lines(classes: Mapping[str, Called], kinds: Collection[Type[object]],
+          before: Mapping[str, Sequence[str]]) -> Iterator[str]:
+    """The rows anew: of each module those that it had before, as long as their tests exist, since
+    one that guards it through a process may call little of it; then by the functions that classes
+    of tests call, and before others those whose module takes something of it; of each script by
+    its name in their text."""
+    names = {name_of(one) for one in kinds}
+    standing = {module: {*tests} & names for module, tests in before.items()}
     functions = {one for called in classes.values() for one in called.functions}
     modules = {name_of(one): inspect.getsource(sys.modules[one.__module__]) for one in kinds}
-    for module in sorted({one.partition(":")[0] for one in functions}):
+    for module in sorted({one.partition(":")[0] for one in functions} | {
+            one for one in standing if os.path.isfile(os.path.join(TOOLS, PACKAGE, one))}):
         own = [one for one in functions if one.startswith(f"{module}:")]
         taken = f"from subtitles.{module[:-3].replace('/', '.')} import "
         near = {one for one, text in modules.items() if taken in text and one in classes}
-        yield f"{module}\t{' '.join(chosen(own, classes, near))}\n"
+        some = chosen(own, classes, near, standing.get(module, ()))
+        yield f"{module}\t{' '.join(some)}\n" * bool(some)
     texts = {name_of(one): inspect.getsource(one) for one in kinds}
-    for folder, before in ((TOOLS, ""), (DEV, "dev/")):
+    for folder, prefix in ((TOOLS, ""), (DEV, "dev/")):
         for name in sorted(os.listdir(folder)):
             called = re.compile(rf"\b(?:tool|script|tool_path|typed)\(['\"]{re.escape(name)}['\"]")
-            named = sorted(one for one, text in texts.items() if called.search(text))
-            if named:
-                yield f"{before}{name}\t{' '.join(named)}\n"
+            named = {one for one, text in texts.items() if called.search(text)}
+            if named := named | standing.get(f"{prefix}{name}", set()):
+                yield f"{prefix}{name}\t{' '.join(sorted(named))}\n"
 
 
 def name_of(kind: Type[object]) -> str:

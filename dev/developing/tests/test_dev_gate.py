@@ -255,6 +255,8 @@ class Found(Case):
             found = table.chosen([*functions], called)
             self.must(functions, found == wanted, found)
         self.must("near", table.chosen(["a"], called, ["slow"]) == ["one", "slow", "two"])
+        self.must("standing", table.chosen(["a"], called, ["one"], ["slow", "four", "other"]) ==
+                  ["four", "one", "other", "slow", "two"])
 
 
 # Tests the bugs that dev/plant plants, on small modules that are written here.
@@ -329,20 +331,28 @@ class Bugs(Case):
             self.must(f"{seconds}", answer["failed"] == wanted, answer)
 
     def test_table(self) -> None:
-        """What passed is in the table; what fails, or takes too long, is said to be left out."""
+        """What passed is in the table, and what stood there while there is such a test, and such a
+        module or script; it is said of what fails, or takes too long, that it was not looked at."""
         made = script("plant").Planting([], self.path("calls"), None)
         made.calls = {"test_dev_gate.Bugs.test_names": {
             "calls": ["judging/status.py:decided"], "seconds": 1.0}}
         made.failed = {"test_a.B.c": TOO_LONG, "test_a.B.d": "test_a.B.d"}
+        gone, here = "test_none.Gone", "test_dev_gate.Found"
+        self.write("table", "".join(f"{module}\t{tests}\n" for module, tests in (
+            ("judging/none.py", here), ("judging/pair.py", gone), ("dev/none", here),
+            ("judging/status.py", f"{here} {here} {gone}"), ("dev/poke", f"{gone} {here}"),
+            ("stream/gaps.py", f"{gone} {here}"))).encode())
         with mock.patch.object(table, "PATH", self.path("table")), \
                 contextlib.redirect_stdout(io.StringIO()) as said:
             made.write_table()
-        rows = self.read("table").decode().splitlines()
-        self.must("rows", rows[0] == "judging/status.py\ttest_dev_gate.Bugs" and all(
-            not one.partition("\t")[0].endswith(".py") for one in rows[1:]), rows)
-        self.must("left out", said.getvalue().splitlines() == [
-            "left out of the table: test_a.B.c, which takes too long",
-            "left out of the table: test_a.B.d, which fails"], said.getvalue())
+        rows = dict(line.split("\t") for line in self.read("table").decode().splitlines())
+        self.must("modules", {name: tests for name, tests in rows.items() if "." in name} == {
+            "judging/status.py": f"test_dev_gate.Bugs {here}", "stream/gaps.py": here}, rows)
+        self.must("scripts", here in rows["dev/poke"].split() and "dev/none" not in rows and
+                  gone not in "".join(rows.values()), rows)
+        self.must("not looked at", said.getvalue().splitlines() == [
+            "not looked at: test_a.B.c, which takes too long",
+            "not looked at: test_a.B.d, which fails"], said.getvalue())
 
     def test_names(self) -> None:
         """A function without what has no name."""
