@@ -30,13 +30,12 @@ class Days(Case):
         files, and what is kept of the feed."""
         names = [f"p{number}" for number in range(7 * DAY // EACH if self.bench.is_timed else 4)]
         self.write("list", "".join(f"{name}.stl\n" for name in names).encode())
-        self.sent(0)
+        following = self.sent(0)
         call = fed(self, "-o", "out")
         call.watching.start()
         kept = list[int]()
         for number, name in enumerate(names):
-            pes = self.sent(number)
-            self.sent(number + 1)  # the next one is known by then
+            pes, following = following, self.sent(number + 1)  # the next one is known by then
             for data in in_frames(pes, BEGIN + SECOND * EACH * number, EACH * 25, 0):
                 call.put(data)
             self.must(f"{name}", call.says(f"{name}  accepted "), call.lines()[-3:])
@@ -52,11 +51,13 @@ class Days(Case):
             print(f"a channel of {EACH * len(names) / DAY:.0f} days: {most}, {max(kept)} bytes")
 
     def sent(self, number: int) -> list[bytes]:
-        """A programme, with its subtitle file, and what is sent around it."""
+        """A programme, with its subtitle file, which is whole once it is there, and what is sent
+        around it."""
         begin = BEGIN + SECOND * EACH * number
-        made = make_programme(self, f"p{number}", 1_000_000, " ".join(
+        made = make_programme(self, "next", 1_000_000, " ".join(
             f"{number}-{at}" for at in range(COUNT)), (begin + SECOND * 60) % CLOCK)
-        os.unlink(self.path(f"p{number}.pes"))
+        os.rename(self.path("next.stl"), self.path(f"p{number}.stl"))
+        os.unlink(self.path("next.pes"))
         return packets(blank(made, begin, 59) + made +
                        blank(made, begin + SECOND * (60 + LASTS), EACH - 61 - LASTS))
 
