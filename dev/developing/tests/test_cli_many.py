@@ -71,6 +71,7 @@ class Lists(Case):
             self.must(words, reason.startswith(words), reason)
         self.must("reasons", len(reasons) == 9, reasons)
         self.must("a file", no_file(self.path("one.stl")) is None)
+        self.must("no name of one", "null" in (no_file("a\0") or ""))
         for path in (self.write("empty", b"# none\n"), self.path("folder")):
             with self.assertRaises(Stop):
                 pairs_at(path, defaults())
@@ -327,6 +328,10 @@ class Judged(Case):
         self.must("all are ended", not calls.running)
         calls.leave(Item("three", None, "x"), "stopped")
         self.must("nothing is written then", not os.path.exists(self.path("out/three.json")))
+        nowhere = Calls(self.typed, self.path("temporary"), self.path("none"), False)
+        row = nowhere.leave(Item("four", None, "x"), "why")
+        self.must("it has no place", row.verdict == "not judged" and row.line.startswith("why; ")
+                  and nowhere.unwritten["four"]["reason"] == row.line, row)
 
     def test_limit(self) -> None:
         """A pair that takes more of the processor than it may is not judged, nor one of which what

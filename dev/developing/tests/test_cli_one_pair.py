@@ -12,7 +12,7 @@ import re
 from typing import Any, Sequence
 from unittest import mock
 
-from subtitles.cli import collection, single
+from subtitles.cli import batch, collection, single
 from subtitles.cli.single import (
     Files, InUse, KEPT_SECONDS, Output, PairCall, claimed, clear, end_pair, judge_pair, now,
     pair_title, refuse_outputs, say_verdict)
@@ -381,6 +381,18 @@ class Writes(Case):
                       (is_final, is_stopped, 1 if reason is None else 2), verdict.unjudged)
         verdict.unjudged, verdict.failed = None, ["an output"]
         self.must("an output", not verdict.is_final)
+
+    def test_mistake_in_a_process(self) -> None:
+        """The process of a pair that ends by a mistake of these tools leaves an object that says
+        so."""
+        asked = asked_for(example("hello.stl"), example("hello.pes"))
+        with mock.patch.object(batch, "judge_request", side_effect=ZeroDivisionError("one")), \
+                contextlib.redirect_stderr(io.StringIO()):
+            status = batch.judge_alone(asked, PairCall(
+                self.bench.program, json=self.path("one.json"), name="one"))
+        known = json.loads(self.read("one.json"))
+        self.must("not judged", status == 2 and known["verdict"] == "not judged" and
+                  "one" in known["reason"], known)
 
 
 class Overview(Case):

@@ -222,10 +222,14 @@ class Said(OfProgramme):
                       all(words in line for line in typed), found.said)
             self.must(f"{words}: to type", words[:5] == "--pes" or [
                 line.split()[-2:] for line in typed] == [["--pes", "I-J"]], found.said)
-        found = judged(self, self.stl, self.write("cut.pes", joined(twice)), "--origin", "0",
-                       is_cut=True)
-        self.must("cut out of a feed", found.word == "accepted" and
-                  found.result["parts"][0]["origin"] == 0, found.said)
+        for words in ("--origin 0", ""):
+            found = judged(self, self.stl, self.write("cut.pes", joined(twice)), *words.split(),
+                           is_cut=True)
+            told = [line for line in found.told if line.endswith("of a feed the first run is "
+                                                                 "judged")]
+            self.must(f"cut out of a feed {words}", found.word == "accepted" and
+                      found.parts("origin", "pes")[0][0] == 0 and len(told) == (not words),
+                      found.said)
 
     def test_delays(self) -> None:
         """By how much all that is sent is late or early, by a clock that is given."""

@@ -7,7 +7,7 @@ import json
 from typing import Sequence
 
 from developing.pes import pes_packet, pts_in
-from subtitles.common.times import CLOCK, TICKS
+from subtitles.common.times import CLOCK, TICKS, frame_at
 from subtitles.recording.notices import (
     Announcement, Notice, announcements_of, is_due_in, of_timing, silent_beside, unsent_by)
 from subtitles.stream.gaps import SECOND
@@ -15,7 +15,7 @@ from subtitles.stream.packets import Packets
 from subtitles.stream.survey import Survey
 from .bench import Case
 from .judged import Judged, OfProgramme, judged
-from .muxed import Carried, NEW, OLD, in_turn
+from .muxed import Carried, NEW, OLD, Programme, VIDEO_PID, in_turn, shown
 from .sent import programme
 
 PAGE = (0, 0x88)
@@ -182,6 +182,28 @@ class Judgements(OfProgramme):
                 self.is_never_sent(name, told, words)
             else:
                 self.must(name, told.word == "not judged", told.said)
+
+    def test_of_several(self) -> None:
+        """Where one programme sends it, and another one that announces it never does, nobody knows
+        which is meant."""
+        first, frames = pts_in(self.pes[0]), frame_at(pts_in(self.pes[-1]), 0) or 0
+        made = shown([Programme({OLD: self.pes}, first),
+                      Programme({NEW: []}, first, VIDEO_PID + 1)], frames)
+        told = self.judge_stream(made.data)
+        self.must("asked", told.word == "not judged" and told.told[0].endswith(
+            "and sent on PID 0x101, not on PID 0x111") and [
+                line.split()[-1] for line in told.told if line.startswith(("type ", "or "))] == [
+                    "0x101", "0x111"], told.said)
+
+    def test_beside_refused(self) -> None:
+        """A subtitle that is refused is, and it is said why the others were not judged."""
+        with open(self.stl, "rb") as file:
+            bad = self.write("bad.stl", file.read().replace(b"Number 3", b"Number \xe6"))
+        told = judged(self, bad, self.write("one.ts", in_turn(self.pes, [(0, NEW)], self.on_old)))
+        self.must("refused", told.verdict.line == "refused 50 Character block 3 at 7" and
+                  {one["number"] for one in told.result["faults"]} == {50, None} and
+                  told.told[0].startswith("the other subtitles were not judged: page 888 is "
+                                          "announced in PID 0x111, never sent "), told.said)
 
     def test_severity(self) -> None:
         """A file may name it a warning: then nothing is judged."""

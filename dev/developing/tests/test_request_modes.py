@@ -244,6 +244,7 @@ WRONG: dict[str, list[list[str]]] = {
              [STL, "9" * 5000 + "=00"], [TOP]],
     "qc": [[], ["none.stl"], [STL, "none.pes"], [STL, PES, PES], [STL, "--page", "8FF"],
            [STL, "--every", "0"], [STL, "--every", "1501"], [STL, "--option", "latin"],
+           [STL, "--layout", "fit,fit"],
            [STL, "--origin", "x"], [STL, PES, "--pid", "8191"], [STL, "--severity", "none"],
            [STL, "-p", "none"], ["--batch"], ["--batch", "none"], [STL, "--jobs", "2"],
            [STL, PES, "--json", "no/folder.json"], [STL, PES, "--csv", TOP],

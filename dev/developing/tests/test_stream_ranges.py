@@ -92,6 +92,10 @@ class Ranges(Case):
                 found = judged(self, day, *recording, *words)
                 self.must(f"{words} {recording}", found.word == "not judged" and
                           f"no subtitle of {day} is left" in found.told[-1], found.said)
+        none = self.write("none.stl", gsi_block(b"", 0, 0))
+        found = judged(self, none, second)
+        self.must("nor has the file one", found.word == "not judged" and
+                  found.told[-1] == f"{none} has no subtitle", found.said)
 
     def test_wrong_times(self) -> None:
         """A text that is no time is a usage error."""

@@ -119,6 +119,21 @@ class Streams(Case):
             done = self.extracted(data, pid)
             self.must(line, (done.status, done.told) == (1, [f"ts2pes: {line}"]), done)
 
+    def test_answers(self) -> None:
+        """What the program refuses is told; where it does not answer, or ends otherwise, that is an
+        error."""
+        made = self.write("asked.ts", b"".join(self.stream()))
+        for line, status, wanted, told in (
+                ("refused 31 Start pes 1", 1, 1, "refused 31 Start pes 1"),
+                ("", 0, 2, "extract was not answered: it printed nothing, status 0"),
+                ("written 5 pes 0 gaps", 2, 2, "extract was not answered: written 5 pes 0 gaps, "
+                 "status 2")):
+            by = self.write_program("program", f'#!/bin/sh\n[ "$1" = extract ] || '
+                                    f'exec {self.bench.program} "$@"\necho "{line}"\n'
+                                    f"exit {status}\n")
+            done = self.tool("ts2pes", made, PID, "-p", by)
+            self.must(told, (done.status, done.told) == (wanted, [f"ts2pes: {told}"]), done)
+
     def test_losses(self) -> None:
         """At random: the bytes that the definitions say, and in all how many are lost. In a row:
         of each place between which PTS it is, up to twenty, and of more how many."""

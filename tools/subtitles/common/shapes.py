@@ -20,7 +20,7 @@ Schema = dict[str, Any]
 
 
 class Shape:
-    """Any value. One that has a `name` stands once in a schema, under it."""
+    """What a value has to be. One that has a `name` stands once in a schema, under it."""
 
     name, meaning = "", ""
 
@@ -30,11 +30,11 @@ class Shape:
 
     def misfit(self, value: object) -> str | None:
         """Where a value does not fit."""
-        return None
+        raise NotImplementedError
 
     def schema(self) -> Schema:
         """The shape in a schema."""
-        return {}
+        raise NotImplementedError
 
     def inner(self) -> Iterator[Shape]:
         """The shapes of which it is made."""
