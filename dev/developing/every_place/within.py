@@ -1,8 +1,8 @@
 """Pairs with the lines that `check --all --within N` or `--keeping` prints of them, worked out by
 hand.
 
-A transmission is written as in `one_rule`: `o` is row 22 with an o in place of its i, `e` with an
-even byte in place of its H, `r2` on row 20, and `k` is a header that keeps the page.
+A transmission is written as in `one_rule`: `o` is row 22 with an o in place of its i, `r2` the row
+on row 20, and `k` is a header that keeps the page.
 """
 from __future__ import annotations
 
@@ -16,27 +16,22 @@ from .known import (
 from .one_rule import CLOSING, HEADER, PAGE, header, pes_packets_of
 
 PACKETS = {"h": HEADER, "r": ROW, "c": CLOSING, "o": poked(ROW, {22: 0xEF}),
-           "e": poked(ROW, {21: 0x48}), "r2": poked(ROW, {1: 0x8C}), "k": header(c4="15")}
+           "r2": poked(ROW, {1: 0x8C}), "k": header(c4="15")}
 
 
-def pes_file(packets: str, *changes: tuple[int, int, int]) -> bytes:
-    """The PES packets that some words name, joined; a change is a PES packet, a place in it, a
-    byte."""
-    made = pes_packets_of(packets, PACKETS)
-    for pes, at, byte in changes:
-        made[pes] = poked(made[pes], {at: byte})
-    return b"".join(made)
+def pes_file(packets: str) -> bytes:
+    """The PES packets that some words name, joined."""
+    return b"".join(pes_packets_of(packets, PACKETS))
 
 
-def of_pair(name: str, pes: bytes, *asked: tuple[str, ...], stl: bytes = HELLO,
-            is_failing: bool = False) -> list[KnownCall]:
+def of_pair(name: str, pes: bytes, *asked: tuple[str, ...], stl: bytes = HELLO
+            ) -> list[KnownCall]:
     """A pair with each of some words, and what is told then."""
-    return [known_pair(f"{name}: check {words}".rstrip(), stl, pes, words,
-                       list(lines) if is_failing else told(*lines), is_failing)
+    return [known_pair(f"{name}: check {words}".rstrip(), stl, pes, words, told(*lines))
             for words, *lines in asked]
 
 
-UP_TO_TCO, ONE = trusted("00:00", "01:24"), "--within 1"
+ONE = "--within 1"
 
 # The first and the last PTS of the day, and one tick before and after them.
 DAY = [
@@ -48,63 +43,13 @@ DAY = [
         (ONE, "refused 61 OffFrame pes 0"), stl=HELLO[:GSI])],
 ]
 
-# What is left of a run where the page is not whole any more after ten frames, by what comes next.
-STOPPED = [
-    *of_pair("an end that is late", pes_file("0 h r c, 10 h c, 50 h c"),
-             ("--within 5", trusted("00:00", "00:09"), *wrong("00:15", "01:24"), LAST)),
-    *of_pair("an even byte before an end is late",
-             pes_file("0 h r c, 10 h c, 12 h e c, 20 h r c, " "50 h c"),
-             ("--within 5", trusted("00:00", "00:11"), refused("68 Parity", "00:12", "packet 1"),
-              trusted("00:20", "02:00"))),
-    *of_pair("a gap before an end is late", pes_file("0 h r c, 10 h c, 50 h c"),
-             ("--every 25 --within 50", trusted("00:00", "01:09"), *stands("73 Gap", "01:10",
-              "01:24"), LAST)),
-    *of_pair("one that can't be read before an end is late",
-             pes_file("0 h r c, 10 h c, 12 h c, 50 h c", (2, 45, 0x20)),
-             ("--within 50", trusted("00:00", "00:09"), "refused 37 DataId pes 2", LAST)),
+# As many frames late as a page may be at most.
+MOST = [
     *of_pair("a frame that does not rise before an end is late",
              pes_file("0 h r c, 10 h c, 12 h c, 5 h r c, 50 h c"),
              ("--within 50", trusted("00:00", "00:11"), "refused 62 Order pes 3")),
-    *of_pair("an end that is not late, and a byte more", pes_file("0 h r c, 50") + b"\0",
-             (ONE, UP_TO_TCO, "refused 30 Truncated pes 2")),
-    *of_pair("one that can't be read and an even byte in the next frame",
-             pes_file("0 h r c, 25 h r c, 25 h c, 25+ h e c, 50 h c", (2, 45, 0x20)),
-             (ONE, trusted("00:00", "00:24"), "refused 37 DataId pes 2", refused("68 Parity",
-              "01:00", "packet 4"), LAST)),
-    *of_pair("an even byte and one that can't be read in the next frame",
-             pes_file("0 h r c, 25 h e c, 25 h c, 25+ h r c, 50 h c", (2, 45, 0x20)),
-             (ONE, trusted("00:00", "00:24"), refused("68 Parity", "01:00", "packet 1"),
-              "refused 37 DataId pes 2", LAST)),
-]
-
-# When the end of a frame is told: after what can't be read behind it, and not where a read failed.
-ENDS = [
-    *of_pair("two that can't be read after a late end",
-             pes_file("-1 h r c, 1 h c, 2 h c, 50 h c", (1, 45, 0x20), (2, 45, 0x20)),
-             (ONE, "refused 37 DataId pes 1", "ended 37 DataId pes 2", *EARLY_WRONG, LAST)),
-    *of_pair("two that can't be read at the end",
-             pes_file("0 c, 1 h c, 2 h c", (1, 45, 0x20), (2, 45, 0x20)),
-             (ONE, "refused 37 DataId pes 1", "ended 37 DataId pes 2", refused("71 NoFirstHeader",
-              "00:00"), refused("74 Late", "00:00"))),
-    *of_pair("a source that fails after the first frame", pes_file("0 c"),
-             (ONE, "fault 41 Read pes 1"), is_failing=True),
-    *of_pair("a source that fails before the end that is late", pes_file("0 h c, 1 h c"),
-             (ONE, "fault 41 Read pes 2"), is_failing=True),
-    *of_pair("a source that fails after the end that is late", pes_file("0 h c, 1 h c, 2 h c"),
-             (ONE, wrong("00:01")[0], "fault 41 Read pes 3"), is_failing=True),
-    *of_pair("a source that fails after an even byte", pes_file("0 h r c, 1 h r c, 1+ h e c"),
-             (ONE, trusted("00:00", "00:00"), refused("68 Parity", "00:01", "packet 4"),
-              "fault 41 Read pes 3"), is_failing=True),
-    *of_pair("a subtitle that began before the first frame", pes_file("10 h c, 50 h c"),
-             ("--within 50", refused("63 Early", "00:10"), *wrong("01:24"), LAST)),
     *of_pair("a page that was whole once", pes_file("0 h r c, 1 h c, 50 h c"),
              ("--within 50", accepted(51, 3))),
-    *of_pair("a page before the first frame", pes_file("5 h r c, -1 h r c, -1+ h r c, 50 h c"),
-             ("--within 50", refused("63 Early", "00:05"), "refused 62 Order pes 1", *EARLY_WRONG)),
-    *of_pair("a frame of two PES packets that does not rise",
-             pes_file("0 h r c, 2 h r c, 1 h e c, 1+ h e c, 50 h c"),
-             (ONE, trusted("00:00", "00:01"), "refused 62 Order pes 2", refused("68 Parity",
-              "00:01", "packet 1"), refused("68 Parity", "00:01", "packet 4"))),
 ]
 
 # A quarter of a frame early and three quarters late are of the frame, a tick more is not.
@@ -118,7 +63,7 @@ TICKS_OF_A_FRAME = [
               "02:01"))),
 ]
 
-WITHIN = [*STOPPED, *ENDS, *TICKS_OF_A_FRAME, *DAY]
+WITHIN = [*MOST, *TICKS_OF_A_FRAME, *DAY]
 
 # Headers that keep the page: rows that a first one brought, rows while the page is not open, and
 # where it is not known what is due.
