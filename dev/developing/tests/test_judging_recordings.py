@@ -198,7 +198,7 @@ class Recordings(Case):
             ([self.folder, one], "is no file, or is not there", []),
             ([one], "is a recording: the subtitle file stands before it", []),
             ([STORY, self.write("empty.ts", b"")], "is empty", []),
-            ([STORY, self.bench.program], "no transport stream", [])]
+            ([STORY, self.write("text.ts", b"no packets\n" * 400)], "no transport stream", [])]
         for words, why, to_type in rows:
             found = judged(self, *words)
             typed = [one.split(" ", 4)[-1] for one in found.told
