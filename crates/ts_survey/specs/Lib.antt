@@ -1,4 +1,5 @@
 pub mod Adaptation
+pub mod Ahead
 pub mod Announcements
 pub mod Aparts
 pub mod Asked

@@ -4,6 +4,7 @@ ghost use Rattle.std.specs.Prelude.{None, Some, codes, false, if◌then◌else�
 ghost use Rattle.mpeg_ts.specs.GoodPackets.{Hole};
 ghost use Rattle.mpeg_ts.specs.Joining.{after_note};
 ghost use Rattle.mpeg_ts.specs.TransportPacket.{announces_jump, counter, has_payload, is_wrong};
+ghost use Rattle.ts_survey.specs.Ahead.{ahead_line, ahead_told, sampled_behind};
 ghost use Rattle.ts_survey.specs.Aparts.{TakesApart, TakesStep, apart_of, told_at_once};
 ghost use Rattle.ts_survey.specs.Aparts.{told_at_step};
 ghost use Rattle.ts_survey.specs.Endings.{carrier_line, carrier_words};
@@ -255,8 +256,14 @@ impl Carrier {
     /// A PTS began in a packet: strange PCR before it know it, and where a second has gone by since
     /// the last such look, it is held against the clock.
     pub fn note_begun(&mut self, pts: u64, pcr: Option<u64>, text: &mut Text)
+        ensures told { AddsWords text.old (ahead_told self.old pts pcr) text.new }
+        ensures sampled { self.new.sampled ≡ sampled_behind self.old pts pcr }
         ensures pending { self.new.pending ≡ map (known_after pts) self.old.pending }
         ensures pid { self.new.pid ≡ self.old.pid }
+        ensures same { self.new ≡ record self.old {
+          sampled = self.new.sampled;
+          pending = self.new.pending;
+        } }
     {
         let [first, second, third, fourth] = self.pending;
         self.pending = [
@@ -270,11 +277,7 @@ impl Carrier {
         }
         if let Some(pcr) = pcr {
             self.sampled = Some(pts);
-            text.put(b"ahead");
-            text.number(u64::from(self.pid));
-            text.number(pts);
-            text.ticks(forward(pcr, pts));
-            text.put(b"\n");
+            tell_ahead(self.pid, pts, pcr, text);
         }
     }
 
@@ -417,6 +420,17 @@ fn known_after(pending: Option<Pending>, pts: u64) -> Option<Pending>
         one.after = Some(pts);
     }
     Some(one)
+}
+
+// Tells how far a PTS is ahead of a PCR.
+fn tell_ahead(pid: u16, pts: u64, pcr: u64, text: &mut Text)
+    ensures { AddsWords text.old (ahead_line pid pts pcr) text.new }
+{
+    text.put(b"ahead");
+    text.number(pid as u64);
+    text.number(pts);
+    text.ticks(forward(pcr, pts));
+    text.put(b"\n");
 }
 
 // Tells a strange PCR, where there is one.
