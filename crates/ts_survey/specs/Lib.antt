@@ -27,6 +27,7 @@ pub mod PacketNotes
 pub mod PacketSizes
 pub mod Payload
 pub mod PidStates
+pub mod Programmes
 pub mod Room
 pub mod Rows
 pub mod Runs

@@ -1,12 +1,35 @@
-//! The pages that a stream of a PMT announces.
+//! What is told of a PMT: its programme, its streams, and the pages that they announce.
 ghost use Rattle.std.specs.Prelude.{◌≡◌, ◌≤◌, length};
 ghost use Rattle.ts_survey.specs.Announcements.{announce_line, has_any, pages_from, pages_named};
 ghost use Rattle.ts_survey.specs.Announcements.{pages_of_stream};
 ghost use Rattle.ts_survey.specs.Endings.{words_of};
 ghost use Rattle.ts_survey.specs.Lines.{AddsWords};
+ghost use Rattle.ts_survey.specs.Programmes.{programme_line, stream_line};
 
-use crate::section::{Announced, Descriptor, Stream, descriptor_at, names_pages, page_at};
+use crate::section::{
+    Announced, Descriptor, Programme, Stream, descriptor_at, names_pages, page_at,
+};
 use crate::text::Text;
+
+/// Tells a programme.
+pub fn tell_programme(programme: &Programme, text: &mut Text)
+    ensures { AddsWords text.old (programme_line programme.now) text.new }
+{
+    text.put(b"programme");
+    text.number(programme.number as u64);
+    text.number(programme.clock_pid as u64);
+    text.put(b"\n");
+}
+
+/// Tells a stream of a programme.
+pub fn tell_stream(stream: &Stream, text: &mut Text)
+    ensures { AddsWords text.old (stream_line stream.now) text.new }
+{
+    text.put(b"stream");
+    text.number(stream.pid as u64);
+    text.number(stream.kind as u64);
+    text.put(b"\n");
+}
 
 /// Tells the pages that a stream announces; whether there are any. A section has 4,098 bytes at
 /// most.

@@ -16,7 +16,7 @@ ghost use Rattle.ts_survey.specs.Payload as specs;
 ghost use Rattle.ts_survey.specs.Shown as shown;
 
 use crate::adaptation::{payload_in, pcr_base};
-use crate::announcements::tell_pages;
+use crate::announcements::{tell_pages, tell_programme, tell_stream};
 use crate::carrier::{Carrier, LOOKED_AT};
 use crate::clock::{Clock, Strange};
 use crate::packets_in_step::TakesPackets;
@@ -513,10 +513,7 @@ impl Multiplex {
         let Some(programme) = programme_of(section) else {
             return;
         };
-        text.put(b"programme");
-        text.number(u64::from(programme.number));
-        text.number(u64::from(programme.clock_pid));
-        text.put(b"\n");
+        tell_programme(&programme, text);
         self.add_clock(programme.clock_pid);
         let mut place = programme.first;
         for _ in 0..1024u32 {
@@ -532,14 +529,8 @@ impl Multiplex {
     fn read_stream(&mut self, section: &[u8], stream: &Stream, clock_pid: u16, text: &mut Text)
         ensures asked { KeepsAsked self.old self.new }
     {
-        text.put(b"stream");
-        text.number(u64::from(stream.pid));
-        text.number(u64::from(stream.kind));
-        text.put(b"\n");
-        let mut state = self.pids.get(stream.pid);
-        state.clock_pid = clock_pid;
-        state.kind = stream.kind;
-        self.pids.set(stream.pid, state);
+        tell_stream(stream, text);
+        self.pids.note_stream(stream.pid, clock_pid, stream.kind);
         if tell_pages(section, stream, text) {
             self.follow(stream.pid, text);
         }

@@ -7,6 +7,7 @@ ghost use Rattle.ts_survey.specs.Endings.{carrier_place};
 ghost use Rattle.ts_survey.specs.Holes.{clock_pid_of};
 ghost use Rattle.ts_survey.specs.Counters.{is_break_between, others_of, told_between};
 ghost use Rattle.ts_survey.specs.PidStates as known;
+ghost use Rattle.ts_survey.specs.Programmes.{with_stream};
 
 use mpeg_ts::{PACKET, announces_jump, counter_of, has_payload};
 use std::alloc::Global;
@@ -187,6 +188,18 @@ impl Pids {
         if let Some(place) = self.states.get_mut(pid as usize) {
             *place = state;
         }
+    }
+
+    /// A PMT names a PID: the PCR_PID of its programme, and stream_type, are known of it.
+    pub fn note_stream(&mut self, pid: u16, clock_pid: u16, kind: u8)
+        ensures states { self.new.states.items ≡ slice_set self.old.states.items pid
+            (with_stream clock_pid kind (known.known_of self.old pid)) }
+        ensures same { (self.new.breaks ≡ self.old.breaks) × (self.new.next ≡ self.old.next) }
+    {
+        let mut state = self.get(pid);
+        state.clock_pid = clock_pid;
+        state.kind = kind;
+        self.set(pid, state);
     }
 
     /// Follows the counter of a PID, and answers what is known of it. A packet of no PID but this
