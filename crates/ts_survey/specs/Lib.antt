@@ -13,6 +13,7 @@ pub mod FirstLines
 pub mod Following
 pub mod FormWindow
 pub mod Forms
+pub mod GroupLines
 pub mod Groups
 pub mod Heard
 pub mod Holes

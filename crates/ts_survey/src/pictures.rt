@@ -12,6 +12,7 @@ ghost use Rattle.ts_survey.specs.Groups as groups;
 ghost use Rattle.ts_survey.specs.Groups.{BeginsGroup, BeginsPicture, FollowsPacket, GoesOnIn};
 ghost use Rattle.ts_survey.specs.Groups.{KeepsTimes, flagged_with, least_of, least_with};
 ghost use Rattle.ts_survey.specs.Groups.{packet_counted, picture_shown};
+ghost use Rattle.ts_survey.specs.GroupLines.{group_over_line, over_words, picture_line, video_line};
 ghost use Rattle.ts_survey.specs.Text.{forward_ticks};
 ghost use Rattle.ts_survey.specs.Steps.{HaveCome, came_with, told_to};
 ghost use Rattle.ts_survey.specs.Lines.{AddsWords};
@@ -208,15 +209,21 @@ impl Pictures {
         ensures begins { BeginsGroup packet.now self.old self.new }
     {
         let payload = payload_in(packet);
-        text.put(b"video");
-        text.number(u64::from(self.pid));
-        text.number(self.passed);
-        text.put(b"\n");
+        self.tell_video(text);
         self.show(packet, text);
         self.flagged = pts_said(payload);
         self.reader = FormReader::new(kind);
         self.reader.read(behind_header(payload));
         self.is_first = true;
+    }
+
+    fn tell_video(&self, text: &mut Text)
+        ensures { AddsWords text.old (video_line self.now) text.new }
+    {
+        text.put(b"video");
+        text.number(self.pid as u64);
+        text.number(self.passed);
+        text.put(b"\n");
     }
 
     // Counts what is lost by its counter, and what is scrambled, among the pictures.
@@ -247,13 +254,19 @@ impl Pictures {
         self.is_flagged = false;
         self.is_first = false;
         let pts = pts_said(payload_in(packet));
-        text.put(b"picture");
-        text.number(u64::from(self.pid));
-        text.time(pts);
-        text.put(b"\n");
+        self.tell_picture(pts, text);
         if let Some(now) = pts {
             self.move_to(now, text);
         }
+    }
+
+    fn tell_picture(&self, pts: Option<u64>, text: &mut Text)
+        ensures { AddsWords text.old (picture_line self.now.pid pts) text.new }
+    {
+        text.put(b"picture");
+        text.number(self.pid as u64);
+        text.time(pts);
+        text.put(b"\n");
     }
 
     // Keeps the least PTS, and ends ten seconds behind it.
@@ -276,12 +289,19 @@ impl Pictures {
 
     // They are over.
     fn close(&mut self, text: &mut Text)
-        ensures { self.new ≡ record self.old { reach = Reach.Over } }
+        ensures state { self.new ≡ record self.old { reach = Reach.Over } }
+        ensures told { AddsWords text.old (over_words self.old) text.new }
     {
         self.reach = Reach::Over;
         self.tell_group(text);
+        self.tell_over(text);
+    }
+
+    fn tell_over(&self, text: &mut Text)
+        ensures { AddsWords text.old (group_over_line self.now) text.new }
+    {
         text.put(b"pictures");
-        text.number(u64::from(self.pid));
+        text.number(self.pid as u64);
         text.number(self.lost);
         text.number(self.scrambled);
         text.put(b"\n");
