@@ -19,6 +19,9 @@ adds-none text = record {
   stays_lost = λ lost. lost;
 }
 
+-- For those that tell nothing of some packets.
+pub ruleset untold = (adds-none)
+
 -- From a place on stands what is at it, and what is behind it.
 drop-step : {A : Type 0} (xs : List A) (i : ℕ) (d : A)
     → i < length xs

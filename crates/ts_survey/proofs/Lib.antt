@@ -9,6 +9,7 @@ pub mod FilePieceLemmas
 pub mod FirstLinesLemmas
 pub mod FollowingLemmas
 pub mod FormLemmas
+pub mod GroupLemmas
 pub mod HeardLemmas
 pub mod InStepLemmas
 pub mod LastLemmas

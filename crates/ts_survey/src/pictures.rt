@@ -12,7 +12,10 @@ ghost use Rattle.ts_survey.specs.Groups as groups;
 ghost use Rattle.ts_survey.specs.Groups.{BeginsGroup, BeginsPicture, FollowsPacket, GoesOnIn};
 ghost use Rattle.ts_survey.specs.Groups.{KeepsTimes, flagged_with, least_of, least_with};
 ghost use Rattle.ts_survey.specs.Groups.{packet_counted, picture_shown};
-ghost use Rattle.ts_survey.specs.GroupLines.{group_over_line, over_words, picture_line, video_line};
+ghost use Rattle.ts_survey.specs.GroupLines.{begun_words, first_pictures_words, first_words};
+ghost use Rattle.ts_survey.specs.GroupLines.{followed_words, going_words, group_over_line};
+ghost use Rattle.ts_survey.specs.GroupLines.{over_words, picture_line, shown_words, video_line};
+ghost use Rattle.ts_survey.specs.GroupLines.{words_at_pts};
 ghost use Rattle.ts_survey.specs.Text.{forward_ticks};
 ghost use Rattle.ts_survey.specs.Steps.{HaveCome, came_with, told_to};
 ghost use Rattle.ts_survey.specs.Lines.{AddsWords};
@@ -104,12 +107,14 @@ impl Pictures {
 
     /// A packet of the PID came, which the PMT says is of that stream_type.
     #[inline(always)]
+    #[tactic(auto, using(crate::proofs::EndingsLemmas::untold))]
     pub fn take(&mut self, packet: &[u8; PACKET], kind: u8, text: &mut Text)
         ensures over { is_group_over self.old.reach ≡ true
             → (self.new ≡ self.old) × (text.new ≡ text.old) }
         ensures times { KeepsTimes self.old self.new }
         ensures follows { is_group_over self.old.reach ≡ false
             → FollowsPacket packet.now self.old self.new }
+        ensures told { AddsWords text.old (first_pictures_words packet.now self.old) text.new }
     {
         match self.reach {
             Reach::Over => {}
@@ -131,9 +136,11 @@ impl Pictures {
     }
 
     // A packet came that is of interest.
+    #[tactic(auto, using(crate::proofs::EndingsLemmas::untold))]
     fn follow(&mut self, packet: &[u8; PACKET], kind: u8, text: &mut Text)
         ensures times { KeepsTimes self.old self.new }
         ensures follows { FollowsPacket packet.now self.old self.new }
+        ensures told { AddsWords text.old (followed_words packet.now self.old) text.new }
     {
         self.note_flag(packet);
         if has_payload(packet) && packet[1] < 0x80 {
@@ -151,9 +158,11 @@ impl Pictures {
     }
 
     // A packet goes on with a picture, or begins one.
+    #[tactic(auto, using(crate::proofs::EndingsLemmas::untold))]
     fn go_on(&mut self, packet: &[u8; PACKET], kind: u8, text: &mut Text)
         ensures times { KeepsTimes self.old self.new }
         ensures goes_on { GoesOnIn packet.now self.old self.new }
+        ensures told { AddsWords text.old (going_words packet.now self.old) text.new }
     {
         if begins(packet) {
             self.begin_picture(packet, kind, text);
@@ -163,9 +172,12 @@ impl Pictures {
     }
 
     // A picture begins.
+    #[tactic(auto, using(crate::proofs::EndingsLemmas::untold))]
     fn begin_picture(&mut self, packet: &[u8; PACKET], kind: u8, text: &mut Text)
         ensures times { KeepsTimes self.old self.new }
         ensures begins { BeginsPicture self.old.reach packet.now self.old self.new }
+        ensures told { AddsWords text.old
+            (begun_words self.old.reach packet.now self.old) text.new }
     {
         match self.reach {
             Reach::Before => {
@@ -207,6 +219,7 @@ impl Pictures {
         ensures times { KeepsTimes self.old self.new }
         ensures reads { HasRead kind (behind_header (payload_in packet.now)) self.new.reader }
         ensures begins { BeginsGroup packet.now self.old self.new }
+        ensures told { AddsWords text.old (first_words packet.now self.old) text.new }
     {
         let payload = payload_in(packet);
         self.tell_video(text);
@@ -249,6 +262,7 @@ impl Pictures {
         ensures flagged { self.new.flagged ≡ self.old.flagged }
         ensures times { KeepsTimes self.old self.new }
         ensures state { self.new ≡ picture_shown packet.now self.old }
+        ensures told { AddsWords text.old (shown_words packet.now self.old) text.new }
     {
         self.reach = Reach::Within;
         self.is_flagged = false;
@@ -270,6 +284,7 @@ impl Pictures {
     }
 
     // Keeps the least PTS, and ends ten seconds behind it.
+    #[tactic(auto, using(crate::proofs::EndingsLemmas::untold))]
     fn move_to(&mut self, now: u64, text: &mut Text)
         ensures first { self.new.first ≡ Some (least_of self.old.first now) }
         ensures flagged { self.new.flagged ≡ self.old.flagged }
@@ -279,6 +294,7 @@ impl Pictures {
           reach = if nat_lt 900000 (forward_ticks (least_of self.old.first now) now)
               then Reach.Over else self.old.reach;
         } }
+        ensures told { AddsWords text.old (words_at_pts (Some now) self.old) text.new }
     {
         let first = least_of(self.first, now);
         self.first = Some(first);
