@@ -1,6 +1,7 @@
 //! The steps of the decoding times of pictures, and what Teletext beside them tells.
 ghost use Rattle.std.specs.Prelude.{◌≡◌, ℕ, List, Some, true};
 ghost use Rattle.ts_survey.specs.Endings.{is_group_over};
+ghost use Rattle.ts_survey.specs.GroupLines.{first_pictures_words};
 ghost use Rattle.ts_survey.specs.Lines.{AddsWords};
 ghost use Rattle.ts_survey.specs.Shown as shown;
 ghost use Rattle.ts_survey.specs.Steps.{HaveCome, came_with, step_line, told_to};
@@ -36,6 +37,7 @@ pub fn take_pictures(
     ensures over { is_group_over pictures.old.reach ≡ true
         → (pictures.new ≡ record pictures.old { steps = pictures.new.steps })
         × (text.new ≡ text.old) }
+    ensures words { AddsWords text.old (first_pictures_words packet.now pictures.old) text.new }
 {
     pictures.take(packet, kind, text);
     if !begins(packet) {
