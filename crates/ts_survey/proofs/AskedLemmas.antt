@@ -54,7 +54,7 @@ pub others-kept : (asked : Option ℕ) (carriers : List Carrier) (i : ℕ) (one 
 others-kept asked carriers i one other below same =
     ap (not_asked asked) (pids-kept carriers i one other below same)
 
--- For `carry` and `begin`.
+-- For `carry`.
 pub ruleset one_changed = (pids-kept, others-kept)
 
 -- ---- after a PCR

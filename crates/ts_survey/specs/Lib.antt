@@ -3,6 +3,7 @@ pub mod Ahead
 pub mod Announcements
 pub mod Aparts
 pub mod Asked
+pub mod Begun
 pub mod CharacterSets
 pub mod Clocks
 pub mod Counted
