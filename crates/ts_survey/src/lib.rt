@@ -13,6 +13,7 @@
 mod adaptation;
 mod announcements;
 mod aparts;
+mod begun;
 mod carrier;
 mod character_set;
 mod clock;

@@ -8,17 +8,17 @@ ghost use Rattle.ts_survey.specs.Endings.{carrier_words, clock_words, end_words,
 ghost use Rattle.ts_survey.specs.Endings.{pid_words, pids_words, waiting_words, words_of};
 ghost use Rattle.ts_survey.specs.Adaptation.{pcr_base};
 ghost use Rattle.ts_survey.specs.Holes.{after_pcr_of, pcr_told_of};
-ghost use Rattle.ts_survey.specs.Begun.{BeginsBeside, BeginsIn, IsNearOf, TakesShown, apart_told};
+ghost use Rattle.ts_survey.specs.Begun.{BeginsIn};
 ghost use Rattle.ts_survey.specs.Clocks.{ReadsPcr};
 ghost use Rattle.ts_survey.specs.FirstLines.{asked_words, teletext_line};
 ghost use Rattle.ts_survey.specs.Lines.{AddsWords};
 ghost use Rattle.ts_survey.specs.Missing.{NoteHoles};
 ghost use Rattle.ts_survey.specs.Payload as specs;
 ghost use Rattle.ts_survey.specs.Shown as shown;
-ghost use Rattle.ts_survey.specs.Taken.{is_due_beside};
 
 use crate::adaptation::{payload_in, pcr_base};
 use crate::announcements::{tell_pages, tell_programme, tell_stream};
+use crate::begun::begin_beside;
 use crate::carrier::{Carrier, LOOKED_AT};
 use crate::clock::{Clock, Strange};
 use crate::packets_in_step::TakesPackets;
@@ -625,51 +625,6 @@ impl TakesPackets for Multiplex {
         for carrier in self.carriers.iter_mut() {
             carrier.note_hole();
         }
-    }
-}
-
-// A PTS began in a PID, in the packet with that number: it is held against the decoding time that
-// is shown with it, and against the PCR of the clock at a place.
-fn begin_beside(
-    carrier: &mut Carrier,
-    shown: Option<(u16, u64)>,
-    clocks: &[Clock],
-    place: u8,
-    number: u64,
-    pts: u64,
-    text: &mut Text,
-)
-    ensures begins { BeginsBeside shown (slice_get clocks.now place) number pts carrier.old
-        text.old carrier.new text.new }
-    ensures pid { carrier.new.pid ≡ carrier.old.pid }
-{
-    hold_if_shown(carrier, shown, pts, text);
-    let pcr = near_if_due(carrier, clocks, place, pts, number);
-    carrier.note_begun(pts, pcr, text);
-}
-
-// Holds a PTS of a PID against the decoding time that is shown with it, if there is one.
-fn hold_if_shown(carrier: &mut Carrier, shown: Option<(u16, u64)>, pts: u64, text: &mut Text)
-    ensures told { AddsWords text.old (apart_told carrier.old pts shown) text.new }
-    ensures aparts { TakesShown shown pts carrier.old.aparts carrier.new.aparts }
-    ensures same { carrier.new ≡ record carrier.old { aparts = carrier.new.aparts } }
-{
-    if let Some((video, time)) = shown {
-        carrier.hold_against(pts, video, time, text);
-    }
-}
-
-// The PCR that is near a PTS of a PID, where it is to be held against one.
-fn near_if_due(carrier: &Carrier, clocks: &[Clock], place: u8, pts: u64, number: u64) -> Option<u64>
-    ensures { is_due_beside carrier.now pts ≡ true
-        → IsNearOf (slice_get clocks.now place) number result }
-{
-    if !carrier.is_due(pts) {
-        return None;
-    }
-    match clocks.get(place as usize) {
-        Some(clock) => clock.near(number),
-        None => None,
     }
 }
 

@@ -6,7 +6,7 @@ use Rattle.ts_survey.specs.Lines.{AddsWords}
 use Rattle.ts_survey.specs.Taken.{is_due_beside}
 use Rattle.ts_survey.specs.declared.carrier.Carrier.{Carrier}
 use Rattle.ts_survey.proofs.TextLemmas.{adds-words}
-use Rattle.ts_survey.proofs.multiplex.begin_beside.Goals as goal
+use Rattle.ts_survey.proofs.begun.begin_beside.Goals as goal
 
 pub returns-clause-begins : goal.returns-clause-begins
 returns-clause-begins c =
