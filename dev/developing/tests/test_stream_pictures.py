@@ -62,10 +62,13 @@ class Departures(unittest.TestCase):
         for moved, is_told in ((5.0, True), (5.49, True), (5.5, False), (4.51, True), (4.5, False),
                                (10.0, False), (0.0, False)):
             lines = [*distances(9, 8), step(5), *distances(9, 8 - moved)]
-            self.assertEqual(bool(departures_of(lines, PID)), is_told, moved)
+            self.assertEqual(departures_of(lines, PID), [Departure(0, 5 * TICKS)] * is_told, moved)
 
     def test_what_is_not_clear(self) -> None:
         """Too few on a side, or a multiplexer that puts them anywhere; without any nothing is."""
+        def vary(frames: int, by: int) -> list[Line]:
+            return [Distance(PID, TICKS, TICKS * frames + by * (at % 2)) for at in range(8)]
+
         rows: list[tuple[list[Line], list[Line], list[Departure]]] = [
             (distances(FEW), distances(FEW, 4, TICKS), [Departure(TICKS, 2 * TICKS)]),
             (distances(FEW - 1), distances(FEW, 4, TICKS), [Departure(TICKS, None)]),
@@ -76,6 +79,8 @@ class Departures(unittest.TestCase):
             (distances(50), distances(50, 4, TICKS, jitter=8), [Departure(TICKS, None)]),
             (distances(50, jitter=1), distances(50, 4, TICKS, jitter=1),
              [Departure(TICKS, 2 * TICKS)]),
+            *((vary(6, by), vary(4, by), [Departure(TICKS, ticks)]) for by, ticks in (
+                (TICKS, 2 * TICKS), (TICKS + 1, None))),
             (distances(50), distances(50, 4, TICKS, pid=7), []),
             (distances(50, pid=7), distances(50, 4, TICKS), [Departure(TICKS, None, True)])]
         for before, after, wanted in rows:
@@ -106,20 +111,28 @@ class Departures(unittest.TestCase):
 # pair of which `survey` tells it.
 
 
-def lines_of_step(frames: float, at: int, count: int = 10, before: float = 0) -> list[str]:
+def lines_of_step(frames: float, at: int, count: int = 10, before: float = 0, origin: int = 0,
+                  video: int = VIDEO) -> list[str]:
     """What is told of pictures that go on by so many frames more at a frame of the Teletext, and
     did by others before."""
     ahead = [6.0 - before] * count + [6.0 - before - frames] * count
-    lines = [f"apart {PID} {(TICKS * (at - count + place)) % CLOCK} {round(TICKS * one)} {VIDEO}"
-             for place, one in enumerate(ahead)]
-    return [*lines[:count], f"step {VIDEO} 0 {round(TICKS * (1 + frames)) % CLOCK} {TICKS}",
+    lines = [f"apart {PID} {(origin + TICKS * (at - count + place)) % CLOCK} {round(TICKS * one)} "
+             f"{video}" for place, one in enumerate(ahead)]
+    return [*lines[:count], f"step {video} 0 {round(TICKS * (1 + frames)) % CLOCK} {TICKS}",
             *lines[count:]]
 
 
 def surveyed(*steps: Sequence[str], end: str = f"steps {VIDEO} {{}} {TICKS}") -> Survey:
+    """What is told of pictures that the second of two PMT names, beside others that stay, and those
+    of another programme, which leave."""
+    quiet, more, others = 0x300, 0x301, 0x302
     survey = Survey()
-    for line in [f"programme 1 {VIDEO}", f"stream {PID} 6", f"stream {VIDEO} 2",
-                 *(line for step in steps for line in step), end.format(len(steps))]:
+    for line in [f"programme 1 {VIDEO}", f"stream {PID} 6", f"programme 2 {others}",
+                 f"stream {others} 2", f"programme 1 {VIDEO}", f"stream {PID} 6",
+                 *(f"stream {video} 2" for video in (quiet, VIDEO, more)),
+                 f"apart {PID} 0 0 {quiet}", *(line for step in steps for line in step),
+                 end.format(len(steps)), *lines_of_step(9, 1500, video=others),
+                 f"apart {PID} 0 0 {more}"]:
         survey.take(line)
     return survey
 
@@ -127,9 +140,9 @@ def surveyed(*steps: Sequence[str], end: str = f"steps {VIDEO} {{}} {TICKS}") ->
 class Left(unittest.TestCase):
     """What is wrong of a part from frame 1000 to 2000."""
 
-    def told(self, survey: Survey, within: int = 0, source: str = GIVEN) \
+    def told(self, survey: Survey, within: int = 0, source: str = GIVEN, origin: int = 0) \
             -> tuple[list[tuple[str | None, str | None, str]], list[str]]:
-        found = Found(1000, 2000, Clock(0, source))
+        found = Found(1000, 2000, Clock(origin, source))
         faults, notes = left_by_pictures(survey, PID, found, within, 1)
         self.assertTrue(all(one.name == PICTURES_LEFT and one.part == 1 for one in faults))
         return [(one.time, one.until, one.words.partition(" on subtitles come ")[2].partition(
@@ -150,10 +163,12 @@ class Left(unittest.TestCase):
             ([(2, 1000)], 0, [("00:00:40:00", end, "2 frames early")]),
             ([(2, 999)], 0, []), ([(2, 2000)], 0, []),
             ([(2, 1999)], 0, [(end, end, "2 frames early")])]
-        for steps, within, wanted in rows:
-            survey = surveyed(*(lines_of_step(by, at, before=sum(by for by, _ in steps[:place]))
-                                for place, (by, at) in enumerate(steps)))
-            self.assertEqual(self.told(survey, within)[0], wanted, steps)
+        for origin, (steps, within, wanted) in itertools.product((0, CLOCK - 1400 * TICKS), rows):
+            befores = (sum(by for by, _ in steps[:place]) for place in range(len(steps)))
+            survey = surveyed(*(lines_of_step(by, at, 10, before, origin)
+                                for before, (by, at) in zip(befores, steps)))
+            found = self.told(survey, within, origin=origin)[0]
+            self.assertEqual(found, wanted, (origin, steps))
 
     def test_first_picture(self) -> None:
         """By that clock what steps before the first subtitle counts too."""
