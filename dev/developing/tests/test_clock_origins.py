@@ -304,6 +304,19 @@ class Tracks(unittest.TestCase):
             self.assertEqual(Stretch(track, 1, 6).agreeing(), places)
             self.assertEqual(max(track.in_a_row), 7 if not within else 8)
 
+    def test_votes(self) -> None:
+        """Two texts tell more than many times at which the page changes as often as edges are due.
+        """
+        edges = [Edge(1000 * at, b"%d" % at, True) for at in range(4)]
+        others = {frame + edge.frame: b"other %d" % frame for frame in range(100, 250, 2)
+                  for edge in edges}
+        for within in (0, 1):
+            sent = {**others, 51: b"0", 1051 + within: b"1"}
+            base = Base(edges, [Change(TICKS * frame, letters, frame, ((20, letters),))
+                                for frame, letters in sorted(sent.items())],
+                        0, 9000 * TICKS, (0, 9000), within)
+            self.assertEqual((base.fits[0].start, base.fits[0].agree), (-51, 2), within)
+
     def test_may_follow(self) -> None:
         """In a later time base, or in the same one where it is sent later."""
         base = self.base({})

@@ -86,6 +86,22 @@ class Words(unittest.TestCase):
         for part, count, lines in rows:
             self.assertEqual(list(part_lines(part, count)), lines)
 
+    def test_how_many_parts(self) -> None:
+        """One more than breaks are said; else nothing is taken, and what was found is told."""
+        for count, said in itertools.product(range(5), (1, 2, 3)):
+            parts = [self.part(20, 20, 20) for _ in range(count)]
+            for one in parts:
+                one.begin, one.end, one.base, one.over, one.origin = 0, 50, 0, [], 9
+            found, breaks = Origin(), max(count - 1, 0)
+            take_parts(found, Sought("a", "b", breaks=said), [], parts)
+            words = {0: "no break", 1: "1 break"}.get(breaks, f"{breaks} breaks")
+            if count == said + 1:
+                self.assertEqual((found.status, len(found.parts), found.breaks), (0, count, None))
+            else:
+                self.assertEqual((found.status, found.parts, found.breaks), (1, [], breaks))
+                self.assertEqual(found.lines, [f"{words} found, where --breaks {said} is said",
+                                               *break_lines(parts)])
+
     def test_early_parts(self) -> None:
         """An origin that is given is that of the first part: where many cues of another one come
         early nothing is clear."""

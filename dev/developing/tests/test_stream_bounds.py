@@ -170,13 +170,17 @@ class Silences(unittest.TestCase):
             more = count - TOLD
             told = [f"and at {more} more place{'s' * (more > 1)}"] * (more > 0)
             self.assertEqual(first_lines(lines), lines[:TOLD] + told)
-            packets = Packets(5, [Run(at, 1, None if at % 2 else at * TICKS, 0, "", "")
-                                  for at in range(2 * count + 1)])
-            packets.marks = [Mark(at, (at - 1) * TICKS, 1, 0) for at in range(1, 2 * count, 2)]
+            pts = [SECOND + at * TICKS for at in range(2 * count + 1)]
+            packets = Packets(5, [Run(at, 1, None if at % 2 else one, 0, "", "")
+                                  for at, one in enumerate(pts)])
+            packets.marks = [Mark(at, pts[at - 1], 1, 0) for at in range(1, 2 * count, 2)]
             packets.clocked = [Clocked(TICKS * 90, TICKS * 91, TICKS * 9, 9, 1, 9, "broken")]
             found = marks_told(packets)
-            self.assertEqual((len(found), found[-1:] == [f"and at {more + 1} more places"]),
-                             (min(count, TOLD), more > 0), count)
+            others = [line for line in found if line.startswith("and at")]
+            self.assertEqual((len(found), others), (
+                min(count, TOLD), [f"and at {more + 1} more places"] * (more > 0)), count)
+            self.assertEqual(found[:1], [f"between PTS {SECOND} and {SECOND + 2 * TICKS}, "
+                                         "00:00:00:00 and 00:00:00:02 on: 1 TS packet lost"][:count])
 
 
 class Pictures(unittest.TestCase):
