@@ -9,13 +9,15 @@ from typing import Sequence
 from developing.pes import pes_packet, pts_in
 from subtitles.common.times import CLOCK, TICKS, frame_at
 from subtitles.recording.notices import (
-    Announcement, Notice, announcements_of, is_due_in, of_timing, silent_beside, unsent_by)
+    Announcement, NeverSent, Notice, announcements_of, is_due_in, of_timing, refuse_elsewhere,
+    refuse_unsent, silent_beside, unsent_by)
 from subtitles.stream.gaps import SECOND
 from subtitles.stream.packets import Packets
 from subtitles.stream.survey import Survey
 from .bench import Case
 from .judged import Judged, OfProgramme, judged
 from .muxed import Carried, NEW, OLD, Programme, VIDEO_PID, in_turn, shown
+from .parts import asked_for
 from .sent import programme
 
 PAGE = (0, 0x88)
@@ -122,6 +124,37 @@ class Announced(Case):
                 self.must(f"{first} {last} {origin} {shift}", found == wanted)
         self.must("no PCR", not is_due_in(None, subtitles, 0))
         self.must("no subtitle", not is_due_in((0, CLOCK // 2), [], 0))
+
+    def test_refused(self) -> None:
+        """Nowhere, or elsewhere alone; not where a PID is asked for that is not announced, what one
+        of them carries is not known, or nothing is due by the first picture."""
+        clock = ["pcr 100 0", f"pcr 100 {60 * SECOND}"]
+        sent, scrambled = f"pes {ONE} 0 1 {SECOND} 0 h/ 1 0", f"end {TWO} 0 0 9 9 0 0 -"
+        start = [f"stream {THREE} 2", f"video {THREE} 0", f"picture {THREE} {90 * SECOND}"]
+        rows: list[tuple[list[str], list[str], bool]] = [
+            (table(1, ONE), [], True), (table(1, TWO), ["--pid", f"{TWO}"], True),
+            (table(1, ONE), ["--pid", f"{TWO}"], False),
+            ([*table(1, ONE, TWO), scrambled], [], False), ([*table(1, TWO), scrambled], [], False),
+            ([*table(1, ONE), scrambled], [], True), ([*table(1, ONE), *start], [], True),
+            ([*table(1, ONE), *start], ["--start", "00:00:00:00"], False),
+            ([*table(1, ONE), *start], ["--start", "00:01:30:00"], True),
+            ([sent, *table(1, TWO)], [], True), ([sent, *table(1, TWO), scrambled], [], False),
+            ([sent, f"pes {TWO} 0 1 {SECOND} 0 -/ 1 0", *table(1, TWO)], [], True),
+            ([sent, *table(1, TWO, THREE), scrambled], [], False),
+            ([sent, *table(1, TWO)], ["--pid", f"{ONE}"], False)]
+        for lines, words, is_refused in rows:
+            survey, found = Survey(), ""
+            for line in [*lines, *clock]:
+                survey.take(line)
+            asked = asked_for("a.stl", "a.ts", *words)
+            try:
+                if sent in lines:
+                    refuse_elsewhere(asked, survey, SECOND, 9 * SECOND)
+                else:
+                    refuse_unsent(asked, survey, [(100, 150)])
+            except NeverSent as reason:
+                found = str(reason)
+            self.must(f"{lines} {words}", bool(found) == is_refused, found)
 
 
 class Judgements(OfProgramme):

@@ -6,7 +6,7 @@ import contextlib
 import itertools
 from typing import Collection, Iterator, NamedTuple, Sequence
 
-from ..clock.start import NoFirst, began
+from ..clock.start import NoFirst, first_picture, start_frame
 from ..common.command_line import counted, pid_name, shown
 from ..common.files import first_bytes
 from ..common.times import (
@@ -298,7 +298,7 @@ def origin_by(request: Request, survey: Survey, pid: int) -> int | None:
     """The origin that is given, or that the first picture of a PID's programme tells."""
     if request.start is not None:
         with contextlib.suppress(NoFirst, Unclear):
-            return began(request, survey, Packets(pid)).clock.origin
+            return wrapped(first_picture(survey, pid).pts - TICKS * start_frame(request))
     return request.origin
 
 
