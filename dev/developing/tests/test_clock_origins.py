@@ -204,6 +204,23 @@ class Origins(Case):
             self.must(f"{row}", (found.status, found.printed, found.parts) == (1, [], []) and
                       found.lines[0].startswith("2 parts: "), found)
 
+    def test_runs(self) -> None:
+        """Each time that it is there, with its PES packets and those beside it, of which one is looked
+        for then; also where PTS go back, or are a bit before a frame."""
+        for gap, runs in itertools.product((TICKS * 70 * (COUNT + 20) - 3, -3 * 10 ** 9), (1, 2, 3)):
+            pes = list[bytes]()
+            for number in range(runs):
+                own = self.sent(gap * number)
+                pes += [*own, pes_packet((pts_in(own[-1]) + 9 * TICKS) % CLOCK, [HEADER, CLOSING])]
+            count, found = len(own) + 1, self.find(self.own(), pes)
+            self.must(f"{gap} {runs}", (found.status, found.runs) == (int(runs > 1), [
+                (count * at - (at > 0), count * (at + 1) - 1)
+                for at in range(runs)] * (runs > 1)), found)
+            for number, (first, last) in enumerate(found.runs):
+                one = self.find(self.own(), pes, "--pes", f"{first}-{last}")
+                self.must(f"{gap} {number}", one.printed == [
+                    f"--origin {(gap * number - TICKS * FIRST) % CLOCK}"], one)
+
     def test_late_from_one_on(self) -> None:
         """From when on, and by how much; how late the first is of what is known."""
         late = [0] * 6 + [50] * 6
