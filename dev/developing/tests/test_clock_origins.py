@@ -205,9 +205,10 @@ class Origins(Case):
                       found.lines[0].startswith("2 parts: "), found)
 
     def test_runs(self) -> None:
-        """Each time that it is there, with its PES packets and those beside it, of which one is looked
-        for then; also where PTS go back, or are a bit before a frame."""
-        for gap, runs in itertools.product((TICKS * 70 * (COUNT + 20) - 3, -3 * 10 ** 9), (1, 2, 3)):
+        """Each time that it is there, with its PES packets and those beside it, of which one is
+        looked for then; also where PTS go back, or are a bit before a frame."""
+        gaps = TICKS * 70 * (COUNT + 20) - 3, -3 * 10 ** 9
+        for gap, runs in itertools.product(gaps, (1, 2, 3)):
             pes = list[bytes]()
             for number in range(runs):
                 own = self.sent(gap * number)
@@ -357,6 +358,28 @@ class Tracks(unittest.TestCase):
         row = find_row([self.base(later)])
         self.assertEqual([(stretch.track.start, stretch.first, stretch.end) for stretch in row],
                          [(0, 0, 6), (-40, 6, 12)])
+
+    def test_rows_at_once(self) -> None:
+        """One stretch alone where all letters agree, or beginnings and ends are apart; of tracks
+        within some frames of each other the best; a time base has its own."""
+        due = {edge.frame: edge.letters for edge in self.edges}
+        half, rest = ({frame: due[frame] for frame in due if (frame < 400) == is_first}
+                      for is_first in (True, False))
+        few = self.base(due).limited(self.edges[:4], -1, 1000)
+
+        def moved(by: int) -> dict[int, bytes]:
+            return {frame + by: letters for frame, letters in rest.items()}
+
+        ends = {frame + 3 * (not letters): letters for frame, letters in due.items()}
+        rows: list[tuple[list[Base], list[tuple[int, int, int, int]]]] = [
+            ([self.base(due)], [(0, 0, 0, 12)]), ([few], []), ([self.base(ends)], [(0, 0, 0, 12)]),
+            ([self.base({**half, **dict.fromkeys(rest, b"x"), **moved(300)})],
+             [(0, 0, 0, 6), (0, -300, 6, 12)]),
+            ([self.base({**half, **moved(2)}, 1)], [(0, 0, 0, 6), (0, -2, 6, 12)]),
+            ([self.base(half, 1), self.base(rest, 1)], [(0, 0, 0, 6), (1, 0, 6, 12)])]
+        for number, (bases, wanted) in enumerate(rows):
+            self.assertEqual([(one.track.base, one.track.start, one.first, one.end)
+                              for one in find_row(bases)], wanted, number)
 
     def test_which_way(self) -> None:
         """Two tracks are as good: the one that is nearer, of the same time base before others. An
