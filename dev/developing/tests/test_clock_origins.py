@@ -371,11 +371,12 @@ class Tracks(unittest.TestCase):
             return {frame + by: letters for frame, letters in rest.items()}
 
         ends = {frame + 3 * (not letters): letters for frame, letters in due.items()}
+        later = {frame + 2 - (frame == 400): letters for frame, letters in rest.items()}
         rows: list[tuple[list[Base], list[tuple[int, int, int, int]]]] = [
             ([self.base(due)], [(0, 0, 0, 12)]), ([few], []), ([self.base(ends)], [(0, 0, 0, 12)]),
             ([self.base({**half, **dict.fromkeys(rest, b"x"), **moved(300)})],
              [(0, 0, 0, 6), (0, -300, 6, 12)]),
-            ([self.base({**half, **moved(2)}, 1)], [(0, 0, 0, 6), (0, -2, 6, 12)]),
+            ([self.base({**half, **later}, 1)], [(0, 0, 0, 7), (0, -2, 7, 12)]),
             ([self.base(half, 1), self.base(rest, 1)], [(0, 0, 0, 6), (1, 0, 6, 12)])]
         for number, (bases, wanted) in enumerate(rows):
             self.assertEqual([(one.track.base, one.track.start, one.first, one.end)
