@@ -10,6 +10,7 @@ from subtitles.clock.alignment import Apart, Early, Fit, MOST_APART
 from subtitles.clock.origin import as_good, is_clear
 from subtitles.clock.start import Began, Clock, TCP, after_frame, refuse_outside
 from subtitles.common.times import CLOCK, EARLY, FRAMES_A_SECOND, NO_FRAME, Span, TICKS
+from subtitles.recording.recording import Recording
 from subtitles.request.request import Unclear
 from subtitles.stream.gaps import (
     Lull, NEAR, Pauses, Place, SECOND, TOLD, USUAL_EVERY, first_lines, idle_of, is_within,
@@ -185,6 +186,16 @@ class Silences(unittest.TestCase):
 
 class Pictures(unittest.TestCase):
     """The clock of the first picture."""
+
+    def test_last(self) -> None:
+        """The last PTS or PCR, whichever is later, over the wrap too."""
+        for origin, (pts, pcr, last) in itertools.product(ORIGINS, (
+                (None, None, None), (4, None, 4), (None, 7, 7), (4, 7, 7), (7, 4, 7))):
+            clock, begun, wanted = ((None if one is None else (origin + one) % CLOCK)
+                                    for one in (pcr, pts, last))
+            known: Any = SimpleNamespace(packets=Packets(5, begun=begun), survey=SimpleNamespace(
+                clock_of=lambda _: None if clock is None else (0, clock)))
+            self.assertEqual(Recording.last(known), wanted)
 
     def test_ticks_after_a_frame(self) -> None:
         """As most PTS are; within some frames as most of those that are near it."""
