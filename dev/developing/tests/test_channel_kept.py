@@ -3,6 +3,7 @@ from __future__ import annotations
 
 import contextlib
 import errno
+import itertools
 import os
 from typing import Any, Iterator, Tuple
 from unittest import mock
@@ -83,6 +84,21 @@ class Read(Folders):
         self.must("what is not read yet", segments.read_of(11).size == PART and
                   b"".join(segments.before()) == b"10" + b"x" * PART)
         self.must("the rest", len(segments.read() or b"") == 1)
+
+    def test_each_loss(self) -> None:
+        """Behind whichever segments it is, the first ones and the last too: each set of five."""
+        for are_there in itertools.product((False, True), repeat=5):
+            numbers = [*itertools.compress(range(5), are_there)]
+            folder, wanted, oldest = self.new(f"{numbers}"), list[bytes | None](), -1
+            for number in numbers:
+                self.put(folder, number, b"%d" % number)
+                if number - 1 not in numbers:
+                    wanted += [None] * (oldest >= 0)
+                    oldest = number
+                wanted.append(b"%d" % number)
+            segments = Segments(folder)
+            found = [segments.read() for _ in range(len(wanted) + 1)]
+            self.must(f"{numbers}", found == [*wanted, b""] and segments.oldest == oldest, found)
 
     def segments(self, folder: str, behind: int, count: int = 100) -> Segments:
         """Segments of a second each, of which so many are read before something is told of them."""
