@@ -4,6 +4,7 @@ from __future__ import annotations
 import argparse
 import contextlib
 import io
+import itertools
 import json
 import os
 import signal
@@ -20,6 +21,7 @@ from subtitles.cli.single import PairCall
 from subtitles.common import files
 from subtitles.common.command_line import Stop
 from subtitles.common.program import about_program
+from subtitles.judging.status import STATUSES, WAIVED
 from subtitles.request.commands import CommandWords
 from subtitles.request.lines import Item, at_line, inputs_of, no_file, pairs_at
 from subtitles.request.request import Request
@@ -188,8 +190,7 @@ class Batches(Case):
                 self.must("at a time", self.seen[1:] == (["one", "two", "three"], {}, wanted))
                 have = json.loads(self.read("all"))
                 names = [one["lead"] or one["reason"] for one in have["pairs"]]
-                self.must("objects", (names, have["status"]) == (
-                    ["one", "two", "three"], status))
+                self.must("objects", (names, have["status"]) == (["one", "two", "three"], status))
                 self.must("the folder went", not os.path.exists(self.seen[0].folder))
         self.batch("accepted, accepted, accepted", json=self.path("all"),
                    unwritten={"two": unjudged("two", "in use")})
@@ -224,7 +225,7 @@ class Batches(Case):
 # Calls for pairs in processes that are forked: what each has, how it ends, what becomes of others.
 
 # A call that writes the object of its pair, with the verdict that its subtitle file names, and ends
-# with its status.
+# with its status; or first does to a file what is named there.
 CALL = """#!/bin/sh
 words="$*" out= object=
 while [ $# -gt 0 ]; do
@@ -237,11 +238,9 @@ kind=$(cat "$stl")
 [ "$kind" = waits ] && exec sleep SECONDS
 [ "$kind" = busy ] && while :; do :; done
 [ "$kind" = deaf ] && { trap '' TERM; sh -c 'echo $$ >"$0"; while :; do :; done' "${0%/*}/its"; }
-[ "$kind" = changes ] && echo more >>"$stl"
-case $kind in
-    accepted | changes | other | silent) status=0 ;; refused) status=1 ;; *) status=2 ;;
-esac
-case $kind in other | changes) kind=accepted ends=9 ;; *) ends=$status ;; esac
+case $kind in "does "*) (cd "${0%/*}" && eval "${kind#does }") && kind=accepted ;; esac
+case $kind in accepted | other | silent) status=0 ;; refused) status=1 ;; *) status=2 ;; esac
+case $kind in other) kind=accepted ends=9 ;; *) ends=$status ;; esac
 echo "qc: one" >&2; echo "qc: told last" >&2
 [ "$kind" = silent ] || sed "s|WORDS|$words|" "${0%/*}/$kind" >"${object:-$out/$name.json}"
 exit $ends
@@ -273,6 +272,7 @@ class Judged(Case):
         os.mkdir(self.path("temporary"))
         os.mkdir(self.path("out"))
         self.write("one.ts", b"1")
+        self.calls = Calls(self.typed, self.path("temporary"), self.path("out"), False)
 
     def item(self, kind: str, name: str = "one", *words: str) -> Item:
         """A pair whose call ends so."""
@@ -299,34 +299,37 @@ class Judged(Case):
                 and not calls.running, have)
 
     def test_one(self) -> None:
-        """The row by its object; where that is another call's, or files changed, none, and nothing
-        is left of an earlier call."""
-        calls = Calls(self.typed, self.path("temporary"), self.path("out"), False)
+        """The row by its object; where that is another call's, or any of its files changed, none,
+        and nothing is left of an earlier call."""
         for kind, verdict, line in (
                 ("accepted", "accepted", "accepted 72 Content"),
                 ("refused", "refused", "refused 72 Content"),
                 ("not judged", "not judged", "why"), ("silent", "not judged", "told last"),
                 ("other", "not judged", "told last"),
-                ("changes", "not judged", "a file was written to while it was judged")):
-            item = self.item(kind)
+                *((f"does {change}{name}", "not judged",
+                   "a file was written to while it was judged")
+                  for name in ("one.stl", "one.ts", "levels")
+                  for change in ("echo more >>", "rm "))):
+            self.write("one.ts", b"1")
+            item = self.item(kind, "one", "--severity", self.write("levels", b"72 error\n"))
             self.write("out/one.json", json.dumps(result("accepted")).encode())
-            found_row = self.judged(calls, item)
+            found_row = self.judged(self.calls, item)
             self.must(kind, (found_row.name, found_row.verdict, found_row.line) == (
                 "one", verdict, line), found_row)
-            have = object_at(calls.path(item))
+            have = object_at(self.calls.path(item))
             self.must("its object", have is not None and have["verdict"] == verdict, have)
-        none = self.judged(calls, Item("two", None, "no pair"))
+        none = self.judged(self.calls, Item("two", None, "no pair"))
         self.must("no pair", (none.name, none.verdict, none.line) == (
             "two", "not judged", "no pair") and object_at(self.path("out/two.json")) == unjudged(
                 "two", "no pair") and {*os.listdir(self.path("out"))} == {"one.json", "two.json"})
         with mock.patch("os.fork", side_effect=BlockingIOError(11, "Try again")):
-            gone = self.judged(calls, self.item("accepted"))
+            gone = self.judged(self.calls, self.item("accepted"))
         self.must("no call", gone.line == "no process was begun: Try again", gone)
         for name in ("one", "two"):
-            calls.begin(self.item("waits", name))
-        calls.stop()
-        self.must("all are ended", not calls.running)
-        calls.leave(Item("three", None, "x"), "stopped")
+            self.calls.begin(self.item("waits", name))
+        self.calls.stop()
+        self.must("all are ended", not self.calls.running)
+        self.calls.leave(Item("three", None, "x"), "stopped")
         self.must("nothing is written then", not os.path.exists(self.path("out/three.json")))
         nowhere = Calls(self.typed, self.path("temporary"), self.path("none"), False)
         row = nowhere.leave(Item("four", None, "x"), "why")
@@ -358,31 +361,26 @@ class Judged(Case):
         self.must("none of a process that is gone", batch.seconds_of("0") == 0.0)
 
     def test_one_that_dies(self) -> None:
-        """It costs its own pair alone, however it ends; what it told last is its reason."""
-        def killed() -> None:
-            os.kill(os.getpid(), signal.SIGKILL)
+        """It costs its own pair alone, however it ends, behind its result too; what it told last is
+        its reason."""
+        ends: dict[str, Callable[[], object]] = {
+            "killed": lambda: signal.raise_signal(signal.SIGKILL), "no memory": os.abort,
+            "a signal": lambda: signal.raise_signal(signal.SIGTERM), "an error": lambda: 1 // 0,
+            "no words": lambda: qc(["--none"])}
+        for (name, end), is_written in itertools.product(ends.items(), (False, True)):
+            def judge(*_: object) -> object:
+                if is_written:
+                    put_object(self.path("out/dies.json"), result("accepted"))
+                return end()
 
-        def written(end: Callable[[], object]) -> None:
-            put_object(self.path("out/dies.json"), result("accepted"))
-            end()
-
-        kinds: list[tuple[str, Callable[[], object], str]] = [
-            ("killed behind its result", lambda: written(killed), "it did not end by itself"),
-            ("an error behind it", lambda: written(lambda: 1 // 0), "it did not end by itself"),
-            ("killed", killed, "it did not end by itself"),
-            ("an error", lambda: 1 // 0, "it did not end by itself"),
-            ("no memory", lambda: os.abort(), "it did not end by itself"),
-            ("no words", lambda: qc(["--none"]), "--none"),
-            ("a signal", lambda: signal.raise_signal(signal.SIGTERM), "it did not end by itself")]
-        for name, does, reason in kinds:
-            calls = Calls(self.typed, self.path("temporary"), self.path("out"), False)
-            with mock.patch.object(batch, "judge_alone", lambda *_: does()):
-                calls.begin(self.item("accepted", "dies"))
-            calls.begin(self.item("accepted", "other"))
+            with mock.patch.object(batch, "judge_alone", judge):
+                self.calls.begin(self.item("accepted", "dies"))
+            self.calls.begin(self.item("accepted", "other"))
             rows: dict[str, Row] = {}
-            while calls.running:
-                rows.update((one.name, one) for one in calls.rows(SECONDS))
-            self.must(name, [rows[one].verdict for one in ("dies", "other")] == [
+            while self.calls.running:
+                rows.update((one.name, one) for one in self.calls.rows(SECONDS))
+            reason = "--none" if name == "no words" else "it did not end by itself"
+            self.must(f"{name} {is_written}", [rows[one].verdict for one in ("dies", "other")] == [
                 "not judged", "accepted"] and reason in rows["dies"].line, rows)
 
     def test_what_a_call_has(self) -> None:
@@ -411,17 +409,16 @@ class Judged(Case):
 
     def test_all(self) -> None:
         """Each once, what is kept not again; the words of each are its own."""
-        calls = Calls(self.typed, self.path("temporary"), self.path("out"), False)
         items = [self.item(kind, f"name{at}", *(["--strict"] if at == 1 else []))
                  for at, kind in enumerate(("accepted", "refused", "accepted", "not judged"))]
         kept = {"name2": row("name2", "waived", "kept")}
-        rows = all_rows(calls, items, kept, 2)
+        rows = all_rows(self.calls, items, kept, 2)
         self.must("verdicts", {name: one.verdict for name, one in rows.items()} == {
             "name0": "accepted", "name1": "refused", "name2": "waived", "name3": "not judged"},
             rows)
-        self.must("strict", ["--strict" in (object_at(calls.path(one)) or {})["notes"][0]
+        self.must("strict", ["--strict" in (object_at(self.calls.path(one)) or {})["notes"][0]
                              for one in items[:2]] == [False, True])
-        self.must("not called", not os.path.exists(calls.path(items[2])))
+        self.must("not called", not os.path.exists(self.calls.path(items[2])))
 
     def test_stopped(self) -> None:
         """A signal ends the calls that run, and no other is begun: what was judged is kept. What
@@ -450,12 +447,11 @@ class Judged(Case):
 
     def test_stopped_when_others_are_over(self) -> None:
         """What was judged by then counts, though nobody had looked at it yet."""
-        calls = Calls(self.typed, self.path("temporary"), self.path("out"), False)
         items, taken = [self.item("accepted", f"name{at}") for at in range(3)], list[Row]()
 
         def are_over() -> bool:
-            running = calls.running  # none, where all ended before the first look
-            return all(os.path.exists(calls.path(item)) for item in items) and (
+            running = self.calls.running  # none, where all ended before the first look
+            return all(os.path.exists(self.calls.path(item)) for item in items) and (
                 not running or len(ended_of(running, SECONDS)) == len(running))
 
         def stopped(*_: object) -> None:
@@ -464,14 +460,13 @@ class Judged(Case):
 
         with mock.patch("subtitles.request.commands.Progress.show", stopped), \
                 mock.patch.object(batch, "ignore_signals"):
-            rows = all_rows(calls, items, {}, 3, taken.append)
+            rows = all_rows(self.calls, items, {}, 3, taken.append)
         self.must("all", sorted(rows) == sorted(one.name for one in taken) == [
             "name0", "name1", "name2"], rows)
 
     def test_kept(self) -> None:
         """What an earlier call has judged as it would be judged now; not what it did not judge, and
         no object of another program, or that is none."""
-        calls = Calls(self.typed, self.path("temporary"), self.path("out"), False)
         items = [self.item("accepted", name) for name in (
             "one", "two", "three", "four", "six", "seven", "eight")]
         items.append(Item("five", None, "no pair"))
@@ -488,18 +483,18 @@ class Judged(Case):
         self.write("out/five.json", json.dumps(result()).encode())
         for text in (b"", b"{", b"[]"):
             self.write("out/eight.json", text)
-            rows = kept_rows(calls, items)
+            rows = kept_rows(self.calls, items)
             self.must("kept", {name: one.verdict for name, one in rows.items()} ==
                       {"one": "refused", "four": "waived"}, rows)
 
     def test_progress(self) -> None:
-        """How many of which verdict, and how long the others will take, by those of this call."""
-        rows = {name: row(name, verdict) for name, verdict in (
-            ("a", "accepted"), ("b", "refused"), ("c", "lost"), ("d", "not judged"))}
-        self.must("none of this call", progress_line(rows, 9, 4, 0.0) ==
-                  "4 of 9 pairs: 1 accepted, 2 refused, 1 not judged")
-        rows["e"] = row("e", "waived")
+        """How many of which verdict, each counted by its status, and how long the others will take,
+        by those of this call."""
+        rows = {word: row(word, word) for word in STATUSES if word != WAIVED}
+        self.must("none of this call", progress_line(rows, 9, 5, 0.0) ==
+                  "5 of 9 pairs: 1 accepted, 3 refused, 1 not judged")
+        rows[WAIVED] = row(WAIVED, WAIVED)
         with mock.patch.object(time, "monotonic", return_value=110.0):
-            said = progress_line(rows, 9, 3, 100.0)
-        self.must("left", said == "5 of 9 pairs: 1 accepted, 1 waived, 2 refused, 1 not judged; "
-                  "20 seconds left", said)
+            said = progress_line(rows, 9, 4, 100.0)
+        self.must("left", said == "6 of 9 pairs: 1 accepted, 1 waived, 3 refused, 1 not judged; "
+                  "15 seconds left", said)
