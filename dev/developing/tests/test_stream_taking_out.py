@@ -71,6 +71,13 @@ class Streams(Case):
         """What ts2pes makes of a stream."""
         return self.tool("ts2pes", self.write("asked.ts", data), pid, "-p", self.bench.program)
 
+    def lossy(self, data: bytes) -> Done:
+        """The same where packets are lost; from a pipe it is so too, but places are not told."""
+        done = self.extracted(data)
+        piped = self.tool("ts2pes", "-", PID, "-p", self.bench.program, data=data)
+        self.must("from a pipe", piped == (done.status, done.out, done.told[-1:]), piped.told)
+        return done
+
     def test_there_and_back(self) -> None:
         """Packets of each size, twice, from a pipe, behind other bytes, which are counted."""
         made, pes = self.stream(), example_bytes("story.pes")
@@ -145,15 +152,15 @@ class Streams(Case):
             kept = [one for at, one in enumerate(made)
                     if chance.random() > 0.1 or at % 15 == 0 or at < 5]
             wanted = carried(b"".join(kept), 0x101, 188)
-            done = self.extracted(b"".join(kept))
+            done = self.lossy(b"".join(kept))
             self.must(f"{seed}", (done.status, done.out) == (1, wanted.data), done.told)
             self.must(f"{seed}: told", f" {len(made) - len(kept)} TS packets" in done.told[-2],
                       (len(made) - len(kept), done.told))
         pes = [pes_packet(8_000 + 250 * TICKS * at, [HEADER, *[row(20, b"text")] * 6])
                for at in range(51)]
         for count in (1, 2, 20, 21, 25):
-            done = self.extracted(b"".join(one for at, one in enumerate(sent(pes))
-                                           if at % 4 != 3 or at > 4 * count))
+            done = self.lossy(b"".join(one for at, one in enumerate(sent(pes))
+                                       if at % 4 != 3 or at > 4 * count))
             behind = [8_000 + 500 * TICKS * at for at in range(count + 1)]
             told = [f"between PTS {one} and {other}, 00:{at // 3:02}:{at % 3 * 20:02}:00 and "
                     f"00:{(at + 1) // 3:02}:{(at + 1) % 3 * 20:02}:00 on: 1 TS packet lost"
@@ -170,7 +177,7 @@ class Streams(Case):
         """What is lost just before the end, where no PES packet comes behind it."""
         made = sent([pes_packet(8_000 + 250 * TICKS * at, [HEADER, *[row(20, b"text")] * 6])
                      for at in range(4)])
-        done = self.extracted(b"".join([*made[:5], made[6]]))
+        done = self.lossy(b"".join([*made[:5], made[6]]))
         self.must("told", (done.status, done.told) == (1, [
             "ts2pes: after PTS 908000, 00:00:10:00 on: 1 TS packet lost",
             "ts2pes: 3 PES packets of PID 0x101, 1 mark among them"]), done.told)
