@@ -322,16 +322,16 @@ class Writes(Case):
 
     def test_object_that_fails(self) -> None:
         """An object that says why stands for it; of other outputs, and where no file can be
-        written, nothing does."""
+        written, nothing does; why stands in the verdict, whatever output it is."""
         def fail() -> Any:
             raise ValueError("wrong")
 
-        for is_object in (True, False):
+        for is_object, is_raw in ((True, False), (False, False), (False, True)):
             files = self.files(self.verdict())
             path = self.path(f"{is_object}.json")
             self.must("failed", not files.try_to_put(
-                Output(path, fail, is_object=is_object)))
-            self.must(f"{is_object}", os.path.exists(path) == is_object and
+                Output(path, fail, is_object=is_object, is_raw=is_raw)))
+            self.must(f"{is_object} {is_raw}", os.path.exists(path) == is_object and
                       "wrong" in files.verdict.failed[0], files.verdict.failed)
         self.must("why", "wrong" in json.loads(self.read("True.json"))["reason"])
 
