@@ -232,12 +232,15 @@ class Commands(Case):
                 ("good", f'echo "$1 $2 $#" >{path}', SECONDS, None),
                 ("bad", "exit 7", SECONDS, "ended with status 7"),
                 ("killed", "kill -9 $$", SECONDS, "ended with status -9"),
-                ("slow", f"echo $$ >{path}; sleep {SECONDS}", 1, "did not end within 1 second")):
+                ("slow", f"sleep {2 * SECONDS} & echo $$ $! >{path}; wait", 1,
+                 "did not end within 1 second")):
             failure = self.failure(name, text, longest)
             self.must(name, failure == why, failure)
             if name == "good":
                 self.must("its words", self.read("told") == b"a b.json not judged 2\n")
-        self.must("it is gone", not os.path.exists(f"/proc/{int(self.read('told'))}/fd/0"))
+        for pid in self.read("told").split():
+            self.must("it is gone, and what it called", until(
+                lambda: not os.path.exists(f"/proc/{int(pid)}/fd/0")))
         self.must("none", "No such file" in (failure_of(self.path("none"), "", "") or ""))
         refuse_command("sh")
         for wrong in ("none at all", self.write("file", b"")):
