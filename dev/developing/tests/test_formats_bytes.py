@@ -73,6 +73,9 @@ class Times(unittest.TestCase):
                  for first in (off + 3600 * frame for frame in (0, DAY - 3, DAY - 2, DAY - 1)
                                for off in (-900, 0, 1, 2700))]
         rows += [[], [0, 3600, 7201], [0, 7200], [3600, 0], [0, 0]]
+        # As many frames apart as there are of them, though one frame has none, or has it later.
+        rows += [[0, 3600, 3600, 10800], [0, 7200, 7200, 10800], [0, 7200, 3600, 10800],
+                 [0, 3600, 7250, 10800], [0, 3599, 7200]]
         for origin, ticks, within in itertools.product((0, 1, 900, CLOCK - 3600, CLOCK - 1), rows,
                                                        (0, 1, 50)):
             several = [(origin + one) % CLOCK for one in ticks]
