@@ -264,6 +264,7 @@ class Judged(Case):
             for file in os.listdir("/proc/self/fd"):  # that it goes on is known by one of them
                 with contextlib.suppress(OSError):
                     os.set_inheritable(int(file), True)
+            signal.signal(signal.SIGTERM, signal.SIG_DFL)  # one that came before is heeded here
             os.execv(path, [path, *words])
 
         asking = mock.patch.object(batch, "judge_alone", execute)
@@ -299,8 +300,7 @@ class Judged(Case):
                 and not calls.running, have)
 
     def test_one(self) -> None:
-        """The row by its object; where that is another call's, or any of its files changed, none,
-        and nothing is left of an earlier call."""
+        """By its object; where that is another's, or a file changed, none, and nothing earlier."""
         for kind, verdict, line in (
                 ("accepted", "accepted", "accepted 72 Content"),
                 ("refused", "refused", "refused 72 Content"),
