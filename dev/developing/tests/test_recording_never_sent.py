@@ -5,12 +5,15 @@ from __future__ import annotations
 import itertools
 import json
 from typing import Sequence
+from unittest import mock
 
 from developing.pes import pes_packet, pts_in
 from subtitles.common.times import CLOCK, TICKS, frame_at
 from subtitles.recording.notices import (
     Announcement, NeverSent, Notice, announcements_of, is_due_in, of_timing, refuse_elsewhere,
     refuse_unsent, silent_beside, unsent_by)
+from subtitles.recording.recording import Recording
+from subtitles.request.request import Unclear
 from subtitles.stream.gaps import SECOND
 from subtitles.stream.packets import Packets
 from subtitles.stream.survey import Survey
@@ -24,12 +27,17 @@ PAGE = (0, 0x88)
 ONE, TWO, THREE = 257, 258, 259
 
 
-def heard(*lines: str) -> list[Announcement]:
-    """What is announced of the page by lines of `survey`."""
+def surveyed(*lines: str) -> Survey:
+    """What lines of `survey` tell."""
     survey = Survey()
     for line in lines:
         survey.take(line)
-    return [*announcements_of(survey.programmes, PAGE)]
+    return survey
+
+
+def heard(*lines: str) -> list[Announcement]:
+    """What is announced of the page by lines of `survey`."""
+    return [*announcements_of(surveyed(*lines).programmes, PAGE)]
 
 
 def at(seconds: float | None) -> int | None:
@@ -108,6 +116,23 @@ class Announced(Case):
                 ([*table(1, ONE), *table(2, ONE)], {ONE}, set())]
         for lines, carriers, wanted in rows:
             self.must(f"{lines} {carriers}", silent_beside(heard(*lines), carriers) == wanted)
+            for pes in (None, (0, 9)):  # of a range it is known which is meant
+                found = self.why_unclear(lines, carriers, pes)
+                pids = [f"--pid 0x{pid:X}" for pid in sorted(carriers | wanted)]
+                self.must(f"{lines} {carriers} {pes}: refused", found == (
+                    pids if wanted and pes is None else None), found)
+
+    def why_unclear(self, lines: list[str], carriers: set[int], pes: tuple[int, int] | None) \
+            -> list[str] | None:
+        """What a person may type where several programmes announce a page, and one is silent."""
+        asked = mock.Mock(page=PAGE, pes=pes)
+        recording = mock.Mock(survey=surveyed(*lines), request=asked, said=str)
+        recording.again = lambda *words: " ".join(words)
+        try:
+            Recording.refuse_silent(recording, carriers)
+        except Unclear as reason:
+            return [*reason.to_type]
+        return None
 
     def test_due(self) -> None:
         """By an origin where all of a subtitle's time is recorded; without one where so much is as
