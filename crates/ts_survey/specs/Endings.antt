@@ -76,11 +76,14 @@ carrier_words c = given_words c.packets_of.to ++ carrier_line c
 
 -- ---- of others
 
+-- `pictures PID LOST SCRAMBLED`, with which both lines of pictures begin.
+abbrev pub pictures_head : Pictures → List (List ℕ)
+pictures_head p =
+    codes "pictures" ∷ number_word p.pid ∷ number_word p.lost ∷ number_word p.scrambled ∷ []
+
 -- `pictures PID LOST SCRAMBLED PASSED BEGUN`.
 abbrev pub pictures_line : Pictures → List ℕ → List (List ℕ)
-pictures_line p begun =
-    codes "pictures" ∷ number_word p.pid ∷ number_word p.lost ∷ number_word p.scrambled
-    ∷ number_word p.passed ∷ begun ∷ []
+pictures_line p begun = pictures_head p ++ (number_word p.passed ∷ begun ∷ [])
 
 -- `group PID FLAGGED LEAST FORM`.
 abbrev pub group_line : Pictures → List (List ℕ)

@@ -4,7 +4,7 @@ use Rattle.std.specs.Prelude.{ℕ, ◌&&◌, nat_lt, if◌then◌else◌, List, 
 use Rattle.std.specs.Prelude.{Option, Some, None, slice_index}
 use Rattle.mpeg_ts.specs.TransportPacket.{begins, has_payload}
 use Rattle.ts_survey.specs.Adaptation.{payload_in, pts_said}
-use Rattle.ts_survey.specs.Endings.{group_line}
+use Rattle.ts_survey.specs.Endings.{group_line, pictures_head}
 use Rattle.ts_survey.specs.Groups.{flagged_with, least_of, packet_counted}
 use Rattle.ts_survey.specs.Lines.{line_end, number_word}
 use Rattle.ts_survey.specs.Text.{forward_ticks, time_word}
@@ -14,9 +14,7 @@ use Rattle.ts_survey.specs.declared.pictures.Reach.TheVariants.{Before, Over, Wi
 
 -- `pictures PID LOST SCRAMBLED`.
 abbrev pub group_over_line : Pictures → List (List ℕ)
-group_over_line p =
-    codes "pictures" ∷ number_word p.pid ∷ number_word p.lost ∷ number_word p.scrambled
-    ∷ line_end ∷ []
+group_over_line p = pictures_head p ++ (line_end ∷ [])
 
 -- The pictures are over: their group comes before that.
 abbrev pub over_words : Pictures → List (List ℕ)

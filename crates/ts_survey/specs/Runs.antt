@@ -90,11 +90,13 @@ page_lines pid number is_changed has_strays f =
 abbrev pub rows_told : Bool → Notes → Notes
 rows_told is_changed n = record n { told = if is_changed then Some n.rows else n.told }
 
+-- So are strays.
 abbrev pub strays_told : Bool → Notes → Notes
 strays_told has_strays n = record n {
   told_strays = if has_strays then n.strays else n.told_strays;
 }
 
+-- What is kept of the page behind a PES packet: the rows and the strays that were told.
 abbrev pub page_told : Bool → Bool → Following → Following
 page_told is_changed has_strays f = record f {
   notes = strays_told has_strays (rows_told is_changed f.notes);
@@ -110,6 +112,7 @@ is_page_changed f = f.receiver.state.heard && are_changed f.notes
 abbrev pub tells_rows : Option ℕ → Following → Bool
 tells_rows pts f = is_some pts && is_page_changed f
 
+-- So of strays.
 abbrev pub tells_strays : Option ℕ → Following → Bool
 tells_strays pts f = is_some pts && has_new_strays f.notes
 
@@ -167,5 +170,6 @@ packet_kept l pts is_changed has_strays = record l {
 abbrev pub heard_words_of : PesLines → Option ℕ → List (List ℕ)
 heard_words_of l pts = packet_words l pts (tells_rows pts l.page) (tells_strays pts l.page)
 
+-- And what is kept behind it.
 abbrev pub heard_kept : PesLines → Option ℕ → PesLines
 heard_kept l pts = packet_kept l pts (tells_rows pts l.page) (tells_strays pts l.page)

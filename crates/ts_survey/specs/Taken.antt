@@ -92,6 +92,7 @@ abbrev pub refusal_by : Result ℕ PesFault → Option ℕ
 refusal_by (Ok size) = None
 refusal_by (Err fault) = Some (pes_code fault).number
 
+-- A piece of less than six bytes, as the end of a recording may leave it, has none.
 abbrev pub piece_refusal : List ℕ → Option ℕ
 piece_refusal bytes = if nat_lt (length bytes) 6 then None else refusal_by (size_at (take 6 bytes))
 

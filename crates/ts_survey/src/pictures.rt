@@ -3,8 +3,8 @@
 ghost use Rattle.std.specs.Prelude.{◌≡◌, ℕ, List, [], ◌++◌, Some, false, if◌then◌else◌, nat_lt};
 ghost use Rattle.std.specs.Prelude.{true};
 ghost use Rattle.ts_survey.specs.Adaptation.{behind_header, decoding_time, payload_in, pts_said};
-ghost use Rattle.ts_survey.specs.Endings.{group_line, pictures_line, pictures_words, reach_words};
-ghost use Rattle.ts_survey.specs.Endings.{is_group_over, steps_line, steps_words};
+ghost use Rattle.ts_survey.specs.Endings.{group_line, is_group_over, pictures_head, pictures_line};
+ghost use Rattle.ts_survey.specs.Endings.{pictures_words, reach_words, steps_line, steps_words};
 ghost use Rattle.ts_survey.specs.Forms as forms;
 // What the reader keeps, not the standard's.
 ghost use Rattle.ts_survey.specs.FormWindow.{HasRead};
@@ -316,11 +316,18 @@ impl Pictures {
     fn tell_over(&self, text: &mut Text)
         ensures { AddsWords text.old (group_over_line self.now) text.new }
     {
+        self.tell_counts(text);
+        text.put(b"\n");
+    }
+
+    // What both lines of pictures begin with.
+    fn tell_counts(&self, text: &mut Text)
+        ensures { AddsWords text.old (pictures_head self.now) text.new }
+    {
         text.put(b"pictures");
         text.number(self.pid as u64);
         text.number(self.lost);
         text.number(self.scrambled);
-        text.put(b"\n");
     }
 
     // Tells the group of the flagged picture.
@@ -379,10 +386,7 @@ impl Pictures {
     fn tell_end(&self, begun: &[u8], text: &mut Text)
         ensures { AddsWords text.old (pictures_line self.now begun.now) text.new }
     {
-        text.put(b"pictures");
-        text.number(self.pid as u64);
-        text.number(self.lost);
-        text.number(self.scrambled);
+        self.tell_counts(text);
         text.number(self.passed);
         text.put(begun);
     }

@@ -104,26 +104,19 @@ fn no_breaks() -> [Break; BREAKS]
     [none; BREAKS]
 }
 
-// What is known of a PID behind a packet of it with that number.
+// Notes a packet of a PID with that number: in place, since each packet of a recording comes here.
 #[inline(always)]
-fn known_behind(state: PidState, packet: &[u8; PACKET], number: u64) -> PidState
-    ensures { result ≡ known.known_behind number packet.now state }
+fn note_packet(state: &mut PidState, packet: &[u8; PACKET], number: u64)
+    ensures { state.new ≡ known.known_behind number packet.now state.old }
 {
     if !is_counted(packet) {
-        return state;
+        return;
     }
-    PidState {
-        counter: counter_of(packet),
-        last: number,
-        first: if state.last == 0 { number } else { state.first },
-        clock_pid: state.clock_pid,
-        kind: state.kind,
-        table: state.table,
-        clock: state.clock,
-        video: state.video,
-        carrier: state.carrier,
-        is_other: state.is_other,
+    if state.last == 0 {
+        state.first = number;
     }
+    state.counter = counter_of(packet);
+    state.last = number;
 }
 
 // Whether the counter of a packet counts: it is not damaged, and has a payload.
@@ -213,9 +206,14 @@ impl Pids {
         ensures known { result
             ≡ known.known_behind number packet.now (known.known_of self.old pid) }
     {
-        let before = self.get(pid);
-        let state = known_behind(before, packet, number);
-        self.set(pid, state);
+        let Some(state) = self.states.get_mut(pid as usize) else {
+            let mut state = unknown();
+            note_packet(&mut state, packet, number);
+            return state;
+        };
+        let before = *state;
+        note_packet(state, packet, number);
+        let behind = *state;
         if is_break(before, packet) {
             self.add_break(Break {
                 pid,
@@ -223,7 +221,7 @@ impl Pids {
                 at: number,
             });
         }
-        state
+        behind
     }
 
     // Keeps a break, in place of the oldest.

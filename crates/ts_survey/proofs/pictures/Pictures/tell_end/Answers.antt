@@ -1,12 +1,13 @@
--- Word by word: adds-word.
-use Rattle.ts_survey.proofs.TextLemmas.{adds-last, adds-word}
+-- One after another: adds-words, then adds-word.
+use Rattle.std.specs.Prelude.{[], ◌∷◌}
+use Rattle.ts_survey.specs.Endings.{pictures_head}
+use Rattle.ts_survey.specs.Lines.{number_word}
+use Rattle.ts_survey.proofs.TextLemmas.{adds-last, adds-word, adds-words}
 use Rattle.ts_survey.proofs.pictures.Pictures.tell_end.Goals as goal
 
 pub returns : goal.returns
 returns c =
-    adds-word c.put.ensures
-    (adds-word c.number.ensures
-    (adds-word c.number-2.ensures
-    (adds-word c.number-3.ensures
-    (adds-word c.number-4.ensures
-    (adds-last c.put-2.ensures)))))
+    let p = c.args.self.now in
+    adds-words (pictures_head p) (number_word p.passed ∷ c.args.begun.now ∷ [])
+    c.tell_counts.ensures
+    (adds-word c.number.ensures (adds-last c.put.ensures))

@@ -1,0 +1,10 @@
+-- Word by word: adds-word.
+use Rattle.ts_survey.proofs.TextLemmas.{adds-last, adds-word}
+use Rattle.ts_survey.proofs.pictures.Pictures.tell_counts.Goals as goal
+
+pub returns : goal.returns
+returns c =
+    adds-word c.put.ensures
+    (adds-word c.number.ensures
+    (adds-word c.number-2.ensures
+    (adds-last c.number-3.ensures)))
