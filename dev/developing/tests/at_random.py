@@ -4,7 +4,7 @@ files.
 `dev/vectors/calls.tsv` has what was said of each when somebody last looked at it: the words, the
 last line, and sums of all lines, of the JSON result, which has to be as the schema has it, and of
 the other files. A change that is meant changes them; from dev/,
-`python3 -m developing.tests.at_random ../dist/subttx 0 240` prints the table, `.. NUMBER` all that
+`python3 -m developing.tests.at_random ../dist/subttx 0 600` prints the table, `.. NUMBER` all that
 a call says, to compare, and without a number it prints the rows of calls that have a name: of a
 folder, a list, a profile, a PID that is refused, on pairs of the examples. A line `# NUMBER: ..`
 before a row says why it says something else than it once did; it stays where it is.
@@ -37,9 +37,11 @@ from .bench import example
 from .parts import MEANINGS
 from .results import schema, wrong_by_schema, wrong_choices, wrong_in
 from .scenario import Scenario
+from .wider import Wider
 
 VECTORS = os.path.join(TOP, "dev", "vectors", "calls.tsv")
 EACH = 20  # calls of which the results are collected
+WIDER = 240  # the first call that is of a wider kind
 VOLATILE = [(re.compile(r"\d{4}-\d\d-\d\d[T ]\d\d:\d\d:\d\d(\.\d+)?"), "DATE"),
             (re.compile('<dl class="made">.*?</dl>|PROGRAM</td><td.*?</tr>'), "MADE"),
             (re.compile(r"subttx-qc-\w+"), "FOLDER"), (re.compile(r'"seconds": [\d.]+'), "SECONDS"),
@@ -103,7 +105,7 @@ def plain(text: str, program: str) -> str:
 def said_of(number: int, program: str) -> Said:
     """All that a call says, in a folder of its own."""
     with in_folder():
-        scenario = Scenario(number, program)
+        scenario = (Scenario if number < WIDER else Wider)(number, program)
         words = scenario.call()
         said = called(words, program, wrong=by_one_reader)
         told = "".join(plain(said_by(*words), program) for words in scenario.tools(words[1]))
@@ -207,7 +209,8 @@ def called(words: list[str], program: str, more: Sequence[str] = ("-p", "PROGRAM
         misfits = wrong(json.loads(text))
         assert not misfits, (words, misfits)
     known = json.loads(files.get("one.json", "{}"))
-    unsaid = [*wrong_choices(known, (out + told).splitlines())] if "chosen" in known else []
+    unsaid = [*wrong_choices(known, (out + told).splitlines())] if "chosen" in known \
+        and "--quiet" not in words else []
     assert not unsaid, (words, unsaid)
     return Said(words, status, [plain(line, program) for line in (out + told).splitlines()],
                 {name: plain(text, program) for name, text in files.items()},

@@ -290,9 +290,11 @@ class Recording:
             return
         own = self.names.temporary("kept.pes")
         for pid in dict.fromkeys(stage.pid for stage in self.stages) or [self.packets.pid]:
-            subprocess.run([self.typed.program_path, "extract",
-                            *stream_words(pid, self.survey.size or 0), "--", self.path, own],
-                           stdin=subprocess.DEVNULL, stdout=subprocess.DEVNULL, check=True)
+            done = subprocess.run([self.typed.program_path, "extract",
+                                   *stream_words(pid, self.survey.size or 0), "--", self.path, own],
+                                  stdin=subprocess.DEVNULL, stdout=subprocess.DEVNULL, check=False)
+            if done.returncode != 1:  # what stands before a PES packet that is refused is kept
+                done.check_returncode()
             yield from pieces_of(own)
 
     def places(self, jumps: Iterable[PTSPair] = ()) -> list[Place]:

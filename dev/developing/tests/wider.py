@@ -1,0 +1,178 @@
+"""Pairs at random with more of what files, recordings and calls have than `scenario` makes: other
+languages and fields, damage of all kinds, pages that move, and every option of a pair."""
+from __future__ import annotations
+
+from typing import Callable
+
+from developing.multiplex import PACKET
+from subtitles.common.times import time_of
+from subtitles.formats.stl import GSI, TTI
+from .muxed import (
+    MPEG_2, PMT_PID, PRIVATE, TELETEXT_PID, VIDEO_PID, program_map, spaced,
+    teletext_descriptor)
+from .scenario import SECOND_PID, Scenario, Sent, Written
+
+LANGUAGES = (b"08", b"15", b"0F", b"0A", b"06", b"27", b"xx")
+LAYOUTS = ("before=0D0B0B", "before=0D0B0B", "white", "white", "before=0D", "nonsense")
+PIDS = (TELETEXT_PID, TELETEXT_PID, SECOND_PID, VIDEO_PID, PMT_PID, 0)
+
+
+def pid_of(packet: bytes) -> int:
+    return (packet[1] & 0x1F) << 8 | packet[2]
+
+
+class Wider(Scenario):
+    """Such a pair. What `scenario` has of its number comes first, as it does there."""
+
+    def others(self) -> list[Written]:
+        """More seldom other ones than in `scenario`, since more else goes wrong."""
+        return super().others() if self.some(30) else self.subtitles
+
+    def wrong(self, sent: Sent) -> Sent:
+        return super().wrong(sent) if self.some(40) else sent
+
+    # The subtitle file.
+
+    def write(self, name: str, subtitles: list[Written]) -> None:
+        """Seldom with another language, or a field that is another one."""
+        super().write(name, subtitles)
+        if name == "one.stl" and self.some(25):
+            with open(name, "r+b") as file:
+                data = bytearray(file.read())
+                self.change(data)
+                file.seek(0)
+                file.truncate()
+                file.write(data)
+
+    def change(self, data: bytearray) -> None:
+        """One field of the GSI block or of a TTI block is another one; or the file is cut."""
+        chance = self.chance
+        block = GSI + TTI * chance.randrange((len(data) - GSI) // TTI)
+        kind = chance.randrange(12)
+        if kind < 4:
+            data[14:16] = chance.choice(LANGUAGES)
+        elif kind == 4:
+            data[238:243] = b"%05d" % chance.randrange(99)  # TNB
+        elif kind == 5:
+            del data[-chance.choice((1, TTI, TTI + 7)):]
+        else:
+            at, value = chance.choice((
+                (0, 1), (1, 200), (3, 0), (3, 0xFE), (4, 1), (4, 3), (8, 25), (6, 60), (12, 25),
+                (13, 0), (13, 24), (14, 0), (14, 3), (15, 1), (20, 0x9F), (24, 0xC8), (30, 0x1C)))
+            data[block + at] = value
+
+    # The recording.
+
+    def recorded(self, sent: Sent, second: Sent) -> bytes:
+        """The same with what else happens to a transport stream, once or twice."""
+        data = super().recorded(sent, second)
+        size = PACKET if data[:1] == b"\x47" or len(data) % 192 else 192
+        packets = [data[at + size - PACKET:at + size] for at in range(0, len(data), size)]
+        packets = [one for one in packets if len(one) == PACKET]
+        kinds: list[Callable[[list[bytes]], list[bytes]]] = [
+            self.announced, self.scrambled, self.wrong_bits, self.without, self.doubled, self.moved,
+            self.cut, self.without_flags, self.reordered]
+        for _ in range(self.chance.choice((0, 1, 1, 2))):
+            packets = self.chance.choice(kinds)(packets) or packets
+        data, place = b"".join(packets), self.chance.randrange(len(packets))
+        if self.some(6):  # what is no packet stands between packets
+            data = data[:place * PACKET] + b"\0" * self.chance.choice((1, 188, 3000)) \
+                + data[place * PACKET:]
+        return spaced(data, self.chance.choice((192, 204))) if self.some(20) else data
+
+    def some_of(self, packets: list[bytes], pid: int | None = None) -> range:
+        """Where a run of packets is: from one of a PID on, so many."""
+        pid = self.chance.choice(PIDS) if pid is None else pid
+        own = [at for at, one in enumerate(packets) if pid_of(one) == pid] or [0]
+        first = self.chance.choice(own)
+        return range(first, min(len(packets), first + self.chance.choice((1, 30, 400, 9999))))
+
+    def announced(self, packets: list[bytes]) -> list[bytes]:
+        """A packet that announces that the counter, or the clock, goes on elsewhere."""
+        at = self.some_of(packets)[0]
+        one = packets[at]
+        return [*packets[:at], one[:3] + bytes([0x20 | one[3] & 15, 183, 0x80]) + b"\xff" * 182,
+                *packets[at + self.chance.choice((0, 1, 7)):]]
+
+    def scrambled(self, packets: list[bytes]) -> list[bytes]:
+        pid, run = self.chance.choice(PIDS), self.some_of(packets)
+        return [one[:3] + bytes([one[3] | 0xC0]) + one[4:] if at in run and pid_of(one) == pid
+                else one for at, one in enumerate(packets)]
+
+    def wrong_bits(self, packets: list[bytes]) -> list[bytes]:
+        """Some bits are others, or a packet says that it is damaged."""
+        found = list(packets)
+        for _ in range(self.chance.choice((1, 1, 5, 50))):
+            at = self.some_of(found, self.chance.choice((TELETEXT_PID, TELETEXT_PID, None)))[0]
+            byte = self.chance.choice((1, 3, 4, *range(4, 188, 5)))
+            bit = 0x80 if byte == 1 else 1 << self.chance.randrange(8)
+            found[at] = found[at][:byte] + bytes([found[at][byte] ^ bit]) + found[at][byte + 1:]
+        return found
+
+    def without(self, packets: list[bytes]) -> list[bytes]:
+        """Those of a PID are not there, for a while or from there on."""
+        pid, run = self.chance.choice(PIDS), self.some_of(packets)
+        return [one for at, one in enumerate(packets) if at not in run or pid_of(one) != pid]
+
+    def doubled(self, packets: list[bytes]) -> list[bytes]:
+        """Some of a PID come twice."""
+        pid, run = self.chance.choice(PIDS), self.some_of(packets)
+        return [one for at, packet in enumerate(packets)
+                for one in [packet] * (1 + (at in run and pid_of(packet) == pid))]
+
+    def moved(self, packets: list[bytes]) -> list[bytes]:
+        """The page goes to another PID, by the PMT or without it."""
+        first, is_told = self.some_of(packets, TELETEXT_PID)[0], self.some(80)
+        table = program_map(1, [(VIDEO_PID, MPEG_2, b""),
+                                (SECOND_PID, PRIVATE, teletext_descriptor())], VIDEO_PID)
+        found = packets[:first]
+        for one in packets[first:]:
+            if pid_of(one) == TELETEXT_PID:
+                one = one[:1] + bytes([one[1] & 0xE0 | SECOND_PID >> 8, SECOND_PID & 255]) + one[3:]
+            elif pid_of(one) == PMT_PID and is_told:
+                one = one[:4] + table.ljust(PACKET - 4, b"\xff")
+            elif pid_of(one) == SECOND_PID:
+                continue
+            found.append(one)
+        return found
+
+    def cut(self, packets: list[bytes]) -> list[bytes]:
+        """It begins later, or ends sooner."""
+        at = self.chance.randrange(len(packets))
+        return packets[at:] if self.some(50) else packets[:at]
+
+    def without_flags(self, packets: list[bytes]) -> list[bytes]:
+        """No picture says that it can be shown alone."""
+        return [one[:5] + bytes([one[5] & 0xBF]) + one[6:] if pid_of(one) == VIDEO_PID
+                and one[3] & 0x20 and one[4] else one for one in packets]
+
+    def reordered(self, packets: list[bytes]) -> list[bytes]:
+        """Two runs of packets are in turn."""
+        run, count = self.some_of(packets), self.chance.choice((1, 5, 40))
+        first, middle, last = run[0], run[0] + count, run[0] + 2 * count
+        return [*packets[:first], *packets[middle:last], *packets[first:middle], *packets[last:]]
+
+    # The options.
+
+    def call(self) -> list[str]:
+        """The words of the call, with some more."""
+        chance, words = self.chance, super().call()
+        first, last = self.times[0][0], self.times[-1][1]
+        begin, end = (time_of(chance.randrange(*several)) for several in (
+            (first - 20, self.times[len(self.times) // 2][1]), (last - 200, last + 20)))
+        with open("house", "w", encoding="ascii") as file:
+            file.write("".join(f"{one}\n" for one in chance.sample((
+                "--within 2", "--pace 25", "--allow-lost", "--keeping", "--no-complete",
+                f"--every {self.every}", "--pid 0x101", "--option auto",
+                "--within 1\n--late 0:3,1:2/0:9"), 3)))
+        for percent, more in ((12, ["--from", begin]), (12, ["--to", end]),
+                              (8, ["--open"]), (10, ["--layout", chance.choice(LAYOUTS)]),
+                              (12, ["--keeping"]), (15, ["--pace", chance.choice(("none", "1", str(
+                                  self.every), "500"))]), (18, ["--profile", "house"]),
+                              (60 if "--within" in words else 1, ["--late", "0:31,1:40/0:100"]),
+                              (8, ["--quiet"]), (8, ["--option", "auto"]), (1, ["--page", "889"]),
+                              (8, ["--pes", chance.choice(("0-9", "3-40", "20-999", "7-7"))]),
+                              (2, ["--breaks", chance.choice(("1", "2"))])):
+            if self.some(percent) and more[0] not in words:
+                words[-2:-2] = more
+        return words
