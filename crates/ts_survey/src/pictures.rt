@@ -153,8 +153,9 @@ impl Pictures {
     fn note_flag(&mut self, packet: &[u8; PACKET])
         ensures { self.new ≡ flagged_with packet.now self.old }
     {
-        let is_flag = begins_access(packet) && (begins(packet) || !has_payload(packet));
-        self.is_flagged = self.is_flagged || is_flag;
+        if begins_access(packet) && (begins(packet) || !has_payload(packet)) {
+            self.is_flagged = true;
+        }
     }
 
     // A packet goes on with a picture, or begins one.
@@ -243,12 +244,11 @@ impl Pictures {
     fn count(&mut self, packet: &[u8; PACKET])
         ensures { self.new ≡ packet_counted packet.now self.old }
     {
-        let counter = counter_of(packet);
-        let goes_on = goes_on_behind(self.counter, counter);
+        let (last, counter) = (self.counter, counter_of(packet));
         self.counter = Some(counter);
         match self.reach {
             Reach::Within => {
-                self.lost = counted_if(!goes_on, self.lost);
+                self.lost = counted_if(!goes_on_behind(last, counter), self.lost);
                 self.scrambled = counted_if(is_scrambled(packet), self.scrambled);
             }
             _ => {}

@@ -212,9 +212,10 @@ impl Pids {
             return state;
         };
         let before = *state;
+        let is_broken = is_break(before, packet);
         note_packet(state, packet, number);
         let behind = *state;
-        if is_break(before, packet) {
+        if is_broken {
             self.add_break(Break {
                 pid,
                 before: before.last,
