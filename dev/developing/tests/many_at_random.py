@@ -1,0 +1,206 @@
+"""Calls for many pairs at random, one after another in a folder, each made by a number: files that
+are there, what becomes of them, of results and of what a house says between two calls, and all that
+is said and written.
+
+`dev/vectors/many.tsv` has what came of each when somebody last looked at it: how each call ended,
+and a sum of all. A change that is meant changes them; from dev/, `python3 -m
+developing.tests.many_at_random ../dist/subttx 0 60` prints the table, `.. NUMBER` all that came of
+one, to compare.
+"""
+from __future__ import annotations
+
+import contextlib
+import json
+import os
+import random
+import shutil
+import sys
+from typing import Callable, Iterator
+
+from subtitles.common.program import TOP
+from .at_random import called, in_folder, plain, sum_of
+from .bench import example
+
+VECTORS = os.path.join(TOP, "dev", "vectors", "many.tsv")
+NAMES = ("a", "b", "B", "c 1", "d.x", "e~2", "-f", "g.recording", "h\u00e4")
+PAIRS = [*[("hello.stl", "hello.pes")] * 4, *[("story.stl", "story.pes")] * 4,
+         ("hello.stl", "recording.ts"), ("hello.stl", "recording.ts"),
+         ("story.stl", "five-faults.pes"), ("accent.stl", "hello.pes"),
+         ("hello.stl", "lost.ts"), ("story.stl", "no-erase.pes"), ("german.stl", "german.pes"),
+         ("hello.stl", None), (None, "hello.pes"), ("hello.stl", "hello.stl")]
+OPTIONS = (*["--every 250", "--every 400", "--profile house", "--severity severity"] * 3,
+           "--every 25", "--within 1", "--allow-lost", "--strict", "--option german",
+           "--option auto", "--no-complete", "--page 889", "--pid 0x101", "--origin 0",
+           "--keeping", "--pace none")
+HOUSES = ("--within 1 # frame\n", "--allow-lost\n", "--every 25\n--every 50\n",
+          "--keeping\n--no-complete\n", "", "--every 250\n")
+SEVERITIES = ("72 warning\n", "others warning\n72 error\n", "45 warning\n61 warning\n",
+              "others warning\n", "x\n")
+OLD = {"format": 5, "verdict": "accepted", "status": 0}
+
+
+class Folder:
+    """The folder in which the process is, with pairs in `in`, a list, and what calls have left."""
+
+    def __init__(self, number: int, program: str) -> None:
+        self.chance, self.program, self.log = random.Random(number), program, list[str]()
+        self.ended = list[str]()
+        os.mkdir("in")
+        for name in self.chance.sample(NAMES, self.chance.choice((1, 2, 3, 4))):
+            self.put_pair(name)
+        self.common = self.some_options()
+        self.change_house()
+        self.write_list()
+
+    def some_options(self) -> list[str]:
+        """Some, seldom such that do not go together."""
+        found = self.chance.sample(OPTIONS, self.chance.choice((0, 0, 1, 1, 2)))
+        return [word for one in found for word in one.split()]
+
+    # ---- what is there
+
+    def put_pair(self, name: str) -> None:
+        """A pair, or half of one, in a folder; its recording may be a part of several."""
+        stl, recording = self.chance.choice(PAIRS)
+        for source in filter(None, (stl, recording)):
+            ending = source.rpartition(".")[2]
+            ending = ending.upper() if self.chance.randrange(9) == 0 else ending
+            shutil.copyfile(example(source), f"in/{name}.{ending}")
+        if recording and self.chance.randrange(9) == 0:
+            shutil.copyfile(example(recording), f"in/{name}.{self.chance.choice(('ts', 'mpg'))}")
+
+    def change_house(self) -> None:
+        for name, texts in (("house", HOUSES), ("severity", SEVERITIES)):
+            with open(name, "w", encoding="ascii") as file:
+                file.write(self.chance.choice(texts))
+
+    def write_list(self) -> None:
+        """Lines of pairs that are there, with options, and some that are none."""
+        there, lines = sorted(os.listdir("in")) or ["none"], list[str]()
+        for _ in range(self.chance.choice((1, 2, 3, 4))):
+            stl, recording = (self.chance.choice(there) for _ in range(2))
+            known = stl.rpartition(".")[0]
+            recording = next((one for one in there if one.startswith(f"{known}.") and one != stl),
+                             recording)
+            words = [f"'in/{stl}'", *[f"'in/{recording}'"] * (self.chance.randrange(6) > 0)]
+            lines.append(" ".join([*words, *self.some_options()]))
+        extra = ("", "# a comment", "", "in/none.stl", "in/a.stl --no-option", "'", "--every 25")
+        if self.chance.randrange(3) == 0:
+            lines.insert(self.chance.randrange(len(lines) + 1), self.chance.choice(extra))
+        with open("list", "w", encoding="utf-8") as file:
+            file.write("\n".join(lines) + "\n")
+
+    def change(self) -> None:
+        """Something becomes of the files between two calls."""
+        does: Callable[[], None] = self.chance.choice([
+            self.change_house, self.write_list, self.change_result, self.change_result,
+            self.change_file, self.change_file, lambda: self.put_pair(self.chance.choice(NAMES))])
+        does()
+
+    def change_file(self) -> None:
+        """A file is gone, another one, cut, or only newer."""
+        path = os.path.join("in", self.chance.choice(sorted(os.listdir("in")) or ["none"]))
+        kind = self.chance.randrange(4)
+        with contextlib.suppress(OSError):
+            if kind == 0:
+                os.unlink(path)
+            elif kind == 1:
+                shutil.copyfile(example(self.chance.choice(("story.pes", "hello-25.pes"))), path)
+            elif kind == 2:
+                os.truncate(path, 1000)
+            else:
+                os.utime(path, (1_700_000_000, 1_700_000_000))
+
+    def change_result(self) -> None:
+        """A result, or a page beside it, is gone, half, of an older version or somebody else's."""
+        there = sorted(os.listdir("out")) if os.path.isdir("out") else []
+        if not there:
+            return
+        path, kind = os.path.join("out", self.chance.choice(there)), self.chance.randrange(5)
+        if kind == 0:
+            os.unlink(path)
+        elif kind == 1:
+            os.truncate(path, min(os.path.getsize(path), 200))  # before its date
+        else:
+            with open(path, "w", encoding="utf-8") as file:
+                file.write((json.dumps(OLD), "somebody's own", "{}")[kind - 2])
+
+    # ---- calls
+
+    def call(self) -> None:
+        """One more call; what it says, and what stands there then."""
+        chance, out = self.chance, ["-o", "out"] * (self.chance.randrange(5) > 0)
+        wanted = [word for option, name in (("--json", "one.json"), ("--csv", "one.csv"),
+                                            ("--junit", "one.xml")) if chance.randrange(2)
+                  for word in (option, name)]
+        common = self.common if chance.randrange(3) else self.some_options()
+        more = [*common, *out, *wanted, *["--keep"] * (chance.randrange(8) == 0 and bool(out)),
+                *["--quiet"] * (chance.randrange(12) == 0)]
+        kind, resumed = chance.randrange(12), ["--resume"] * (chance.randrange(2) and bool(out))
+        if kind < 5:
+            words = ["--batch", "in", *more, *resumed, "--jobs", "1"]
+        elif kind < 9:
+            words = ["--batch", "list", *more, *resumed, "--jobs", "1"]
+        elif kind == 9:
+            words = ["--batch", "list", "--line", str(chance.randrange(1, 6)), *more]
+        elif kind == 10 or not os.path.isdir("out"):
+            there = sorted(os.listdir("in")) or ["none"]
+            words = [*more, "--", f"in/{chance.choice(there)}", f"in/{chance.choice(there)}"]
+        else:
+            words = ["--collect", "out", *wanted]
+        said = called(words, self.program, [] if words[0] == "--collect" else ["-p", self.program])
+        self.ended.append(f"{said.status} {words[0]}")
+        self.log += [" ".join(words), str(said.status), *said.lines, *self.files()]
+
+    def files(self) -> Iterator[str]:
+        """All that stands there: sums of what calls made."""
+        for folder in (".", "out", "in"):
+            for name in sorted(os.listdir(folder)) if os.path.isdir(folder) else ():
+                path = os.path.join(folder, name)
+                if os.path.isfile(path):
+                    with open(path, encoding="utf-8", errors="surrogateescape") as file:
+                        text = file.read()
+                    text = self.plainly(text) if folder != "in" else str(len(text))
+                    yield f"{path} {text if len(text) < 9 else sum_of(text)}"
+
+    def plainly(self, text: str) -> str:
+        """A text without what is another one at each call."""
+        try:
+            text = plain(text, self.program)
+        except (ValueError, TypeError, AttributeError):
+            return "half a result"
+        return text.encode("utf-8", "replace").decode()
+
+
+def told(number: int, program: str) -> tuple[list[str], list[str]]:
+    """How the calls of a number ended, and all that came of them."""
+    with in_folder():
+        folder = Folder(number, program)
+        for _ in range(folder.chance.choice((2, 3, 4))):
+            folder.call()
+            for _ in range(folder.chance.choice((0, 1, 1, 2))):
+                folder.change()
+        return folder.ended, folder.log
+
+
+def row_of(number: int, program: str) -> str:
+    """The row of a number."""
+    ended, log = told(number, program)
+    assert "a mistake of this tool" not in "".join(log), log
+    return "\t".join([str(number), ", ".join(ended), sum_of("\n".join(log))])
+
+
+def rows() -> list[str]:
+    """The rows of the table."""
+    with open(VECTORS, encoding="utf-8") as file:
+        return file.read().splitlines()
+
+
+if __name__ == "__main__":
+    PROGRAM, *NUMBERS = sys.argv[1:]
+    PROGRAM = os.path.realpath(PROGRAM)
+    if len(NUMBERS) == 1:
+        print("\n".join(told(int(NUMBERS[0]), PROGRAM)[1]))
+    else:
+        for NUMBER in range(int(NUMBERS[0]), int(NUMBERS[1])):
+            print(row_of(NUMBER, PROGRAM), flush=True)
