@@ -109,6 +109,8 @@ def said_of(number: int, program: str) -> Said:
         words = scenario.call()
         said = called(words, program, wrong=by_one_reader)
         told = "".join(plain(said_by(*words), program) for words in scenario.tools(words[1]))
+        if number >= WIDER and not scenario.is_feed:  # which comes once
+            told += plain(measured(words[1], program), program)
         return said._replace(files={**said.files, "tools": told})
 
 
@@ -116,6 +118,13 @@ def said_by(name: str, *words: str) -> str:
     """What another tool says."""
     done = tool_here([sys.executable, os.path.join(TOP, "tools", name), *words])
     return f"{name} {done.returncode}\n{done.stdout}{done.stderr}"
+
+
+def measured(recording: str, program: str) -> str:
+    """What is measured of the same pair."""
+    words = ["tools/qc", "--measure", "one.stl", recording, "-p", program]
+    status, out, told = in_process(lambda line: main("", "tools/qc", line), words)
+    return f"measured {status}\n{out}{told}"
 
 
 def of_several(results: Sequence[str], program: str) -> Said:

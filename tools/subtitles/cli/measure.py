@@ -131,7 +131,8 @@ def delays_of(stl: str, subtitles: Sequence[Subtitle], held: Timeline, option: N
         if is_new and first > held.first:
             take(delays.begins, delays.early, first - subtitle.begin, f"{name} begins")
         if after is None or after.begin > subtitle.end:
-            last = ended(held, subtitle, letters, FRAMES_OF_A_DAY if after is None else after.begin)
+            last = ended(held, subtitle, letters, first,
+                         FRAMES_OF_A_DAY if after is None else after.begin)
             if last < held.last:
                 take(delays.ends, delays.early, last + 1 - subtitle.end, f"{name} ends")
     return delays
@@ -153,10 +154,10 @@ def begun(held: Timeline, subtitle: Subtitle, letters: bytes, earlier: int) -> i
                  if letters_on(held.pages[number]) == letters), None)
 
 
-def ended(held: Timeline, subtitle: Subtitle, letters: bytes, limit: int) -> int:
-    """The last such frame up to some behind its TCO."""
+def ended(held: Timeline, subtitle: Subtitle, letters: bytes, first: int, limit: int) -> int:
+    """The last such frame, from the first one up to some behind its TCO."""
     end = min(subtitle.end + MOST_WITHIN + 1, limit)
-    numbers = held.numbers(subtitle.begin, max(end, subtitle.end))
+    numbers = held.numbers(first, max(end, subtitle.end))
     return max(held.stretch(number).last for number in numbers
                if letters_on(held.pages[number]) == letters)
 
