@@ -4,23 +4,24 @@ from __future__ import annotations
 
 import collections
 import contextlib
+import itertools
 import os
-from typing import Iterable
+from typing import Any, Iterable
 
 from developing.pes import packet, pes_packet
 from developing.stl import gsi_block
 from subtitles.cli.channel.feed import (
     ANEW, BACK, GAP, MINUTE, SILENT, Silence, clock_times, jump_of)
-from subtitles.cli.channel.hearing import Heard, Hearing
-from subtitles.common.command_line import Stop
+from subtitles.cli.channel.hearing import Heard, Hearing, Move
+from subtitles.common.command_line import Stop, Unanswered
 from subtitles.common.times import CLOCK, TICKS
 from subtitles.request.request import Unclear
 from subtitles.stream.packets import Run
-from subtitles.stream.ranges import way_of
+from subtitles.stream.ranges import move_words, way_of
 from subtitles.stream.survey import Announced, ProgramMap
 from .bench import Case
 from .channels import SECOND
-from .listings import Lines
+from .listings import Lines, Pages as WithoutProcess
 from .sent import CLOSING, HEADER, PAGE, row
 
 PID, OTHER, PCR = 0x101, 0x102, 0x200
@@ -116,10 +117,30 @@ class Pids(Case):
                     both.format(pid - 0x100 if pid else "")], (heard.pid, heard.said))
             changes = heard.changes[False].letters
             self.must("its text", changes[-1] == (b"own8" if pid == PID else b"two8"), changes)
+        for second, pid in ((1, OTHER), (4, OTHER), (5, PID), (9, PID)):  # when it comes first
+            heard, own = Heard(PAGE, None, likely=OTHER), Lines(PID)
+            for line in (own.pes(0), own.pes(SECOND, "", second, SECOND),
+                         Lines(OTHER).pes(SECOND * second), own.pes(SECOND * (second + 1))):
+                heard.take(line)
+            self.must(f"likely after {second}", heard.pid == pid and heard.said == [
+                both.format(pid - 0x100)], (heard.pid, heard.said))
         own, other = Lines(PID), Lines(OTHER)
         after = heard_of([*TABLE, own.pes(10 * SECOND), *MOVED, other.pes(11 * SECOND),
                           own.pes(12 * SECOND)])
         self.must("after a move", after.pid == OTHER and len(after.said) == 1, after.said)
+
+    def test_moves_since(self) -> None:
+        """The first of those from a time on, of the last 64."""
+        lines = Lines(PID), Lines(OTHER)
+        heard = heard_of([*TABLE, lines[0].pes(0)])
+        for count in range(1, 70):  # moves, at each second before that
+            for line in (*(MOVED if count % 2 else TABLE), lines[count % 2].pes(SECOND * count)):
+                heard.take(line)
+            for since in {0, count // 2, count - 1, count}:
+                move, at = heard.move_since(SECOND * since), max(since, count - 64)
+                self.must(f"{count}: {since}", move == (None if since == count else Move(
+                    SECOND * at, move_words("888", *(PID, OTHER)[::1 if at % 2 == 0 else -1]))),
+                    move)
 
     def test_moves_with_other_pts(self) -> None:
         """Where the time goes on, also some seconds back, both PIDs are one; else nothing before it
@@ -190,6 +211,30 @@ class Pages(Case):
             hearing.by_page[PAGE].anew = ""
             self.must("told", not list(hearing.take_said()) and not hearing.take_anew())
             self.must("none hears", hearing.has_ended())
+
+    def test_several(self) -> None:
+        """Of whichever of three pages the program ended, or ended badly, that is seen; all that is
+        told of any is said once, and why one began anew."""
+        pages = [(0, 0x80 + at) for at in range(3)]
+        for bad, kind in itertools.product(range(3), ("status", "cut", "strange")):
+            hearing = WithoutProcess("none", None, None, lambda: ())
+            hearing.turn_to(pages)
+            for at, heard in enumerate(hearing.by_page.values()):
+                heard.take("head 000001bd00")
+                heard.take("size 0")
+                heard.is_whole = (kind, at) != ("cut", bad)
+                heard.strange = "fault 1" * ((kind, at) == ("strange", bad))
+                heard.said, heard.anew = [f"{at}", "more"], f"anew {at}" * (at == bad)
+                call: Any = hearing.calls[at]
+                call.heard, call.lines.has_ended = heard, at == bad
+                call.process.wait.return_value = int((kind, at) == ("status", bad))
+            self.must(f"{bad}: ended", hearing.has_ended())
+            with self.assertRaises(Unanswered):
+                hearing.refuse("-")
+            self.must(f"{bad}: anew", [hearing.take_anew(), hearing.take_anew()] == [
+                f"anew {bad}", ""])
+            self.must("said", [[*hearing.take_said()], [*hearing.take_said()]] == [
+                ["0", "more", "1", "more", "2", "more"], []])
 
     def test_feeds_that_are_none(self) -> None:
         """Why a feed can't be read."""
@@ -270,6 +315,13 @@ class Missing(Case):
                      f"pcr 5 {SECOND * 300}"):
             heard.take(line)
         self.must("what is told of it in between", not heard.said, heard.said)
+        for tables, pcr, is_silent in (
+                ([], PCR, True), ([], 5, False), (["programme 1 5", f"stream {PID} 6"], 5, True),
+                (["programme 1 5", f"stream {PID} 6"], PCR, False),
+                (["programme 2 5", f"stream {OTHER} 6"], PCR, True),
+                (["programme 2 5", f"stream {OTHER} 6"], 5, False)):
+            heard = heard_of([*lines, *tables, f"pcr {pcr} {SECOND * 30}"])
+            self.must(f"{tables} {pcr}", bool(heard.said) == is_silent, heard.said)
         far = heard_of([*lines[:-1], f"ahead {PID} {SECOND} -99000000", f"pcr {PCR} {SECOND * 40}"])
         self.must("PTS that have nothing to do with it", not far.said, far.said)
 

@@ -5,14 +5,16 @@ import contextlib
 import errno
 import itertools
 import os
-from typing import Any, Iterator, Tuple
+import signal
+from typing import Any, Callable, Iterator, Tuple
 from unittest import mock
 
 from developing.pes import MARK, pes_packet
 from subtitles.cli.batch import beside
 from subtitles.cli.channel import recorder, spool
 from subtitles.cli.channel.recorder import (
-    AHEAD, Begin, LEAST, MANY, NotWanted, PART, Recorder, Segments)
+    AHEAD, Begin, LEAST, MANY, NotWanted, PART, Recorder, Segments, pieces_of)
+from subtitles.cli.channel.records import Read as Part
 from subtitles.cli.channel.spool import (
     ERROR, Exchange, FILE, HEARD, Journal, KeptRoom, RESTARTS, numbers_in, path_of)
 from subtitles.common.command_line import Stop
@@ -99,6 +101,78 @@ class Read(Folders):
             segments = Segments(folder)
             found = [segments.read() for _ in range(len(wanted) + 1)]
             self.must(f"{numbers}", found == [*wanted, b""] and segments.oldest == oldest, found)
+
+    def test_between_two_looks(self) -> None:
+        """Whenever bytes and segments come, between whichever looks: each byte is read once, in its
+        order, and each loss is told once."""
+        moves = [(3, b"a"), (3, b"b"), (4, b"c"), (4, b"d"), (6, b"e"), (7, b"f"), (7, b"g")]
+        real = numbers_in
+        for number, counts in enumerate(itertools.product((0, 1, 2), repeat=5)):
+            folder, left, looks = self.new(f"{number}"), [*moves], [*counts]
+
+            def looking(path: str) -> list[int]:
+                for _ in range(looks.pop(0) if looks else len(left)):
+                    if left:
+                        self.put(path, *left.pop(0))
+                return real(path)
+
+            with mock.patch.object(recorder, "numbers_in", looking):
+                segments = Segments(folder)
+                found = [segments.read() for _ in range(16)]
+            whole = b"".join(b"|" if data is None else data for data in found)
+            self.must(f"{counts}", whole == b"abcd|efg", found)
+
+    def test_parts(self) -> None:
+        """What was read of a segment is given, no byte more, and where less is there that fails."""
+        with mock.patch.object(recorder, "PART", 4):
+            for size, more in itertools.product(range(10), (-5, -4, -1, 0, 1, 4, 5)):
+                if size + more < 0:
+                    continue
+                with open(path_of(self.folder, 1), "wb") as file:
+                    file.write(bytes(range(size + more)))
+                try:
+                    found: object = b"".join(pieces_of(self.folder, Part(1, size)))
+                except OSError:
+                    found = None
+                self.must(f"{size} {more}", found == (bytes(range(size)) if more >= 0 else None),
+                          found)
+        with self.assertRaises(OSError):
+            next(pieces_of(self.folder, Part(2, 0)))
+
+    def test_told_of_some(self) -> None:
+        """Of whichever segments something is told: what may be of a time is given, and nothing that
+        is known to have come later; up to what is needed nothing goes."""
+        for at, are_told in enumerate(itertools.product((False, True), repeat=6)):
+            with mock.patch.object(recorder, "LEAST", 4):
+                segments = Segments(self.new(f"{at}"))
+                for number, is_told in enumerate(are_told):
+                    self.put(segments.folder, number, b"%04d" % number)
+                    segments.read()
+                    if is_told:
+                        segments.begin(Begin(10 * number, 0, True))
+                for first, last in itertools.combinations(range(6), 2):
+                    found = [part.number for part in segments.between(
+                        10 * first, 10 * first, 10 * last) or ()]
+                    before = max((number for number in range(first + 1) if are_told[number]),
+                                 default=0)
+                    self.must(f"{are_told}: {first} to {last}", found == [
+                        number for number in range(max(before - 1, 0), 6)
+                        if number <= last or not are_told[number]], found)
+                    early = [part.number for part in segments.between(
+                        10 * last, 10 * first, 10 * last) or ()]
+                    self.must("from an earlier time on", early == found, early)
+        for floor, needed, left in ((0, None, 0), (50, None, 4), (50, 5, 4), (50, 4, 4), (50, 2, 2),
+                                    (50, 0, 0), (0, 3, 0)):
+            with mock.patch.object(recorder, "LEAST", 4):
+                segments = Segments(self.new(f"{floor} {needed}"))
+                for number in range(6):
+                    self.put(segments.folder, number, b"%04d" % number)
+                    segments.read()
+                    segments.begin(Begin(10 * number, 0, True))
+                segments.drop(floor, needed)
+            self.must(f"{floor} {needed}", numbers_in(segments.folder) == [*range(left, 6)] and
+                      Segments(segments.folder).begun() == Begin(10 * left, 0, True),
+                      numbers_in(segments.folder))
 
     def segments(self, folder: str, behind: int, count: int = 100) -> Segments:
         """Segments of a second each, of which so many are read before something is told of them."""
@@ -299,6 +373,26 @@ class Written(Folders):
                         one.write(b"e")  # its segment is open when the next loss comes
             self.must("kept", self.kept(folder) == [b"b", b"c", b"d", b"e"], self.kept(folder))
 
+    def test_writes_of_some_bytes(self) -> None:
+        """However few bytes a write takes, and where each other one fails: each is there once."""
+        for size, fails in itertools.product((1, 3, 99), (False, True)):
+            folder, data, count = self.new(f"{size} {fails}"), bytes(range(40)), [0]
+            with self.recorder(folder) as one:
+                real = one.opened
+
+                def write(some: memoryview) -> int:
+                    count[0] += 1
+                    if fails and count[0] % 2:
+                        raise OSError(errno.ENOSPC, "No space")
+                    return real().write(some[:size])
+
+                with mock.patch.object(one, "opened", lambda: mock.Mock(write=write)), \
+                        mock.patch.object(recorder, "TRIES", 99):
+                    for at in range(0, 40, 20):
+                        one.write(data[at:at + 20])
+            self.must(f"{size} {fails}", b"".join(self.kept(folder)) == data and
+                      numbers_in(folder) == [*range(len(numbers_in(folder)))], self.kept(folder))
+
     def test_recorded_anew(self) -> None:
         """A number is left out, unless there was nothing; also where all that was heard is gone."""
         folder = self.new("one")
@@ -323,10 +417,10 @@ class Written(Folders):
                 folder = self.new(f"{kind} {size}")
                 for turn in range(len(data) // size + 2):
                     with self.recorder(folder, path) as one:
-                        for _ in range(2):
+                        for step in range(2):
                             one.write(one.whole(one.source.read(size + max(one.written, 0))))
-                        if turn % 2:
-                            one.end()
+                            if turn % 3 > step:
+                                one.end()
                 found = self.kept(folder)
                 self.must(f"{kind} {size}", b"".join(found) == data and
                           numbers_in(folder) == [*range(len(found))], numbers_in(folder))
@@ -380,12 +474,17 @@ class Written(Folders):
     def test_how_it_ends(self) -> None:
         """A feed that ends, one that nobody wants, and a file that is far ahead; where it can't
         begin, who waits for it is told."""
-        waiting = recorder.Recorded.__new__(recorder.Recorded)
-        waiting.is_over, (alive, waiting.alive) = False, os.pipe()
-        waiting.pid = beside(lambda: False, alive)
-        with self.assertRaises(Stop):
-            while not waiting.has_ended():
-                pass
+        ends: tuple[Callable[[], Any], ...] = (
+            lambda: True, lambda: False, lambda: os.kill(os.getpid(), signal.SIGKILL),
+            lambda: os.kill(os.getpid(), signal.SIGTERM), lambda: os._exit(2))
+        for number, does in enumerate(ends):
+            waiting = recorder.Recorded.__new__(recorder.Recorded)
+            waiting.is_over, (alive, waiting.alive) = False, os.pipe()
+            waiting.pid = beside(does, alive)
+            with self.assertRaises(Stop) if number else contextlib.nullcontext():
+                while not waiting.has_ended():
+                    pass
+            self.must(f"{number}", waiting.is_over and waiting.pid == 0)
         path = self.write("feed", b"G" * 1000)
         folder = self.new("one")
         with self.recorder(folder, path) as one:
