@@ -5,16 +5,16 @@ import contextlib
 import errno
 import itertools
 import os
+import re
 import signal
-from typing import Any, Callable, Iterator, Tuple
+from typing import Any, BinaryIO, Callable, Iterator, Tuple
 from unittest import mock
 
 from developing.pes import MARK, pes_packet
 from subtitles.cli.batch import beside
 from subtitles.cli.channel import recorder, spool
 from subtitles.cli.channel.recorder import (
-    AHEAD, Begin, LEAST, MANY, NotWanted, PART, Recorder, Segments, pieces_of)
-from subtitles.cli.channel.records import Read as Part
+    AHEAD, Begin, LEAST, MANY, NotWanted, PART, Recorder, Segments, TRIES)
 from subtitles.cli.channel.spool import (
     ERROR, Exchange, FILE, HEARD, Journal, KeptRoom, RESTARTS, numbers_in, path_of)
 from subtitles.common.command_line import Stop
@@ -100,79 +100,8 @@ class Read(Folders):
                 wanted.append(b"%d" % number)
             segments = Segments(folder)
             found = [segments.read() for _ in range(len(wanted) + 1)]
-            self.must(f"{numbers}", found == [*wanted, b""] and segments.oldest == oldest, found)
-
-    def test_between_two_looks(self) -> None:
-        """Whenever bytes and segments come, between whichever looks: each byte is read once, in its
-        order, and each loss is told once."""
-        moves = [(3, b"a"), (3, b"b"), (4, b"c"), (4, b"d"), (6, b"e"), (7, b"f"), (7, b"g")]
-        real = numbers_in
-        for number, counts in enumerate(itertools.product((0, 1, 2), repeat=5)):
-            folder, left, looks = self.new(f"{number}"), [*moves], [*counts]
-
-            def looking(path: str) -> list[int]:
-                for _ in range(looks.pop(0) if looks else len(left)):
-                    if left:
-                        self.put(path, *left.pop(0))
-                return real(path)
-
-            with mock.patch.object(recorder, "numbers_in", looking):
-                segments = Segments(folder)
-                found = [segments.read() for _ in range(16)]
-            whole = b"".join(b"|" if data is None else data for data in found)
-            self.must(f"{counts}", whole == b"abcd|efg", found)
-
-    def test_parts(self) -> None:
-        """What was read of a segment is given, no byte more, and where less is there that fails."""
-        with mock.patch.object(recorder, "PART", 4):
-            for size, more in itertools.product(range(10), (-5, -4, -1, 0, 1, 4, 5)):
-                if size + more < 0:
-                    continue
-                with open(path_of(self.folder, 1), "wb") as file:
-                    file.write(bytes(range(size + more)))
-                try:
-                    found: object = b"".join(pieces_of(self.folder, Part(1, size)))
-                except OSError:
-                    found = None
-                self.must(f"{size} {more}", found == (bytes(range(size)) if more >= 0 else None),
-                          found)
-        with self.assertRaises(OSError):
-            next(pieces_of(self.folder, Part(2, 0)))
-
-    def test_told_of_some(self) -> None:
-        """Of whichever segments something is told: what may be of a time is given, and nothing that
-        is known to have come later; up to what is needed nothing goes."""
-        for at, are_told in enumerate(itertools.product((False, True), repeat=6)):
-            with mock.patch.object(recorder, "LEAST", 4):
-                segments = Segments(self.new(f"{at}"))
-                for number, is_told in enumerate(are_told):
-                    self.put(segments.folder, number, b"%04d" % number)
-                    segments.read()
-                    if is_told:
-                        segments.begin(Begin(10 * number, 0, True))
-                for first, last in itertools.combinations(range(6), 2):
-                    found = [part.number for part in segments.between(
-                        10 * first, 10 * first, 10 * last) or ()]
-                    before = max((number for number in range(first + 1) if are_told[number]),
-                                 default=0)
-                    self.must(f"{are_told}: {first} to {last}", found == [
-                        number for number in range(max(before - 1, 0), 6)
-                        if number <= last or not are_told[number]], found)
-                    early = [part.number for part in segments.between(
-                        10 * last, 10 * first, 10 * last) or ()]
-                    self.must("from an earlier time on", early == found, early)
-        for floor, needed, left in ((0, None, 0), (50, None, 4), (50, 5, 4), (50, 4, 4), (50, 2, 2),
-                                    (50, 0, 0), (0, 3, 0)):
-            with mock.patch.object(recorder, "LEAST", 4):
-                segments = Segments(self.new(f"{floor} {needed}"))
-                for number in range(6):
-                    self.put(segments.folder, number, b"%04d" % number)
-                    segments.read()
-                    segments.begin(Begin(10 * number, 0, True))
-                segments.drop(floor, needed)
-            self.must(f"{floor} {needed}", numbers_in(segments.folder) == [*range(left, 6)] and
-                      Segments(segments.folder).begun() == Begin(10 * left, 0, True),
-                      numbers_in(segments.folder))
+            self.must(f"{numbers}", found == [*wanted, b""] and segments.oldest == oldest and
+                      segments.state[HEARD] == max(numbers, default=-1) + 1, found)
 
     def segments(self, folder: str, behind: int, count: int = 100) -> Segments:
         """Segments of a second each, of which so many are read before something is told of them."""
@@ -301,6 +230,13 @@ class Read(Folders):
         state.put(FILE, 2, 3, 1 << 63, 5, 6)
         self.must("known", state[ERROR] == 1 and state.several(FILE, 5) == [2, 3, 1 << 63, 5, 6]
                   and state[HEARD] == state[RESTARTS] == 0)
+        for order in itertools.permutations(places := {HEARD: 1, ERROR: 1, FILE: 5, RESTARTS: 1}):
+            for at in places:
+                state.put(at, *[0] * places[at])
+            for count, at in enumerate(order):
+                state.put(at, *[at + 1] * places[at])
+                self.must(f"{order}", all(state.several(one, places[one]) == [
+                    (one + 1) * (one in order[:count + 1])] * places[one] for one in places))
         os.unlink(state.path)
         state[HEARD] = 7
         self.must("anew", (state[HEARD], state[ERROR]) == (7, 0))
@@ -373,26 +309,6 @@ class Written(Folders):
                         one.write(b"e")  # its segment is open when the next loss comes
             self.must("kept", self.kept(folder) == [b"b", b"c", b"d", b"e"], self.kept(folder))
 
-    def test_writes_of_some_bytes(self) -> None:
-        """However few bytes a write takes, and where each other one fails: each is there once."""
-        for size, fails in itertools.product((1, 3, 99), (False, True)):
-            folder, data, count = self.new(f"{size} {fails}"), bytes(range(40)), [0]
-            with self.recorder(folder) as one:
-                real = one.opened
-
-                def write(some: memoryview) -> int:
-                    count[0] += 1
-                    if fails and count[0] % 2:
-                        raise OSError(errno.ENOSPC, "No space")
-                    return real().write(some[:size])
-
-                with mock.patch.object(one, "opened", lambda: mock.Mock(write=write)), \
-                        mock.patch.object(recorder, "TRIES", 99):
-                    for at in range(0, 40, 20):
-                        one.write(data[at:at + 20])
-            self.must(f"{size} {fails}", b"".join(self.kept(folder)) == data and
-                      numbers_in(folder) == [*range(len(numbers_in(folder)))], self.kept(folder))
-
     def test_recorded_anew(self) -> None:
         """A number is left out, unless there was nothing; also where all that was heard is gone."""
         folder = self.new("one")
@@ -428,6 +344,10 @@ class Written(Folders):
             for other in (self.write("other", data), self.write(kind, data[:100])):
                 with self.recorder(folder, other) as one:
                     self.must(other, one.number == last + 2 and one.written == 0, one.number)
+            self.write(kind, data)
+            self.put(folder, last + 2, b"of a pipe")
+            with self.recorder(folder, path) as one:
+                self.must("behind another feed", one.number == last + 4 and one.written == 0)
 
     def test_write_that_was_ended_half_way(self) -> None:
         """The rest of a PES packet comes to its segment, and the next one begins with a packet."""
@@ -471,6 +391,74 @@ class Written(Folders):
                               and one.said == told and one.number == (0 if place else 2),
                               (one.said, one.number))
 
+    def test_file_with_other_bytes(self) -> None:
+        """Before what was written last, or in it: it is recorded from its beginning."""
+        size = recorder.SUMMED
+        data = bytes(3 * size)
+        for number, at in enumerate((size, 2 * size - 1, 2 * size, 3 * size - 1, None)):
+            path, folder = self.write("feed", data), self.new(f"{number}")
+            with self.recorder(folder, path) as one:
+                for count in (2 * size, size):
+                    one.write(data[:count])
+                    one.end()
+            with open(path, "r+b") as file:
+                file.write(b"" if at is None else data[:at] + b"x")
+            with self.recorder(folder, path) as one:
+                self.must(f"{at}", one.number == (1 if at is None else 3), one.number)
+
+    def test_each_failure(self) -> None:
+        """A write that is whole, one of which a byte is written, one that fails, and a segment that
+        can't be made, in whichever order: what was written can be read, and each loss."""
+        for number, script in enumerate(itertools.product(("whole", "byte", "none", "open"),
+                                                          repeat=4)):
+            folder, wanted, now = self.new(f"{number}"), b"", [""]
+
+            def write(data: memoryview) -> int:
+                if now[0] == "none":
+                    raise OSError(errno.ENOSPC, "No space")
+                count = real().write(data[:1] if now[0] == "byte" else data)
+                now[0] = "none" if now[0] == "byte" else now[0]
+                return int(count or 0)
+
+            def opened() -> mock.Mock:
+                if now[0] == "open" or real() is None:
+                    raise OSError(errno.ENOSPC, "No space")
+                return mock.Mock(write=write)
+
+            with self.recorder(folder) as one, mock.patch.object(recorder, "TRIES", 1):
+                real = one.opened
+                with mock.patch.object(one, "opened", opened):
+                    for at, now[0] in enumerate((*script, "whole")):
+                        data = b"%d" % at * 3
+                        wanted += data if now[0] == "whole" else b"|"
+                        wanted = wanted[:-1] + data[:1] + b"|" if now[0] == "byte" else wanted
+                        one.write(data)
+            segments = Segments(folder)
+            found = b"".join(b"|" if data is None else data
+                             for data in (segments.read() for _ in range(20)))
+            self.must(f"{script}", found.lstrip(b"|") == re.sub(
+                rb"\|+", b"|", wanted).lstrip(b"|"), found)
+
+    def test_tries(self) -> None:
+        """It is tried so often until bytes of a feed are lost; of a file none ever are."""
+        for is_file, count in itertools.product((False, True), (1, TRIES, TRIES + 1, 2 * TRIES)):
+            folder, left = self.new(f"{is_file} {count}"), [count]
+            path = self.write("feed", b"abc") if is_file else os.devnull
+            with self.recorder(folder, path) as one:
+                real = one.opened
+
+                def opened() -> BinaryIO:
+                    left[0] -= 1
+                    if left[0] >= 0:
+                        raise OSError(errno.ENOSPC, "No space")
+                    return real()
+
+                with mock.patch.object(one, "opened", opened):
+                    one.write(b"abc")
+                is_lost = count > TRIES and not is_file
+                self.must(f"{is_file} {count}", self.kept(folder) == [b"abc"] * (not is_lost)
+                          and one.number == is_lost and one.state[ERROR] == errno.ENOSPC)
+
     def test_how_it_ends(self) -> None:
         """A feed that ends, one that nobody wants, and a file that is far ahead; where it can't
         begin, who waits for it is told."""
@@ -489,6 +477,12 @@ class Written(Folders):
         folder = self.new("one")
         with self.recorder(folder, path) as one:
             self.must("its end", one.record())
+        alive, own = os.pipe()
+        os.close(own)
+        with Input(path) as source:
+            self.must("wanted no more", not Recorder(self.new("two"), source, alive).record() and
+                      not self.kept(self.path("two")))
+        os.close(alive)
         with self.recorder(folder, path) as one:
             one.number = one.state[HEARD] + AHEAD + 1
             with mock.patch.object(one, "wait", side_effect=NotWanted):

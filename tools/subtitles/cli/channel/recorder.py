@@ -166,7 +166,8 @@ class Segments:
         needed."""
         numbers = self.there()
         floor = numbers[self.first_at(before, numbers) or 0] if numbers else self.at
-        self.take_away(floor if needed is None else min(floor, needed))
+        floor = floor if needed is None else min(floor, needed)
+        self.take_away(floor)
         least = max((number for number in self.begins if number <= floor), default=floor)
         self.begins = {number: known for number, known in self.begins.items() if number >= least}
         if self.count > len(self.begins) + MANY:

@@ -1,0 +1,129 @@
+"""What is read of the segments of a feed: by whichever looks, and of whichever times."""
+from __future__ import annotations
+
+import itertools
+import os
+from unittest import mock
+
+from subtitles.cli.channel import recorder
+from subtitles.cli.channel.recorder import Begin, ENTRY, Segments, pieces_of
+from subtitles.cli.channel.records import Read as Part
+from subtitles.cli.channel.spool import Journal, numbers_in, path_of
+from .test_channel_kept import Folders
+
+
+class Looks(Folders):
+    """Segments that come, and go, while they are read."""
+
+    def test_between_two_looks(self) -> None:
+        """Whenever bytes and segments come, between whichever looks: each byte is read once, in its
+        order, and each loss is told once."""
+        moves = [(3, b"a"), (3, b"b"), (4, b"c"), (4, b"d"), (6, b"e"), (7, b"f"), (7, b"g")]
+        real = numbers_in
+        for number, counts in enumerate(itertools.product((0, 1, 2), repeat=5)):
+            folder, left, looks = self.new(f"{number}"), [*moves], [*counts]
+
+            def looking(path: str) -> list[int]:
+                for _ in range(looks.pop(0) if looks else len(left)):
+                    if left:
+                        self.put(path, *left.pop(0))
+                return real(path)
+
+            with mock.patch.object(recorder, "numbers_in", looking):
+                segments = Segments(folder)
+                found = [segments.read() for _ in range(16)]
+            whole = b"".join(b"|" if data is None else data for data in found)
+            self.must(f"{counts}", whole == b"abcd|efg", found)
+
+    def test_parts(self) -> None:
+        """What was read of a segment is given, no byte more, and where less is there that fails."""
+        with mock.patch.object(recorder, "PART", 4):
+            for size, more in itertools.product(range(10), (-5, -4, -1, 0, 1, 4, 5)):
+                if size + more < 0:
+                    continue
+                with open(path_of(self.folder, 1), "wb") as file:
+                    file.write(bytes(range(size + more)))
+                try:
+                    found: object = b"".join(pieces_of(self.folder, Part(1, size)))
+                except OSError:
+                    found = None
+                self.must(f"{size} {more}", found == (bytes(range(size)) if more >= 0 else None),
+                          found)
+            self.write(path_of(self.folder, 1), b"123456789")
+            pieces = pieces_of(self.folder, Part(1, 9))
+            first = next(pieces)
+            os.unlink(path_of(self.folder, 1))  # what was begun is there to its end
+            self.must("all", first + b"".join(pieces) == b"123456789")
+        with self.assertRaises(OSError):
+            next(pieces_of(self.folder, Part(1, 0)))
+        segments = Segments(self.new("one"))
+        for number in range(3):
+            self.put(segments.folder, number, b"%d" % number)
+            segments.read()
+        os.unlink(path_of(segments.folder, 1))
+        os.symlink("x", path_of(segments.folder, 1))
+        self.must("but for one that can't be read", [*segments.before()] == [b"0", b"2"])
+
+    def test_told_of_some(self) -> None:
+        """Of whichever segments something is told: what may be of a time is given, and nothing that
+        is known to have come later; up to what is needed nothing goes."""
+        for at, are_told in enumerate(itertools.product((False, True), repeat=6)):
+            with mock.patch.object(recorder, "LEAST", 4):
+                segments = Segments(self.new(f"{at}"))
+                for number, is_told in enumerate(are_told):
+                    self.put(segments.folder, number, b"%04d" % number)
+                    segments.read()
+                    if is_told:
+                        segments.begin(Begin(10 * number, 0, True))
+                for first, last in itertools.combinations(range(6), 2):
+                    found = [part.number for part in segments.between(
+                        10 * first, 10 * first, 10 * last) or ()]
+                    before = max((number for number in range(first + 1) if are_told[number]),
+                                 default=0)
+                    self.must(f"{are_told}: {first} to {last}", found == [
+                        number for number in range(max(before - 1, 0), 6)
+                        if number <= last or not are_told[number]], found)
+                    early = [part.number for part in segments.between(
+                        10 * last, 10 * first, 10 * last) or ()]
+                    self.must("from an earlier time on", early == found, early)
+
+    def test_what_is_needed(self) -> None:
+        """Nothing goes from a time on, nor from a segment on that is needed; whoever reads anew
+        knows what was told of the first that is left, or of the last before it."""
+        for at, are_told in enumerate(itertools.product((False, True), repeat=4)):
+            for floor, needed in itertools.product(range(4), (None, *range(4))):
+                with mock.patch.multiple(recorder, LEAST=4, MANY=-9):
+                    segments = Segments(self.new(f"{at} {floor} {needed}"))
+                    for number, is_told in enumerate(are_told):
+                        self.put(segments.folder, number, b"%04d" % number)
+                        segments.read()
+                        for more in range(2 * is_told):  # the second time tells nothing
+                            segments.begin(Begin(10 * number + more, more, True))
+                    segments.drop(10 * floor, needed)
+                told = [number for number in range(4) if are_told[number]]
+                first = max((number for number in told if number <= floor), default=0)
+                left = min(max(first - 1, 0), 9 if needed is None else needed)
+                known = max((number for number in told if number <= left), default=None)
+                again = Segments(segments.folder)
+                self.must(f"{are_told} {floor} {needed}", (numbers_in(segments.folder), again.begun(
+                    ), again.known) == ([*range(left, 4)], None if known is None else Begin(
+                        10 * known, 0, known == left), max(told, default=-1)), again.begins)
+
+    def test_begun(self) -> None:
+        """By what is told of the first segment that is there, of the last before it, and where none
+        is there of the last of all."""
+        for at, told in enumerate(itertools.product((False, True), repeat=3)):
+            numbers = [*itertools.compress((1, 3, 5), told)]
+            for first in (None, *range(7)):
+                folder = self.new(f"{at} {first}")
+                journal = Journal(folder, "index", ENTRY)
+                for number in numbers:
+                    journal.add(number, *Begin(number, number, True))
+                if first is not None:
+                    self.put(folder, first, b"x")
+                    self.put(folder, 9, b"x")
+                known = max((number for number in numbers if first is None or number <= first),
+                            default=None)
+                begun = Segments(folder).begun()
+                self.must(f"{numbers} {first}", begun == (None if known is None else Begin(
+                    known, known, known == first)), begun)
