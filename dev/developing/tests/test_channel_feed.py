@@ -1,6 +1,7 @@
 """What is heard of a feed, and how long a programme is listened to."""
 from __future__ import annotations
 
+import itertools
 from unittest import mock
 
 from developing.pes import pes_packet
@@ -86,13 +87,21 @@ class Changed(Case):
         """Looked at after each change, as a feed brings them, it is found as early."""
         texts = ["Alpha", "Beta", "Alpha", "Beta", "Gamma", "Beta"]
         stl, begin = make_subtitles(self, "one", FIRST, texts), 7 * SECOND
-        whole = self.changes(texts, begin)
-        sought, some, found = awaited(stl, 0, 3600 * SECOND), Changes(), list[int]()
-        for number, (time, letters) in enumerate(zip(whole.times, whole.letters)):
-            some.add(time, letters)
-            if sought.by_edges(some) is not None:
-                found.append(number)
-        self.must("from the fifth on", found[:1] in ([4], [8], [9]), found)
+        for missed in range(6):
+            whole, found = self.changes(texts, begin), list[int | None]()
+            whole.drop(whole.times[missed])
+            for is_new in (False, True):
+                sought, some, at = awaited(stl, 0, 3600 * SECOND), Changes(), None
+                for number, (time, letters) in enumerate(zip(whole.times, whole.letters)):
+                    some.add(time, letters)
+                    sought.count *= not is_new
+                    at = number if at is None and sought.by_edges(some) is not None else at
+                found.append(at)
+            self.must(f"{missed}", found[0] == found[1] and (found[0] or 0) >= 4, found)
+        for others in (47, 50, 60):  # of another PID, which was heard before this one, and had more
+            sought = awaited(stl, 0, 3600 * SECOND)
+            self.must("none", sought.by_edges(self.changes(["x"] * others, 0)) is None)
+            self.must(f"{others}", sought.by_edges(self.changes([*texts, *["x"] * 40], begin)))
         sought, some = awaited(stl, 0, 3600 * SECOND), Changes()
         with mock.patch.object(sought, "agreed", return_value=None) as agreed:
             for at in range(200):
@@ -150,6 +159,10 @@ class Changed(Case):
             ((50, 40), (60, 60), (70, 90), (10, 20)))]
         some = awaited(self.write("two.stl", gsi_block(b"", 4, 4) + b"".join(blocks)), 0, 9)
         self.must("times", (some.first, some.last, len(some.edges)) == (10, 90, 4), some.edges)
+        part = awaited(make_subtitles(self, "part", 0, FOUR), 0, 9, "--from", "00:00:03:00",
+                       "--to", "00:00:09:00")
+        self.must("a part", (part.first, part.last, [edge.letters for edge in part.edges]) == (
+            EACH, EACH * 2 + SHOWN, [b"Beta", b"", b"Gamma", b""]), part.edges)
         first = awaited(make_subtitles(self, "midnight", 0, FOUR), 0, 9).first
         self.must("at midnight", first == 0, first)
         with self.assertRaises(Stop):
@@ -189,6 +202,22 @@ class FeedClocks(Case):
             self.must(f"{jump}", clock.now == 100 and clock.pts_at(100) == (150 + jump) % CLOCK
                       and clock.behind == 0, clock.now)
 
+    def test_goes_back(self) -> None:
+        """By as many ticks as it may, or less: the time stands until the latest PTS comes again."""
+        for back, late, begin in itertools.product(
+                (BACK, 10 * SECOND), (0, -1, -BACK, -BACK - 1, -10 * SECOND, -10 * SECOND - 1),
+                (0, CLOCK - SECOND)):
+            clock, is_back = FeedClock(), -back <= late
+            for later in (0, SECOND):
+                clock.take((begin + later) % CLOCK)
+            self.must(f"{late}", clock.take((begin + SECOND + late) % CLOCK, back) == late)
+            for later in (0, 1, SECOND):
+                pts = begin + SECOND + late + later
+                clock.take(pts % CLOCK, back)
+                now = SECOND + (max(late + later, 0) if is_back else later)
+                self.must(f"{back} {late} {later}", clock.now == now and clock.pts_at(now) == (
+                    max(pts, begin + SECOND) if is_back else pts) % CLOCK, clock.now)
+
     def test_first_time_of_a_pts(self) -> None:
         """From a time on, whatever that is and wherever PTS begin again."""
         clock = FeedClock()
@@ -209,7 +238,8 @@ class FeedClocks(Case):
         texts = ["Alpha", "Beta", "Gamma", "Delta"]
         stl = make_subtitles(self, "one", FIRST, texts)
         length = TICKS * (EACH * 3 + SHOWN)
-        for begin in (0, CLOCK - length // 2, CLOCK - 10 * SECOND):
+        for begin in (0, CLOCK - length // 2, CLOCK - 10 * SECOND,
+                      TICKS * FIRST - 60 * SECOND):  # of which the origin is 0
             origin = (begin + 60 * SECOND - TICKS * FIRST) % CLOCK  # TCI a minute after the start
             for since, ticks, wanted in (
                     (0, 60 * SECOND - 1, None), (0, 60 * SECOND, 60 * SECOND),

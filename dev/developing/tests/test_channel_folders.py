@@ -8,7 +8,7 @@ import shutil
 import signal
 from typing import Any, Callable
 
-from subtitles.cli.channel.spool import MARK, claim
+from subtitles.cli.channel.spool import MARK, RECORD, WORK, claim, numbers_in
 from subtitles.common.command_line import Stop
 from subtitles.common.files import Inputs
 from .bench import Case, example, example_bytes, tool_path
@@ -66,6 +66,14 @@ class Own(Case):
             self.must(words, why == wanted, why)
         self.must("an input", "is an input too" in self.claimed(
             f"{own} list", self.path("spool/list")))
+
+    def test_numbers(self) -> None:
+        """Of what has an ending, by number and not by name, and of nothing else."""
+        for name in ("000000010.seg", "1000000000.seg", "000000002.seg", "000000003.done", "x.seg",
+                     "000000004.seg.damaged", "-00000005.seg", "000000006.seg~", "7"):
+            self.write(name, b"")
+        self.must("numbers", [numbers_in(self.folder, *ending) for ending in (
+            (), (RECORD,), (WORK,))] == [[2, 10, 10 ** 9], [3], []], numbers_in(self.folder))
 
     def test_of_the_call_itself(self) -> None:
         """LIST, severity, STL and FEED under the name channel.json, and one of somebody's own."""

@@ -11,8 +11,9 @@ from typing import Any, Iterable
 from developing.pes import packet, pes_packet
 from developing.stl import gsi_block
 from subtitles.cli.channel.feed import (
-    ANEW, BACK, GAP, MINUTE, SILENT, Silence, clock_times, jump_of)
+    ANEW, BACK, GAP, MINUTE, NEAR_PCR, SILENT, Silence, clock_times, jump_of)
 from subtitles.cli.channel.hearing import Heard, Hearing, Move
+from subtitles.cli.channel.recorder import Begin
 from subtitles.common.command_line import Stop, Unanswered
 from subtitles.common.times import CLOCK, TICKS
 from subtitles.request.request import Unclear
@@ -236,6 +237,47 @@ class Pages(Case):
             self.must("said", [[*hearing.take_said()], [*hearing.take_said()]] == [
                 ["0", "more", "1", "more", "2", "more"], []])
 
+    def test_what_is_known(self) -> None:
+        """Of a feed that was heard before: its time, each page's PID, and whether the time is that
+        of its first bytes; also behind a loss, where nothing told is forgotten."""
+        for is_exact, pts, later in ((True, 7, SECOND), (False, 7, SECOND), (False, None, 0)):
+            now, last = 5 * SECOND + later, 7 + SECOND
+            known = Begin(5 * SECOND, pts, is_exact, {"888": PID, "889": OTHER})
+            hearing = WithoutProcess("none", None, known, lambda: ())
+            self.must("no page", hearing.begin() == known and hearing.now == known.time)
+            hearing.turn_to([PAGE, (0, 0x89)])
+            own, two = hearing.by_page.values()
+            self.must("pages", (own.likely, own.first, own.clock.now, own.clock.pts, own.reference)
+                      == (PID, (7, known.time) if is_exact else None, known.time, pts, None) and
+                      (two.likely, two.first, two.reference) == (OTHER, None, own.clock), known)
+            self.must("no PTS", hearing.begin() == known._replace(
+                pids={} if is_exact else known.pids), hearing.begin())
+            own.take(Lines(PID).pes(last))
+            begin = Begin(now, last, True, {"888": PID})
+            self.must("begin", hearing.begin() == begin, hearing.begin())
+            self.must("of the first", hearing.begin(True) == (
+                begin._replace(time=known.time, pts=7) if is_exact else begin), hearing.begin(True))
+            own.kept_since, own.said, calls = 3, ["said"], [*hearing.calls]
+            hearing.renew()
+            self.must("others", hearing.calls == hearing.calls[:2] and not any(
+                call in calls for call in hearing.calls) and all(
+                    call.close.called for call in calls))  # type: ignore[attr-defined]
+            behind = begin._replace(is_exact=False)
+            self.must("behind a loss", hearing.known == hearing.begin() == behind, hearing.known)
+            for page, likely in zip(hearing.by_page.values(), (PID, None)):
+                self.must("renewed", page not in (own, two) and (
+                    page.likely, page.first, page.clock.now, page.clock.pts) == (
+                        likely, None, now, last), vars(page))
+            renewed = hearing.by_page[PAGE]
+            self.must("kept", (renewed.kept_since, renewed.said) == (3, ["said"]), renewed.said)
+            call: Any = hearing.calls[0]
+            call.hand.return_value = ["line"]
+            for _ in hearing.take(b"x"):
+                hearing.turn_to([(0, 0x90)])
+            calls = hearing.calls
+            self.must("handed on once", [
+                one.hand.call_count for one in calls] == [1, 1, 0])  # type: ignore[attr-defined]
+
     def test_feeds_that_are_none(self) -> None:
         """Why a feed can't be read."""
         for data, pid, why in (
@@ -291,6 +333,24 @@ class Missing(Case):
                 silence.hear(PID, pts)
                 self.must(f"{alive} {still} {later}", silence.alive == (
                     pts if is_taken else alive), silence.alive)
+
+    def test_silence_by_the_pcr(self) -> None:
+        """Of more than eight seconds, and less than an hour, where PTS are near the PCR."""
+        for alive, ahead, still in itertools.product(
+                (0, 100 * SECOND, CLOCK - 3 * SECOND),
+                (0, 1, NEAR_PCR, NEAR_PCR + 1, -1, -NEAR_PCR, -NEAR_PCR - 1),
+                (-SECOND, 0, SILENT, SILENT + 1, 60 * MINUTE - 1, 60 * MINUTE)):
+            silence = Silence([])
+            silence.alive = alive
+            for more in (0, 1):  # still a little more: told once
+                silence.take_pcr(PID, (alive + still + more - ahead) % CLOCK, ahead)
+            last = max((one for one in (still, still + 1) if SILENT < one < 60 * MINUTE
+                        and abs(ahead) <= NEAR_PCR), default=None)
+            self.must(f"{alive} {ahead} {still}", (silence.still, len(silence.said)) == (
+                (0, 0) if last is None else (last - SECOND, 1)), silence.still)
+        silence = Silence([])
+        silence.take_pcr(PID, 99 * SECOND, 0)
+        self.must("of which nothing came", not silence.said and not silence.still)
 
     def test_silence(self) -> None:
         """More than eight seconds of the PCR without a PES packet; told once, and that it goes on.

@@ -202,6 +202,29 @@ class Kept(Programmes):
         other.send("one", second=first.queue.ended // SECOND + 60)
         self.must("of today", json.loads(self.read("wednesday/one.json"))["verdict"] == "accepted")
 
+    def test_of_other_folders(self) -> None:
+        """Of the records of another folder of results those go of which somebody was told, but for
+        the last of all that was over: whichever of four that is."""
+        kinds = [(out, is_told) for out in ("/own", "/other") for is_told in (False, True)]
+        for last in range(4):
+            spool, left = self.path(f"spool {last}"), list[str]()
+            os.mkdir(spool)
+            for number, (out, is_told) in enumerate(kinds):
+                some = Records(spool, out)
+                record = some.new(f"{number}", "", 9 if number == last else number, 5)
+                some.put(record, unjudged(record.name, "why"))
+                some.keep(record)
+                if is_told:
+                    some.tell(record)
+                left += [record.name] * (out == "/own" or not is_told or number == last)
+            own = Records(spool, "/own")
+            own.drop_old()
+            for some in (own, Records(spool, "/own")):
+                self.must(f"{last}", [one.name for one in some.all.values()] == left and
+                          [*some.by_name] == ["0", "1"] and [
+                              one.is_told for one in some.by_name.values()] == [False, True] and
+                          some.times() == (9, 5), some.all)
+
     def test_same_name_with_other_content(self) -> None:
         """It is said, once."""
         spool = self.path("spool")
