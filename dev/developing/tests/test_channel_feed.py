@@ -7,7 +7,7 @@ from unittest import mock
 from developing.pes import pes_packet
 from developing.stl import gsi_block, subtitle_blocks
 from subtitles.cli.channel.feed import (
-    ANEW, Awaited, BACK, BEFORE, Changes, FeedClock, NEAR, SECOND)
+    ANEW, Awaited, BACK, BEFORE, Changes, FeedClock, NEAR, SECOND, Stall)
 from subtitles.cli.channel.schedule import OnAir, Programme
 from subtitles.common.command_line import Stop
 from subtitles.common.times import CLOCK, EARLY, TICKS, ticks_between
@@ -201,6 +201,18 @@ class FeedClocks(Case):
             clock.take((150 + jump) % CLOCK)
             self.must(f"{jump}", clock.now == 100 and clock.pts_at(100) == (150 + jump) % CLOCK
                       and clock.behind == 0, clock.now)
+
+    def test_stands_still(self) -> None:
+        """Told once after so many seconds, and once that it goes on: each time."""
+        told = list[str]()
+        stall = Stall(10, told.append)
+        for still, count in ((0.0, 0), (9.9, 0), (10.0, 1), (10.1, 1), (61.4, 1), (0.0, 2),
+                             (9.9, 2), (5.0, 2), (12.0, 3), (13.0, 3), (0.5, 4), (0.0, 4)):
+            stall.take(still)
+            self.must(f"{still}", len(told) == count and stall.is_told == count % 2, told)
+        self.must("told", told == [
+            "nothing has come for 10 seconds", "the feed goes on, after 61 seconds",
+            "nothing has come for 10 seconds", "the feed goes on, after 13 seconds"], told)
 
     def test_goes_back(self) -> None:
         """By as many ticks as it may, or less: the time stands until the latest PTS comes again."""

@@ -69,11 +69,11 @@ class Own(Case):
 
     def test_numbers(self) -> None:
         """Of what has an ending, by number and not by name, and of nothing else."""
-        for name in ("000000010.seg", "1000000000.seg", "000000002.seg", "000000003.done", "x.seg",
+        for name in ("999999999.seg", "1000000000.seg", "000000002.seg", "000000003.done", "x.seg",
                      "000000004.seg.damaged", "-00000005.seg", "000000006.seg~", "7"):
             self.write(name, b"")
         self.must("numbers", [numbers_in(self.folder, *ending) for ending in (
-            (), (RECORD,), (WORK,))] == [[2, 10, 10 ** 9], [3], []], numbers_in(self.folder))
+            (), (RECORD,), (WORK,))] == [[2, 10 ** 9 - 1, 10 ** 9], [3], []], numbers_in(self.folder))
 
     def test_of_the_call_itself(self) -> None:
         """LIST, severity, STL and FEED under the name channel.json, and one of somebody's own."""

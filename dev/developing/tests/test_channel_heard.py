@@ -13,8 +13,7 @@ from developing.stl import gsi_block
 from subtitles.cli.channel.feed import (
     ANEW, BACK, GAP, MINUTE, NEAR_PCR, SILENT, Silence, clock_times, jump_of)
 from subtitles.cli.channel.hearing import Heard, Hearing, Move
-from subtitles.cli.channel.recorder import Begin
-from subtitles.common.command_line import Stop, Unanswered
+from subtitles.common.command_line import Stop
 from subtitles.common.times import CLOCK, TICKS
 from subtitles.request.request import Unclear
 from subtitles.stream.packets import Run
@@ -22,7 +21,7 @@ from subtitles.stream.ranges import move_words, way_of
 from subtitles.stream.survey import Announced, ProgramMap
 from .bench import Case
 from .channels import SECOND
-from .listings import Lines, Pages as WithoutProcess
+from .listings import Lines
 from .sent import CLOSING, HEADER, PAGE, row
 
 PID, OTHER, PCR = 0x101, 0x102, 0x200
@@ -70,7 +69,7 @@ class Pids(Case):
         for is_early in (False, True):
             own, other = Lines(PID), Lines(OTHER)
             lines = [*TABLE, own.pes(0), own.rows("one"), other.pes(2 * SECOND, ""),
-                     own.pes(20 * SECOND, "hec"),
+                     Lines(0x103).pes(30 * SECOND, ""), own.pes(20 * SECOND, "hec"),
                      other.pes(21 * SECOND), other.rows("two"), *MOVED, other.pes(22 * SECOND),
                      other.rows("three")]
             if not is_early:
@@ -117,7 +116,8 @@ class Pids(Case):
                 line for line in heard.said if "is heard on" in line] == [
                     both.format(pid - 0x100 if pid else "")], (heard.pid, heard.said))
             changes = heard.changes[False].letters
-            self.must("its text", changes[-1] == (b"own8" if pid == PID else b"two8"), changes)
+            self.must("its text", changes == [b"own%d" % at if pid == PID else b"two%d" % at
+                                              for at in range(9)], changes)
         for second, pid in ((1, OTHER), (4, OTHER), (5, PID), (9, PID)):  # when it comes first
             heard, own = Heard(PAGE, None, likely=OTHER), Lines(PID)
             for line in (own.pes(0), own.pes(SECOND, "", second, SECOND),
@@ -135,7 +135,9 @@ class Pids(Case):
         lines = Lines(PID), Lines(OTHER)
         heard = heard_of([*TABLE, lines[0].pes(0)])
         for count in range(1, 70):  # moves, at each second before that
-            for line in (*(MOVED if count % 2 else TABLE), lines[count % 2].pes(SECOND * count)):
+            table = MOVED if count % 2 else TABLE
+            heard.silence.still = count % 3  # the move is told at the time of the last PES packet
+            for line in (*table, lines[count % 2].pes(SECOND * count), *table, "over 0"):
                 heard.take(line)
             for since in {0, count // 2, count - 1, count}:
                 move, at = heard.move_since(SECOND * since), max(since, count - 64)
@@ -152,8 +154,9 @@ class Pids(Case):
             own, other = Lines(PID), Lines(OTHER)
             heard = heard_of([*TABLE, own.pes(20 * SECOND), own.rows("one"), *MOVED,
                               other.pes((20 + later) * SECOND), other.rows("two")])
-            self.must(f"{later}", heard.anew == why * is_anew and heard.changes[False].letters ==
-                      [b"one"] * (not is_anew) + [b"two"], (heard.anew, heard.said))
+            self.must(f"{later}", heard.anew == why * is_anew and [
+                one.letters for one in heard.changes.values()] == [
+                    [b"one"] * (not is_anew) + [b"two"]] * 2, (heard.anew, heard.said))
 
     def test_moves_of_tables(self) -> None:
         """The last PMT of the programme that named the PID."""
@@ -213,71 +216,6 @@ class Pages(Case):
             self.must("told", not list(hearing.take_said()) and not hearing.take_anew())
             self.must("none hears", hearing.has_ended())
 
-    def test_several(self) -> None:
-        """Of whichever of three pages the program ended, or ended badly, that is seen; all that is
-        told of any is said once, and why one began anew."""
-        pages = [(0, 0x80 + at) for at in range(3)]
-        for bad, kind in itertools.product(range(3), ("status", "cut", "strange")):
-            hearing = WithoutProcess("none", None, None, lambda: ())
-            hearing.turn_to(pages)
-            for at, heard in enumerate(hearing.by_page.values()):
-                heard.take("head 000001bd00")
-                heard.take("size 0")
-                heard.is_whole = (kind, at) != ("cut", bad)
-                heard.strange = "fault 1" * ((kind, at) == ("strange", bad))
-                heard.said, heard.anew = [f"{at}", "more"], f"anew {at}" * (at == bad)
-                call: Any = hearing.calls[at]
-                call.heard, call.lines.has_ended = heard, at == bad
-                call.process.wait.return_value = int((kind, at) == ("status", bad))
-            self.must(f"{bad}: ended", hearing.has_ended())
-            with self.assertRaises(Unanswered):
-                hearing.refuse("-")
-            self.must(f"{bad}: anew", [hearing.take_anew(), hearing.take_anew()] == [
-                f"anew {bad}", ""])
-            self.must("said", [[*hearing.take_said()], [*hearing.take_said()]] == [
-                ["0", "more", "1", "more", "2", "more"], []])
-
-    def test_what_is_known(self) -> None:
-        """Of a feed that was heard before: its time, each page's PID, and whether the time is that
-        of its first bytes; also behind a loss, where nothing told is forgotten."""
-        for is_exact, pts, later in ((True, 7, SECOND), (False, 7, SECOND), (False, None, 0)):
-            now, last = 5 * SECOND + later, 7 + SECOND
-            known = Begin(5 * SECOND, pts, is_exact, {"888": PID, "889": OTHER})
-            hearing = WithoutProcess("none", None, known, lambda: ())
-            self.must("no page", hearing.begin() == known and hearing.now == known.time)
-            hearing.turn_to([PAGE, (0, 0x89)])
-            own, two = hearing.by_page.values()
-            self.must("pages", (own.likely, own.first, own.clock.now, own.clock.pts, own.reference)
-                      == (PID, (7, known.time) if is_exact else None, known.time, pts, None) and
-                      (two.likely, two.first, two.reference) == (OTHER, None, own.clock), known)
-            self.must("no PTS", hearing.begin() == known._replace(
-                pids={} if is_exact else known.pids), hearing.begin())
-            own.take(Lines(PID).pes(last))
-            begin = Begin(now, last, True, {"888": PID})
-            self.must("begin", hearing.begin() == begin, hearing.begin())
-            self.must("of the first", hearing.begin(True) == (
-                begin._replace(time=known.time, pts=7) if is_exact else begin), hearing.begin(True))
-            own.kept_since, own.said, calls = 3, ["said"], [*hearing.calls]
-            hearing.renew()
-            self.must("others", hearing.calls == hearing.calls[:2] and not any(
-                call in calls for call in hearing.calls) and all(
-                    call.close.called for call in calls))  # type: ignore[attr-defined]
-            behind = begin._replace(is_exact=False)
-            self.must("behind a loss", hearing.known == hearing.begin() == behind, hearing.known)
-            for page, likely in zip(hearing.by_page.values(), (PID, None)):
-                self.must("renewed", page not in (own, two) and (
-                    page.likely, page.first, page.clock.now, page.clock.pts) == (
-                        likely, None, now, last), vars(page))
-            renewed = hearing.by_page[PAGE]
-            self.must("kept", (renewed.kept_since, renewed.said) == (3, ["said"]), renewed.said)
-            call: Any = hearing.calls[0]
-            call.hand.return_value = ["line"]
-            for _ in hearing.take(b"x"):
-                hearing.turn_to([(0, 0x90)])
-            calls = hearing.calls
-            self.must("handed on once", [
-                one.hand.call_count for one in calls] == [1, 1, 0])  # type: ignore[attr-defined]
-
     def test_feeds_that_are_none(self) -> None:
         """Why a feed can't be read."""
         for data, pid, why in (
@@ -318,6 +256,24 @@ class Missing(Case):
             "a break in the stream, before PTS 180000", "1 TS packet lost, before PTS 270000",
             "2 TS packets lost, before PTS 270000", "TS packets of 1.46 s are missing, by the PCR "
             "and the counters of other PIDs, before PTS 360000"], heard.said)
+
+    def test_kinds(self) -> None:
+        """Lost and scrambled, and of a run the first PTS."""
+        for lost, scrambled, what in ((1, 0, "1 TS packet lost"), (0, 1, "1 TS packet scrambled"),
+                                      (2, 3, "2 TS packets lost, 3 TS packets scrambled"),
+                                      (0, 0, "a break in the stream")):
+            own = Lines(PID)
+            heard = heard_of([own.pes(0), own.gap(0).replace(" 0 0", f" {lost} {scrambled}"),
+                              own.pes(SECOND, "", 9, SECOND)])
+            self.must(what, heard.said == [f"{what}, before PTS 90000"], heard.said)
+
+    def test_erased(self) -> None:
+        """Changes come when they come; within some frames a text comes when it was erased for."""
+        own = Lines(PID)
+        heard = heard_of([own.pes(0), own.rows("one"), own.pes(SECOND), own.rows(""),
+                          own.pes(SECOND + 9), own.rows("two"), own.rows("two")])
+        self.must("times", [one.times for one in heard.changes.values()] == [
+            [0, SECOND, SECOND + 9], [0, SECOND, SECOND]], heard.changes)
 
     def test_last_that_is_told(self) -> None:
         """Silence is counted from the latest PTS, and where PTS begin anew at earlier ones from
@@ -375,11 +331,17 @@ class Missing(Case):
                      f"pcr 5 {SECOND * 300}"):
             heard.take(line)
         self.must("what is told of it in between", not heard.said, heard.said)
-        for tables, pcr, is_silent in (
+        ahead = f"ahead {PID} {SECOND}"
+        rows: list[tuple[list[str], int, bool]] = [
+                ([own.pes(2 * SECOND, "", 20, SECOND)], PCR, True),
+                ([own.pes(2 * SECOND, "", 24, SECOND)], PCR, False),
+                ([f"{ahead} {-8 * SECOND}"], PCR, True), ([f"{ahead} {-22 * SECOND}"], PCR, False),
+                ([f"{ahead} {-22 * SECOND}", f"{ahead} 0"], PCR, True),
                 ([], PCR, True), ([], 5, False), (["programme 1 5", f"stream {PID} 6"], 5, True),
                 (["programme 1 5", f"stream {PID} 6"], PCR, False),
                 (["programme 2 5", f"stream {OTHER} 6"], PCR, True),
-                (["programme 2 5", f"stream {OTHER} 6"], 5, False)):
+                (["programme 2 5", f"stream {OTHER} 6"], 5, False)]
+        for tables, pcr, is_silent in rows:
             heard = heard_of([*lines, *tables, f"pcr {pcr} {SECOND * 30}"])
             self.must(f"{tables} {pcr}", bool(heard.said) == is_silent, heard.said)
         far = heard_of([*lines[:-1], f"ahead {PID} {SECOND} -99000000", f"pcr {PCR} {SECOND * 40}"])
@@ -414,6 +376,12 @@ class Missing(Case):
                 ([*TABLE, f"pcr {PCR} {SECOND}", own.pes(9 * SECOND)], -8 * SECOND),
                 ([*TABLE, f"pcr {PCR} {SECOND}", own.pes(9 * SECOND), f"ahead {PID} 7 18000"],
                  18000 - 8 * SECOND),
+                *(([*TABLE, f"pcr {PCR} {SECOND}", own.pes(9 * SECOND),
+                    *(f"ahead {PID} 7 {ahead}" for ahead in several)], max(several[0], 0) -
+                   8 * SECOND) for several in ((0, 18000), (18000, 0), (9000, 18000), (-5, 9))),
+                *(([*TABLE, f"pcr {PCR} {(9 * SECOND - before) % CLOCK}", own.pes(9 * SECOND)],
+                   -before if 0 < before < 60 * MINUTE else 0) for before in (
+                       1, 0, -1, MINUTE, 60 * MINUTE - 1, 60 * MINUTE, CLOCK // 2 - 1)),
                 ([*TABLE, f"pcr {PCR} {10 * SECOND}", own.pes(9 * SECOND)], 0)):
             heard = heard_of(lines)
             self.must(f"{lines}", heard.start == start, heard.start)
@@ -454,4 +422,17 @@ class Kept(Case):
                 heard.prune()
                 packets = heard.packets
                 self.must(f"since {since}", packets.runs[0].first == runs and
-                          [one.number for one in packets.changes] == [*changes], packets)
+                          [one.number for one in packets.changes] == [*changes] and
+                          [at for at, _ in packets.held] == [*range(runs, 6)], packets)
+        own = Lines(PID)
+        lines = [line for second in range(0, 100, 10) for line in (
+            own.pes(SECOND * second, "hec", 10, SECOND), f"strays {PID} {own.number - 1} -",
+            own.gap(1))]
+        for since, first in ((0, 0), (9, 0), (10, 11), (35, 33), (59, 55), (60, 66), (99, 99)):
+            heard = heard_of(lines)
+            heard.kept_since = SECOND * since
+            heard.prune()
+            packets = heard.packets
+            self.must(f"runs since {since}", packets.runs[0].first == first and [
+                mark.number for mark in packets.marks] == [*range(first + 10, 110, 11)] and
+                [at for at, _ in packets.strays] == [*range(first + 9, 110, 11)], packets.runs[:1])

@@ -469,7 +469,8 @@ class Written(Folders):
             waiting = recorder.Recorded.__new__(recorder.Recorded)
             waiting.is_over, (alive, waiting.alive) = False, os.pipe()
             waiting.pid = beside(does, alive)
-            with self.assertRaises(Stop) if number else contextlib.nullcontext():
+            fails: Any = self.assertRaises(Stop) if number else contextlib.nullcontext()
+            with fails:
                 while not waiting.has_ended():
                     pass
             self.must(f"{number}", waiting.is_over and waiting.pid == 0)

@@ -2,6 +2,7 @@
 from __future__ import annotations
 
 import contextlib
+import itertools
 import json
 import os
 import shutil
@@ -14,7 +15,8 @@ from unittest import mock
 from subtitles.cli import single
 from subtitles.cli.channel import records, results
 from subtitles.cli.channel.channel import BEFORE_IT
-from subtitles.cli.channel.records import Due, Judged, Read, Records, Tries
+from subtitles.cli.channel.records import (
+    Due, Judged, Outcome, Read, Records, Tries, is_name)
 from subtitles.cli.channel.results import PASSING, SLOWEST
 from subtitles.cli.channel.spool import Journal, claim, path_of
 from subtitles.common.files import Inputs
@@ -201,6 +203,66 @@ class Kept(Programmes):
             self.must(f"{out}: what was over", other.queue.ended == first.queue.ended)
         other.send("one", second=first.queue.ended // SECOND + 60)
         self.must("of today", json.loads(self.read("wednesday/one.json"))["verdict"] == "accepted")
+
+    def test_as_they_were(self) -> None:
+        """Whatever a record has it is read as it was written; what is due of this folder of results
+        alone is judged; and what is swept away are files of none, or of one that was told."""
+        spool, written = self.path("spool"), list[Outcome]()
+        os.mkdir(spool)
+        dues = [Due(["a b.stl", "--every", "5"], CLOCK - 1, 0x1FFF, False, [Read(0, 0), Read(9, 5)],
+                    "moved"), Due(["one.stl"], 0, 0, True, []), Due([], 0, None, True, [])]
+        for out, due, is_told in itertools.product(("", "/out", "/other"), (*dues, None),
+                                                   (False, True)):
+            some = Records(spool, out)
+            record = some.new(f"{len(written)}", self.files["one"], len(written), 0)
+            if due:
+                some.put_due(record, due)
+            else:
+                some.put(record, unjudged(record.name, "why"))
+                some.keep(record)
+            os.mkdir(some.work(record.number))
+            if is_told and not due:
+                some.tell(record)
+                os.mkdir(some.work(record.number))
+            written.append(record)
+        for out in ("", "/out", "/other"):
+            again = Records(spool, out)
+            self.must(f"{out}", [*again.all.values()] == written and again.due() == [
+                one for one in written if one.out == out and one.due], again.all)
+        self.must("swept", [one.number for one in written if os.path.exists(
+            again.work(one.number))] == [one.number for one in written if not one.is_told])
+        for number in (written[0].number, written[5].number, written[-1].number):
+            os.unlink(path_of(spool, number, ".done"))
+            new = Records(spool, "/out").new("new", "", 0, 0).number
+            self.must("another number", not os.path.exists(path_of(spool, new, ".done")) and
+                      new > written[-2].number, new)
+        os.mkdir(path_of(spool, 99, ".files"))
+        self.must("behind its files", Records(spool, "").new("new", "", 0, 0).number == 100)
+        self.must("of no record", not os.path.exists(path_of(spool, 99, ".files")))
+
+    def test_that_cannot_be_written(self) -> None:
+        """Its result is there until it can be."""
+        spool = self.path("spool")
+        os.mkdir(spool)
+        some = Records(spool, "/out")
+        record, known = some.new("one", "", 5, 6), unjudged("one", "why")
+        some.put(record, known)
+        for _ in range(2):
+            with mock.patch.object(records, "result_file", side_effect=OSError(5, "x")), \
+                    self.assertRaises(OSError):
+                some.keep(record)
+            self.must("there", json.loads(some.result(record)) == known)
+        some.keep(record)
+        self.must("written", record.unkept is None and [
+            json.loads(one.result(record)) for one in (some, Records(spool, "/out"))] == [known] * 2
+            and len(some.result(record)) == record.size)
+
+    def test_names(self) -> None:
+        """A name is a word that leads nowhere else."""
+        for name, is_one in (("one", True), ("a b~2", True), ("", False), (".", False),
+                             (".one", False), ("a/one", False), ("/one", False), ("a\0", False),
+                             (5, False), (None, False)):
+            self.must(f"{name!r}", is_name(name) == is_one)
 
     def test_of_other_folders(self) -> None:
         """Of the records of another folder of results those go of which somebody was told, but for

@@ -105,6 +105,8 @@ class Looks(Folders):
                 left = min(max(first - 1, 0), 9 if needed is None else needed)
                 known = max((number for number in told if number <= left), default=None)
                 again = Segments(segments.folder)
+                self.must("no more is known", [*segments.begins] == [
+                    number for number in told if number >= (known or 0)], segments.begins)
                 self.must(f"{are_told} {floor} {needed}", (numbers_in(segments.folder), again.begun(
                     ), again.known) == ([*range(left, 4)], None if known is None else Begin(
                         10 * known, 0, known == left), max(told, default=-1)), again.begins)
@@ -127,3 +129,17 @@ class Looks(Folders):
                 begun = Segments(folder).begun()
                 self.must(f"{numbers} {first}", begun == (None if known is None else Begin(
                     known, known, known == first)), begun)
+
+    def test_about(self) -> None:
+        """When the last byte came, how much earlier that which is read, and how much is kept."""
+        segments = Segments(self.new("one"))
+        self.must("none", segments.about() == {"came": None, "behind_seconds": 0, "segments": 0,
+                                               "bytes": 0})
+        for number in range(3):
+            self.put(segments.folder, number, b"x" * (number + 1))
+            os.utime(path_of(segments.folder, number), (5, 1000 + 100 * number))
+        for read, behind in ((0, 0), (1, 200), (2, 100), (3, 0)):
+            self.must(f"{read}", segments.about() == {
+                "came": 1200, "behind_seconds": behind, "segments": 3, "bytes": 6} and
+                segments.read_date() == (None if not read else 1200 - behind), segments.about())
+            segments.read()
