@@ -53,16 +53,18 @@ class Pids(Case):
         self.must("a later one", heard.pid == PID and heard.changes[False].letters == [b"one"] and
                   heard.said == ["page 888 is sent on PID 0x101 and PID 0x102: PID 0x101 is heard "
                                  "on"], heard.said)
-        for pts, is_refused in ((4, True), (-4, True), (6, False)):
-            lines = [Lines(PID).pes(9 * SECOND), Lines(OTHER).pes((9 + pts) * SECOND)]
+        for (pts, is_refused), first in itertools.product(
+                ((4, True), (-4, True), (5, False), (-5, False), (6, False)),
+                (9 * SECOND, 0, CLOCK - 4 * SECOND, CLOCK - SECOND)):
+            lines = [Lines(PID).pes(first), Lines(OTHER).pes(first + pts * SECOND)]
             for pid in (None, PID):
                 try:
                     heard_of(lines, pid)
                     said = ""
                 except Stop as reason:
                     said = str(reason)
-                self.must(f"{pts} {pid}", said == "page 888 is sent on PID 0x101 and PID 0x102: "
-                          "say which one by --pid" * (is_refused and pid is None), said)
+                self.must(f"{first} {pts} {pid}", said == "page 888 is sent on PID 0x101 and PID "
+                          "0x102: say which one by --pid" * (is_refused and pid is None), said)
 
     def test_moves(self) -> None:
         """By the PMT: it is told when, and what comes on the other PID counts from then on."""

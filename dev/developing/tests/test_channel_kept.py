@@ -474,6 +474,11 @@ class Written(Folders):
                 while not waiting.has_ended():
                     pass
             self.must(f"{number}", waiting.is_over and waiting.pid == 0)
+        waiting.pid = own = beside(lambda: True, alive)
+        waiting.close()
+        self.must("waited for", waiting.pid == 0)
+        with self.assertRaises(ChildProcessError):
+            os.waitpid(own, os.WNOHANG)
         path = self.write("feed", b"G" * 1000)
         folder = self.new("one")
         with self.recorder(folder, path) as one:

@@ -5,7 +5,7 @@ import itertools
 from typing import Any
 
 from subtitles.cli.channel.recorder import Begin
-from subtitles.common.command_line import Unanswered
+from subtitles.common.command_line import Stop, Unanswered
 from .bench import Case
 from .channels import SECOND
 from .listings import Lines, Pages
@@ -28,11 +28,13 @@ class Known(Case):
                 heard.take("size 0")
                 heard.is_whole = (kind, at) != ("cut", bad)
                 heard.strange = "fault 1" * ((kind, at) == ("strange", bad))
-                heard.said, heard.anew = [f"{at}", "more"], f"anew {at}" * (at == bad)
+                heard.said, heard.anew = [f"{at}", "more"], f"anew {at}" * (at >= bad)
                 call: Any = hearing.calls[at]
                 call.heard, call.lines.has_ended = heard, at == bad
                 call.process.wait.return_value = int((kind, at) == ("status", bad))
-            self.must(f"{bad}: ended", hearing.has_ended())
+                call.end.return_value = [f"line {at}"]
+            self.must(f"{bad}: ended", hearing.has_ended() and
+                      [*hearing.end()] == ["line 0", "line 1", "line 2"])
             with self.assertRaises(Unanswered):
                 hearing.refuse("-")
             self.must(f"{bad}: anew", [hearing.take_anew(), hearing.take_anew()] == [
@@ -85,3 +87,39 @@ class Known(Case):
             calls = [*hearing.calls]
             self.must("handed on once", [
                 one.hand.call_count for one in calls] == [1, 1, 0])
+
+    def test_refused(self) -> None:
+        """A feed that was heard to its end, of which something can't be read."""
+        for line, refusal, why in (
+                ("over 0", 0, ""), ("damaged 0 1 cut", 0, "PES packet 1 is cut"),
+                ("damaged 0 1 start", 0, "PES packet 1 does not begin with 00 00 01 BD"),
+                ("over 0", 31, "has other than PES packets of private_stream_1 from PES packet 1 "),
+                ("over 0", 32, "has other than PES packets of 184 to 1656 bytes from PES packet ")):
+            hearing = Pages("none", None, None, lambda: ())
+            hearing.turn_to([PAGE])
+            [heard], said = hearing.by_page.values(), ""
+            for one in ("head 000001bd00", "size 0", Lines().pes(0), line, "over 0"):
+                heard.take(one)
+            heard.packets.refusal = refusal
+            call: Any = hearing.calls[0]
+            call.heard, call.process.wait.return_value = heard, 0
+            try:
+                hearing.refuse("-")
+            except Stop as reason:
+                said = str(reason)
+            self.must(why, (why in said) == bool(why or not said), said)
+
+    def test_drop(self) -> None:
+        """On each page, of both kinds of changes, what came before a time is forgotten."""
+        hearing = Pages("none", None, None, lambda: ())
+        hearing.turn_to([PAGE, (0, 0x89)])
+        for heard in hearing.by_page.values():
+            for changes in heard.changes.values():
+                for time in range(4):
+                    changes.add(time, b"x")
+        for before in (2, 1, 3):
+            hearing.drop(before)
+            for heard in hearing.by_page.values():
+                self.must(f"{before}", heard.kept_since == before and [
+                    one.times for one in heard.changes.values()] == [
+                        [*range(max(before, 2), 4)]] * 2, heard.changes)
