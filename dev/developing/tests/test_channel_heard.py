@@ -11,7 +11,7 @@ from typing import Any, Iterable
 from developing.pes import packet, pes_packet
 from developing.stl import gsi_block
 from subtitles.cli.channel.feed import (
-    ANEW, BACK, GAP, MINUTE, NEAR_PCR, SILENT, Silence, clock_times, jump_of)
+    ANEW, BACK, FeedClock, GAP, MINUTE, NEAR_PCR, SILENT, Silence, clock_times, jump_of)
 from subtitles.cli.channel.hearing import Heard, Hearing, Move
 from subtitles.common.command_line import Stop
 from subtitles.common.times import CLOCK, TICKS
@@ -81,7 +81,8 @@ class Pids(Case):
             self.must(f"{is_early}: said", heard.said == [both] * is_early + [
                 f"the PMT moves page 888 from PID 0x101 to PID 0x102, before PTS "
                 f"{(21 if is_early else 22) * SECOND}"], heard.said)
-            self.must(f"{is_early}: on", (heard.pid, heard.now) == (OTHER, 22 * SECOND))
+            self.must(f"{is_early}: on", (heard.pid, heard.now) == (OTHER, 22 * SECOND) and
+                      heard.packets.runs[0].first == 0, heard.packets.runs)
             self.must(f"{is_early}: when", [one.time for one in heard.moves] == [20 * SECOND])
         stays = heard_of([*TABLE, Lines(PID).pes(0), *MOVED, *MOVED], PID)
         self.must("one that is asked for", stays.pid == PID and not stays.said)
@@ -96,8 +97,8 @@ class Pids(Case):
                               *(other.pes(SECOND * 60 * at) for at in range(1, hours * 60)), *TABLE,
                               own.pes(back), own.pes(back + SECOND)])
             self.must(f"{hours}", (heard.pid, heard.anew, heard.now) == (PID, "", back + SECOND) and
-                      [line[:20] for line in heard.said] == ["the PMT moves page 8"] * 2,
-                      heard.said)
+                      [line[:20] for line in heard.said] == ["the PMT moves page 8"] * 2 and
+                      [run.first for run in heard.packets.runs] == [2, 3], heard.said)
 
     def test_heard_before(self) -> None:
         """Of two PIDs that send the page from the first seconds on the one is heard on that was
@@ -127,6 +128,14 @@ class Pids(Case):
                 heard.take(line)
             self.must(f"likely after {second}", heard.pid == pid and heard.said == [
                 both.format(pid - 0x100)], (heard.pid, heard.said))
+        clock = FeedClock()  # of another page, by which this one has its time
+        clock.now, clock.pts = 3600 * SECOND, 0
+        for second, pid in ((4, OTHER), (5, PID)):
+            heard = Heard(PAGE, None, clock, OTHER)
+            for line in (Lines(PID).pes(0), Lines(PID).pes(second * SECOND - 1, ""),
+                         Lines(PID).pes(second * SECOND, ""), Lines(OTHER).pes(second * SECOND)):
+                heard.take(line)
+            self.must(f"by a clock after {second}", heard.pid == pid, heard.said)
         own, other = Lines(PID), Lines(OTHER)
         after = heard_of([*TABLE, own.pes(10 * SECOND), *MOVED, other.pes(11 * SECOND),
                           own.pes(12 * SECOND)])
@@ -276,6 +285,11 @@ class Missing(Case):
                           own.pes(SECOND + 9), own.rows("two"), own.rows("two")])
         self.must("times", [one.times for one in heard.changes.values()] == [
             [0, SECOND, SECOND + 9], [0, SECOND, SECOND]], heard.changes)
+        heard.silence.still = 9 * SECOND  # what came before the PID fell silent is told then
+        for line in (own.pes(2 * SECOND), own.rows("three")):
+            heard.take(line)
+        self.must("in a silence", heard.now == 11 * SECOND and [
+            one.times[-1] for one in heard.changes.values()] == [2 * SECOND] * 2, heard.changes)
 
     def test_last_that_is_told(self) -> None:
         """Silence is counted from the latest PTS, and where PTS begin anew at earlier ones from

@@ -127,17 +127,22 @@ class Heard(Survey):
 
     def begin_with(self, pid: int, run: Run) -> None:
         """Hears a PID from what came of it on."""
+        self.begin_clock(run.pts)
         self.pid, self.first_header, self.heard_since = pid, run.pts, self.now
         self.changes = {is_within: Changes() for is_within in (False, True)}
         for earlier in self.by_pid[pid].runs[:-1]:
             self.go_on(earlier)
 
+    def begin_clock(self, pts: int | None) -> None:
+        """The first PTS has its time by a clock that is known."""
+        known = self.reference
+        if pts is not None and self.clock.pts is None and known and known.pts is not None:
+            self.clock.now = max(known.now + ticks_between(known.pts_at(known.now), pts), 0)
+
     def go_on(self, run: Run) -> None:
         """Goes on with PES packets of the page's PID."""
         for pts in clock_times(run):
-            known = self.reference  # by which the first PTS has its time
-            if self.clock.pts is None and known and known.pts is not None:
-                self.clock.now = max(known.now + ticks_between(known.pts_at(known.now), pts), 0)
+            self.begin_clock(pts)
             before, back = self.clock.pts, MOST_OVERLAP if self.moved else BACK
             late = self.clock.take(pts, back)
             self.first = self.first or (pts, self.clock.now)
