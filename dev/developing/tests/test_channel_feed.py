@@ -150,6 +150,7 @@ class Changed(Case):
         """Within 0 midnight is by the one in the middle, within more by the one that is least late;
         a subtitle that never comes is none, and a file has to have one."""
         for within, off, wanted in ((0, (9, -5, 1, 0, 3, 99), 1), (0, (-4, -3, -2, -1, 0), -2),
+                                    (0, (9, -5, 3, 0, 1, 99), 1), (0, (1, 9, -5, 0, 3), 1),
                                     (2, (9, -5, 1, 0, 3, 99), -5), (2, (9, 8, 7, 6, 5), 5)):
             changes = self.changes(FOUR[:3], 0)
             changes.times = [time + by for time, by in zip(changes.times, off)]

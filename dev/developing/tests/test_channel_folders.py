@@ -1,6 +1,7 @@
 """Folders of a channel: what may stand in them, what is in the way, and disks that are full."""
 from __future__ import annotations
 
+import argparse
 import contextlib
 import json
 import os
@@ -8,7 +9,8 @@ import shutil
 import signal
 from typing import Any, Callable
 
-from subtitles.cli.channel.spool import MARK, RECORD, WORK, claim, numbers_in
+from subtitles.cli.channel.spool import (
+    MARK, RECORD, WORK, claim, numbers_in, spool_of)
 from subtitles.common.command_line import Stop
 from subtitles.common.files import Inputs
 from .bench import Case, example, example_bytes, tool_path
@@ -67,13 +69,26 @@ class Own(Case):
         self.must("an input", "is an input too" in self.claimed(
             f"{own} list", self.path("spool/list")))
 
+    def test_of_a_call(self) -> None:
+        """The folder in which another call records, that of --spool, one beside that of -o, or none
+        that stays."""
+        for stl, spool, out, wanted in (
+                (".", None, "out", "."), ("-", "a", None, "a"), ("-", "a", "out", "a"),
+                ("-", None, "out", "out.feed"), ("-", None, "out/", "out.feed"),
+                ("-", None, "b/..", f"{os.path.abspath('.')}.feed"),
+                ("-", None, None, None)):
+            self.must(f"{stl} {spool} {out}", spool_of(argparse.Namespace(
+                stl=stl, spool=spool, out=out)) == wanted)
+        with self.assertRaises(Stop):
+            spool_of(argparse.Namespace(stl=".", spool="a", out=None))
+
     def test_numbers(self) -> None:
         """Of what has an ending, by number and not by name, and of nothing else."""
-        for name in ("999999999.seg", "1000000000.seg", "000000002.seg", "000000003.done", "x.seg",
-                     "000000004.seg.damaged", "-00000005.seg", "000000006.seg~", "7"):
+        for name in ("999999999.seg", "1000000000.seg", "000000002.seg", "000000003.done",
+                     "x.seg", "000000004.seg.damaged", "-00000005.seg", "000000006.seg~", "7"):
             self.write(name, b"")
-        self.must("numbers", [numbers_in(self.folder, *ending) for ending in (
-            (), (RECORD,), (WORK,))] == [[2, 10 ** 9 - 1, 10 ** 9], [3], []], numbers_in(self.folder))
+        found = [numbers_in(self.folder, *ending) for ending in ((), (RECORD,), (WORK,))]
+        self.must("numbers", found == [[2, 10 ** 9 - 1, 10 ** 9], [3], []], found)
 
     def test_of_the_call_itself(self) -> None:
         """LIST, severity, STL and FEED under the name channel.json, and one of somebody's own."""

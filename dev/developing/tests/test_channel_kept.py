@@ -7,16 +7,15 @@ import itertools
 import os
 import re
 import signal
-from typing import Any, BinaryIO, Callable, Iterator, Tuple
+from typing import Any, BinaryIO, Callable, Iterator
 from unittest import mock
 
 from developing.pes import MARK, pes_packet
 from subtitles.cli.batch import beside
-from subtitles.cli.channel import recorder, spool
+from subtitles.cli.channel import recorder
 from subtitles.cli.channel.recorder import (
     AHEAD, Begin, LEAST, MANY, NotWanted, PART, Recorder, Segments, TRIES)
-from subtitles.cli.channel.spool import (
-    ERROR, Exchange, FILE, HEARD, Journal, KeptRoom, RESTARTS, numbers_in, path_of)
+from subtitles.cli.channel.spool import ERROR, Exchange, HEARD, numbers_in, path_of
 from subtitles.common.command_line import Stop
 from subtitles.common.files import Input
 from .bench import Case
@@ -182,66 +181,6 @@ class Read(Folders):
         segments.drop(1 << 60)
         self.must("written anew", len(segments.index.entries()) == 1)
 
-    def test_journal(self) -> None:
-        """Half of an entry is none, and those behind it are there."""
-        def journal(folder: str = self.folder) -> Journal:
-            return Journal(folder, "index", Tuple[str, int])
-
-        self.must("none", journal().entries() == [])
-        journal().add("one", 1)
-        whole = self.read("index")
-        for count in range(len(whole) + 1):
-            self.write("index", whole[:count])
-            journal().add("two", 2)
-            self.must(f"{count}", journal().entries() == [("one", 1)] * (
-                count >= len(whole) - 1) + [("two", 2)], self.read("index"))
-        journal(self.path("none")).add("one", 1)
-        with mock.patch("os.replace", side_effect=OSError):
-            journal().replace([])
-        self.must("as it was", len(journal().entries()) == 2)
-        for wrong in (b"{}", b"5", b"[1,2]", b'["a",true]', b'["a",1,2]', b"[" * 100_000):
-            self.write("index", whole + wrong + b"\n")
-            one = journal()
-            self.must(f"{wrong[:9]!r}", one.entries() == [] and os.path.exists(
-                self.path("index.damaged")) and "is damaged: it is index.damaged now" in
-                one.said[0], one.said)
-            os.unlink(self.path("index.damaged"))
-
-    def test_room(self) -> None:
-        """It is given away where the disk is full: what was to be written is, then."""
-        room = KeptRoom(self.new("one"))
-        for code, is_kept, count in ((errno.ENOSPC, True, 2), (errno.ENOSPC, False, 1),
-                                     (errno.EDQUOT, True, 2), (errno.EIO, True, 1)):
-            does = mock.Mock(side_effect=[OSError(code, "x"), None])
-            with mock.patch.object(spool, "ROOM", 4096):
-                room.keep() if is_kept else room.give()
-            fails: Any = contextlib.nullcontext() if count == 2 else self.assertRaises(OSError)
-            with fails:
-                room.put(does)
-            self.must(f"{code} {is_kept}", does.call_count == count and
-                      room.is_there() == room.give() == (code == errno.EIO))
-
-    def test_state(self) -> None:
-        """Numbers, at once; of a file that is gone none."""
-        state = Exchange(self.new("one"))
-        self.must("none, with room for all", os.path.getsize(state.path) == 64 and
-                  [state[at] for at in (HEARD, ERROR, FILE)] == [0] * 3)
-        state[ERROR] = 1
-        state.put(FILE, 2, 3, 1 << 63, 5, 6)
-        self.must("known", state[ERROR] == 1 and state.several(FILE, 5) == [2, 3, 1 << 63, 5, 6]
-                  and state[HEARD] == state[RESTARTS] == 0)
-        for order in itertools.permutations(places := {HEARD: 1, ERROR: 1, FILE: 5, RESTARTS: 1}):
-            for at in places:
-                state.put(at, *[0] * places[at])
-            for count, at in enumerate(order):
-                state.put(at, *[at + 1] * places[at])
-                self.must(f"{order}", all(state.several(one, places[one]) == [
-                    (one + 1) * (one in order[:count + 1])] * places[one] for one in places))
-        os.unlink(state.path)
-        state[HEARD] = 7
-        self.must("anew", (state[HEARD], state[ERROR]) == (7, 0))
-        Exchange(self.path("none"))[HEARD] = 7
-
 
 class Written(Folders):
     """Segments that are written."""
@@ -313,7 +252,7 @@ class Written(Folders):
         """A number is left out, unless there was nothing; also where all that was heard is gone."""
         folder = self.new("one")
         for known, heard, wanted in (((), 0, 0), ((0,), 0, 2), ((0, 2), 1, 4), ((), 3, 4),
-                                     ((4, 5), 5, 7), ((), 6, 7)):
+                                     ((4, 5), 5, 7), ((), 6, 7), ((3,), 7, 8)):
             for number in range(9):
                 with contextlib.suppress(FileNotFoundError):
                     os.unlink(path_of(folder, number))
@@ -493,6 +432,8 @@ class Written(Folders):
             one.number = one.state[HEARD] + AHEAD + 1
             with mock.patch.object(one, "wait", side_effect=NotWanted):
                 self.must("ahead", not one.record())
+                one.own = None
+                self.must("no file waits", one.record())
         with self.recorder(folder, path) as one, mock.patch.object(
                 one.source, "read", side_effect=OSError(errno.EIO, "x")):
             self.must("an error", one.record() and one.state[ERROR] == errno.EIO)

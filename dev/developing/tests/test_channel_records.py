@@ -257,6 +257,21 @@ class Kept(Programmes):
             json.loads(one.result(record)) for one in (some, Records(spool, "/out"))] == [known] * 2
             and len(some.result(record)) == record.size)
 
+    def test_of_files(self) -> None:
+        """Of a line with the same subtitle file, as it was; without one, of any line."""
+        some, other = (self.files[name] for name in ("one", "two"))
+        os.mkdir(self.path("spool"))
+        for own, line, is_other in itertools.product(("", some, self.path("none")),
+                                                     ("", some, other, self.path("none")), (0, 1)):
+            record = Records(self.path("spool"), "").new("one", own, 5, 6)
+            if is_other:
+                record.found = {"size": 5, "modified": "then"}
+            self.must(f"{own} {line} {is_other}", record.is_of(line) == (
+                not own or own == line and not is_other))
+        for known, why, reason in ((None, "a\nb", "a"), (unjudged("one", "c\nd"), "e", "c"),
+                                   (result("accepted"), "e", ""), (None, "", "")):
+            self.must(reason, Judged(known, why).reason == reason)
+
     def test_names(self) -> None:
         """A name is a word that leads nowhere else."""
         for name, is_one in (("one", True), ("a b~2", True), ("", False), (".", False),

@@ -1,14 +1,19 @@
-"""What is read of the segments of a feed: by whichever looks, and of whichever times."""
+"""What is read of the segments of a feed: by whichever looks, and of whichever times; and the small
+files beside them."""
 from __future__ import annotations
 
+import contextlib
+import errno
 import itertools
 import os
+from typing import Any, Tuple
 from unittest import mock
 
-from subtitles.cli.channel import recorder
+from subtitles.cli.channel import recorder, spool
 from subtitles.cli.channel.recorder import Begin, ENTRY, Segments, pieces_of
 from subtitles.cli.channel.records import Read as Part
-from subtitles.cli.channel.spool import Journal, numbers_in, path_of
+from subtitles.cli.channel.spool import (
+    ERROR, Exchange, FILE, HEARD, Journal, KeptRoom, RESTARTS, numbers_in, path_of)
 from .test_channel_kept import Folders
 
 
@@ -61,7 +66,7 @@ class Looks(Folders):
             self.put(segments.folder, number, b"%d" % number)
             segments.read()
         os.unlink(path_of(segments.folder, 1))
-        os.symlink("x", path_of(segments.folder, 1))
+        os.symlink(path_of(segments.folder, 0), path_of(segments.folder, 1))
         self.must("but for one that can't be read", [*segments.before()] == [b"0", b"2"])
 
     def test_told_of_some(self) -> None:
@@ -111,6 +116,37 @@ class Looks(Folders):
                     ), again.known) == ([*range(left, 4)], None if known is None else Begin(
                         10 * known, 0, known == left), max(told, default=-1)), again.begins)
 
+    def test_bytes_before(self) -> None:
+        """So many bytes before a time are given as what is told is behind, or all."""
+        for at, sizes in enumerate(itertools.product((1, 3, 9), repeat=4)):
+            with mock.patch.object(recorder, "LEAST", 4):
+                segments = Segments(self.new(f"{at}"))
+                for number, size in enumerate(sizes):
+                    self.put(segments.folder, number, bytes(size))
+                    segments.read()
+                    segments.begin(Begin(number, 0, True))
+                for first in range(4):
+                    found = segments.between(first, first, 9) or []
+                    start = max((number for number in range(first) if sum(sizes[number:first]) >= 4
+                                 ), default=0)
+                    self.must(f"{sizes} {first}", found == [
+                        *enumerate(sizes)][start:], found)
+
+    def test_taken_away(self) -> None:
+        """All that can be; and the index is written anew seldom."""
+        segments = Segments(self.new("one"))
+        for number in range(6):
+            self.put(segments.folder, number, b"%04d" % number)
+            segments.read()
+            segments.begin(Begin(number, 0, True))
+        os.unlink(path_of(segments.folder, 1))
+        os.mkdir(path_of(segments.folder, 1))
+        with mock.patch.multiple(recorder, LEAST=4, MANY=2), \
+                mock.patch.object(segments.index, "replace") as replace:
+            for _ in range(3):
+                segments.drop(5)
+        self.must("left", numbers_in(segments.folder) == [1, 4, 5] and replace.call_count == 1)
+
     def test_begun(self) -> None:
         """By what is told of the first segment that is there, of the last before it, and where none
         is there of the last of all."""
@@ -143,3 +179,73 @@ class Looks(Folders):
                 "came": 1200, "behind_seconds": behind, "segments": 3, "bytes": 6} and
                 segments.read_date() == (None if not read else 1200 - behind), segments.about())
             segments.read()
+
+
+class Small(Folders):
+    """The small files by which processes talk."""
+
+    def test_journal(self) -> None:
+        """Half of an entry is none, and those behind it are there."""
+        def journal(folder: str = self.folder) -> Journal:
+            return Journal(folder, "index", Tuple[str, int])
+
+        self.must("none", journal().entries() == [])
+        journal().add("one", 1)
+        whole = self.read("index")
+        for count in range(len(whole) + 1):
+            self.write("index", whole[:count])
+            journal().add("two", 2)
+            self.must(f"{count}", journal().entries() == [("one", 1)] * (
+                count >= len(whole) - 1) + [("two", 2)], self.read("index"))
+        journal(self.path("none")).add("one", 1)
+        with mock.patch("os.replace", side_effect=OSError):
+            journal().replace([])
+        self.must("as it was", len(journal().entries()) == 2)
+        for wrong in (b"{}", b"5", b"[1,2]", b'["a",true]', b'["a",1,2]', b'["a",-1]',
+                      b'["a",%d]' % (1 << 62), b"[" * 100_000):
+            self.write("index", whole + wrong + b"\n")
+            one = journal()
+            self.must(f"{wrong[:9]!r}", one.entries() == [] and os.path.exists(
+                self.path("index.damaged")) and "is damaged: it is index.damaged now" in
+                one.said[0], one.said)
+            os.unlink(self.path("index.damaged"))
+
+    def test_room(self) -> None:
+        """It is given away where the disk is full: what was to be written is, then."""
+        room = KeptRoom(self.new("one"))
+        for code, is_kept, count in ((errno.ENOSPC, True, 2), (errno.ENOSPC, False, 1),
+                                     (errno.EDQUOT, True, 2), (errno.EIO, True, 1)):
+            does = mock.Mock(side_effect=[OSError(code, "x"), None])
+            with mock.patch.object(spool, "ROOM", 4096), mock.patch(
+                    "shutil.disk_usage", return_value=mock.Mock(total=32 * (4000 + count * 90))):
+                room.keep() if is_kept else room.give()
+            self.must("size", not is_kept or os.path.getsize(room.path) == min(4000 + count * 90,
+                                                                               4096))
+            fails: Any = contextlib.nullcontext() if count == 2 else self.assertRaises(OSError)
+            with fails:
+                room.put(does)
+            self.must(f"{code} {is_kept}", does.call_count == count and
+                      room.is_there() == room.give() == (code == errno.EIO))
+
+    def test_state(self) -> None:
+        """Numbers, at once; of a file that is gone none."""
+        state = Exchange(self.new("one"))
+        self.must("none, with room for all", os.path.getsize(state.path) == 64 and
+                  [state[at] for at in (HEARD, ERROR, FILE)] == [0] * 3)
+        state[ERROR] = 1
+        state.put(FILE, 2, 3, 1 << 63, 5, 6)
+        self.must("known", state[ERROR] == 1 and state.several(FILE, 5) == [2, 3, 1 << 63, 5, 6]
+                  and state[HEARD] == state[RESTARTS] == 0)
+        for order in itertools.permutations(places := {HEARD: 1, ERROR: 1, FILE: 5, RESTARTS: 1}):
+            for at in places:
+                state.put(at, *[0] * places[at])
+            for count, at in enumerate(order):
+                state.put(at, *[at + 1] * places[at])
+                self.must(f"{order}", all(state.several(one, places[one]) == [
+                    (one + 1) * (one in order[:count + 1])] * places[one] for one in places))
+        self.must("in another call", Exchange(self.path("one"))[RESTARTS] == RESTARTS + 1)
+        os.unlink(state.path)
+        state[HEARD] = 7
+        self.must("short", state.several(HEARD, 3) == [7, 0, 0])
+        self.must("anew", (state[HEARD], state[ERROR]) == (7, 0))
+        Exchange(self.path("none"))[HEARD] = 7
