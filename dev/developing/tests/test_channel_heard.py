@@ -46,7 +46,8 @@ class Pids(Case):
         later one is left, which is said once, and so is what came on it; what came before the
         header is of the time."""
         own, other = Lines(PID), Lines(OTHER)
-        heard = heard_of([own.pes(0, ""), other.pes(0, ""), own.pes(SECOND), own.rows("one")])
+        heard = heard_of([own.pes(0, ""), own.pes(9, ""), own.pes(99, ""), other.pes(0, ""),
+                          own.pes(SECOND), own.rows("one")])
         self.must("the first", (heard.pid, heard.now, heard.first) == (PID, SECOND, (0, 0)))
         for line in (other.pes(7 * SECOND), other.rows("two"), other.pes(8 * SECOND)):
             heard.take(line)
@@ -82,8 +83,12 @@ class Pids(Case):
                 f"the PMT moves page 888 from PID 0x101 to PID 0x102, before PTS "
                 f"{(21 if is_early else 22) * SECOND}"], heard.said)
             self.must(f"{is_early}: on", (heard.pid, heard.now) == (OTHER, 22 * SECOND) and
-                      heard.packets.runs[0].first == 0, heard.packets.runs)
+                      heard.packets.runs[0].first == 0 and heard.first == (0, 0), heard.first)
             self.must(f"{is_early}: when", [one.time for one in heard.moves] == [20 * SECOND])
+        on = heard_of([*TABLE, Lines(PID).pes(0), *MOVED, *(
+            line.replace(f"{OTHER}", "259") for line in MOVED), Lines(259).pes(SECOND)])
+        self.must("on at once", on.pid == 259 and on.said == [
+            "the PMT moves page 888 from PID 0x102 to PID 0x103, before PTS 90000"], on.said)
         stays = heard_of([*TABLE, Lines(PID).pes(0), *MOVED, *MOVED], PID)
         self.must("one that is asked for", stays.pid == PID and not stays.said)
 
@@ -445,10 +450,12 @@ class Kept(Case):
             own.pes(SECOND * second, "hec", 10, SECOND), f"strays {PID} {own.number - 1} -",
             own.gap(1))]
         for since, first in ((0, 0), (9, 0), (10, 11), (35, 33), (59, 55), (60, 66), (99, 99)):
-            heard = heard_of(lines)
+            other = Lines(OTHER)
+            heard = heard_of([*lines, *(other.pes(SECOND * at, "") for at in range(9))])
             heard.kept_since = SECOND * since
             heard.prune()
             packets = heard.packets
+            self.must("of another PID", len(heard.by_pid[OTHER].runs) == 1, heard.by_pid)
             self.must(f"runs since {since}", packets.runs[0].first == first and [
                 mark.number for mark in packets.marks] == [*range(first + 10, 110, 11)] and
                 [at for at, _ in packets.strays] == [*range(first + 9, 110, 11)], packets.runs[:1])

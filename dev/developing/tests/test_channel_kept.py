@@ -15,7 +15,7 @@ from subtitles.cli.batch import beside
 from subtitles.cli.channel import recorder
 from subtitles.cli.channel.recorder import (
     AHEAD, Begin, LEAST, MANY, NotWanted, PART, Recorder, Segments, TRIES)
-from subtitles.cli.channel.spool import ERROR, Exchange, HEARD, numbers_in, path_of
+from subtitles.cli.channel.spool import ERROR, Exchange, FILE, HEARD, numbers_in, path_of
 from subtitles.common.command_line import Stop
 from subtitles.common.files import Input
 from .bench import Case
@@ -199,7 +199,8 @@ class Written(Folders):
                 self.must(f"{size} {count}", b"".join(found) == data[:len(b"".join(found))] and
                           b"".join(found).startswith(own), found)
                 self.must("each is whole", count < 10 or not any(len(one) % 184 for one in found))
-        for data in (b"G" + bytes(187), b"\0\0\1\xbdG" + bytes(187), b"G"):
+        for data in (b"G" + bytes(187), b"\0\0\1\xbdG" + bytes(187), b"G",
+                     b"GG" + b"".join(PES[:2])[:100], b"GGG" + PES[0] + PES[1][:9]):
             folder = self.new(f"{len(data)} {data[0]}")
             with self.recorder(folder) as one:
                 one.write(one.whole(data[:4]))
@@ -344,6 +345,12 @@ class Written(Folders):
                 file.write(b"" if at is None else data[:at] + b"x")
             with self.recorder(folder, path) as one:
                 self.must(f"{at}", one.number == (1 if at is None else 3), one.number)
+        state = Exchange(folder)
+        known = state.several(FILE, 5)  # its device, its number there
+        for other in ([known[0] + 1, *known[1:]], [known[0], known[1] + 1, *known[2:]]):
+            state.put(FILE, *other)
+            with self.recorder(folder, path) as one:
+                self.must(f"{other}", one.number == 3, one.number)
 
     def test_each_failure(self) -> None:
         """A write that is whole, one of which a byte is written, one that fails, and a segment that

@@ -156,7 +156,7 @@ class Looks(Folders):
                 folder = self.new(f"{at} {first}")
                 journal = Journal(folder, "index", ENTRY)
                 for number in numbers:
-                    journal.add(number, *Begin(number, number, True))
+                    journal.add(number, *Begin(number, number, number != 3))
                 if first is not None:
                     self.put(folder, first, b"x")
                     self.put(folder, 9, b"x")
@@ -164,7 +164,7 @@ class Looks(Folders):
                             default=None)
                 begun = Segments(folder).begun()
                 self.must(f"{numbers} {first}", begun == (None if known is None else Begin(
-                    known, known, known == first)), begun)
+                    known, known, known == first != 3)), begun)
 
     def test_about(self) -> None:
         """When the last byte came, how much earlier that which is read, and how much is kept."""
