@@ -11,7 +11,7 @@ from typing import Any, Iterable
 from developing.pes import packet, pes_packet
 from developing.stl import gsi_block
 from subtitles.cli.channel.feed import (
-    ANEW, BACK, FeedClock, GAP, MINUTE, NEAR_PCR, SILENT, Silence, clock_times, jump_of)
+    ANEW, ANEW_WORDS, BACK, FeedClock, GAP, MINUTE, NEAR_PCR, SILENT, Silence, clock_times, jump_of)
 from subtitles.cli.channel.hearing import Heard, Hearing, Move
 from subtitles.common.command_line import Stop
 from subtitles.common.times import CLOCK, TICKS
@@ -92,6 +92,16 @@ class Pids(Case):
         stays = heard_of([*TABLE, Lines(PID).pes(0), *MOVED, *MOVED], PID)
         self.must("one that is asked for", stays.pid == PID and not stays.said)
 
+    def test_moves_lately(self) -> None:
+        """What came of the other PID less than a minute before, and is less than a minute later,
+        counts once it moves; what came before that is forgotten."""
+        own, other = Lines(PID), Lines(OTHER)
+        heard = heard_of([*TABLE, own.pes(0), own.pes(900 * SECOND), other.pes(905 * SECOND, ""),
+                          own.pes(1000 * SECOND), other.pes(1001 * SECOND, ""),
+                          other.pes(1061 * SECOND, ""), *MOVED, "over 0"])
+        self.must("lately", heard.now == 1001 * SECOND and
+                  [run.first for run in heard.packets.runs] == [1, 2], heard.now)
+
     def test_moves_back(self) -> None:
         """To a PID that carried it long ago, also more than half of the PTS: what came then is not
         what comes now."""
@@ -141,6 +151,12 @@ class Pids(Case):
                          Lines(PID).pes(second * SECOND, ""), Lines(OTHER).pes(second * SECOND)):
                 heard.take(line)
             self.must(f"by a clock after {second}", heard.pid == pid, heard.said)
+        clock = FeedClock()
+        for pts in (0, SECOND, SECOND - 9):
+            clock.take(pts)
+        heard = Heard(PAGE, None, clock)
+        heard.take(Lines(PID).pes(3 * SECOND))
+        self.must("by a clock that is behind", heard.now == 3 * SECOND, heard.now)
         own, other = Lines(PID), Lines(OTHER)
         after = heard_of([*TABLE, own.pes(10 * SECOND), *MOVED, other.pes(11 * SECOND),
                           own.pes(12 * SECOND)])
@@ -278,10 +294,14 @@ class Missing(Case):
         for lost, scrambled, what in ((1, 0, "1 TS packet lost"), (0, 1, "1 TS packet scrambled"),
                                       (2, 3, "2 TS packets lost, 3 TS packets scrambled"),
                                       (0, 0, "a break in the stream")):
-            own = Lines(PID)
-            heard = heard_of([own.pes(0), own.gap(0).replace(" 0 0", f" {lost} {scrambled}"),
-                              own.pes(SECOND, "", 9, SECOND)])
-            self.must(what, heard.said == [f"{what}, before PTS 90000"], heard.said)
+            for still in (0, 9 * SECOND):
+                own = Lines(PID)
+                heard = heard_of([own.pes(0)])
+                heard.silence.still = still
+                for line in (own.gap(0).replace(" 0 0", f" {lost} {scrambled}"),
+                             own.pes(SECOND, "", 3, SECOND)):
+                    heard.take(line)
+                self.must(what, heard.said == [f"{what}, before PTS 90000"], heard.said)
 
     def test_erased(self) -> None:
         """Changes come when they come; within some frames a text comes when it was erased for."""
@@ -381,6 +401,9 @@ class Missing(Case):
                             ("an encoder begins anew: PTS 9 after 5", -SECOND)):
             jump = jump_of(5, 9, late)
             self.must(words, jump and jump.line == words, jump)
+        for pts, why in ((-1, ""), (61 * MINUTE, ANEW_WORDS), (-MINUTE, ANEW_WORDS)):
+            heard = heard_of([Lines(PID).pes(0), Lines(PID).pes(pts)])
+            self.must(f"{pts}", heard.anew == why, heard.anew)
         for run, count in ((Run(0, 1, 7, 0, "", ""), 1), (Run(0, 9, 7, TICKS, "", ""), 2),
                            (Run(0, 9000, 7, TICKS, "", ""), 7), (Run(3, 3, 7, GAP + 1, "", ""), 3),
                            (Run(3, 4, 7, -1, "", ""), 4), (Run(0, 1, None, 0, "", ""), 0)):
@@ -393,7 +416,7 @@ class Missing(Case):
         come."""
         own = Lines(PID)
         for lines, start in (
-                ([own.pes(SECOND)], 0),
+                ([own.pes(SECOND)], 0), ([own.pes(0), own.pes(9)], 0),
                 ([*TABLE, f"pcr {PCR} {SECOND}", own.pes(9 * SECOND)], -8 * SECOND),
                 ([*TABLE, f"pcr {PCR} {SECOND}", own.pes(9 * SECOND), f"ahead {PID} 7 18000"],
                  18000 - 8 * SECOND),

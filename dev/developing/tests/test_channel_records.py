@@ -256,6 +256,12 @@ class Kept(Programmes):
         self.must("written", record.unkept is None and [
             json.loads(one.result(record)) for one in (some, Records(spool, "/out"))] == [known] * 2
             and len(some.result(record)) == record.size)
+        other = some.new("two", "", 5, 6)
+        some.put(other, known)
+        some.keep(other)
+        some.tell(record)
+        self.must("told of", [one.is_told for one in Records(spool, "/out").all.values()] == [
+            True, False])
 
     def test_of_files(self) -> None:
         """Of a line with the same subtitle file, as it was; without one, of any line."""
@@ -288,7 +294,8 @@ class Kept(Programmes):
             os.mkdir(spool)
             for number, (out, is_told) in enumerate(kinds):
                 some = Records(spool, out)
-                record = some.new(f"{number}", "", 9 if number == last else number, 5)
+                since = 20 - number if out == "/other" else number
+                record = some.new(f"{number}", "", 9 if number == last else number, since)
                 some.put(record, unjudged(record.name, "why"))
                 some.keep(record)
                 if is_told:
@@ -300,7 +307,7 @@ class Kept(Programmes):
                 self.must(f"{last}", [one.name for one in some.all.values()] == left and
                           [*some.by_name] == ["0", "1"] and [
                               one.is_told for one in some.by_name.values()] == [False, True] and
-                          some.times() == (9, 5), some.all)
+                          some.times() == (9, 18), some.times())
 
     def test_same_name_with_other_content(self) -> None:
         """It is said, once."""
@@ -389,6 +396,7 @@ class Kept(Programmes):
         for wrong in (b"", b"{", whole[:50], whole.replace(b'"one"', b'"../one"', 1),
                       whole.replace(b'"over": 5', b'"over": -5'), b'{"told": 1}\n', b"[]\n",
                       whole.replace(b'"format": 2', b'"format": 3', 1),
+                      whole.replace(b'"due": null', b'"due": [["a"], 0, null, true, [], ""]'),
                       whole.replace(b'"over": 5', b'"over": "5"')):
             self.write("spool/000000001.done", wrong)
             again = Records(spool, "/out")

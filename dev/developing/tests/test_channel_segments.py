@@ -226,6 +226,9 @@ class Small(Folders):
                 room.put(does)
             self.must(f"{code} {is_kept}", does.call_count == count and
                       room.is_there() == room.give() == (code == errno.EIO))
+        with mock.patch("os.posix_fallocate", side_effect=OSError(errno.ENOSPC, "x")):
+            room.keep()
+        self.must("no room for it", not room.is_there())
 
     def test_state(self) -> None:
         """Numbers, at once; of a file that is gone none."""
