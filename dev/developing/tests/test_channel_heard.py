@@ -282,7 +282,8 @@ class Missing(Case):
         for line in (own.pes(2 * SECOND), own.gap(1), own.gap(2), own.pes(3 * SECOND),
                      "clock 257 180000 270000 93600 90 3600 3 broken", own.pes(4 * SECOND), hole,
                      hole.replace("180000 360000", "270000 360000"),
-                     hole.replace("broken", "whole"), hole.replace("257", "258")):
+                     hole.replace("broken", "whole"), hole.replace("257", "258"),
+                     hole.replace("180000 360000", "0 90000")):
             heard.take(line)
         self.must("all", heard.said[1:] == [
             "a break in the stream, before PTS 180000", "1 TS packet lost, before PTS 270000",

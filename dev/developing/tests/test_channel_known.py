@@ -117,9 +117,9 @@ class Known(Case):
             for changes in heard.changes.values():
                 for time in range(4):
                     changes.add(time, b"x")
-        for before in (2, 1, 3):
+        for before, first in ((0, 0), (2, 2), (1, 2), (3, 3)):
             hearing.drop(before)
             for heard in hearing.by_page.values():
                 self.must(f"{before}", heard.kept_since == before and [
                     one.times for one in heard.changes.values()] == [
-                        [*range(max(before, 2), 4)]] * 2, heard.changes)
+                        [*range(first, 4)]] * 2, heard.changes)
