@@ -47,7 +47,11 @@ FIRST, SECOND = "refused 72 Content frame 00:00:05:00 row 20 column 1", \
 GOOD, TRUSTED, ENDED = "accepted 10 frames 2 transmissions", \
     "trusted frames 00:00:06:00 00:00:07:00", "ended 72 Content frame 00:00:07:00"
 NONE = [f"refused {number} Flags pes 0" for number in ("\u0663\u0663", "+33", "")]
-STRANGE = ("hello", f"{GOOD} more", "accepted of course", "refused", *NONE[1:])
+# A blank before a line, and behind it; a byte that is no letter, which nothing drops.
+AROUND = [*(f" {one}" for one in (FIRST, GOOD, TRUSTED, ENDED, "1 faults")),
+          *(f"{one} " for one in (GOOD, TRUSTED, ENDED, "1 faults")),
+          *(one.replace("0", "0\udcff", 1) for one in (GOOD, ENDED))]
+STRANGE = ("hello", f"{GOOD} more", "accepted of course", "refused", *NONE[1:], *AROUND)
 # Lines, the status, and what that is; `None` is no answer.
 LISTS: list[tuple[list[str], int, str | None]] = [
     ([GOOD], 0, "accepted"), ([GOOD, GOOD], 0, "accepted"), ([TRUSTED, GOOD], 0, "accepted"),
@@ -74,7 +78,8 @@ LISTS: list[tuple[list[str], int, str | None]] = [
     ([FIRST, "hello", "1 faults"], 1, None), ([f"{GOOD} more"], 0, None),
     (["accepted of course"], 0, None), (["refused", "1 faults"], 1, None),
     (["refused 67", "1 faults"], 1, None), (["refused 3 3 Flags pes 0", "1 faults"], 1, None),
-    *(([line, "1 faults"], 1, None) for line in NONE)]
+    *(([line, "1 faults"], 1, None) for line in NONE),
+    *(([line, GOOD], 0, None) for line in AROUND), ([FIRST, AROUND[0], "1 faults"], 1, None)]
 
 
 class Answers(Case):
@@ -90,6 +95,7 @@ class Answers(Case):
             except Unclear as why:
                 reason = why.reason
             last = next((one for one in lines if one in STRANGE), "".join(lines[-1:]))
+            last, *lines = (one.replace("\udcff", "\ufffd") for one in (last, *lines))
             faults = [one for one in lines if re.match(r"refused \d+( |$)", one, re.ASCII)]
             with self.subTest(lines=lines, status=status):
                 self.assertEqual((None if reason else made.verdict, reason), (
