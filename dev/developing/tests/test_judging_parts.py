@@ -2,14 +2,19 @@
 from __future__ import annotations
 
 import random
-from typing import Sequence
+from typing import Any, Sequence
+from unittest import mock
 
 from developing.pes import MARK, pes_packet
 from subtitles.clock.origin import Sought
 from subtitles.clock.start import FITTED, FITTED_LATER, GIVEN, RECORDING
 from subtitles.common.command_line import counted
-from subtitles.common.times import CLOCK, EARLY, TICKS, time_of
-from subtitles.judging.timing import origin_in
+from subtitles.common.times import CLOCK, EARLY, TICKS, pts_of, time_of
+from subtitles.formats.listing import NOT_SHOWN, NamedFault, PICTURES_LEFT
+from subtitles.judging import pair
+from subtitles.judging.pages import HIDDEN, HiddenRows
+from subtitles.judging.timing import PicturesFound, origin_in
+from subtitles.recording.notices import Notice
 from .bench import example
 from .judged import FEW, Judged, OfProgramme, judged
 from .parts import packets_told
@@ -151,6 +156,38 @@ class Parts(OfProgramme):
             allowed = self.judge_parts((1000, 3000), {}, *every, *clock, "--allow-lost",
                                        marks=places)
             self.must(f"{at}: allowed", allowed.word == ("waived" if own else "accepted"))
+
+    def test_what_each_adds(self) -> None:
+        """Faults without a number, notes and warnings: those of the subtitle file, and of each
+        part; what a later one has hides none of an earlier one. Whether the page is announced
+        elsewhere is asked of the time of all."""
+        def left(_: object, pid: int, found: object, within: int, number: int) -> PicturesFound:
+            return PicturesFound([NamedFault(PICTURES_LEFT, f"left {number}", part=number)] * (
+                number in own), [f"note {number}"])
+
+        hidden, told = NamedFault(NOT_SHOWN, "hidden"), Notice(HIDDEN, "strange", None)
+        for own in ((1,), (2, 3), ()):
+            counts = iter(range(1, 4))
+            pauses = mock.Mock(side_effect=lambda *_: [Notice("pause", f"{next(counts)}", None)])
+            made: dict[str, Any] = {
+                "left_by_pictures": left, "may_hide": lambda *_: True,
+                "hidden_rows": lambda *_: HiddenRows([hidden], [told])}
+            with mock.patch.multiple(pair, **made), \
+                    mock.patch.object(pair, "refuse_elsewhere") as elsewhere, \
+                    mock.patch.object(pair.notices, "of_pauses", pauses):
+                found = self.judge_parts((1000, 3000), {3: 2})
+            self.must(f"{own}: elsewhere", elsewhere.call_args.args[2:] == (
+                pts_of(100, ORIGIN), pts_of(2460, ORIGIN + 3000 * TICKS)), elsewhere.call_args)
+            named, warnings = found.verdict.named, found.verdict.warnings
+            self.must(f"{own}", named == [hidden, *(left(0, 0, 0, 0, number).faults[0]
+                                                    for number in own)], named)
+            self.must(f"{own}: counted", found.verdict.faults == 2 + len(own))
+            self.must(f"{own}: warnings", told in warnings and [
+                one.line for one in warnings if one.kind == "pause"] == ["1", "2", "3"], warnings)
+            self.must(f"{own}: notes", [one for one in found.verdict.notes if one[:4] == "note"] ==
+                      ["note 1", "note 2", "note 3"], found.verdict.notes)
+            self.must(f"{own}: parts", [one[:2] for one in found.parts("part", "verdict")] == [
+                (1, "refused"), (2, "accepted"), (3, "accepted")], found.said)
 
     def test_no_break(self) -> None:
         """A break that is not said, and one that is said and is none."""

@@ -6,14 +6,17 @@ import random
 import select
 import subprocess
 import time
-from typing import Sequence
+from typing import Any, Sequence
+from unittest import mock
 
 from developing.multiplex import Multiplex
 from developing.pes import packet, pes_packet, pts_in
 from subtitles.clock.start import Clock, Found, RECORDING
 from subtitles.common.times import Between, CLOCK, TICKS
 from subtitles.formats.stl import Subtitle
+from subtitles.judging import pair
 from subtitles.judging.part import found_on, moves_told
+from subtitles.recording.notices import Notice
 from subtitles.recording.recording import silent_in
 from subtitles.stream.gaps import why_refused
 from subtitles.stream.packets import Change, Mark, Packets, Run
@@ -225,6 +228,36 @@ class Moves(OfProgramme):
         self.must("before all", found.parts("pid", "from") == [(NEW, "00:00:24:00")] and
                   not any(one["kind"] == "pid" for one in found.result["warnings"]) and
                   "--from" not in found.lines("+ ")[-1] and found.word == "accepted", found.said)
+
+    def test_what_is_strange(self) -> None:
+        """It is looked for on each PID, by its clock and in its frames, and told of each."""
+        def told(kind: str) -> Any:
+            return lambda first, *more: [Notice(kind, " ".join(map(str, (
+                first.pid if isinstance(first, Packets) else len(first),
+                *(one for one in more if isinstance(one, int))))), None)]
+
+        kinds = {"of_timing": "pts_early", "of_jumps": "clock_jump", "of_pauses": "pause",
+                 "of_character_sets": "character_set", "of_repeat": "repeat"}
+        bare = pes_packet(pts_in(self.pes[3]) + TICKS, [])  # without a header
+        pes = [*self.pes[:4], bare, *self.pes[4:]]
+        for plan in ([(0, OLD)], [(0, OLD), (20, NEW)], [(0, OLD), (20, NEW), (30, OLD)]):
+            pids = [pid for _, pid in plan]
+            with mock.patch.multiple(pair.notices, of_tables=lambda _, pid, asked: [
+                    Notice("page", f"{pid}", None)], **{
+                        name: told(kind) for name, kind in kinds.items()}):
+                found = self.judge_stream(in_turn(pes, plan), "--origin", "0")
+            parts = found.verdict.parts
+            frames = [part.recorded[1][:2] for part in parts]
+            count = [1 + last - first for first, last in (part.pes or (0, 0) for part in parts)]
+            known = {kind: [one.line for one in found.verdict.warnings if one.kind == kind]
+                     for kind in [*kinds.values(), "page"]}
+            own = [*dict.fromkeys(map(str, pids))]
+            self.must(f"{plan}", known == {
+                "pts_early": [f"{pid} 0" for pid in own], "page": own, "character_set": own,
+                "clock_jump": [f"{pid} 0 {first} {last}"
+                               for pid, (first, last) in zip(pids, frames)],
+                "pause": [*dict.fromkeys(f"{one} 0" for one in count)],
+                "repeat": [f"{one - (at == 0)} 0" for at, one in enumerate(count)]}, known)
 
     def test_a_hole_where_it_moves(self) -> None:
         """What is lost of the whole stream between the two is lost of what is judged."""
