@@ -231,6 +231,14 @@ class Beside(Case):
             found.result["subtitle_counts"] is None and
             f"the other subtitles were not judged: {empty} is empty" in found.verdict.notes and
             found.verdict.sentence.startswith("Refused: in block 3 a letter "), found.said)
+        odd, mild = bytearray(self.read("good.stl")), self.write("severity", b"others warning\n")
+        odd[11:12] = b"7"  # DSC: nothing of the file is judged then, nor beside it
+        for stl, more, word in ((self.file(3), [empty], "not judged"),
+                                (self.write("odd.stl", bytes(odd)), [self.pes], "not judged"),
+                                (self.path("odd.stl"), [], "waived"), (self.file(3), [], "waived")):
+            found = judged(self, stl, *more, *WORDS, "--severity", mild)
+            self.must(f"named warnings {stl} {more}", found.word == word and
+                      found.verdict.why_not == (None if word == "waived" else UNREAD), found.said)
         for stl, when in ((self.file(3), "check*--pes*--all*"), (self.stl, "show*")):
             found = judged(self, stl, self.pes, *WORDS, by=self.program_but(when, "exit 9"))
             self.must(f"{when}: not answered", found.word == "not judged", found.said)

@@ -357,26 +357,30 @@ class Parting(Case):
         """Each subtitle has to be in a part, once: of three parts, nine are."""
         nine = [subtitle(3 * part + at, 9 * part + at) for part in range(3) for at in range(3)]
         three = [(0, 3), (9, 12), (18, 21)]
-        for name, subtitles, parts, is_right in (
-                ("as they are", nine, three, True),
-                ("parts that adjoin", nine, [(0, 9), (9, 18), (18, 27)], True),
-                ("the last goes later", [*nine[:-1], replace(nine[-1], end=99)], three, True),
-                ("one more at an end", [*nine[:3], subtitle(9, 3), *nine[3:]], three, False),
-                ("one before all", nine, [(1, 3), (9, 12), (18, 21)], False),
-                ("one behind all", [*nine, subtitle(9, 21)], three, False),
-                ("one in two", nine, [(0, 10), (9, 12), (18, 21)], False),
-                ("one in two, one missing", nine, [(0, 10), (9, 12), (18, 20)], False),
-                ("another order", nine, three[::-1], False)):
+        one, two = (f"{count} of one.stl would be in no part, " for count in (
+            "1 subtitle", "2 subtitles"))
+        other = "the parts of one.stl would hold other subtitles than it has"
+        for name, subtitles, parts, wanted in (
+                ("as they are", nine, three, ""),
+                ("parts that adjoin", nine, [(0, 9), (9, 18), (18, 27)], ""),
+                ("the last goes later", [*nine[:-1], replace(nine[-1], end=99)], three, ""),
+                ("one more at an end", [*nine[:3], subtitle(9, 3), *nine[3:]], three, one),
+                ("one before all", nine, [(1, 3), (9, 12), (18, 21)], one),
+                ("one behind all", [*nine, subtitle(9, 21)], three, one),
+                ("two", nine, [(1, 3), (9, 12), (18, 20)], two),
+                ("one in two", nine, [(0, 10), (9, 12), (18, 21)], other),
+                ("one in two, one missing", nine, [(0, 10), (9, 12), (18, 20)], other),
+                ("another order", nine, three[::-1], other)):
             found = [self.FOUND._replace(begin=begin, end=end) for begin, end in parts]
             made = parted(found, self.FOUND, subtitles, [], None, 0)
             self.must(f"{name}: frames", [(one[:4], one.between) for one in made] == [
                 (one[:4], Between(*one[:2])) for one in found])
-            is_refused = False
+            reason = ""
             try:
                 refuse_others(made, subtitles, "one.stl")
-            except Unclear:
-                is_refused = True
-            self.must(name, is_refused != is_right)
+            except Unclear as unclear:
+                reason = unclear.reason
+            self.must(name, reason.startswith(wanted) and bool(reason) == bool(wanted), reason)
         whole = Found(2, 90, Clock(5, RECORDING))
         for one in (self.FOUND, self.FOUND._replace(begin=5, end=7)):
             self.must("a single one", parted([one], whole, nine, [], (1, 8), 0) == [

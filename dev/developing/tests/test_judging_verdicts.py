@@ -85,7 +85,9 @@ class Verdicts(Case):
             ("a", strict, "warned", f"{warned}: {good}", None),
             ("r", {**strict, "is_mild": True}, "warned", f"{warned}: waived: {content}", None),
             ("f", {**strict, "warnings": []}, "warned", f"not accepted, since warnings count "
-             f"(fitted): {good}", None), ("f", {}, "accepted", good, good)]
+             f"(fitted): {good}", None), ("f", {}, "accepted", good, good),
+            ("f", strict, "warned", "not accepted, since warnings count (pause, page, fitted): "
+             f"{good}", None)]
         for names, known, word, line, lead in rows:
             is_mild = known.get("is_mild", False)
             verdict = dataclasses.replace(verdict_of(
@@ -369,4 +371,5 @@ class Numbers(Case):
         found = [tuple(ends.get(index, NO_END)) for index in range(5)]
         self.must("ends", found == [("00:00:02:00", None), (None, 9), (None, None), (None, None),
                                     ("00:00:05:00", None)], found)
+        self.must("anew", answer.anew == {2, 3, 5}, answer.anew)
         self.must("marks", [*answer.marks[72]] == [(25, 50), (75, 75), (100, 125)], answer.marks)
