@@ -5,6 +5,7 @@ import dataclasses
 import itertools
 import os
 import re
+import subprocess
 from types import SimpleNamespace
 from typing import Any
 from unittest import mock
@@ -111,6 +112,14 @@ class Answers(Case):
                                   fault_of_line(one)])
                 self.assertEqual([begin for begin, _ in made.trusted],
                                  [150] * (TRUSTED in lines))
+
+    def test_nobody_hears(self) -> None:
+        """Whatever ends the hearing ends the program too, and is told."""
+        for error in (ValueError, BrokenPipeError, KeyboardInterrupt, SystemExit):
+            with mock.patch.object(subprocess.Popen, "kill") as kill:
+                with self.assertRaises(error):
+                    check(["echo", FIRST], Answer(self.path("list")), mock.Mock(side_effect=error))
+            kill.assert_called_once_with()
 
     def test_stopped(self) -> None:
         """Up to when it was told; what is accepted without a list; and where its file is then."""

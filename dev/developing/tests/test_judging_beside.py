@@ -233,9 +233,11 @@ class Beside(Case):
             found.verdict.sentence.startswith("Refused: in block 3 a letter "), found.said)
         odd, mild = bytearray(self.read("good.stl")), self.write("severity", b"others warning\n")
         odd[11:12] = b"7"  # DSC: nothing of the file is judged then, nor beside it
-        for stl, more, word in ((self.file(3), [empty], "not judged"),
-                                (self.write("odd.stl", bytes(odd)), [self.pes], "not judged"),
-                                (self.path("odd.stl"), [], "waived"), (self.file(3), [], "waived")):
+        rows: list[tuple[str, list[str], str]] = [
+            (self.file(3), [empty], "not judged"), (self.file(3), [], "waived"),
+            (self.write("odd.stl", bytes(odd)), [self.pes], "not judged"),
+            (self.path("odd.stl"), [], "waived")]
+        for stl, more, word in rows:
             found = judged(self, stl, *more, *WORDS, "--severity", mild)
             self.must(f"named warnings {stl} {more}", found.word == word and
                       found.verdict.why_not == (None if word == "waived" else UNREAD), found.said)

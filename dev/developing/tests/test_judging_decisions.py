@@ -8,6 +8,7 @@ import itertools
 import os
 from dataclasses import replace
 from typing import Callable
+from unittest import mock
 
 from developing.pes import pes_packet
 from developing.stl import gsi_block
@@ -17,9 +18,11 @@ from subtitles.clock.origin import Origin
 from subtitles.clock.start import Clock, Found, RECORDING, START
 from subtitles.common.times import Between, Span, TICKS
 from subtitles.formats.stl import Subtitle
+from subtitles.judging import part
 from subtitles.judging.part import parted, refuse_others
 from subtitles.judging.timing import unclear_origin, with_delay
-from subtitles.judging.verdict import frames_until
+from subtitles.judging.transmissions import DuePages
+from subtitles.judging.verdict import frames_in, frames_until
 from subtitles.recording.notices import of_page
 from subtitles.request.lines import of_folder, request_of_line
 from subtitles.request.request import Unclear
@@ -241,6 +244,11 @@ class Pages(Case):
             for is_complete, frames in ((True, wanted), (False, 0)):
                 found = frames_until(one, held.page_at(100), held, is_complete)
                 self.must(f"{closed} {is_complete}", found == frames, found)
+                due = DuePages([one], [held.page_at(100)])
+                for is_known in (False, True):  # that each is whole at once
+                    self.must(f"{closed} {is_complete}: each", frames_in(
+                        is_known, 1, held, lambda: due, is_complete) == [
+                            0 if is_known else frames])
 
     def test_closed(self) -> None:
         """The first frame from one on at whose end the page is not open."""
@@ -357,17 +365,17 @@ class Parting(Case):
         """Each subtitle has to be in a part, once: of three parts, nine are."""
         nine = [subtitle(3 * part + at, 9 * part + at) for part in range(3) for at in range(3)]
         three = [(0, 3), (9, 12), (18, 21)]
-        one, two = (f"{count} of one.stl would be in no part, " for count in (
+        left, both = (f"{count} of one.stl would be in no part, " for count in (
             "1 subtitle", "2 subtitles"))
         other = "the parts of one.stl would hold other subtitles than it has"
         for name, subtitles, parts, wanted in (
                 ("as they are", nine, three, ""),
                 ("parts that adjoin", nine, [(0, 9), (9, 18), (18, 27)], ""),
                 ("the last goes later", [*nine[:-1], replace(nine[-1], end=99)], three, ""),
-                ("one more at an end", [*nine[:3], subtitle(9, 3), *nine[3:]], three, one),
-                ("one before all", nine, [(1, 3), (9, 12), (18, 21)], one),
-                ("one behind all", [*nine, subtitle(9, 21)], three, one),
-                ("two", nine, [(1, 3), (9, 12), (18, 20)], two),
+                ("one more at an end", [*nine[:3], subtitle(9, 3), *nine[3:]], three, left),
+                ("one before all", nine, [(1, 3), (9, 12), (18, 21)], left),
+                ("one behind all", [*nine, subtitle(9, 21)], three, left),
+                ("two", nine, [(1, 3), (9, 12), (18, 20)], both),
                 ("one in two", nine, [(0, 10), (9, 12), (18, 21)], other),
                 ("one in two, one missing", nine, [(0, 10), (9, 12), (18, 20)], other),
                 ("another order", nine, three[::-1], other)):
@@ -385,3 +393,8 @@ class Parting(Case):
         for one in (self.FOUND, self.FOUND._replace(begin=5, end=7)):
             self.must("a single one", parted([one], whole, nine, [], (1, 8), 0) == [
                 whole._replace(clock=one.clock, packets=(3, 5))])
+        for packets, inside in ((None, (1, 8)), ((3, 5), (3, 5))):  # on several PID
+            with mock.patch.object(part, "found_on", lambda found, *_: [found]):
+                made = parted([self.FOUND._replace(packets=packets)] * 2, whole, nine, [mock.Mock()],
+                              (1, 8), 0)
+            self.must(f"{packets}", [one.packets for one in made] == [inside] * 2, made)

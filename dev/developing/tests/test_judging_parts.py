@@ -14,6 +14,7 @@ from subtitles.formats.listing import NOT_SHOWN, NamedFault, PICTURES_LEFT
 from subtitles.judging import pair
 from subtitles.judging.pages import HIDDEN, HiddenRows
 from subtitles.judging.timing import PicturesFound, origin_in
+from subtitles.recording import notices
 from subtitles.recording.notices import Notice
 from .bench import example
 from .judged import FEW, Judged, OfProgramme, judged
@@ -174,13 +175,16 @@ class Parts(OfProgramme):
                 "hidden_rows": lambda *_: HiddenRows([hidden], [told])}
             with mock.patch.multiple(pair, **made), \
                     mock.patch.object(pair, "refuse_elsewhere") as elsewhere, \
-                    mock.patch.object(pair.notices, "of_pauses", pauses):
+                    mock.patch.object(notices, "of_pauses", pauses):
                 found = self.judge_parts((1000, 3000), {3: 2})
             self.must(f"{own}: elsewhere", elsewhere.call_args.args[2:] == (
                 pts_of(100, ORIGIN), pts_of(2460, ORIGIN + 3000 * TICKS)), elsewhere.call_args)
             named, warnings = found.verdict.named, found.verdict.warnings
             self.must(f"{own}", named == [hidden, *(left(0, 0, 0, 0, number).faults[0]
                                                     for number in own)], named)
+            self.must(f"{own}: lists", [one.names.list_path.split("/")[-1] for one in
+                                        found.verdict.parts] == ["one.1.txt", "one.2.txt",
+                                                                 "one.3.txt"])
             self.must(f"{own}: counted", found.verdict.faults == 2 + len(own))
             self.must(f"{own}: warnings", told in warnings and [
                 one.line for one in warnings if one.kind == "pause"] == ["1", "2", "3"], warnings)

@@ -6,9 +6,11 @@ import dataclasses
 import itertools
 from types import SimpleNamespace
 from typing import Any, Sequence
+from unittest import mock
 
 from developing.pes import pes_packet
 from subtitles.clock.start import Clock, Found, GIVEN, RECORDING
+from subtitles.common.files import SummedFile
 from subtitles.common.program import MadeWith
 from subtitles.common.times import CLOCK, TICKS, time_of
 from subtitles.formats.listing import NEVER_SENT, NamedFault, PICTURES_LEFT
@@ -303,6 +305,12 @@ class Read(Case):
             part = part_with(0, 9, 0, said, packets=packets, pes=pes)
             self.must(f"{count} {pes} {lines}", part.is_read() == wanted)
 
+        lines = [f"refused {refused}", trusted, "1 faults"]
+        for first, last in ((900_000, 900_024), (900_000, 900_049)):  # of 50 that may be trusted
+            part = part_with(900_000, 900_050, 0, answer(lines), pes=(0, 1), places=[
+                place_of(first - 1, last + 2, missing=9)])
+            self.must(f"a hole from {first} to {last}", part.is_read() == (last < 900_049))
+
     def test_headers(self) -> None:
         """Those of its own PES packets: each that is heard, as often as it was sent; and the
         national options of all, but for the one that is reserved."""
@@ -326,6 +334,17 @@ class Read(Case):
         held = answered_part(PartPace(PartRange(frames, (1, 2)), asked), answer(),
                              nothing_due).held
         self.must("two", held and [*held.frames] == [20, 30], held and held.frames)
+        paced, said, known = asked_for("a.stl", "a.pes", "--pace", "2"), answer(), SummedFile("a", 9, "")
+        part = answered_part(PartPace(PartRange(frames._replace(number=3, left_out={4}), (1, 2),
+                                                known), paced, [(5, 6)]), said, nothing_due)
+        self.must("as it was asked", (
+            part.number, part.request, part.names, part.answer, part.alignment, part.recording,
+            part.left_out, part.pes, part.judged, part.jumps, part.due) == (
+            3, paced, frames.names, said, frames.alignment, recording, {4}, (1, 2), known,
+            [(5, 6)], nothing_due), part)
+        with mock.patch("subtitles.judging.part.SubtitleFile") as file:
+            part.subtitle_file()
+        file.assert_called_once_with("", paced.between, {4})
 
     def test_passed_over(self) -> None:
         """Runs of PES packets that were passed over: one that ends is a run up to there, if it is

@@ -14,8 +14,8 @@ from developing.pes import packet, pes_packet, pts_in
 from subtitles.clock.start import Clock, Found, RECORDING
 from subtitles.common.times import Between, CLOCK, TICKS
 from subtitles.formats.stl import Subtitle
-from subtitles.judging import pair
-from subtitles.judging.part import found_on, moves_told
+from subtitles.judging.part import found_on, linked, moves_told
+from subtitles.recording import notices
 from subtitles.recording.notices import Notice
 from subtitles.recording.recording import silent_in
 from subtitles.stream.gaps import why_refused
@@ -242,7 +242,7 @@ class Moves(OfProgramme):
         pes = [*self.pes[:4], bare, *self.pes[4:]]
         for plan in ([(0, OLD)], [(0, OLD), (20, NEW)], [(0, OLD), (20, NEW), (30, OLD)]):
             pids = [pid for _, pid in plan]
-            with mock.patch.multiple(pair.notices, of_tables=lambda _, pid, asked: [
+            with mock.patch.multiple(notices, of_tables=lambda _, pid, asked: [
                     Notice("page", f"{pid}", None)], **{
                         name: told(kind) for name, kind in kinds.items()}):
                 found = self.judge_stream(in_turn(pes, plan), "--origin", "0")
@@ -333,6 +333,17 @@ class Pieces(Case):
                 self.must(f"{name}, {len(several)}", made == wanted, made)
             self.must(f"{name}: each", all(any(Between(*one[3]).has(each.begin) for one in made)
                                            for each in own))
+
+    def test_linked(self) -> None:
+        """Each with the PIDs beside it; the first begins and the last ends as all of them do."""
+        clock, pids = Clock(0, RECORDING), (OLD, NEW, THIRD)
+        parts = [Found(at, at + 9, clock, None, Between(at, at + 10), Stage(Packets(pid), (0, 9)))
+                 for at, pid in zip((10, 20, 30), pids)]
+        made = [linked(parts, place, Found(5, 99, clock)) for place in range(3)]
+        self.must("three", [(one.begin, one.end, one.between, one.came, one.goes)
+                            for one in made] == [
+            (5, 19, (5, 20), None, NEW), (20, 29, (20, 30), OLD, THIRD),
+            (30, 99, (30, 99), NEW, None)], made)
 
     def test_told(self) -> None:
         """Where one ends and the next begins: apart, or where both carry the page; not over a
