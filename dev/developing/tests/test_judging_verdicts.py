@@ -20,8 +20,7 @@ from subtitles.judging.part import (
 from subtitles.judging.status import Severity
 from subtitles.judging.subtitles import Counts, JudgedBeside
 from subtitles.judging.verdict import (
-    Gap, MOVED, Spread, Unjudged, Verdict, counts_of_numbers, gap_of, gaps_in, gaps_of, lacks,
-    spread_of)
+    Gap, MOVED, Spread, Unjudged, Verdict, counts_of_numbers, gap_of, gaps_in, gaps_of, spread_of)
 from subtitles.recording.notices import Notice
 from subtitles.request.commands import Names
 from subtitles.results.schema import Writing, trusted_of
@@ -213,20 +212,6 @@ class Verdicts(Case):
                 found = gap_of(place, origin, True)
                 self.must(f"{words} {origin}", found.line() == f"{words}: 3 TS packets lost" and
                           found.is_judged and found.place is place, found)
-
-    def test_what_is_lost(self) -> None:
-        """A part lacks something where `check` told it, or something is missing at a first place or
-        a second."""
-        inside, outside = (Place(TICKS * at, TICKS * (at + 1), missing=9) for at in (150, 250))
-        lost, silent = (answer([f"refused {told}", "1 faults"]) for told in (
-            "45 Lost pes 3", "79 Silent frame 00:00:05:00"))
-        rows: list[tuple[Answer, list[Place], bool]] = [
-            (answer(REFUSED), [], False), (answer(REFUSED), [inside], True),
-            (answer(REFUSED), [outside], False), (answer(REFUSED), [outside, inside], True),
-            (lost, [], True), (silent, [], True)]
-        for said, places, wanted in rows:
-            part = part_with(100, 199, 0, said, pes=(0, 9))
-            self.must(f"{said.numbers} {places}", lacks(part, places) == wanted)
 
     def test_trusted(self) -> None:
         """Of each part, in the result as on its page, without the frames of a hole that the PCR

@@ -34,7 +34,7 @@ from .subtitles import beside_of, due_beside, is_judged_beside, title_words
 from .timing import (
     NO_CLOCK, PartClocks, PartSearch, cut_part, given_clock, left_by_pictures, paced_part, parts_of)
 from .transmissions import DuePages, due_pages_of, kept_in, subtitles_in
-from .verdict import MOVED, Verdict, frames_in, gaps_in, lacks, unsent_in
+from .verdict import MOVED, Verdict, frames_in, gaps_in, unsent_in
 
 
 # Why `check` refuses a part, and what else follows of its answer.
@@ -56,8 +56,7 @@ class Explainer(NamedTuple):
             tell_causes(self.listener, causes, self.programme.request.option)
         part = dataclasses.replace(part, explanation=Explanation(
             causes, otherwise=self.otherwise(part, causes) if causes else ""))
-        part = with_more(part, delays=self.delays(part), is_lost=lacks(part, part.places()),
-                         was_read=part.is_read())
+        part = with_more(part, delays=self.delays(part), was_read=part.is_read())
         if CONTROL in part.answer.numbers and not part.request.may_keep:
             part = with_more(part, kept=kept_in(part.headers_sent(), part.request.option))
         if OF_HEADERS & part.answer.numbers:

@@ -68,16 +68,15 @@ class PartPace(NamedTuple):
 @dataclasses.dataclass(frozen=True)
 class Explanation:
     """What follows of what `check` said of a part: why its content is refused, and after how many
-    frames each subtitle was whole. `was_read`: something of its recording, or it has none;
-    `is_lost`: something of what was sent is. Of what is told first `hint` is what to know of it,
-    and `sent_hint` of the first of its transmission; `of_header` is what is wrong with its PES
-    headers, `otherwise` what is drawn otherwise where letters are right, and `kept` how many
-    headers keep the page, where they are refused for nothing else."""
+    frames each subtitle was whole. `was_read`: something of its recording, or it has none. Of what
+    is told first `hint` is what to know of it, and `sent_hint` of the first of its transmission;
+    `of_header` is what is wrong with its PES headers, `otherwise` what is drawn otherwise where
+    letters are right, and `kept` how many headers keep the page, where they are refused for
+    nothing else."""
 
     causes: Causes | None = None
     delays: Sequence[int | None] = ()
     was_read: bool = False
-    is_lost: bool = False
     hint: str = ""
     sent_hint: str = ""
     of_header: str = ""

@@ -9,7 +9,7 @@ from ..clock.start import FITTED, FITTED_LATER
 from ..common.command_line import range_words
 from ..common.files import SummedFile
 from ..common.times import FRAMES_OF_A_DAY, frame_in, pts_of, time_of
-from ..formats.listing import LOSSES, NamedFault, STL_FAULTS, UNDECIDED
+from ..formats.listing import NamedFault, STL_FAULTS, UNDECIDED
 from ..formats.stl import Subtitle
 from ..recording.notices import Notice
 from ..recording.recording import Recording
@@ -407,11 +407,6 @@ def is_in_move(place: Place, part: Part) -> bool:
     alignment = part.alignment
     return bool(alignment and alignment.stage and alignment.goes is not None and place.mark is None
                 and place.before == alignment.stage.last())
-
-
-def lacks(part: Part, places: Sequence[Place]) -> bool:
-    """Whether something of a part is lost, by what `check` told or by what is missing there."""
-    return bool(LOSSES & part.answer.numbers) or any(is_in(place, part) for place in places)
 
 
 def place_time(pts: int | None, origin: int) -> str | None:
