@@ -21,14 +21,17 @@ from subtitles.formats.listing import fault_of_line
 from subtitles.formats.stl import SubtitleFile
 from subtitles.formats.teletext import OPTIONS, has_characters
 from subtitles.judging import subtitles
+from subtitles.judging.pair import Pair
 from subtitles.judging.subtitles import Counts, beside_of, due_beside, is_judged_beside
+from subtitles.request.commands import Names
 from subtitles.results.files import row_of_object
 from .bench import Case, example_bytes
 from .judged import Judged, judged
-from .parts import fault_of
+from .parts import answer, fault_of
 from .sent import Shown, joined, late, moved, packets, sendings, times
 from .test_judging_pairs import UNREAD, broken
 from .test_judging_reasons import KEEPING_HEADER
+from .test_judging_verdicts import verdict_of
 
 
 # Beside refused subtitles the others are judged, where the program does so: by one that stands in
@@ -260,6 +263,14 @@ class Beside(Case):
             found = beside_of(file, faults, "english")
         self.must("once", len(found.judged) == 758 and asked.call_count <= 759 * len(OPTIONS),
                   asked.call_count)
+        names, verdict, nothing = Names("many", self.folder, None), verdict_of([]), mock.Mock()
+        names.give(self.path("many.stl"))
+        told = Pair(verdict, nothing, names, nothing, False).take_beside(answer(
+            [*(one.line for one in faults), "refused 60 Empty", "43 faults"],
+            path=self.path("all.txt")))
+        self.must("all are left out", verdict.beside and len(verdict.beside.judged) == 758 and
+                  verdict.beside.left_out == found.left_out, verdict.beside)
+        self.must("of the file", (told.count, told.numbers, told.last) == (42, {50}, "42 faults"))
         self.must("lines", [*found.lines()][40:] == ["undecided: 2 more subtitles"])
 
 
