@@ -219,6 +219,12 @@ class Fitted(Case):
             self.must(words, with_delay(Clock(5, START), origin)[1] ==
                       [f"{words} subtitles are 1 frame late"])
 
+    def test_question(self) -> None:
+        """A delay of just as long as from the first picture to another one asks which it was."""
+        for away, is_asked in ((TICKS, True), (TICKS + 5, False), (2 * TICKS, False)):
+            said = with_delay(Clock(5, START, away=1), Origin(0, away=away, printed=["one"]))[1]
+            self.must(f"{away}", bool(said[1:]) == is_asked, said)
+
     def test_not_clear(self) -> None:
         """With several runs, or other breaks than were said, the lines alone are the reason."""
         for runs, breaks, is_alone in ((0, None, False), (2, None, True), (0, 0, True),
@@ -395,6 +401,6 @@ class Parting(Case):
                 whole._replace(clock=one.clock, packets=(3, 5))])
         for packets, inside in ((None, (1, 8)), ((3, 5), (3, 5))):  # on several PID
             with mock.patch.object(part, "found_on", lambda found, *_: [found]):
-                made = parted([self.FOUND._replace(packets=packets)] * 2, whole, nine, [mock.Mock()],
-                              (1, 8), 0)
+                made = parted([self.FOUND._replace(packets=packets)] * 2, whole, nine,
+                              [mock.Mock()], (1, 8), 0)
             self.must(f"{packets}", [one.packets for one in made] == [inside] * 2, made)

@@ -3,16 +3,25 @@ what is said; of each what the JSON result has.
 """
 from __future__ import annotations
 
+import itertools
 from typing import Sequence
+from unittest import mock
 
 from developing.pes import DATA, MARK, UNIT, mirrored, pes_packet, pts_bytes, pts_in
-from subtitles.common.times import CLOCK, TICKS, time_of
-from .bench import example, example_bytes
+from subtitles.clock.start import Clock, Found, GIVEN
+from subtitles.common.times import ALL_DAY, Between, CLOCK, TICKS, time_of
+from subtitles.judging import pair
+from subtitles.judging.pair import Pair
+from subtitles.recording.notices import Notice
+from subtitles.request.commands import CommandWords, Names
+from .bench import Case, example, example_bytes
 from .judged import FEW, OfProgramme, judged
+from .parts import asked_for, part_with
 from .results import agrees
 from .sent import (
     ORIGIN, Sent, joined, one_late, packets, programme, random_subtitles, subtitle_file,
     times)
+from .test_judging_verdicts import verdict_of
 
 STORY, HELLO, ACCENT = example("story.stl"), example("hello.stl"), example("accent.stl")
 UNREAD = "nothing of the recording was read, and --severity leaves no fault an error"
@@ -108,6 +117,73 @@ class Unread(OfProgramme):
             self.must(f"{words} {severity}: result", (found.result["line"] is None) == is_unread
                       and found.result["faults"] and found.result["reason"] ==
                       (UNREAD if is_unread else None), found.result)
+
+
+class Steps(Case):
+    """What the steps of a pair hand on."""
+
+    def pair(self, *words: str, count: int = 0) -> Pair:
+        """A pair with parts that were judged."""
+        verdict, nothing = verdict_of([part_with(0, 9, 0, number=number)
+                                       for number in range(1, count + 1)]), mock.Mock()
+        verdict.request = asked_for("one.stl", "one.pes", *words)
+        return Pair(verdict, CommandWords("tools/qc", self.bench.program), Names(
+            "one", "", None), nothing, False)
+
+    def test_parts(self) -> None:
+        """Each part has its number, its subtitles, its files; one alone those of the pair. Of
+        several, also of two, each subtitle has to be in one."""
+        found = [Found(at, at + 9, Clock(0, GIVEN), None, Between(at, at + 10))
+                 for at in (10, 20, 30)]
+        for count in (1, 2, 3):
+            one, recording, programme = self.pair("--every", "30"), mock.Mock(), mock.Mock()
+            with mock.patch.object(pair, "parted", return_value=found[:count]), \
+                    mock.patch.object(pair, "refuse_others") as refuse:
+                made = one.parts_in(recording, found, programme, [])
+            self.must(f"{count}: refused", refuse.call_args_list == [
+                mock.call(found[:count], [], "one.stl")] * (count > 1))
+            self.must(f"{count}", [(part.number, part.names.name, part.alignment, part.recording)
+                                   for part in made] == [
+                (number, f"one.{number}" if count > 1 else "one", alignment, recording)
+                for number, alignment in enumerate(found[:count], 1)], made)
+            self.must(f"{count}: subtitles", [(part.request.between, part.request.every)
+                                              for part in made] == (
+                [(alignment.between, 30) for alignment in found[:count]] if count > 1
+                else [(ALL_DAY, 30)]), made)
+
+    def test_due(self) -> None:
+        """What is due is asked with the options of the part."""
+        of_part = asked_for("one.stl", "one.pes", *"--page 150 --option german --from 00:00:01:00 "
+                            "--to 00:00:02:00 --layout double".split())
+        with mock.patch.object(pair, "due_pages_of") as due:
+            self.pair().due_of(of_part, [])
+        due.assert_called_once_with(self.bench.program, "", [], (1, 0x50), "german", Between(25, 50),
+                                    of_part.words_of_pages())
+
+    def test_at_the_end(self) -> None:
+        """That a recording grew is told once, and nothing twice; of a feed what the last part
+        lacks, where neither a break nor a delay tells why."""
+        grew, other = Notice("grew", "grew", None), Notice("pause", "odd", None)
+        for known, strange, wanted in (([], [], []), ([other], [other], [other]),
+                                       ([other], [other, grew], [other, grew]),
+                                       ([grew], [grew], [grew])):
+            one = self.pair(count=2)
+            one.verdict.warnings = [*known]
+            recording = mock.Mock(is_cut=False, strange=lambda strange=strange: strange)
+            with mock.patch.object(pair, "gaps_in", return_value=["gap"]):
+                one.tell_losses(recording, False)
+            self.must(f"{known} {strange}", one.verdict.warnings == wanted and
+                      one.verdict.gaps == ["gap"], one.verdict.warnings)
+        for is_cut, words, is_shifted in itertools.product((True, False), ((), ("--breaks", "1")),
+                                                           (True, False)):
+            one, recording = self.pair(*words, count=3), mock.Mock(is_cut=is_cut, strange=list)
+            with mock.patch.object(pair, "gaps_in", return_value=[]), \
+                    mock.patch.object(pair, "unsent_in", lambda part: [f"{part.number}"]):
+                one.tell_losses(recording, is_shifted)
+            is_told = is_cut and not words and not is_shifted
+            self.must(f"{is_cut} {words} {is_shifted}", mock.call("3") in
+                      one.listener.noted.mock_calls if is_told else  # type: ignore[attr-defined]
+                      not one.listener.noted.mock_calls)  # type: ignore[attr-defined]
 
 
 class Said(OfProgramme):

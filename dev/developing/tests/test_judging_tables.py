@@ -22,10 +22,9 @@ from subtitles.judging import timing
 from subtitles.judging.pages import (
     ATTRIBUTES, attribute_words, beside_words, code_words, is_moved, is_part, moved_words,
     page_text, words_on)
-from subtitles.judging.part import PartFrames
 from subtitles.judging.subtitles import OptionAdvice
 from subtitles.judging.timing import (
-    PartSearch, cut_part, cut_within, found_in, left_by_pictures, run_of, search_in)
+    PartSearch, cut_within, found_in, left_by_pictures, run_of, search_in)
 from subtitles.judging.transmissions import control_words
 from subtitles.recording.notices import (
     Notice, count_notices, length_words, of_character_sets, of_jumps, of_pauses, of_repeat,
@@ -90,29 +89,6 @@ class Clocks(unittest.TestCase):
             for packets, inside in ((None, (2, 8)), ((4, 5), (4, 5))):
                 cut_within(programme, recording, programme.whole._replace(packets=packets), 6)
                 self.assertEqual(cut.call_args.args, ("packets", 3, 9, 7, 30, 6, inside))
-
-    def test_cut(self) -> None:
-        """What is taken is chosen, or nothing is judged; where reading ended before that is said,
-        unless all that may be taken had come."""
-        programme = PartSearch(asked_for("a.stl", "a.pes"), Found(3, 9, Clock(7, GIVEN)), None)
-        for own, damage, is_over in itertools.product(((2, 5), None), ("PES packet 6 is odd", None),
-                                                      (False, True)):
-            recording: Any = SimpleNamespace(packets=SimpleNamespace(damage=damage), shown="a.pes",
-                                             again=lambda *words: " ".join(words))
-            part = PartFrames(3, programme.request, Names("a", "", None), programme.whole, recording)
-            cut, listener, reason = Cut(own, 50, 3, 9, is_over=is_over), mock.Mock(), ""
-            with mock.patch.object(timing, "cut_within", return_value=cut):
-                try:
-                    self.assertEqual(cut_part(programme, part, listener), own)
-                except Unclear as unclear:
-                    reason = unclear.reason
-            line = f"cut: {cut.words()}"
-            self.assertEqual([one.args for one in listener.chosen.call_args_list], [
-                (Selection("pes", "2-5", line, 4, 50, 3),)] * (own is not None))
-            self.assertEqual([one.args[0] for one in listener.said.call_args_list], [
-                *[line] * (own is None), *[f"cut: a.pes: {damage}; it was read up to there"] * (
-                    damage is not None and not is_over)], (own, damage, is_over))
-            self.assertEqual(reason[:23], "nothing of the page is " * (own is None))
 
     def test_pictures(self) -> None:
         """Each video of each programme with the Teletext leaves it, and no other one: what is wrong

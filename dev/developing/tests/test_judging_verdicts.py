@@ -129,6 +129,9 @@ class Verdicts(Case):
                         for at, one in enumerate((False, True, False, True, True))]
         self.must("judged", verdict.sentence.startswith(
             "Not accepted: between 1 and 9: 1 lost, and in 2 more places;"), verdict.sentence)
+        alone = verdict.of_part(verdict.parts[1], verdict.gaps[3:4])
+        self.must("of a part", (alone.parts, alone.gaps) == (verdict.parts[1:2], verdict.gaps[3:4])
+                  and "and in" not in alone.sentence, alone.sentence)
 
     def test_places_of_a_part(self) -> None:
         """A mark that is judged with it; where none stands each hole that one of its frames may be
@@ -319,7 +322,8 @@ class Read(Case):
         held = answered_part(PartPace(PartRange(frames, (1, 2)), asked), answer(),
                              nothing_due).held
         self.must("two", held and [*held.frames] == [20, 30], held and held.frames)
-        paced, said, known = asked_for("a.stl", "a.pes", "--pace", "2"), answer(), SummedFile("a", 9, "")
+        paced, said = asked_for("a.stl", "a.pes", "--pace", "2"), answer()
+        known = SummedFile("a", 9, "")
         part = answered_part(PartPace(PartRange(frames._replace(number=3, left_out={4}), (1, 2),
                                                 known), paced, [(5, 6)]), said, nothing_due)
         self.must("as it was asked", (
