@@ -3,6 +3,7 @@ is of; and a note says where none is."""
 from __future__ import annotations
 
 import itertools
+import os
 import unittest
 from types import SimpleNamespace
 from typing import Any
@@ -15,7 +16,7 @@ from subtitles.common.times import TICKS
 from subtitles.judging import timing
 from subtitles.judging.part import PartFrames, PartRange
 from subtitles.judging.timing import (
-    PartSearch, UNCHECKED, cut_part, paced_part, parts_of, unseen_words)
+    PartSearch, UNCHECKED, cut_part, last_time, measured_pace, paced_part, parts_of, unseen_words)
 from subtitles.request.commands import Names
 from subtitles.request.request import Selection, Unclear
 from subtitles.stream.gaps import BY_EVERY, IRREGULAR, Pace, REGULAR, TOO_FEW
@@ -218,8 +219,8 @@ class Taken(unittest.TestCase):
         is noted once, or said by what was chosen."""
         kinds = {"regular": Pace(REGULAR, 1, 3, 0, 9), "closer": Pace(REGULAR, 1, 3, 2, 9),
                  "few": Pace(TOO_FEW), "every": Pace(BY_EVERY)}
-        silent = "there is no PCR of the programme of PID 0x101: a hole that its counter does not " \
-            "show, as one of 16 TS packets, can't be seen"
+        silent = "there is no PCR of the programme of PID 0x101: a hole that its counter does " \
+            "not show, as one of 16 TS packets, can't be seen"
         notes = {"closer": f"{UNCHECKED} up to 0.08 s of this PID alone is missing, at 2 places "
                  "where its PES packets come closer",
                  "few": f"{UNCHECKED} some of this PID alone is missing: its PES packets are too "
@@ -249,6 +250,25 @@ class Taken(unittest.TestCase):
                 ("2", 4, {})] * is_asked or [(None, 4, {"is_said": False})] * (
                     word is None and bool(said)))
 
+    def test_measured(self) -> None:
+        """By the frames of the PES packets that are judged, and the size of a file of these."""
+        asked = asked_for("a.stl", "a.ts", *"--every 40 --within 3".split())
+        for is_stream in (True, False):
+            recording: Any = SimpleNamespace(is_stream=is_stream, packets="all", path=__file__)
+            part = PartRange(PartFrames(4, asked, Names("a", "", None), Found(
+                3, 9, Clock(7, GIVEN)), recording), (2, 9))
+            with mock.patch.multiple(timing, **{name: mock.Mock(return_value=name) for name in (
+                    "frame_rows", "each_of", "pace_of", "unseen_from", "pauses_of")}):
+                self.assertEqual(measured_pace(part, [(1, 2)]), ("pace_of", "unseen_from"))
+                calls: Any = timing
+                size = None if is_stream else os.path.getsize(__file__)
+                calls.frame_rows.assert_called_once_with("all", (2, 9), 7, 3)
+                calls.each_of.assert_called_once_with("all", (2, 9), size)
+                calls.pauses_of.assert_called_once_with([(1, 2)])
+                calls.pace_of.assert_called_once_with("frame_rows", "each_of", 40, "pauses_of",
+                                                      is_stream)
+                calls.unseen_from.assert_called_once_with("frame_rows", "each_of")
+
     def test_unseen(self) -> None:
         """From how long on a hole may be unseen, to tenths of a second."""
         recording: Any = SimpleNamespace(is_stream=True, packets=SimpleNamespace(pid=5),
@@ -269,3 +289,17 @@ class Taken(unittest.TestCase):
                 found = parts_of(programme, recording, listener)
             self.assertEqual((found.is_shifted, listener.noted.call_args), (
                 bool(shifts), mock.call(*shifts)))
+
+    def test_near(self) -> None:
+        """Of a feed what comes 250 frames before and behind, or as many as the repeat bound, and as
+        late as pages may be; not from before the day, nor behind it."""
+        packets: Any = SimpleNamespace(bases=lambda: [range(0, 9), range(9, 20)])
+        for first, last, words, wanted in (
+                (5000, 6000, "--every 400 --within 3", (4597, 6403)),
+                (5000, 6000, "--every 100 --within 3", (4747, 6253)),
+                (100, 2_159_900, "--every 100", (0, 2_159_999))):
+            asked = asked_for("a.stl", "a.ts", *words.split())
+            with mock.patch.object(timing, "cut_of", return_value=Cut((9, 10), 20)) as cut:
+                found = last_time(packets, Found(first, last, Clock(7, GIVEN)), asked)
+            self.assertEqual((found, cut.call_args.args[1:]), (
+                (9, 10), (*wanted, 7, None, asked.within, (9, 19))), words)

@@ -10,9 +10,10 @@ from unittest import mock
 from developing.pes import DATA, MARK, UNIT, mirrored, pes_packet, pts_bytes, pts_in
 from subtitles.clock.start import Clock, Found, GIVEN
 from subtitles.common.times import ALL_DAY, Between, CLOCK, TICKS, time_of
+from subtitles.formats.listing import NEVER_SENT, NOT_SHOWN, NamedFault
 from subtitles.judging import pair
 from subtitles.judging.pair import Pair
-from subtitles.recording.notices import Notice
+from subtitles.recording.notices import NeverSent, Notice
 from subtitles.request.commands import CommandWords, Names
 from .bench import Case, example, example_bytes
 from .judged import FEW, OfProgramme, judged
@@ -157,8 +158,21 @@ class Steps(Case):
                             "--to 00:00:02:00 --layout double".split())
         with mock.patch.object(pair, "due_pages_of") as due:
             self.pair().due_of(of_part, [])
-        due.assert_called_once_with(self.bench.program, "", [], (1, 0x50), "german", Between(25, 50),
-                                    of_part.words_of_pages())
+        due.assert_called_once_with(self.bench.program, "", [], (1, 0x50), "german",
+                                    Between(25, 50), of_part.words_of_pages())
+
+    def test_never_sent(self) -> None:
+        """A page that is never sent is a fault beside those that are known, and what there is of
+        the recording is said."""
+        hidden, never = NamedFault(NOT_SHOWN, "hidden"), NamedFault(NEVER_SENT, "never")
+        one, recording = self.pair(), mock.Mock()
+        recording.survey.lines.return_value = ["one", "two"]
+        one.verdict.named, one.recording = [hidden], recording
+        with one.naming_faults():
+            raise NeverSent("never")
+        self.must("both", one.verdict.named == [hidden, never] and
+                  one.verdict.recording is recording.file, one.verdict.named)
+        one.listener.said.assert_has_calls([mock.call("one"), mock.call("two")])  # type: ignore
 
     def test_at_the_end(self) -> None:
         """That a recording grew is told once, and nothing twice; of a feed what the last part

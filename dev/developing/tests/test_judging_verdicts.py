@@ -12,11 +12,12 @@ from developing.pes import pes_packet
 from subtitles.clock.start import Clock, Found, GIVEN, RECORDING
 from subtitles.common.files import SummedFile
 from subtitles.common.program import MadeWith
-from subtitles.common.times import CLOCK, TICKS, time_of
+from subtitles.common.times import CLOCK, Span, TICKS, time_of
 from subtitles.formats.listing import NEVER_SENT, NamedFault, PICTURES_LEFT
 from subtitles.judging.check import Answer, NO_END
 from subtitles.judging.part import (
-    Explanation, Part, PartFrames, PartPace, PartRange, answered_part, is_in, nothing_due)
+    Explanation, Part, PartFrames, PartPace, PartRange, answered_part, is_in, nothing_due,
+    part_causes)
 from subtitles.judging.status import Severity
 from subtitles.judging.subtitles import Counts, JudgedBeside
 from subtitles.judging.verdict import (
@@ -88,7 +89,9 @@ class Verdicts(Case):
             ("f", {**strict, "warnings": []}, "warned", f"not accepted, since warnings count "
              f"(fitted): {good}", None), ("f", {}, "accepted", good, good),
             ("f", strict, "warned", "not accepted, since warnings count (pause, page, fitted): "
-             f"{good}", None)]
+             f"{good}", None),
+            ("af", {**strict, "warnings": []}, "warned", "not accepted, since warnings count "
+             "(fitted): accepted 20 frames 4 transmissions in 2 parts", None)]
         for names, known, word, line, lead in rows:
             is_mild = known.get("is_mild", False)
             verdict = dataclasses.replace(verdict_of(
@@ -129,6 +132,10 @@ class Verdicts(Case):
                         for at, one in enumerate((False, True, False, True, True))]
         self.must("judged", verdict.sentence.startswith(
             "Not accepted: between 1 and 9: 1 lost, and in 2 more places;"), verdict.sentence)
+        refused = dataclasses.replace(verdict_of(self.three(0)), named=[
+            NamedFault(NEVER_SENT, "nothing was sent")])
+        self.must("a name", refused.sentence == "Refused: nothing was sent; in all 2 faults.",
+                  refused.sentence)
         alone = verdict.of_part(verdict.parts[1], verdict.gaps[3:4])
         self.must("of a part", (alone.parts, alone.gaps) == (verdict.parts[1:2], verdict.gaps[3:4])
                   and "and in" not in alone.sentence, alone.sentence)
@@ -173,10 +180,11 @@ class Verdicts(Case):
     def test_moves(self) -> None:
         """What is missing on two PIDs: in the part of each, and where the page goes from the one to
         the other, which is told once; of what is before the first PES packet there by a mark alone,
-        and of what is in no part nothing."""
+        on the first PID by any; and of what is in no part nothing."""
         stage = Stage(Packets(5, [Run(0, 100, 0, TICKS, "h", "")]), (0, 99))
         known: list[tuple[Found, list[tuple[int | None, int | None]]]] = [
-            (Found(10, 99, Clock(0, GIVEN), stage=stage, goes=6), [(2, 5), (50, 60), (99, None)]),
+            (Found(10, 99, Clock(0, GIVEN), stage=stage, goes=6), [
+                (None, 12), (2, 5), (50, 60), (99, None)]),
             (Found(120, 200, Clock(0, GIVEN), stage=stage, came=5), [
                 (None, 125), (130, 140), (300, 310)])]
         of_mark: list[tuple[str | None, str | None]] = [(None, time_of(125))]
@@ -186,9 +194,9 @@ class Verdicts(Case):
                 for alignment, several in known]
             recording: Any = SimpleNamespace(stages=[stage])
             found = [(gap.after, gap.before) for gap in gaps_in(recording, parts) if gap.is_judged]
-            self.must(f"{mark}", found == [(time_of(50), time_of(60)), (time_of(99), time_of(120)),
-                                           *of_mark * (mark is not None),
-                                           (time_of(130), time_of(140))], found)
+            self.must(f"{mark}", found == [
+                (None, time_of(12)), (time_of(50), time_of(60)), (time_of(99), time_of(120)),
+                *of_mark * (mark is not None), (time_of(130), time_of(140))], found)
 
     def test_clocks_of_losses(self) -> None:
         """A loss has the times of its part; one that is in none those of the first."""
@@ -243,7 +251,7 @@ class Verdicts(Case):
         self.must("each", counts == [(72, "Content", 1), (38, "UnitLength", 2)], counts)
         self.must("in all", verdict.faults == 6, verdict.faults)
         self.must("subtitles", verdict.counts == Counts(0, 0), verdict.counts)
-        verdict.beside = JudgedBeside([], [], frozenset({4, 5}))
+        verdict.beside, verdict.count = JudgedBeside([], [], frozenset({4, 5})), 2
         self.must("beside", verdict.counts == Counts(0, 2), verdict.counts)
         letter = answer(["refused 50 Character block 1 at 4", "1 faults"])
         self.must("a file", verdict_of([*self.three(), part_with(0, 9, 0, letter)]).counts is None)
@@ -335,6 +343,28 @@ class Read(Case):
             part.subtitle_file()
         file.assert_called_once_with("", paced.between, {4})
 
+    def test_what_tells_causes(self) -> None:
+        """What is held around the frames, but for all that is lost of a stream; what never came is
+        known where the recording was read to its end."""
+        places = [Place(TICKS * at, TICKS * (at + 9), missing=9) for at in (120, 150)]
+        for refusal, is_stream in itertools.product((None, 31), (True, False)):
+            recording: Any = SimpleNamespace(
+                is_stream=is_stream, packets=SimpleNamespace(refusal=refusal),
+                reach=lambda: (0, TICKS * 250), places=lambda jumps: places)
+            part = part_with(100, 199, 0, recording=recording, pes=(0, 9), request=asked_for(
+                "a.stl", "a.ts", "--within", "2", "--every", "300"))
+            with mock.patch("subtitles.judging.part.timeline_near") as near, \
+                    mock.patch("subtitles.judging.part.Causes") as causes:
+                found = part_causes(part)
+            self.must(f"{refusal}", causes.call_args.args[2] == (
+                Span(0, 250) if refusal is None else None), causes.call_args)
+            *asked, lost = near.call_args.args
+            self.must(f"{is_stream}: near", asked == [
+                recording.packets, part.request.page, 0, 2, (100, 199), 300, None])
+            self.must(f"{is_stream}: lost", [*lost] == [(120, 129), (150, 159)] * is_stream)
+            causes.return_value.name.assert_called_once_with(part.answer)
+            self.must("named", found is causes.return_value)
+
     def test_passed_over(self) -> None:
         """Runs of PES packets that were passed over: one that ends is a run up to there, if it is
         the end of the same fault; the last may have none."""
@@ -370,7 +400,8 @@ class Numbers(Case):
                  "refused 38 UnitLength pes 4", "ended 72 Content frame 00:00:02:00",
                  "refused 72 Content frame 00:00:03:00 row 1 column 1", "ended 38 UnitLength pes 9",
                  "refused 38 UnitLength pes 11", "refused 72 Content frame 00:00:04:00 row 2 "
-                 "column 1", "ended 72 Content frame 00:00:05:00"]
+                 "column 1", "ended 72 Content frame 00:00:05:00",
+                 "trusted frames 00:00:06:00 00:00:07:00", "trusted frames 00:00:09:00 00:00:09:00"]
         answer = Answer(self.path("list"))
         for line in lines:
             answer.take(line)
@@ -379,5 +410,6 @@ class Numbers(Case):
         found = [tuple(ends.get(index, NO_END)) for index in range(5)]
         self.must("ends", found == [("00:00:02:00", None), (None, 9), (None, None), (None, None),
                                     ("00:00:05:00", None)], found)
+        self.must("trusted", [*answer.trusted] == [(150, 175), (225, 225)], answer.trusted)
         self.must("anew", answer.anew == {2, 3, 5}, answer.anew)
         self.must("marks", [*answer.marks[72]] == [(25, 50), (75, 75), (100, 125)], answer.marks)

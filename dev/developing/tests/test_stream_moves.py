@@ -353,13 +353,13 @@ class Pieces(Case):
                  "trusted", "00:00:04:20"),
                 (120, 99, NEW, "at 00:00:03:24, where both carry it", "00:00:04:20"),
                 (99, 99, NEW, "at 00:00:03:24, where both carry it", "00:00:03:24"),
-                (99, 120, None, None, None)):
+                (99, 120, THIRD, None, None), (99, 120, None, None, None)):
             one, other = (Found(begin, end, Clock(0, RECORDING), stage=Stage(Packets(pid), (0, 9)),
                                 goes=to) for pid, begin, end, to in (
                 (OLD, 0, last, goes), (NEW, first, 200, None)))
             told = [(each.line.partition("0x111 ")[2], each.time)
                     for each in moves_told([one, other], "888", 0)]
-            self.must(f"{last} {first} {goes}", told == [(words, time)] * (goes is not None), told)
+            self.must(f"{last} {first} {goes}", told == [(words, time)] * (words is not None), told)
 
     def test_joined(self) -> None:
         """By numbers of their own, and back again."""
