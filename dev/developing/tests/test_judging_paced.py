@@ -240,7 +240,7 @@ class Taken(unittest.TestCase):
             own = silent if not has_clock else notes.get(name, "")
             said = silent * (not has_clock) if word == "none" else "" if word else own * (
                 name not in ("every", "regular"))
-            jumps, *told = filter(None, listener.noted.call_args.args)
+            jumps, *told = [one for one in listener.noted.call_args.args if one]
             is_asked = word is None and pace.frames is not None
             self.assertEqual((told, found.jumps), ([said] * bool(said), [(1, 2)]), (name, word))
             self.assertTrue(" at 3 places " in jumps)
@@ -282,7 +282,8 @@ class Taken(unittest.TestCase):
         """Each time from which subtitles are late is told, and that there is one."""
         programme = PartSearch(asked_for("a.stl", "a.pes"), Found(3, 9, Clock(7, GIVEN)), None)
         recording: Any = SimpleNamespace(is_cut=False, stages=[])
-        for shifts in ([], ["one"], ["one", "two"]):
+        several: list[list[str]] = [[], ["one"], ["one", "two"]]
+        for shifts in several:
             listener = mock.Mock()
             with mock.patch.object(timing, "fitted_origin", return_value=Origin(
                     0, [OfPart(5)], shifts=shifts)):

@@ -4,7 +4,7 @@ what is said; of each what the JSON result has.
 from __future__ import annotations
 
 import itertools
-from typing import Sequence
+from typing import Any, Sequence
 from unittest import mock
 
 from developing.pes import DATA, MARK, UNIT, mirrored, pes_packet, pts_bytes, pts_in
@@ -172,32 +172,35 @@ class Steps(Case):
             raise NeverSent("never")
         self.must("both", one.verdict.named == [hidden, never] and
                   one.verdict.recording is recording.file, one.verdict.named)
-        one.listener.said.assert_has_calls([mock.call("one"), mock.call("two")])  # type: ignore
+        listener: Any = one.listener
+        listener.said.assert_has_calls([mock.call("one"), mock.call("two")])
 
     def test_at_the_end(self) -> None:
         """That a recording grew is told once, and nothing twice; of a feed what the last part
         lacks, where neither a break nor a delay tells why."""
         grew, other = Notice("grew", "grew", None), Notice("pause", "odd", None)
-        for known, strange, wanted in (([], [], []), ([other], [other], [other]),
-                                       ([other], [other, grew], [other, grew]),
-                                       ([grew], [grew], [grew])):
+        rows: list[tuple[list[Notice], list[Notice], list[Notice]]] = [
+            ([], [], []), ([other], [other], [other]), ([other], [other, grew], [other, grew]),
+            ([grew], [grew], [grew])]
+        for known, strange, wanted in rows:
             one = self.pair(count=2)
             one.verdict.warnings = [*known]
             recording = mock.Mock(is_cut=False, strange=lambda strange=strange: strange)
-            with mock.patch.object(pair, "gaps_in", return_value=["gap"]):
+            gap: Any = "gap"
+            with mock.patch.object(pair, "gaps_in", return_value=[gap]):
                 one.tell_losses(recording, False)
             self.must(f"{known} {strange}", one.verdict.warnings == wanted and
-                      one.verdict.gaps == ["gap"], one.verdict.warnings)
-        for is_cut, words, is_shifted in itertools.product((True, False), ((), ("--breaks", "1")),
-                                                           (True, False)):
+                      one.verdict.gaps == [gap], one.verdict.warnings)
+        of_feeds: list[Sequence[str]] = [(), ("--breaks", "1")]
+        for is_cut, words, is_shifted in itertools.product((True, False), of_feeds, (True, False)):
             one, recording = self.pair(*words, count=3), mock.Mock(is_cut=is_cut, strange=list)
             with mock.patch.object(pair, "gaps_in", return_value=[]), \
                     mock.patch.object(pair, "unsent_in", lambda part: [f"{part.number}"]):
                 one.tell_losses(recording, is_shifted)
             is_told = is_cut and not words and not is_shifted
-            self.must(f"{is_cut} {words} {is_shifted}", mock.call("3") in
-                      one.listener.noted.mock_calls if is_told else  # type: ignore[attr-defined]
-                      not one.listener.noted.mock_calls)  # type: ignore[attr-defined]
+            listener: Any = one.listener
+            self.must(f"{is_cut} {words} {is_shifted}", listener.noted.mock_calls == [
+                mock.call("3")] * is_told, listener.noted.mock_calls)
 
 
 class Said(OfProgramme):

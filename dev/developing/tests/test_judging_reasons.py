@@ -8,7 +8,7 @@ from subtitles.clock.origin import other_words
 from subtitles.common.times import Span, TICKS, time_of
 from subtitles.formats.listing import CONTENT
 from subtitles.formats.stl import Subtitle
-from subtitles.formats.teletext import CODE_WORDS
+from subtitles.formats.teletext import CODE_WORDS, OPTIONS
 from subtitles.judging.causes import EVEN, Faulty, IN_PARTS, Namer, REPEATED, UNSEEN
 from subtitles.judging.check import Answer
 from subtitles.judging.transmissions import (
@@ -272,6 +272,9 @@ class Headers(Case):
         self.must("may be", control_words(KEEPS, "english") == [])
         found = control_words(numbers(p5=0), "english", REPEATS)
         self.must("both", found == [REPEATS, "C6 (subtitle) is clear"], found)
+        for option in OPTIONS:
+            found = control_words(KEEPS[:7] + bytes([option.bits << 1]), option.word)
+            self.must(option.word, found == [], found)
 
 
 class Counted(Case):
