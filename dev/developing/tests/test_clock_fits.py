@@ -237,6 +237,7 @@ class Drifts(unittest.TestCase):
                 ([0, 0, 0, 0, 1, 1, 1, 1, 2, 2, 2, 2], Drift(0, 1100, 2)),
                 ([*range(0, 48, 4)], Drift(0, 1100, 44)), ([*steady[:5], 30, *steady[6:]],
                                                            Drift(0, 1100, 3)),
+                ([*steady[:5], -30, *steady[6:]], Drift(0, 1100, 3)),
                 ([*steady[:5], 30, 40, *steady[7:]], None), ([0] * 12, None), ([7] * 12, None),
                 ([0] * 6 + [1] * 6, None), ([0] * 6 + [2] * 6, None), ([0] * 6 + [3] * 6, None),
                 ([0] * 9 + [3] * 3, None), ([0, 1, 2] * 4, None), ([0, 2] * 6, None),

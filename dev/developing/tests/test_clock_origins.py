@@ -401,6 +401,9 @@ class Tracks(unittest.TestCase):
                 (first[2], [0] * 7 + [3] * 5, 7), ([3] * 7 + [0] * 5, second, 6),
                 ([3] * 5 + [0, 1] + [0] * 5, [0] * 5 + [3, 0] + [3] * 5, 5)):
             self.assertEqual(row((0, 0, before), (0, -40, own)), [(0, end), (-40, 12)], own)
+        # What agrees before the first five in a row counts too.
+        self.assertEqual(row((0, 0, [3] * 4 + [0] + [3] * 5 + [0, 0]), (0, 5000, [0] * 6 + [
+            3] * 6)), [(0, 12)])
 
 
 class Delays(unittest.TestCase):

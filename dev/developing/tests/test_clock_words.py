@@ -102,6 +102,34 @@ class Words(unittest.TestCase):
                 self.assertEqual(found.lines, [f"{words} found, where --breaks {said} is said",
                                                *break_lines(parts)])
 
+    def test_all_parts(self) -> None:
+        """Each is told with its frames, and its PES packets where PTS go back; the first is
+        compared with the origin that is known; what reaches into the next is in none."""
+        over = [SimpleNamespace(begin=25 * at, end=25 * at + 50) for at in range(3)]
+        for origin, count in itertools.product((None, 9), (1, 2)):
+            parts = [self.part(edges - 1, edges, edges - 1, edges) for edges in (20, 12, 6)]
+            for number, one in enumerate(parts):
+                one.begin, one.end, one.origin = 1000 * number, 1000 * number + 500, 9 + number
+                one.base, one.over, one.sent.packets = 0, over[2 * number:][:2], (number, 7)
+            found, bases = Origin(), [one.sent for one in parts][:count]
+            take_parts(found, Sought("a", "b", origin=origin, breaks=2), bases, parts)
+            pes = [f"--pes {at}-7 " * (count > 1) for at in range(3)]
+            self.assertEqual((found.status, found.away, found.printed), (
+                0, None if origin is None else 0, [
+                    f"--from 00:00:00:00 --to 00:00:20:00 {pes[0]}--origin 9",
+                    f"--from 00:00:40:00 --to 00:01:00:00 {pes[1]}--origin 10",
+                    f"--from 00:01:20:00 --to 00:01:40:00 {pes[2]}--origin 11"]))
+            self.assertEqual([(one.origin, one.packets, one.frames, one.agree, one.among)
+                              for one in found.parts], [
+                (9 + at, (at, 7) if count > 1 else None, (1000 * at, 1000 * at + 500), edges - 1,
+                 edges) for at, edges in enumerate((20, 12, 6))])
+            for line, is_there in (("3 parts: 35 of 38 cues agree", True),
+                                   ("that is --origin 9", origin == 9),
+                                   *((f"the subtitle from 00:00:0{at}:00 to 00:00:0{at + 2}:00 "
+                                      "reaches into the next part, and is in none", True)
+                                     for at in range(3))):
+                self.assertEqual(found.lines.count(line), int(is_there), found.lines)
+
     def test_early_parts(self) -> None:
         """An origin that is given is that of the first part: where many cues of another one come
         early nothing is clear."""
@@ -161,8 +189,9 @@ class Words(unittest.TestCase):
         self.assertEqual(self.shifts(0, -1500, -3000), [
             f"from 00:01:00:00 {said} 60.00 s (1500 frames) early",
             f"from 00:02:00:00 {said} 120.00 s (3000 frames) early"])
-        self.assertEqual(self.shifts(0, 5, bases=(0, 1)), [
-            "from 00:01:00:00 on, where PTS go back, subtitles are 0.20 s (5 frames) late"])
+        self.assertEqual(self.shifts(0, 5, 1, bases=(0, 1, 1)), [
+            "from 00:01:00:00 on, where PTS go back, subtitles are 0.20 s (5 frames) late",
+            f"from 00:02:00:00 {said} 0.04 s (1 frame) late"])
         for count, left in ((20, 0), (21, 1), (25, 5)):
             found = self.shifts(*((at * 7) % 5 * 30 for at in range(count + 1)))
             words = f"and so on, {left} time{'s' * (left != 1)} more"

@@ -225,6 +225,8 @@ class Pictures(unittest.TestCase):
             except Unclear:
                 found = True
             self.assertEqual(found, is_refused, (origin, begin, end))
+            with self.assertRaises(Unclear):  # the recording ends with its first frame
+                refuse_outside(asked, began._replace(frame=0), 0, FRAMES_A_SECOND + 1, origin)
 
 
 class Heard(unittest.TestCase):

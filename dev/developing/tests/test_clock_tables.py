@@ -1,0 +1,371 @@
+"""Tables of what decides a clock: what a time base has, how cues agree with an origin, which
+stretches are looked at, which parts there are, and how often the programme is there."""
+from __future__ import annotations
+
+import itertools
+import unittest
+from typing import Any, Sequence
+
+from subtitles.clock.alignment import (
+    AGAIN, Apart, Base, Early, Edge, MOST_APART, MOST_BASES, Shown, back_at, bases_of, edges_of,
+    likeliest, most_changed, single_texts, without_repeats)
+from subtitles.clock.stretches import FittedPart, Stretch, Track, by_times, parts_of, runs_of
+from subtitles.common.command_line import Lateness
+from subtitles.common.times import CLOCK, EARLY, TICKS
+from subtitles.stream.packets import Change, Packets, Run
+from .test_clock_laws import packets_of
+
+EACH = 5000  # frames from one time that the programme is there to the next
+SHIFTS = (0, CLOCK - 2 * TICKS - 7)  # of the first PTS: PTS begin again behind it
+
+
+def changes_at(several: Sequence[tuple[int, bytes]], shift: int = 0) -> list[Change]:
+    """Changes of the page, each at ticks after a first PTS, to letters."""
+    return [Change((shift + ticks) % CLOCK, letters, at, ((20, letters),) if letters else ())
+            for at, (ticks, letters) in enumerate(several)]
+
+
+def base_with(edges: Sequence[Edge], several: Sequence[tuple[int, bytes]], length: int = 9999,
+              within: int = 0, shift: int = 0) -> Base:
+    """A time base of a first PTS, and of one so many frames later, in which the page changes."""
+    return Base(edges, changes_at(several, shift), shift, (shift + TICKS * length) % CLOCK,
+                (0, 99), within)
+
+
+class Bases(unittest.TestCase):
+    """What a time base has of what is sent."""
+
+    def test_frames_of_changes(self) -> None:
+        """Within 0 the nearest frame, and how far off it is; within more the frame in which they
+        lie, by what most are that are near one, with what the page has at its end."""
+        half = TICKS // 2
+        rows: list[tuple[int, list[tuple[int, bytes]], int, dict[int, tuple[bytes, int]]]] = [
+            (0, [(-5, b"a"), (half - 1, b""), (half, b"c")], 0,
+             {0: (b"", half - 1), 1: (b"c", half - TICKS)}),
+            (1, [(0, b"a"), (half, b"b"), (TICKS, b"")], 0, {0: (b"b", half), 1: (b"", 0)}),
+            (1, [(0, b"a"), (half, b""), (TICKS, b"a")], 0, {0: (b"", half), 1: (b"a", 0)}),
+            (1, [(0, b"a"), (TICKS, b""), (TICKS + half, b"a"), (4 * TICKS, b"b")], 0,
+             {0: (b"a", 0), 4: (b"b", 0)}),
+            (1, [(9, b"a"), (TICKS + half, b"b"), (2 * TICKS + half, b"c"), (3 * TICKS + 7, b"d"),
+                 (4 * TICKS + 8, b"e")], 8, {0: (b"a", 1), 1: (b"b", half - 8), 2: (b"c", half - 8),
+                                             3: (b"d", -1), 4: (b"e", 0)}),
+            (1, [(-EARLY + 1, b"a"), (2 * TICKS - EARLY + 1, b"b")], -EARLY + 1,
+             {0: (b"a", 0), 2: (b"b", 0)}),
+            (1, [(-EARLY, b"a"), (2 * TICKS - EARLY - 1, b"b"), (3 * TICKS, b"c")], 0,
+             {0: (b"a", -EARLY), 1: (b"b", TICKS - EARLY - 1), 3: (b"c", 0)})]
+        for shift, (within, several, first, wanted) in itertools.product(SHIFTS, rows):
+            base = base_with([], several, 7, within, shift)
+            self.assertEqual((base.first - shift) % CLOCK, first % CLOCK, several)
+            self.assertEqual({frame: one[1:] for frame, one in base.changes.items()}, wanted,
+                             several)
+            self.assertEqual(base.length, 7, several)
+
+    def test_repeats(self) -> None:
+        """A page that is erased and back is no change, however often: with the same rows, after
+        a pause alone, in so many frames; as often as nothing else is due so soon."""
+        text, other = ((20, b"x"),), ((22, b"x"),)
+        rows: list[tuple[list[tuple[int, Any]], list[int]]] = [
+            ([(0, text), (2, ()), (3, text), (5, ()), (6, text), (9, ())], [0, 5]),
+            ([(0, text), (2, ()), (3, other), (9, ())], [0, 1, 2, 3]),
+            ([(0, text), (2, other), (3, text), (9, ())], [0, 1, 2, 3]),
+            ([(0, text), (2, ()), (3, other), (4, text), (9, ())], [0, 4]),
+            ([(0, text), (2, ()), (7, text), (8, ()), (9, text)], [0]),
+            ([(0, text), (2, ()), (8, text), (9, ()), (10, text)], [0, 1, 2]),
+            ([(0, ()), (1, text), (2, ())], [0, 1, 2])]
+        for some, wanted in rows:
+            changes = [Change(TICKS * frame, b"x" * bool(shown), at, shown)
+                       for at, (frame, shown) in enumerate(some)]
+            self.assertEqual([one.number for one in without_repeats(changes, AGAIN)], wanted, some)
+        many = [Change(TICKS, b"x" * (at % 2), at, text if at == 25 else other * (at % 2))
+                for at in range(1, 40)]
+        many[0] = many[0]._replace(letters=b"x", rows=text)
+        self.assertEqual((back_at(many, 0, 1), back_at(many[:1], 0, 1)), (24, None))
+        due = [Shown(100, 130, 1, b"x"), Shown(133, 160, 1, b"x")]
+        for second, frames in ((due[1], [0, 20, 23]), (due[1]._replace(letters=b"y"), [0]),
+                               (due[1]._replace(begin=130), [0])):
+            base = base_with(edges_of([due[0], second]), [
+                (0, b"x"), (20 * TICKS, b""), (23 * TICKS, b"x")])
+            self.assertEqual([*base.changes], frames, second)
+
+    def test_which_stretches(self) -> None:
+        """Those in which the page changes, in their order, by the numbers that may be judged; of
+        too many those with the most changes."""
+        def bases(counts: Sequence[int], inside: tuple[int, int]) -> list[tuple[int, int, int]]:
+            """What is looked at, of stretches of four PES packets that have so many changes."""
+            packets = Packets(0, [Run(4 * at, 4, 10 ** 9 - at * 10 ** 6, TICKS, "h", "")
+                                  for at in range(len(counts))])
+            packets.changes = [Change(0, b"", 4 * at + more) for at, count in enumerate(counts)
+                               for more in range(count)]
+            return [(base.start, base.stop, len(some)) for base, some in most_changed(
+                packets, inside)]
+
+        whole = [(0, 4, 2), (4, 8, 4), (12, 16, 1), (16, 20, 3)]
+        for inside, wanted in (
+                ((0, 19), whole), ((0, 99), whole), ((1, 19), [(1, 4, 1), *whole[1:]]),
+                ((2, 7), [(4, 8, 4)]), ((0, 6), [(0, 4, 2), (4, 7, 3)]), ((7, 7), [(7, 8, 1)]),
+                ((8, 11), []), ((8, 12), [(12, 13, 1)]), ((5, 17), [(5, 8, 3), (12, 16, 1),
+                                                                   (16, 18, 2)])):
+            self.assertEqual(bases([2, 4, 0, 1, 3], inside), wanted, inside)
+        found = bases([1, *[2] * (MOST_BASES - 1), 3, 1], (0, 999))
+        self.assertEqual([begin for begin, _, _ in found],
+                         [4 * at for at in range(1, MOST_BASES + 1)])
+
+    def test_first_and_last(self) -> None:
+        """A time base reaches from its first header that has a PTS to its last one."""
+        for kinds, wanted in (("hhh", (0, 2)), ("ohh", (1, 2)), ("hho", (0, 1)), ("oho", (1, 1)),
+                              ("ooo", None), ("mhh", (1, 2)), ("hhm", (0, 1))):
+            packets = Packets(0, [Run(at, 1, None if kind == "m" else TICKS * at, 0, kind, "")
+                                  for at, kind in enumerate(kinds)])
+            packets.changes = [Change(0, b"", 1)]
+            self.assertEqual([base.sent for base in bases_of([], packets, 0)], [
+                (TICKS * wanted[0], TICKS * wanted[1])] if wanted else [], kinds)
+        long = Packets(0, [Run(0, 9, 5, TICKS, "h", "")])
+        long.changes = [Change(5, b"", 0)]
+        self.assertEqual([(one.sent, one.packets, one.length) for one in bases_of([], long, 0)],
+                         [((5, 5 + 8 * TICKS), (0, 8), 8)])
+
+
+class Fits(unittest.TestCase):
+    """How cues agree with an origin."""
+
+    edges = edges_of([Shown(10, 20, 1, b"a"), Shown(30, 45, 2, b"b"), Shown(50, 60, 3, b"c")])
+    SENT = [(0, b"a"), (10, b""), (20, b"b"), (35, b""), (40, b"c"), (50, b"")]
+
+    def fitted(self, sent: Sequence[tuple[int, bytes]], offs: Sequence[int] = (0,) * 9,
+               length: int = 50, within: int = 0, shift: int = 0, start: int = 10) -> Any:
+        """By an origin by which all of it is due."""
+        return base_with(self.edges, [(TICKS * frame + off, letters) for (frame, letters), off in
+                                      zip(sent, offs)], length, within, shift).fit_at(start)
+
+    def test_counts(self) -> None:
+        """What agrees, with its letters, with a text; of the time in which it is sent; what is the
+        first, and the first that does not."""
+        sent = self.SENT
+        wrong = [*sent[:2], (20, b"x"), *sent[3:]]
+        rows: list[tuple[list[tuple[int, bytes]], int, tuple[object, ...]]] = [
+            (sent, 50, (6, 6, 3, 6, 6, 10, None)), (sent, 49, (5, 5, 3, 5, 5, 10, None)),
+            (wrong, 50, (6, 5, 2, 6, 6, 10, None)), (sent[:-1], 50, (5, 5, 3, 5, 6, 10, 60)),
+            (sent[1:], 50, (5, 5, 2, 5, 6, 30, 10)), (sent[:1], 0, (1, 1, 1, 1, 1, 10, None)),
+            ([(0, b"x"), *sent[1:2]], 10, (2, 1, 0, 2, 2, None, None)),
+            ([*sent[:3], *sent[4:]], 50, (5, 5, 3, 5, 6, 10, 45)), ([], 50, (0, 0, 0, 0, 6, None,
+                                                                           10))]
+        for shift, (some, length, wanted) in itertools.product(SHIFTS, rows):
+            fit = self.fitted(some, length=length, shift=shift)
+            self.assertEqual(fit[1:8], wanted, (some, length))
+            self.assertEqual((fit.origin, fit.start, fit.late), (
+                (shift - 10 * TICKS) % CLOCK, 10, []), some)
+            self.assertEqual((fit.points(), fit.points(False)), (
+                fit.agree + fit.letters, fit.agree + fit.texts))
+
+    def test_beside_frames(self) -> None:
+        """The origin is that of the PTS in the middle, with which some agree to the tick; within
+        some frames it is that of the frame, and the frames are known by which each is late."""
+        for offs, rest, exact in (((0, 0, 0, 0, 0, 0), 0, 6), ((0, 0, 5, 5, 5, 5), 5, 4),
+                                  ((-9, -9, 0, 0, 0, 7), 0, 3), ((-9, -9, -9, -9, 0, 7), -9, 4),
+                                  ((1, 2, 3, 4, 5, 6), 4, 1)):
+            fit = self.fitted(self.SENT, offs)
+            self.assertEqual((fit.origin, fit.exact), ((rest - 10 * TICKS) % CLOCK, exact), offs)
+        late = [(1, b"a"), (10, b""), (22, b"b"), (36, b""), (42, b"x"), (50, b"")]
+        fit = self.fitted(late, within=2)
+        self.assertEqual((fit.origin, *fit[1:8], fit.late), (
+            -10 * TICKS % CLOCK, 5, 5, 2, 5, 6, 10, 50, [1, 0, 2, 1, 0]))
+        fields = self.fitted(late, [0, 1800, 9, -9, 0, 5], within=2)
+        self.assertEqual(fields, fit)
+        for frame, text, is_there in ((20, b"b", True), (20, b"x", False), (21, b"b", False)):
+            one = base_with(self.edges, [(TICKS * frame, text)])
+            self.assertEqual(one.has(self.edges[2], 10), is_there)
+        one = base_with(self.edges, [(TICKS * 22, b"b")], 60, 2).fit(10)
+        self.assertEqual((one.start, one.late), (8, [0]))
+        base = base_with(self.edges, [(TICKS * (frame + 2), text) for frame, text in self.SENT],
+                         60, 2)
+        for start in (8, 9, 10):  # what all share is no delay
+            self.assertEqual((base.fit(start).start, base.fit(start).late), (8, [0] * 6), start)
+
+    def test_apart(self) -> None:
+        """Half that agree are not apart; of two delays that as many have the smaller is told; that
+        of one end alone is none where no text agrees; within N frames it is more than N."""
+        two = [(frame + by, text) for (frame, text), by in zip(self.SENT, (0, 2, 0, 2, 0, 2))]
+        one = [(0, b"x"), (10, b"")]
+        rows: list[tuple[list[tuple[int, bytes]], int, Apart | None]] = [
+            (self.SENT, 0, None), (two, 0, Apart(False, 2, 3, 3)), (two, 1, Apart(False, 2, 3, 3)),
+            (two, 2, None), ([*two[:5], (50, b"")], 0, None),
+            ([*two[:1], (12, b""), *two[2:3], (37, b""), two[4], (56, b"")], 0, None),
+            ([*self.SENT[:1], (MOST_APART + 10, b"")], 0, None), (one[1:], 0, None)]
+        for some, within, wanted in rows:
+            base = base_with(self.edges, [(TICKS * frame, text) for frame, text in some], 60,
+                             within)
+            self.assertEqual(base.apart(base.fit_at(10)), wanted, (some, within))
+        half = [(0, b"a"), (10, b""), (12, b""), (20, b"b"), (37, b"")]  # as due, or all later
+        base = base_with(self.edges[:4], [(TICKS * frame, text) for frame, text in half])
+        self.assertIsNone(base.apart(base.fit_at(10)))
+        for at, is_told in ((MOST_APART, True), (MOST_APART + 1, False)):
+            base = base_with(self.edges[:2], [(0, b"a"), (TICKS * (10 + at), b"")])
+            found = base.apart(base.fit_at(10))
+            self.assertEqual(found, Apart(False, at, 1, 1) if is_told else None)
+        for by in (-3, 3):  # the ends are as due, the beginnings are not: these have the origin
+            some = [(frame + 9 + by * bool(text), text) for frame, text in self.SENT]
+            base = base_with(self.edges, [(TICKS * frame, text) for frame, text in some], 70)
+            self.assertEqual(base.apart(base.fit_at(1)), Apart(True, by, 3, 3))
+            self.assertEqual(base.by_beginnings(base.fit_at(1)).start, 1 - by)
+            self.assertEqual(base.by_beginnings(base.fit_at(1 - by)).start, 1 - by)
+
+    def test_single_texts(self) -> None:
+        """Those that are there once; what is erased is none."""
+        self.assertEqual(single_texts([(1, b"a"), (2, b""), (3, b"b"), (4, b"a"), (5, b""),
+                                       (6, b"c"), (7, b"a")]), {b"b": 3, b"c": 6})
+
+
+class Parts(unittest.TestCase):
+    """Which parts there are."""
+
+    shown = [Shown(100 * at, 100 * at + 50, at, b"%d" % at) for at in range(1, 7)]
+
+    def parts(self, shown: Sequence[Shown], later: int, is_anew: bool,
+              extra: Sequence[tuple[int, bytes]] = ()) -> list[FittedPart]:
+        """Of a programme whose second half is sent so much later, or after PTS went back; the page
+        changes at other frames too, in the first time base."""
+        edges = edges_of(shown)
+        half = sum(edge.frame < 400 for edge in edges)
+        first = [(TICKS * edge.frame, edge.letters) for edge in edges[:half]]
+        second = [(TICKS * (edge.frame + later), edge.letters) for edge in edges[half:]]
+        first += [(TICKS * frame, letters) for frame, letters in extra]
+        several = [first, second] if is_anew else [sorted(first + second)]
+        bases = [base_with(edges, some, 6000) for some in several]
+        row = [Stretch(Track(0, 0, bases[0]), 0, half),
+               Stretch(Track(len(bases) - 1, -later, bases[-1]), half, len(edges))]
+        return parts_of(shown, bases, row)
+
+    def test_each_part(self) -> None:
+        """Its frames, its time base, how many cues agree by what is sent in its time alone, and
+        which subtitles reach into the next one."""
+        shown = self.shown
+        up_to = [*shown[:2], shown[2]._replace(end=400), *shown[3:]]
+        into = [*shown[:2], shown[2]._replace(end=401), *shown[3:]]
+        two = [shown[0], shown[1]._replace(end=230), shown[1]._replace(begin=240, end=405),
+               *shown[3:]]
+        rows: list[tuple[list[Shown], list[tuple[int, bytes]], list[tuple[int, ...]]]] = [
+            (shown, [], [(100, 350, 6, 6, 0), (400, 650, 6, 6, 0)]),
+            (shown, [(360, b"x"), (4390, b"y")], [(100, 350, 6, 6, 0), (400, 650, 6, 6, 0)]),
+            (up_to, [(400, b"")], [(100, 400, 6, 6, 0), (400, 650, 6, 6, 0)]),
+            (into, [], [(100, 250, 4, 4, 1), (400, 650, 5, 6, 0)]),
+            (two, [], [(100, 230, 4, 4, 1), (400, 650, 5, 6, 0)])]
+        for (some, extra, wanted), is_anew in itertools.product(rows, (False, True)):
+            found = self.parts(some, 4000, is_anew, extra)
+            self.assertEqual([(*one[:2], one.best.agree, one.best.among, len(one.over))
+                              for one in found], wanted, some)
+            self.assertEqual([(one.best.start, one.base, one.early) for one in found],
+                             [(0, 0, None), (-4000, int(is_anew), None)], some)
+            first, second = ([*one.sent.changes] for one in found)
+            beside = sorted(frame for frame, _ in extra)
+            last = some[2].begin if wanted[0][4] else min(some[2].end, 399)
+            self.assertEqual((first[-1], second[0]), (
+                beside[-1] if beside else last, 4400 if is_anew else min(
+                    [one for one in beside if one > last] + [4400])), some)
+
+    def test_late_parts(self) -> None:
+        """Within some frames by the shares of delays, where these are known, each by its own."""
+        edges = edges_of(self.shown)
+        late = Lateness({0: 1}, {0: 1})
+        for delays in itertools.product((0, 1), repeat=2):
+            sent = [(TICKS * (edge.frame + by + (edge.frame in (100, 400)) * -by + 4000 * part),
+                     edge.letters) for part, by in enumerate(delays)
+                    for edge in edges[6 * part:6 * part + 6]]
+            base = base_with(edges, sent, 6000, 1)
+            row = [Stretch(Track(0, 0, base), 0, 6), Stretch(Track(0, -4000, base), 6, 12)]
+            for shares in (None, late):
+                found = parts_of(self.shown, [base], row, shares)
+                self.assertEqual([(one.best.start, one.early) for one in found], [
+                    (start - by, None if shares or not by else Early(1, 6, 1))
+                    for start, by in zip((0, -4000), delays)], (delays, shares))
+
+    def test_a_single_part(self) -> None:
+        """Of all subtitles, in the time base with which the most cues agree; where that is not the
+        only origin its others are those of other frames; none where no cue agrees with any."""
+        edges = edges_of(self.shown)
+        own = [(TICKS * edge.frame, edge.letters) for edge in edges]
+        none = base_with(edges, [(0, b"x")]).limited([], -1, 9)
+        for bases, number in (([base_with(edges, own[:2]), base_with(edges, own[:5])], 1),
+                              ([base_with(edges, own[:5]), base_with(edges, own[:4])], 0),
+                              ([none, base_with(edges, own[:3]), none], 1)):
+            [part] = parts_of(self.shown, bases, [])
+            self.assertEqual((part.base, part[:2], part.best.start, part.over), (
+                number, (100, 650), 0, []), number)
+            self.assertIs(part.sent, bases[number])
+            self.assertEqual([fit for fit in bases[number].fits if fit.start], part.others)
+        self.assertEqual(parts_of(self.shown, [none], []), [])
+        ends = [(ticks + 3 * TICKS * (not text), text) for ticks, text in own]
+        begins = [(ticks + 3 * TICKS * bool(text), text) for ticks, text in own]
+        for some, start in ((ends, 0), (begins, -3)):
+            [part] = parts_of(self.shown, [base_with(edges, some)], [])
+            self.assertEqual(part.best.start, start)
+
+
+class Runs(unittest.TestCase):
+    """How often the programme is there, in one time base and where PTS go back."""
+
+    due = [Shown(at * at * 7 + 90 * at, at * at * 7 + 90 * at + 60 + at, at, b"%d" % at)
+           for at in range(12)]
+    grid = [Shown(100 * at, 100 * at + 50, at, b"%d" % at) for at in range(12)]
+
+    def found(self, shown: Sequence[Shown], kinds: str, step: int, has_clock: bool = False
+              ) -> list[tuple[int, int]]:
+        """The first and the last frame of each, of which some are right, some have `w`rong texts, or
+        a `f`ew right ones all along, and some are a `h`alf, or `l`ess."""
+        sendings = []
+        for number, kind in enumerate(kinds):
+            for at, edge in enumerate(edges_of(shown)[:{"h": 12, "l": 11}.get(kind, 24)]):
+                is_text = kind in "rhl" or kind == "f" and at % 8 < 2 or not edge.letters
+                sendings.append((TICKS * (edge.frame + step * number),
+                                 edge.letters if is_text else b"wrong %d" % at))
+        bases = bases_of(shown, packets_of(sendings), 0)
+        return [(first[1] + EACH * first[0], last[1] + EACH * last[0])
+                for first, last in runs_of(bases, has_clock)]
+
+    def test_which(self) -> None:
+        """Each in its order, whichever is the best; what is half of it, or a quarter of its texts
+        over most of it; and by its times alone, where no clock is known, of what is no grid."""
+        for step, kinds in itertools.product((EACH, -10 ** 6), (
+                "r", "rrr", "hrr", "lr", "rwr", "wrw", "fr")):
+            for has_clock in (False, True)[:1 + ("w" in kinds)]:
+                kept = [(EACH * at, EACH * at + self.due[5 if kind == "h" else 11].end)
+                        for at, kind in enumerate(kinds)
+                        if kind != "l" and not (kind == "w" and has_clock)]
+                self.assertEqual(self.found(self.due, kinds, step, has_clock), kept,
+                                 (step, kinds, has_clock))
+        self.assertEqual(self.found(self.grid, "rw", EACH), [(0, 1150)])
+        self.assertEqual(self.found(self.grid, "rr", EACH), [(0, 1150), (EACH, EACH + 1150)])
+
+    def test_by_times(self) -> None:
+        """Nine in ten of those that the first time has, and three quarters of all, in whichever
+        time base, no more than N frames late; of few nothing is told."""
+        edges = edges_of(self.due[:10])
+        for within, (count, changes, is_told) in itertools.product((0, 1), (
+                (20, 20, True), (20, 18, True), (20, 17, False), (16, 15, True), (10, 15, True),
+                (10, 14, False), (9, 20, False), (19, 20, True))):
+            told = is_told and count >= 10 * (1 + within)
+            base = base_with(edges, [(TICKS * (edge.frame + within), b"%d" % at) for at, edge in
+                                     enumerate(edges[:changes])], 9999, within)
+            for bases in ([base], [base.limited(edges, -1, -1), base],
+                          [base.limited(edges, -1, 300), base]):
+                wanted = {at: (len(bases) - 1, edge.frame + within)
+                          for at, edge in enumerate(edges[:changes])}
+                self.assertEqual(by_times(bases, count), wanted if told else {},
+                                 (within, count, changes))
+
+
+class Ways(unittest.TestCase):
+    """What is taken of several."""
+
+    def test_early_by_shares(self) -> None:
+        """By shares the clock is also one before which some come, or an earlier one, as more are as
+        they may be."""
+        late = Lateness({0: 1, 1: 1}, {0: 1})
+        for delays, by in (([-1, -1, 0, 0, 0, 1], -1), ([-1, 0, 0, 0, 1, 1], 0),
+                           ([0, 1, 1, 2, 2, 2], 1), ([0, 0, 0, 1, 1, 2], 0), ([2] * 6, 1)):
+            edges = [Edge(100 * at, b"%d" % at, True) for at in range(1, 7)]
+            base = base_with(edges, [(TICKS * (edge.frame + one), edge.letters)
+                                     for edge, one in zip(edges, delays)], 900, 1)
+            self.assertEqual(likeliest(base, base.fit_at(0), late).start, -by, delays)
+            wrong = base_with(edges, [(TICKS * (edge.frame + one), b"x")
+                                      for edge, one in zip(edges, delays)], 900, 1)
+            self.assertEqual(likeliest(wrong, wrong.fit_at(0), late).start, -1, delays)
