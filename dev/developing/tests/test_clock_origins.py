@@ -390,7 +390,9 @@ class Tracks(unittest.TestCase):
             for number, start, points in several:
                 tracks.append(Track(number, start, self.base({})))
                 tracks[-1].points = points
-            return [(one.track.start, one.end) for one in best_row(self.edges, tracks)]
+            found = best_row(self.edges, tracks)
+            self.assertEqual([one.first for one in found], [0, *(one.end for one in found[:-1])])
+            return [(one.track.start, one.end) for one in found]
 
         first, second = (0, 0, [3] * 6 + [0] * 6), [0] * 6 + [3] * 6
         for near, far in (((0, -40), (0, -500)), ((0, 40), (0, -41)), ((0, -4000), (1, 0))):

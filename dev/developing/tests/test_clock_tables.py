@@ -5,14 +5,18 @@ from __future__ import annotations
 import itertools
 import unittest
 from typing import Any, Sequence
+from unittest import mock
 
 from subtitles.clock.alignment import (
-    AGAIN, Apart, Base, Early, Edge, MOST_APART, MOST_BASES, Shown, back_at, bases_of, edges_of,
-    likeliest, most_changed, single_texts, without_repeats)
+    AGAIN, Apart, Base, Early, Edge, MOST_APART, MOST_BASES, REPEATED, Shown, back_at, bases_of,
+    edges_of, likeliest, most_changed, settled, single_texts, without_repeats)
+from subtitles.clock.origin import Origin, Sought, find, subtitles_between
 from subtitles.clock.stretches import FittedPart, Stretch, Track, by_times, parts_of, runs_of
 from subtitles.common.command_line import Lateness
-from subtitles.common.times import CLOCK, EARLY, TICKS
+from subtitles.common.times import ALL_DAY, Between, CLOCK, EARLY, TICKS
 from subtitles.stream.packets import Change, Packets, Run
+from .bench import Case
+from .sent import programme
 from .test_clock_laws import packets_of
 
 EACH = 5000  # frames from one time that the programme is there to the next
@@ -46,6 +50,10 @@ class Bases(unittest.TestCase):
             (1, [(0, b"a"), (half, b""), (TICKS, b"a")], 0, {0: (b"", half), 1: (b"a", 0)}),
             (1, [(0, b"a"), (TICKS, b""), (TICKS + half, b"a"), (4 * TICKS, b"b")], 0,
              {0: (b"a", 0), 4: (b"b", 0)}),
+            (1, [(0, b"a"), (TICKS, b"b"), (2 * TICKS, b"a"), (3 * TICKS, b"b")], 0,
+             {0: (b"a", 0), 1: (b"b", 0), 2: (b"a", 0), 3: (b"b", 0)}),
+            (1, [(0, b""), (TICKS, b""), (2 * TICKS, b"a")], 0,
+             {0: (b"", 0), 1: (b"", 0), 2: (b"a", 0)}),
             (1, [(9, b"a"), (TICKS + half, b"b"), (2 * TICKS + half, b"c"), (3 * TICKS + 7, b"d"),
                  (4 * TICKS + 8, b"e")], 8, {0: (b"a", 1), 1: (b"b", half - 8), 2: (b"c", half - 8),
                                              3: (b"d", -1), 4: (b"e", 0)}),
@@ -202,12 +210,33 @@ class Fits(unittest.TestCase):
             base = base_with(self.edges[:2], [(0, b"a"), (TICKS * (10 + at), b"")])
             found = base.apart(base.fit_at(10))
             self.assertEqual(found, Apart(False, at, 1, 1) if is_told else None)
+        base = base_with(self.edges[:2], [(TICKS * 13, b"")])
+        self.assertIsNone(base.apart(base.fit_at(10)))
         for by in (-3, 3):  # the ends are as due, the beginnings are not: these have the origin
             some = [(frame + 9 + by * bool(text), text) for frame, text in self.SENT]
             base = base_with(self.edges, [(TICKS * frame, text) for frame, text in some], 70)
             self.assertEqual(base.apart(base.fit_at(1)), Apart(True, by, 3, 3))
             self.assertEqual(base.by_beginnings(base.fit_at(1)).start, 1 - by)
             self.assertEqual(base.by_beginnings(base.fit_at(1 - by)).start, 1 - by)
+
+    def test_which_vote(self) -> None:
+        """Of many some of the whole length vote, and each of its texts, unless there are many of
+        it; what is erased is none."""
+        sent = [(TICKS * at, b"x") for at in range(0, 80, 2)] + [
+            (TICKS * (edge.frame + 500), b"y") for edge in self.edges]
+        for votes in (1 << 20, 100):
+            with mock.patch("subtitles.clock.alignment.VOTES", votes):
+                starts = [fit.start for fit in base_with(self.edges, sent).fits]
+            self.assertIn(-500, starts)
+        with mock.patch("subtitles.clock.alignment.VOTES", 100), \
+                mock.patch("subtitles.clock.stretches.VOTES", 60):
+            self.assertEqual(len(by_times([base_with(self.edges * 2, sent)], 12)), 12)
+        for count, votes in ((REPEATED, True), (REPEATED + 1, False)):
+            edges = [Edge(1000 * at * at, b"x", True) for at in range(count)] + [
+                Edge(5, b"", False), Edge(7, b"y", True)]
+            found = base_with(edges, [(TICKS, b"x"), (2 * TICKS, b""), (3 * TICKS, b"y")]).alike()
+            self.assertEqual(found, {4: 1, **{1000 * at * at - 1: 1 for at in range(
+                count * votes)}})
 
     def test_single_texts(self) -> None:
         """Those that are there once; what is erased is none."""
@@ -309,8 +338,8 @@ class Runs(unittest.TestCase):
 
     def found(self, shown: Sequence[Shown], kinds: str, step: int, has_clock: bool = False
               ) -> list[tuple[int, int]]:
-        """The first and the last frame of each, of which some are right, some have `w`rong texts, or
-        a `f`ew right ones all along, and some are a `h`alf, or `l`ess."""
+        """The first and the last frame of each, of which some are right, some have `w`rong texts,
+        or a `f`ew right ones all along, and some are a `h`alf, or `l`ess."""
         sendings = []
         for number, kind in enumerate(kinds):
             for at, edge in enumerate(edges_of(shown)[:{"h": 12, "l": 11}.get(kind, 24)]):
@@ -369,3 +398,98 @@ class Ways(unittest.TestCase):
             wrong = base_with(edges, [(TICKS * (edge.frame + one), b"x")
                                       for edge, one in zip(edges, delays)], 900, 1)
             self.assertEqual(likeliest(wrong, wrong.fit_at(0), late).start, -1, delays)
+        base = self.base([1, None, 1, 0, 2, None])
+        self.assertEqual(likeliest(base, base.fit_at(0), late).start, 0)
+
+    def base(self, delays: Sequence[int | None]) -> Base:
+        """Of subtitles whose begins and ends come so late, or not at all."""
+        edges = edges_of([Shown(100 * at, 100 * at + 50, at, b"%d" % at)
+                          for at in range(1, len(delays) // 2 + 1)])
+        return base_with(edges, [(TICKS * (edge.frame + by), edge.letters) for edge, by in zip(
+            edges, delays) if by is not None], 9999, 1)
+
+    def test_early_ends(self) -> None:
+        """Ends that come before what is usual are early too."""
+        for delays, wanted in (([1, 1] * 9 + [1, 0], (-1, Early(1, 20, 1))),
+                               ([1, 1] * 9 + [0, 0], (-1, Early(2, 20, 1))),
+                               ([1, 0] * 10, (0, None)), ([0, 1] * 10, (0, None))):
+            base = self.base(delays)
+            best, early = settled(base, base.fit(0), None)
+            self.assertEqual((best.start, early), wanted, delays)
+
+
+class Asked(Case):
+    """What is asked reaches what is looked for."""
+
+    times = [(at * at * 7 + 90 * at, at * at * 7 + 90 * at + 60 + at) for at in range(12)]
+
+    def setUp(self) -> None:
+        super().setUp()
+        self.stl = programme(self, self.times)
+        self.shown = subtitles_between(self.stl, "english", ALL_DAY, ())
+        self.edges = edges_of(self.shown)
+
+    def find(self, sendings: Sequence[tuple[int, bytes]], **asked: Any) -> Origin:
+        """What is found of what is sent."""
+        return find(Sought(self.stl, "one.pes", **asked), packets_of(sendings))
+
+    def sent(self, late: Sequence[int]) -> list[tuple[int, bytes]]:
+        """All of it, each so many frames late."""
+        return [(TICKS * (edge.frame + by), edge.letters) for edge, by in zip(self.edges, late)]
+
+    def test_of_subtitles_and_packets(self) -> None:
+        """Subtitles of some frames, but for some; PES packets with some numbers, of several times.
+        """
+        twice = [*self.sent([0] * 24), *self.sent([EACH] * 24)]
+        half, rest = self.times[6][0], Between(self.times[6][0])
+        for asked, count, number, runs in (
+                ({}, 24, None, 2), ({"inside": (0, 23)}, 24, 0, 0), ({"inside": (24, 47)}, 24, EACH,
+                                                                     0),
+                ({"between": Between(0, half), "inside": (0, 23)}, 12, 0, 0),
+                ({"between": rest, "inside": (24, 47)}, 12, EACH, 0),
+                ({"between": rest, "left_out": (7, 8), "inside": (0, 23)}, 8, 0, 0)):
+            found = self.find(twice, **asked)
+            self.assertEqual((len(found.runs), [one.origin for one in found.parts]), (
+                runs, [] if number is None else [TICKS * number]), asked)
+            self.assertTrue(runs or found.parts[0].line.startswith(
+                f"{count} of {count} cues agree, "), found)
+
+    def test_of_clocks(self) -> None:
+        """A clock that is known, where many come before the one that was fitted; shares of delays,
+        also in parts; a clock that is known is one of a single time that the programme is there."""
+        many, late = [0, 0, 0, *[2] * 21], Lateness({2: 1, 0: 1}, {2: 1, 0: 1})
+        parts = [*many[:12], *(one + 400 for one in many[:12])]
+        for asked, sent, status in (
+                ({}, many, 1), ({"origin": 0}, many, 0), ({"origin": 7200}, many, 0),
+                ({"late": late}, many, 0), ({"breaks": 1}, parts, 1),
+                ({"breaks": 1, "late": late}, parts, 0), ({"breaks": 1, "origin": 0}, parts, 1)):
+            found = self.find(self.sent(sent), within=2, **asked)
+            self.assertEqual((found.status, len(found.parts)), (
+                status, (1 + ("breaks" in asked)) * (1 - status)), (asked, found))
+        wrong = [(ticks + TICKS * EACH, text and b"x" + text) for ticks, text in self.sent([0] * 24)]
+        for origin, runs in ((None, 2), (0, 0), (TICKS, 0)):
+            found = self.find([*self.sent([0] * 24), *wrong], origin=origin)
+            self.assertEqual((len(found.runs), found.status), (runs, int(runs > 0)), origin)
+
+    def test_drift(self) -> None:
+        """It is that of the time base that is judged."""
+        steady = [at // 6 for at in range(24)]
+        strange = [(10 ** 9 + TICKS * at, b"") for at in range(3)]
+        for sent, is_told in ((steady, True), ([0] * 24, False)):
+            for some in (self.sent(sent), strange + self.sent(sent)):
+                found = self.find(some, within=4)
+                self.assertEqual(any("later and later" in line for line in found.shifts), is_told,
+                                 found)
+
+    def test_why_not(self) -> None:
+        """Where nothing is clear it is told first that rows came while the page was not open."""
+        for sent, is_told in (([0] * 24, False), ([0, 0, 0, *[2] * 21], True)):
+            packets = packets_of(self.sent(sent))
+            packets.strays.append((0, ()))
+            packets.runs[0] = packets.runs[0]._replace(does="hs")
+            found = find(Sought(self.stl, "one.pes", within=2), packets)
+            self.assertEqual((found.lines[0], found.status) == (
+                "rows came while 888 was not open, in 1 PES packet", 1), is_told, found)
+            self.assertEqual(any("rows came" in line for line in found.lines), is_told)
+        found = self.find([(TICKS * 99, b"other"), (TICKS * 200, b"texts")], within=1)
+        self.assertEqual((found.status, found.lines), (1, ["no cue agrees with any origin"]))

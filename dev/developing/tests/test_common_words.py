@@ -195,7 +195,7 @@ class Words(Case):
         for one in ("a", "'b'c", "\\d", '"\\e"'):
             self.assertEqual(len(split(one * (MOST_OF_LINE // len(one)))), 1)
         self.assertLess(time.process_time() - began, 5)
-        lines = lines_in(f"a\n{'b' * (MOST_OF_LINE + 1)}\nc 'd e'\n'")
+        lines = lines_in(f"a\n{'b' * (MOST_OF_LINE + 1)}\nc\x0b\x85\u2028 'd e'\n'")
         self.assertEqual([(one.number, one.words[-1][:9], bool(one.fault)) for one in lines], [
             (1, "a", False), (2, "b" * 9, True), (3, "d e", False), (4, "'", True)])
         path = self.write("list", (b"#" * 63_999 + b"\n") * (MOST_BYTES // 64_000))

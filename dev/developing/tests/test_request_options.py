@@ -310,6 +310,8 @@ class Beside(Case):
                 (f"--profile {house}", "", (25, True, 2, shares, True)),
                 (f"--profile {house}", "--every 9 --no-keeping", (9, False, 2, shares, True)),
                 (f"--profile {house}", "--within 1", (25, True, 1, None, True)),
+                (f"--profile {house}", "--within 3 --late=1:1/1:1",
+                 (25, True, 3, Lateness({1: 1}, {1: 1}), True)),
                 (f"--profile {house} --every 9", "", (9, True, 2, shares, True)),
                 (f"--profile {house} --keeping", "--profile other", (50, True, 0, None, False)),
                 (f"--profile {house}", "--profile other", (50, False, 0, None, False)),

@@ -1,0 +1,125 @@
+"""Tables of values: what JSON may be, of each kind, and what is made of it; what is heard of a
+pair."""
+from __future__ import annotations
+
+import unittest
+from types import SimpleNamespace
+from typing import Any
+
+from subtitles.common.markup import markup
+from subtitles.common.shapes import (
+    Flag, Integer, Listed, Maybe, Member, Number, OneOf, Record, Rules, Shape, Text)
+from subtitles.common.times import ALL_DAY, Between, FRAMES_OF_A_DAY
+from subtitles.request.commands import Listener
+from subtitles.request.request import ORIGIN_CHOICE, Selection
+
+
+class Shapes(unittest.TestCase):
+    """Kinds of values, with their bounds."""
+
+    INNER = Record("inner", "", Member("x", Integer(0, 5)), Member("y", Flag(), is_always=False))
+    OUTER = Record("outer", "", Member("a", Text()), Member("b", Maybe(INNER)),
+                   Member("c", Listed(INNER, 2), is_always=False), rules=(
+                       Rules(({"a": OneOf("p"), "b": OneOf(None)}, {"a": Text("[qr]+")})),
+                       Rules(({"a": Text("[pq]")}, {"b": INNER}))))
+
+    def test_misfits(self) -> None:
+        """Where a value does not fit: in itself, or at a place in it, the first one; a number is no
+        truth, nor one of another type."""
+        nan, inf = float("nan"), float("inf")
+        one: dict[str, Any] = {"x": 1}
+        rows: list[tuple[Shape, list[object], list[object]]] = [
+            (Text(), ["", "a", "\n"], [None, 5, b"a", ["a"]]),
+            (Text("[a-c]+"), ["abc", "a"], ["", "abcd", "dabc", "abc\n", "ab\nc", None]),
+            (Text("", 3, 1), ["a", "abc"], ["", "abcd"]),
+            (Text("a*", 3, 1), ["a", "aaa"], ["", "aaaa", "b"]),
+            (Integer(1, 5), [1, 5], [0, 6, 2.0, True, "1", None]), (Integer(0, 1), [0, 1], [
+                True, False, -1]),
+            (Number(5), [0, 5, 2.5, 5.0], [-1, -0.1, 5.1, 6, nan, inf, -inf, True, "1", None]),
+            (OneOf("a", 1, None), ["a", 1, None], ["b", 2, True, 1.0, "1", False, ""]),
+            (OneOf(True), [True], [1, 1.0, False]), (Flag(), [True, False], [0, 1, None, "true"]),
+            (Maybe(Integer(0, 1)), [None, 1], [2, "", False])]
+        for shape, good, bad in rows:
+            for value in good:
+                self.assertIsNone(shape.misfit(value), (shape.schema(), value))
+            for value in bad:
+                self.assertEqual(shape.misfit(value), "", (shape.schema(), value))
+        deep: list[tuple[Shape, object, str | None]] = [
+            (Listed(Integer(0, 9), 3, 1), [1, 2, 3], None), (Listed(Integer(0, 9), 3, 1), [], ""),
+            (Listed(Integer(0, 9), 3, 1), [1, 2, 3, 4], ""), (Listed(Flag(), 3), [], None),
+            (Listed(Integer(0, 9), 3, 1), (1, 2), ""), (Listed(Integer(0, 9), 3), None, ""),
+            (Listed(Integer(0, 9), 3), [1, 10, "x"], "[1]"), (Listed(Flag(), 3), [True, 1], "[1]"),
+            (self.INNER, one, None), (self.INNER, {"x": 1, "y": False}, None),
+            (self.INNER, {"y": True}, ".x"), (self.INNER, {"x": 6}, ".x"), (self.INNER, [one], ""),
+            (self.INNER, {"x": 1, "y": 1}, ".y"), (self.INNER, {"x": 1, "z": 1}, ".z"),
+            (self.INNER, None, ""), (self.OUTER, {"a": "p", "b": None}, None),
+            (self.OUTER, {"a": "q", "b": None, "c": [one, one]}, None),
+            (self.OUTER, {"a": "q", "b": {"x": 9}}, ".b.x"), (self.OUTER, {"b": None}, ".a"),
+            (self.OUTER, {"a": "q", "b": one, "c": [one, {"x": 1, "y": 2}]}, ".c[1].y"),
+            (self.OUTER, {"a": "p", "b": one}, ".a"), (self.OUTER, {"a": "s", "b": one}, ".a"),
+            (self.OUTER, {"a": "r", "b": one}, None), (self.OUTER, {"a": "r", "b": None}, ".a")]
+        for shape, value, place in deep:
+            self.assertEqual(shape.misfit(value), place, value)
+
+    def test_made(self) -> None:
+        """A text that is too long is cut, unless a pattern asks something of it; a list is; what
+        is not always there is left out where it is not."""
+        for shape, value, wanted in (
+                (Text(most=5), "abcde", "abcde"), (Text(most=5), "abcdef", "ab..."),
+                (Text("a*", 5), "a" * 6, "a" * 6), (Text(most=5), None, None),
+                (Maybe(Text(most=5)), "abcdef", "ab..."), (Maybe(Text()), None, None),
+                (Listed(Text(most=4), 2), iter(["abcde", "b", "c"]), ["a...", "b"]),
+                (Listed(Flag(), 2), (), []), (Integer(0, 1), 0, 0),
+                (self.INNER, {"x": 1, "y": False, "z": 3}, {"x": 1, "y": False}),
+                (self.INNER, {"x": 0}, {"x": 0}),
+                (Record("", "", Member("n", Text(most=4), of=lambda value: value.m)),
+                 SimpleNamespace(m="abcde"), {"n": "a..."}),
+                (Record("", "", Member("n", Flag())), SimpleNamespace(n=False), {"n": False})):
+            self.assertEqual(shape.made(value), wanted, value)
+
+    def test_anchors(self) -> None:
+        """All anchors, and all links to them, have the prefix of a part; a text has none."""
+        some = markup('<a id="x">{}</a><a href="#x">b</a><a id="y" href="#y">c</a>', ' id="')
+        self.assertEqual(some.anchored("p").source, '<a id="px"> id=&quot;</a><a href="#px">b</a>'
+                                                    '<a id="py" href="#py">c</a>')
+
+
+class Spans(unittest.TestCase):
+    """Frames between two."""
+
+    def test_between(self) -> None:
+        """From the first on, and before the end; in words, where it is not the whole day."""
+        day = FRAMES_OF_A_DAY
+        for between, inside, words in (
+                (ALL_DAY, [True, True, True], ""), (Between(25, 50), [False, True, False],
+                                                    "--from 00:00:01:00 --to 00:00:02:00"),
+                (Between(0, 25), [True, False, False], "--to 00:00:01:00"),
+                (Between(50, day), [False, False, True], "--from 00:00:02:00"),
+                (Between(0, 0), [False] * 3, "--to 00:00:00:00"),
+                (Between(1, day - 1), [False, True, True],
+                 "--from 00:00:00:01 --to 23:59:59:24")):
+            self.assertEqual([between.has(frame) for frame in (0, 25, 50)], inside, between)
+            self.assertEqual(" ".join(between.words()), words)
+
+
+class Heard(unittest.TestCase):
+    """What is kept of what is said of a pair."""
+
+    def test_all(self) -> None:
+        """Each command and choice in its order; a note once, and none that is empty."""
+        said = list[str]()
+        speech: Any = SimpleNamespace(say=said.append, command=said.append)
+        heard = Listener(speech)
+        heard.noted("a", "", "b")
+        heard.noted("a", "c")
+        heard.noted("b")
+        self.assertEqual((heard.notes, said), (["a", "b", "c"], []))
+        first, second = (Selection(ORIGIN_CHOICE, value, f"line {value}") for value in "12")
+        heard.chosen(first)
+        heard.chosen(second, False)
+        heard.written("check", "a b", ">", "c")
+        heard.written("check", "d'")
+        heard.said("more")
+        self.assertEqual(heard.selections, [first, second])
+        self.assertEqual(heard.commands, ["check 'a b' >c", "check 'd'\"'\"''"])
+        self.assertEqual(said, ["line 1", *heard.commands, "more"])
