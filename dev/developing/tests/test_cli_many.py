@@ -64,7 +64,7 @@ class Lists(Case):
         self.must("options", [item.asked.every for item in items if item.asked] == [50, 250, 250])
         reasons = [item.reason for item in items if item.reason]
         for reason, words in zip(reasons, (
-                f"{self.path('list')}, line 6: a quote does not end", f"{self.path('list')}, line 7: ",
+                f"{self.path('list')}, line 6: a quote", f"{self.path('list')}, line 7: ",
                 f"{self.path('folder')} is a folder",
                 f"{self.path('none.stl')}: No such file or directory",
                 f"{self.path('pipe')} is a pipe",

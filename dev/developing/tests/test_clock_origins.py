@@ -56,6 +56,12 @@ class Origins(Case):
         for between, gone, wanted in rows:
             found = [one.begin for one in subtitles_between(stl, "english", between, gone)]
             self.must(f"{between} {gone}", found == wanted, found)
+        looks = [one[2:] for row, justify, text in (
+            (20, 2, b"a"), (22, 2, b"a"), (20, 1, b"a"), (20, 2, b"b"), (20, 2, b"a"))
+            for one in subtitles_between(subtitle_file(self, [(0, 9, boxed(text))], "look.stl", 0,
+                                                       row, justify), "english", ALL_DAY, ())]
+        self.must("looks", len({*looks}) == 4 and looks[0] == looks[4] and [
+            letters for _, letters in looks] == [b"a", b"a", b"a", b"b", b"a"], looks)
 
     def test_of_nothing(self) -> None:
         """PES packets in which the page does not change, files that end within the first one or
@@ -355,9 +361,10 @@ class Tracks(unittest.TestCase):
             self.assertEqual([stretch.track.base for stretch in row],
                              [] if number is None else [number])
         later = {frame + 40 * (frame > 350): letters for frame, letters in due.items()}
-        row = find_row([self.base(later)])
-        self.assertEqual([(stretch.track.start, stretch.first, stretch.end) for stretch in row],
-                         [(0, 0, 6), (-40, 6, 12)])
+        for some in (later, {frame: text and b"other " + text for frame, text in later.items()}):
+            row = find_row([self.base(some)])
+            self.assertEqual([(stretch.track.start, stretch.first, stretch.end)
+                              for stretch in row], [(0, 0, 6), (-40, 6, 12)])
 
     def test_rows_at_once(self) -> None:
         """One stretch alone where all letters agree, or beginnings and ends are apart; of tracks

@@ -313,9 +313,12 @@ class Parts(unittest.TestCase):
         edges = edges_of(self.shown)
         own = [(TICKS * edge.frame, edge.letters) for edge in edges]
         none = base_with(edges, [(0, b"x")]).limited([], -1, 9)
+        strange = base_with(edges, [(TICKS * at * at, b"x") for at in range(30)])
         for bases, number in (([base_with(edges, own[:2]), base_with(edges, own[:5])], 1),
                               ([base_with(edges, own[:5]), base_with(edges, own[:4])], 0),
-                              ([none, base_with(edges, own[:3]), none], 1)):
+                              ([none, base_with(edges, own[:3]), none], 1),
+                              ([base_with(edges, own[:5]), strange], 0),
+                              ([strange, base_with(edges, own[:5])], 1)):
             [part] = parts_of(self.shown, bases, [])
             self.assertEqual((part.base, part[:2], part.best.start, part.over), (
                 number, (100, 650), 0, []), number)
@@ -372,11 +375,11 @@ class Runs(unittest.TestCase):
                 (20, 20, True), (20, 18, True), (20, 17, False), (16, 15, True), (10, 15, True),
                 (10, 14, False), (9, 20, False), (19, 20, True))):
             told = is_told and count >= 10 * (1 + within)
-            base = base_with(edges, [(TICKS * (edge.frame + within), b"%d" % at) for at, edge in
-                                     enumerate(edges[:changes])], 9999, within)
+            base = base_with(edges, [(TICKS * (edge.frame + within * at % 2), b"%d" % at)
+                                     for at, edge in enumerate(edges[:changes])], 9999, within)
             for bases in ([base], [base.limited(edges, -1, -1), base],
                           [base.limited(edges, -1, 300), base]):
-                wanted = {at: (len(bases) - 1, edge.frame + within)
+                wanted = {at: (len(bases) - 1, edge.frame + within * at % 2)
                           for at, edge in enumerate(edges[:changes])}
                 self.assertEqual(by_times(bases, count), wanted if told else {},
                                  (within, count, changes))
@@ -466,7 +469,7 @@ class Asked(Case):
             found = self.find(self.sent(sent), within=2, **asked)
             self.assertEqual((found.status, len(found.parts)), (
                 status, (1 + ("breaks" in asked)) * (1 - status)), (asked, found))
-        wrong = [(ticks + TICKS * EACH, text and b"x" + text) for ticks, text in self.sent([0] * 24)]
+        wrong = [(ticks, text and b"x" + text) for ticks, text in self.sent([EACH] * 24)]
         for origin, runs in ((None, 2), (0, 0), (TICKS, 0)):
             found = self.find([*self.sent([0] * 24), *wrong], origin=origin)
             self.assertEqual((len(found.runs), found.status), (runs, int(runs > 0)), origin)

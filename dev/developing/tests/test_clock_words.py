@@ -9,14 +9,15 @@ from typing import Any, Sequence
 from developing.pes import packet
 from subtitles.clock.alignment import Early
 from subtitles.clock.origin import (
-    Origin, Sought, break_lines, measure, part_lines, shift_lines, take_parts)
+    Origin, Sought, break_lines, is_sent, measure, part_lines, shift_lines, take_parts,
+    time_of_pts)
 from subtitles.clock.start import (
     Clock, FITTED, First, Found, GIVEN, NoFirst, RECORDING, START, TCP, began, first_picture,
     left_out, off_words)
 from subtitles.clock.stretches import Stretch
-from subtitles.common.times import CLOCK, TICKS
+from subtitles.common.times import CLOCK, FRAMES_OF_A_DAY, TICKS
 from subtitles.request.request import ORIGIN_CHOICE, Selection, Unclear
-from subtitles.stream.packets import Packets, Run
+from subtitles.stream.packets import Change, Mark, Packets, Run
 from subtitles.stream.ranges import Stage
 from subtitles.stream.receiver import control_text, national_option, printed_rows
 from subtitles.stream.survey import Survey
@@ -76,6 +77,10 @@ class Words(unittest.TestCase):
               "none", "no cue is late", "2 of 10 cues come up to 1 frame before what is usual for "
               "the others: early subtitles, or an inserter that is late for the others? Give "
               "--origin or --start"])]
+        rows += [(self.part(9, 9, 9, exact=9 - off), 9, [
+            "9 of 9 cues agree, 9 with the letters that are due; this part has 20; next best: none",
+            f"{off} of them only to the nearest frame: PTS that are not whole frames apart are "
+            "refused as 61"]) for off in (1, 9)]
         for is_begin, agree, late, line in (
                 (True, 5, 2, "all beginnings are 2 frames late compared with the ends"),
                 (False, 4, -1, "4 of 5 ends are 1 frame early compared with the beginnings")):
@@ -157,6 +162,31 @@ class Words(unittest.TestCase):
             measure(found, known, part)
             self.assertEqual(found.lines, [f"that is {words}"] * bool(words), (known, origin))
             self.assertEqual(found.away, None if known is None else origin - known)
+
+    def test_what_is_there(self) -> None:
+        """What is damaged, has no PTS, or is missing; where the page is not sent, what is."""
+        runs = [Run(0, 2, 0, TICKS, "h", ""), Run(2, 1, None, 0, "m", ""),
+                Run(3, 1, None, 0, "", "")]
+        marks, change = [Mark(2, None, 0, 0)], Change(0, b"", 0)
+        for several, some, damage, changes, said in (
+                (runs[:1], [], "", [change], []),
+                (runs[:1], [], "is cut", [change], ["one: is cut; what stands before is used"]),
+                (runs[:2], marks, "", [change], ["1 mark of what is missing skipped: check "
+                                                 "refuses them as 45"]),
+                (runs, marks, "is cut", [change], [
+                    "one: is cut; what stands before is used", "1 mark of what is missing skipped: "
+                    "check refuses them as 45", "1 of 4 PES packets have no PTS, and are skipped "
+                    "here: check refuses them as 34"]),
+                (runs[:1], [], "", [], ["there is no header of page 888 in one; other subtitle "
+                                        "pages: 777, 150"])):
+            lines, packets = list[str](), Packets(0, several)
+            packets.marks, packets.changes = some, changes
+            packets.damage, packets.sent = damage, {"888": 9, "150": 1, "777": 2}
+            self.assertEqual((is_sent(packets, Sought("a", "one"), lines), lines),
+                             (bool(changes), said))
+        for frame, words in ((0, "00:00:00:00"), (FRAMES_OF_A_DAY - 1, "23:59:59:24"),
+                             (FRAMES_OF_A_DAY, "outside of the day"), (-1, "outside of the day")):
+            self.assertEqual(time_of_pts((ORIGIN + TICKS * frame) % CLOCK, ORIGIN), words)
 
     def test_breaks(self) -> None:
         """Of the second part and the third: what is longer, shorter, or goes back."""

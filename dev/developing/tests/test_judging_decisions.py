@@ -84,7 +84,8 @@ class Folders(Case):
                 (["a.stl", "A.stl", "a.ts", "A.ts"], ["A", "a"]),
                 (["a.stl", "A.stl", "a.ts"], ["A?", "a"]),
                 (["a.stl", "b.ts", "b.stl", "c.ts"], ["a?", "b", "c?"]),
-                (["a.txt", "b.stl", "b.ts"], ["b"])):
+                (["a.txt", "b.stl", "b.ts"], ["b"]), (["a.stl", "a.x.ts"], ["a?", "a.x?"]),
+                (["a.x.stl", "a.x.ts", "a.y.stl"], ["a.x", "a.y?"])):
             name = "-".join(files)
             folder = self.path(name)
             os.mkdir(folder)
@@ -99,7 +100,8 @@ class Folders(Case):
         """A folder or a pipe as the subtitle file, and as the recording."""
         for number, (first, second, is_pair) in enumerate([
                 ("file", "file", True), ("folder", "file", False), ("file", "folder", False),
-                ("pipe", "file", False), ("file", "pipe", False), ("file", "link", False)]):
+                ("pipe", "file", False), ("file", "pipe", False), ("file", "link", False),
+                ("to file", "to file", True), ("file", "to folder", False)]):
             folder = self.path(str(number))
             os.mkdir(folder)
             for ending, kind in (("stl", first), ("ts", second)):
@@ -111,9 +113,17 @@ class Folders(Case):
                 elif kind == "pipe":
                     os.mkfifo(path)
                 else:
-                    os.symlink("nowhere", path)
+                    self.write("a file", b"")
+                    os.symlink({"to file": self.path("a file"), "to folder": folder}.get(
+                        kind, "nowhere"), path)
             [item] = of_folder(folder, defaults())
             self.must(f"{first} {second}", (item.asked is not None) == is_pair, item)
+        wrong = defaults("--origin", "5")
+        wrong.start = "tcp"
+        for options in (defaults(), wrong):  # inputs all the same
+            [item] = of_folder(self.path("0"), options)
+            self.must("files", ((item.asked is None) == (options is wrong), {*item.files} - {None})
+                      == (True, {self.path("0/a.stl"), self.path("0/a.ts")}), item)
 
     def test_folder_of_a_feed(self) -> None:
         """It is beside that of -o, however this is typed."""

@@ -6,6 +6,7 @@ import hashlib
 import json
 import os
 import sys
+import threading
 from typing import Any
 
 from subtitles.cli.channel.schedule import Queue
@@ -15,13 +16,14 @@ from subtitles.common.times import FRAMES_OF_A_DAY
 from subtitles.request.commands import CommandWords, again, profile_line
 from subtitles.request.lines import pairs_at, profile_at, request_of_line
 from subtitles.request.request import (
-    ALONE, CHANNEL_LINE, JUDGED, LINE, MEASURE, OPTIONS, Option, Request, add_options, option_words
-    as options_of, plain, request_with)
+    ALONE, CHANNEL_LINE, JUDGED, LINE, MEASURE, OPTIONS, Option, Request, add_options, keep_stl,
+    option_words as options_of, plain, request_with)
 from subtitles.results.schema import ASKED
 from .. import DEV
 from .bench import Case, example
 from .judged import judged
 from .parts import asked_for, call_words, defaults
+from .sent import subtitle_file
 
 
 # The table of options: a row that is added is found wherever an option stands, and what each row
@@ -231,7 +233,7 @@ class Files(Case):
                 "layout": "fit,up", "pace_word": "none", "option": "auto"}),
             ("--severity one\n--allow-lost", {
                 "severity": self.path("one"), "is_loss_allowed": True}),
-            ("--severity /one", {"severity": "/one"}),
+            ("--severity /one", {"severity": "/one"}), ("#" * 5000 + "\n--every 25", {"every": 25}),
             ("--within 2\n--late 0:31,2:69/0:1", {
                 "within": 2, "late": Lateness({0: 31, 2: 69}, {0: 1})})]
         for text, wanted in rows:
@@ -240,6 +242,32 @@ class Files(Case):
             self.must(text, found == wanted, found)
             self.must(f"{text}: sum", (profile.name, profile.sha256) == (
                 self.path("house"), hashlib.sha256(text.encode()).hexdigest()))
+
+    def test_piped(self) -> None:
+        """A subtitle file that comes through a pipe is kept, and tells its option then; any other
+        one is where it is."""
+        data = subtitle_file(self, [(0, 9, b"text")], "one.stl", language=b"08")
+        os.mkfifo(self.path("pipe"))
+        for name in (data, self.path("pipe")):
+            asked = asked_for(name, "a.ts", "--option", "auto")
+            self.must("not read yet", (asked.stl_path, asked.language) == (
+                name, "08" if name == data else None), asked)
+            writer = threading.Thread(target=lambda: self.write("pipe", self.read("one.stl")))
+            if name != data:
+                writer.start()
+            keep_stl(asked, self.folder)
+            kept = name if name == data else self.path("subtitles.stl")
+            self.must(name, (asked.stl, asked.stl_path, asked.option, asked.language) == (
+                name, kept, "german", "08"), asked)
+            with open(kept, "rb") as file:
+                self.must(f"{name}: whole", file.read() == self.read("one.stl"))
+        writer.join()
+        typed = asked_for(self.path("pipe"), "a.ts", "--option", "swedish")
+        writer = threading.Thread(target=lambda: self.write("pipe", self.read("one.stl")))
+        writer.start()
+        keep_stl(typed, self.folder)
+        writer.join()
+        self.must("typed", (typed.option, typed.language) == ("swedish", None), typed)
 
     def test_wrong_lines(self) -> None:
         """Named by number: what is of one recording, what is no option, a wrong value."""
