@@ -62,6 +62,10 @@ class Origins(Case):
                                                        row, justify), "english", ALL_DAY, ())]
         self.must("looks", len({*looks}) == 4 and looks[0] == looks[4] and [
             letters for _, letters in looks] == [b"a", b"a", b"a", b"b", b"a"], looks)
+        stl = self.stl([(0, 9, b"\xc8a")])
+        self.must("options", [subtitles_between(stl, option, ALL_DAY, ())[0].letters for option in (
+            "german", "swedish")] == [b"{"] * 2 and subtitles_between(
+                stl, "english", ALL_DAY, ())[0].letters != b"{")
 
     def test_of_nothing(self) -> None:
         """PES packets in which the page does not change, files that end within the first one or
@@ -410,6 +414,13 @@ class Tracks(unittest.TestCase):
                 (first[2], [0] * 7 + [3] * 5, 7), ([3] * 7 + [0] * 5, second, 6),
                 ([3] * 5 + [0, 1] + [0] * 5, [0] * 5 + [3, 0] + [3] * 5, 5)):
             self.assertEqual(row((0, 0, before), (0, -40, own)), [(0, end), (-40, 12)], own)
+        # Another track costs four points, and goes on where what is due next is sent later.
+        half, rest = [3] * 7 + [0] * 5, [0] * 7 + [3] * 5
+        for before, place, wanted in (
+                ([3] * 8 + [2] * 4, (0, -40), [(0, 12)]), ([3] * 7 + [2] * 5, (0, -40), [
+                    (0, 7), (-40, 12)]), (half, (0, 50), [(0, 12)]),
+                (half, (0, 49), [(0, 7), (49, 12)]), (half, (0, 100), [(0, 12)])):
+            self.assertEqual(row((0, 0, before), (*place, rest)), wanted, (before, place))
         # What agrees before the first five in a row counts too.
         self.assertEqual(row((0, 0, [3] * 4 + [0] + [3] * 5 + [0, 0]), (0, 5000, [0] * 6 + [
             3] * 6)), [(0, 12)])

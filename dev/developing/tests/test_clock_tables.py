@@ -10,13 +10,11 @@ from unittest import mock
 from subtitles.clock.alignment import (
     AGAIN, Apart, Base, Early, Edge, MOST_APART, MOST_BASES, REPEATED, Shown, back_at, bases_of,
     edges_of, likeliest, most_changed, settled, single_texts, without_repeats)
-from subtitles.clock.origin import Origin, Sought, find, subtitles_between
-from subtitles.clock.stretches import FittedPart, Stretch, Track, by_times, parts_of, runs_of
+from subtitles.clock.stretches import (
+    FittedPart, Stretch, Track, by_times, parts_of, runs_of, sent_between)
 from subtitles.common.command_line import Lateness
-from subtitles.common.times import ALL_DAY, Between, CLOCK, EARLY, TICKS
+from subtitles.common.times import CLOCK, EARLY, TICKS
 from subtitles.stream.packets import Change, Packets, Run
-from .bench import Case
-from .sent import programme
 from .test_clock_laws import packets_of
 
 EACH = 5000  # frames from one time that the programme is there to the next
@@ -182,8 +180,8 @@ class Fits(unittest.TestCase):
         for frame, text, is_there in ((20, b"b", True), (20, b"x", False), (21, b"b", False)):
             one = base_with(self.edges, [(TICKS * frame, text)])
             self.assertEqual(one.has(self.edges[2], 10), is_there)
-        one = base_with(self.edges, [(TICKS * 22, b"b")], 60, 2).fit(10)
-        self.assertEqual((one.start, one.late), (8, [0]))
+        fit = base_with(self.edges, [(TICKS * 22, b"b")], 60, 2).fit(10)
+        self.assertEqual((fit.start, fit.late), (8, [0]))
         base = base_with(self.edges, [(TICKS * (frame + 2), text) for frame, text in self.SENT],
                          60, 2)
         for start in (8, 9, 10):  # what all share is no delay
@@ -223,7 +221,7 @@ class Fits(unittest.TestCase):
         """Of many some of the whole length vote, and each of its texts, unless there are many of
         it; what is erased is none."""
         sent = [(TICKS * at, b"x") for at in range(0, 80, 2)] + [
-            (TICKS * (edge.frame + 500), b"y") for edge in self.edges]
+            (TICKS * (edge.frame + 500), b"y") for edge in self.edges] + [(TICKS * 900, b"x")]
         for votes in (1 << 20, 100):
             with mock.patch("subtitles.clock.alignment.VOTES", votes):
                 starts = [fit.start for fit in base_with(self.edges, sent).fits]
@@ -367,6 +365,17 @@ class Runs(unittest.TestCase):
         self.assertEqual(self.found(self.grid, "rw", EACH), [(0, 1150)])
         self.assertEqual(self.found(self.grid, "rr", EACH), [(0, 1150), (EACH, EACH + 1150)])
 
+    def test_between(self) -> None:
+        """What is sent between two places, neither of them included."""
+        bases = [base_with([], [(TICKS * at, b"%d" % at) for at in range(5)], 4) for _ in range(3)]
+        for low, high, wanted in (
+                ((0, 1), (0, 3), [[2], [], []]), ((0, 1), (1, 1), [[2, 3, 4], [0], []]),
+                ((-1, 0), (1, 0), [[0, 1, 2, 3, 4], [], []]), ((1, 4), (1 << 40, 0), [
+                    [], [], [0, 1, 2, 3, 4]]), ((0, 4), (2, 2), [[], [0, 1, 2, 3, 4], [0, 1]]),
+                ((1, 2), (1, 3), [[], [], []]), ((-1, 0), (0, 1), [[0], [], []])):
+            self.assertEqual([[*base.changes] for base in sent_between(bases, low, high)], wanted,
+                             (low, high))
+
     def test_by_times(self) -> None:
         """Nine in ten of those that the first time has, and three quarters of all, in whichever
         time base, no more than N frames late; of few nothing is told."""
@@ -419,80 +428,3 @@ class Ways(unittest.TestCase):
             base = self.base(delays)
             best, early = settled(base, base.fit(0), None)
             self.assertEqual((best.start, early), wanted, delays)
-
-
-class Asked(Case):
-    """What is asked reaches what is looked for."""
-
-    times = [(at * at * 7 + 90 * at, at * at * 7 + 90 * at + 60 + at) for at in range(12)]
-
-    def setUp(self) -> None:
-        super().setUp()
-        self.stl = programme(self, self.times)
-        self.shown = subtitles_between(self.stl, "english", ALL_DAY, ())
-        self.edges = edges_of(self.shown)
-
-    def find(self, sendings: Sequence[tuple[int, bytes]], **asked: Any) -> Origin:
-        """What is found of what is sent."""
-        return find(Sought(self.stl, "one.pes", **asked), packets_of(sendings))
-
-    def sent(self, late: Sequence[int]) -> list[tuple[int, bytes]]:
-        """All of it, each so many frames late."""
-        return [(TICKS * (edge.frame + by), edge.letters) for edge, by in zip(self.edges, late)]
-
-    def test_of_subtitles_and_packets(self) -> None:
-        """Subtitles of some frames, but for some; PES packets with some numbers, of several times.
-        """
-        twice = [*self.sent([0] * 24), *self.sent([EACH] * 24)]
-        half, rest = self.times[6][0], Between(self.times[6][0])
-        for asked, count, number, runs in (
-                ({}, 24, None, 2), ({"inside": (0, 23)}, 24, 0, 0), ({"inside": (24, 47)}, 24, EACH,
-                                                                     0),
-                ({"between": Between(0, half), "inside": (0, 23)}, 12, 0, 0),
-                ({"between": rest, "inside": (24, 47)}, 12, EACH, 0),
-                ({"between": rest, "left_out": (7, 8), "inside": (0, 23)}, 8, 0, 0)):
-            found = self.find(twice, **asked)
-            self.assertEqual((len(found.runs), [one.origin for one in found.parts]), (
-                runs, [] if number is None else [TICKS * number]), asked)
-            self.assertTrue(runs or found.parts[0].line.startswith(
-                f"{count} of {count} cues agree, "), found)
-
-    def test_of_clocks(self) -> None:
-        """A clock that is known, where many come before the one that was fitted; shares of delays,
-        also in parts; a clock that is known is one of a single time that the programme is there."""
-        many, late = [0, 0, 0, *[2] * 21], Lateness({2: 1, 0: 1}, {2: 1, 0: 1})
-        parts = [*many[:12], *(one + 400 for one in many[:12])]
-        for asked, sent, status in (
-                ({}, many, 1), ({"origin": 0}, many, 0), ({"origin": 7200}, many, 0),
-                ({"late": late}, many, 0), ({"breaks": 1}, parts, 1),
-                ({"breaks": 1, "late": late}, parts, 0), ({"breaks": 1, "origin": 0}, parts, 1)):
-            found = self.find(self.sent(sent), within=2, **asked)
-            self.assertEqual((found.status, len(found.parts)), (
-                status, (1 + ("breaks" in asked)) * (1 - status)), (asked, found))
-        wrong = [(ticks, text and b"x" + text) for ticks, text in self.sent([EACH] * 24)]
-        for origin, runs in ((None, 2), (0, 0), (TICKS, 0)):
-            found = self.find([*self.sent([0] * 24), *wrong], origin=origin)
-            self.assertEqual((len(found.runs), found.status), (runs, int(runs > 0)), origin)
-
-    def test_drift(self) -> None:
-        """It is that of the time base that is judged."""
-        steady = [at // 6 for at in range(24)]
-        strange = [(10 ** 9 + TICKS * at, b"") for at in range(3)]
-        for sent, is_told in ((steady, True), ([0] * 24, False)):
-            for some in (self.sent(sent), strange + self.sent(sent)):
-                found = self.find(some, within=4)
-                self.assertEqual(any("later and later" in line for line in found.shifts), is_told,
-                                 found)
-
-    def test_why_not(self) -> None:
-        """Where nothing is clear it is told first that rows came while the page was not open."""
-        for sent, is_told in (([0] * 24, False), ([0, 0, 0, *[2] * 21], True)):
-            packets = packets_of(self.sent(sent))
-            packets.strays.append((0, ()))
-            packets.runs[0] = packets.runs[0]._replace(does="hs")
-            found = find(Sought(self.stl, "one.pes", within=2), packets)
-            self.assertEqual((found.lines[0], found.status) == (
-                "rows came while 888 was not open, in 1 PES packet", 1), is_told, found)
-            self.assertEqual(any("rows came" in line for line in found.lines), is_told)
-        found = self.find([(TICKS * 99, b"other"), (TICKS * 200, b"texts")], within=1)
-        self.assertEqual((found.status, found.lines), (1, ["no cue agrees with any origin"]))

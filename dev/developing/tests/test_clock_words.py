@@ -77,6 +77,9 @@ class Words(unittest.TestCase):
               "none", "no cue is late", "2 of 10 cues come up to 1 frame before what is usual for "
               "the others: early subtitles, or an inserter that is late for the others? Give "
               "--origin or --start"])]
+        rows.append((self.part(3, 3, 3, within=3, late=[2, 1, 3, 2]), 20, [
+            "3 of 3 cues agree, 3 with the letters that are due; the file has 20; next best: none",
+            "cues are 1 to 3 frames late, 2 in the middle"]))
         rows += [(self.part(9, 9, 9, exact=9 - off), 9, [
             "9 of 9 cues agree, 9 with the letters that are due; this part has 20; next best: none",
             f"{off} of them only to the nearest frame: PTS that are not whole frames apart are "
@@ -129,6 +132,8 @@ class Words(unittest.TestCase):
                 (9 + at, (at, 7) if count > 1 else None, (1000 * at, 1000 * at + 500), edges - 1,
                  edges) for at, edges in enumerate((20, 12, 6))])
             for line, is_there in (("3 parts: 35 of 38 cues agree", True),
+                                   ("19 of 20 cues agree, 19 with the letters that are due; this "
+                                    "part has 20; next best: none", True),
                                    ("that is --origin 9", origin == 9),
                                    *((f"the subtitle from 00:00:0{at}:00 to 00:00:0{at + 2}:00 "
                                       "reaches into the next part, and is in none", True)
@@ -168,7 +173,7 @@ class Words(unittest.TestCase):
         runs = [Run(0, 2, 0, TICKS, "h", ""), Run(2, 1, None, 0, "m", ""),
                 Run(3, 1, None, 0, "", "")]
         marks, change = [Mark(2, None, 0, 0)], Change(0, b"", 0)
-        for several, some, damage, changes, said in (
+        rows: list[tuple[list[Run], list[Mark], str, list[Change], list[str]]] = [
                 (runs[:1], [], "", [change], []),
                 (runs[:1], [], "is cut", [change], ["one: is cut; what stands before is used"]),
                 (runs[:2], marks, "", [change], ["1 mark of what is missing skipped: check "
@@ -178,7 +183,8 @@ class Words(unittest.TestCase):
                     "check refuses them as 45", "1 of 4 PES packets have no PTS, and are skipped "
                     "here: check refuses them as 34"]),
                 (runs[:1], [], "", [], ["there is no header of page 888 in one; other subtitle "
-                                        "pages: 777, 150"])):
+                                        "pages: 777, 150"])]
+        for several, some, damage, changes, said in rows:
             lines, packets = list[str](), Packets(0, several)
             packets.marks, packets.changes = some, changes
             packets.damage, packets.sent = damage, {"888": 9, "150": 1, "777": 2}

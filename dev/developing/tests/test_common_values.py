@@ -2,15 +2,17 @@
 pair."""
 from __future__ import annotations
 
+import io
 import unittest
 from types import SimpleNamespace
 from typing import Any
+from unittest import mock
 
 from subtitles.common.markup import markup
 from subtitles.common.shapes import (
     Flag, Integer, Listed, Maybe, Member, Number, OneOf, Record, Rules, Shape, Text)
 from subtitles.common.times import ALL_DAY, Between, FRAMES_OF_A_DAY
-from subtitles.request.commands import Listener
+from subtitles.request.commands import Listener, Progress, Speech
 from subtitles.request.request import ORIGIN_CHOICE, Selection
 
 
@@ -64,7 +66,7 @@ class Shapes(unittest.TestCase):
     def test_made(self) -> None:
         """A text that is too long is cut, unless a pattern asks something of it; a list is; what
         is not always there is left out where it is not."""
-        for shape, value, wanted in (
+        rows: list[tuple[Shape, object, object]] = [
                 (Text(most=5), "abcde", "abcde"), (Text(most=5), "abcdef", "ab..."),
                 (Text("a*", 5), "a" * 6, "a" * 6), (Text(most=5), None, None),
                 (Maybe(Text(most=5)), "abcdef", "ab..."), (Maybe(Text()), None, None),
@@ -74,7 +76,8 @@ class Shapes(unittest.TestCase):
                 (self.INNER, {"x": 0}, {"x": 0}),
                 (Record("", "", Member("n", Text(most=4), of=lambda value: value.m)),
                  SimpleNamespace(m="abcde"), {"n": "a..."}),
-                (Record("", "", Member("n", Flag())), SimpleNamespace(n=False), {"n": False})):
+                (Record("", "", Member("n", Flag())), SimpleNamespace(n=False), {"n": False})]
+        for shape, value, wanted in rows:
             self.assertEqual(shape.made(value), wanted, value)
 
     def test_anchors(self) -> None:
@@ -123,3 +126,20 @@ class Heard(unittest.TestCase):
         self.assertEqual(heard.selections, [first, second])
         self.assertEqual(heard.commands, ["check 'a b' >c", "check 'd'\"'\"''"])
         self.assertEqual(said, ["line 1", *heard.commands, "more"])
+
+    def test_speech(self) -> None:
+        """What is done before the verdict's line is done between its sentence and that; all before
+        the verdict may be quiet; each line is said at once."""
+        speech, out = Speech(Progress()), io.StringIO()
+        speech.out, speech.at_end = out, lambda: print("at end", file=out)
+        speech.say("one\x07")
+        speech.is_quiet = True
+        speech.say("two")
+        self.assertEqual((speech.last, out.getvalue()), ("two", "one\\x07\n"))
+        speech.end("sentence", "line")
+        self.assertEqual((speech.last, out.getvalue()), (
+            "line", "one\\x07\nsentence\nat end\nline\n"))
+        with mock.patch.object(out, "write", side_effect=BrokenPipeError), mock.patch(
+                "subtitles.request.commands.silence") as silence:
+            speech.say("nobody reads it")
+        self.assertEqual((silence.call_args.args, speech.last), ((out,), "nobody reads it"))

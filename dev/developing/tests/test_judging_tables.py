@@ -313,9 +313,10 @@ class Named(Case):
         names = NamesOfList()
         self.must("of a list", [names.pair(one) for one in (
             "a.stl", "b/a.stl", "a~2.stl", "b.stl", "a.STL")] == ["a", "a~2", "a%7E2", "b", "a~3"])
-        for taken, wanted in (([], "a"), (["a"], "a~2"), (["a~3", "a~2"], "a~4"),
-                              (["a~2", "a~5", "a"], "a~6"), (["b", "ab~3"], "a"),
-                              (["a~x"], "a"), (["~2"], "a")):
+        of_taken: list[tuple[list[str], str]] = [
+            ([], "a"), (["a"], "a~2"), (["a~3", "a~2"], "a~4"), (["a~2", "a~5", "a"], "a~6"),
+            (["b", "ab~3"], "a"), (["a~x"], "a"), (["~2"], "a")]
+        for taken, wanted in of_taken:
             names = NamesOfList()
             self.must(f"taken {taken}", [names.take(one) for one in taken] == taken and
                       names.pair("a.stl") == wanted)

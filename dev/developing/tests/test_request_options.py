@@ -3,6 +3,7 @@ from __future__ import annotations
 
 import argparse
 import hashlib
+import itertools
 import json
 import os
 import sys
@@ -163,6 +164,8 @@ class Rows(Case):
             key = name.replace("--no-", "--").strip("-").replace("-", "_")
             self.must(f"{name}: result", known == {
                 **without, **({"within": 5} if name == "--late" else {}), key: member}, known)
+            self.must(f"{name}: pages", asked.words_of_pages() == (
+                words if name in ("--layout", "--open") else []), asked.words_of_pages())
             line = request_of_line(["one.stl", "one.pes", *words], plain_words)
             self.must(f"{name}: line", line == asked, line)
         every = [word for name, value, _ in ROWS if name != "--start"
@@ -197,6 +200,10 @@ class Rows(Case):
             asked = asked_for("a.stl", "a.ts", *words.split())
             self.assertEqual(asked.between, (first, end), words)
             self.assertEqual(asked.of_part(first, end).between, (first, end), words)
+        for option, time in itertools.product(("--from", "--to"), (
+                "24:00:00:00", "00:00:00:25", "00:00:00", "10", "")):
+            with self.assertRaises(Stop):
+                asked_for("a.stl", "a.ts", option, time)
 
     def test_words_of_a_value(self) -> None:
         """None where it is what is taken without them."""

@@ -1,0 +1,96 @@
+"""What is asked of a recording reaches the search for its clock, and what is found is told."""
+from __future__ import annotations
+
+import itertools
+from typing import Any, Sequence
+
+from subtitles.clock.alignment import edges_of
+from subtitles.clock.origin import Origin, Sought, find, subtitles_between
+from subtitles.common.command_line import Lateness
+from subtitles.common.times import ALL_DAY, Between, TICKS
+from .bench import Case
+from .sent import programme
+from .test_clock_laws import packets_of
+from .test_clock_tables import EACH
+
+
+class Asked(Case):
+    """What is asked reaches what is looked for."""
+
+    times = [(at * at * 7 + 90 * at, at * at * 7 + 90 * at + 60 + at) for at in range(12)]
+
+    def setUp(self) -> None:
+        super().setUp()
+        self.stl = programme(self, self.times)
+        self.shown = subtitles_between(self.stl, "english", ALL_DAY, ())
+        self.edges = edges_of(self.shown)
+
+    def find(self, sendings: Sequence[tuple[int, bytes]], **asked: Any) -> Origin:
+        """What is found of what is sent."""
+        return find(Sought(self.stl, "one.pes", **asked), packets_of(sendings))
+
+    def sent(self, late: Sequence[int]) -> list[tuple[int, bytes]]:
+        """All of it, each so many frames late."""
+        return [(TICKS * (edge.frame + by), edge.letters) for edge, by in zip(self.edges, late)]
+
+    def test_of_subtitles_and_packets(self) -> None:
+        """Subtitles of some frames, but for some; PES packets with some numbers, of several times.
+        """
+        twice = [*self.sent([0] * 24), *self.sent([EACH] * 24)]
+        half, rest = self.times[6][0], Between(self.times[6][0])
+        rows: list[tuple[dict[str, Any], int, int | None, int]] = [
+            ({}, 24, None, 2), ({"inside": (0, 23)}, 24, 0, 0),
+            ({"inside": (24, 47)}, 24, EACH, 0),
+            ({"between": Between(0, half), "inside": (0, 23)}, 12, 0, 0),
+            ({"between": rest, "inside": (24, 47)}, 12, EACH, 0),
+            ({"between": rest, "left_out": (7, 8), "inside": (0, 23)}, 8, 0, 0)]
+        for asked, count, number, runs in rows:
+            found = self.find(twice, **asked)
+            self.assertEqual((len(found.runs), [one.origin for one in found.parts]), (
+                runs, [] if number is None else [TICKS * number]), asked)
+            self.assertTrue(runs or found.parts[0].line.startswith(
+                f"{count} of {count} cues agree, "), found)
+
+    def test_of_clocks(self) -> None:
+        """A clock that is known, where many come before the one that was fitted; shares of delays,
+        also in parts; a clock that is known is one of a single time that the programme is there."""
+        many, late = [0, 0, 0, *[2] * 21], Lateness({2: 1, 0: 1}, {2: 1, 0: 1})
+        parts = [*many[:12], *(one + 400 for one in many[:12])]
+        rows: list[tuple[dict[str, Any], list[int], int]] = [
+            ({}, many, 1), ({"origin": 0}, many, 0), ({"origin": 7200}, many, 0),
+            ({"late": late}, many, 0), ({"breaks": 1}, parts, 1),
+            ({"breaks": 1, "late": late}, parts, 0), ({"breaks": 1, "origin": 0}, parts, 1)]
+        for asked, sent, status in rows:
+            found = self.find(self.sent(sent), within=2, **asked)
+            self.assertEqual((found.status, len(found.parts)), (
+                status, (1 + ("breaks" in asked)) * (1 - status)), (asked, found))
+        wrong = [(ticks, text and b"x" + text) for ticks, text in self.sent([EACH] * 24)]
+        late_then = self.sent([*[0] * 12, *[50] * 6, *[600] * 6])  # a delay, and then a break
+        self.assertEqual(len(self.find(late_then, breaks=1).parts), 2)
+        for origin, runs in ((None, 2), (0, 0), (TICKS, 0)):
+            found = self.find([*self.sent([0] * 24), *wrong], origin=origin)
+            self.assertEqual((len(found.runs), found.status), (runs, int(runs > 0)), origin)
+
+    def test_drift(self) -> None:
+        """It is that of the time base that is judged."""
+        steady = [at // 6 for at in range(24)]
+        strange = [(10 ** 9 + TICKS * at, b"") for at in range(3)]
+        for (sent, is_told), within in itertools.product(((steady, True), ([0] * 24, False)),
+                                                         (0, 4)):
+            for some in (self.sent(sent), strange + self.sent(sent)):
+                found = self.find(some, within=within)
+                self.assertEqual(["later and later" in line for line in found.shifts],
+                                 [True] * is_told, found)
+
+    def test_why_not(self) -> None:
+        """Where nothing is clear it is told first that rows came while the page was not open."""
+        for sent, is_told in (([0] * 24, False), ([0, 0, 0, *[2] * 21], True)):
+            packets = packets_of(self.sent(sent))
+            packets.strays.append((0, ()))
+            packets.runs[0] = packets.runs[0]._replace(does="hs")
+            found = find(Sought(self.stl, "one.pes", within=2), packets)
+            self.assertEqual((found.lines[0], found.status) == (
+                "rows came while 888 was not open, in 1 PES packet", 1), is_told, found)
+            self.assertEqual(any("rows came" in line for line in found.lines), is_told)
+        found = self.find([(TICKS * 99, b"other"), (TICKS * 200, b"texts")], within=1)
+        self.assertEqual((found.status, found.lines), (1, ["no cue agrees with any origin"]))
