@@ -65,6 +65,8 @@ class Asked(Case):
             self.assertEqual((found.status, len(found.parts)), (
                 status, (1 + ("breaks" in asked)) * (1 - status)), (asked, found))
         wrong = [(ticks, text and b"x" + text) for ticks, text in self.sent([EACH] * 24)]
+        found = self.find(self.sent([*[0] * 8, *[50] * 8, *[90] * 8]))
+        self.assertEqual((found.shifted_from, len(found.shifts)), (self.edges[8].frame, 2))
         late_then = self.sent([*[0] * 12, *[50] * 6, *[600] * 6])  # a delay, and then a break
         self.assertEqual(len(self.find(late_then, breaks=1).parts), 2)
         for origin, runs in ((None, 2), (0, 0), (TICKS, 0)):

@@ -235,9 +235,8 @@ class Drifts(unittest.TestCase):
         for delays, wanted in (
                 (steady, Drift(0, 1100, 3)), ([-by for by in steady], Drift(0, 1100, -3)),
                 ([0, 0, 0, 0, 1, 1, 1, 1, 2, 2, 2, 2], Drift(0, 1100, 2)),
-                ([*range(0, 48, 4)], Drift(0, 1100, 44)), ([*steady[:5], 30, *steady[6:]],
-                                                           Drift(0, 1100, 3)),
-                ([*steady[:5], -30, *steady[6:]], Drift(0, 1100, 3)),
+                ([*range(0, 48, 4)], Drift(0, 1100, 44)), *(
+                    ([*steady[:5], off, *steady[6:]], Drift(0, 1100, 3)) for off in (30, -30)),
                 ([*steady[:5], 30, 40, *steady[7:]], None), ([0] * 12, None), ([7] * 12, None),
                 ([0] * 6 + [1] * 6, None), ([0] * 6 + [2] * 6, None), ([0] * 6 + [3] * 6, None),
                 ([0] * 9 + [3] * 3, None), ([0, 1, 2] * 4, None), ([0, 2] * 6, None),
@@ -255,6 +254,7 @@ class Drifts(unittest.TestCase):
         self.assertIsNone(self.drift(steady, [*own[:6], *[b"x%d" % at for at in range(7)]]))
         self.assertEqual(self.drift(steady, [*own[:7], *[b"x%d" % at for at in range(5)]]),
                          Drift(0, 600, 3))
+        self.assertEqual(self.drift(steady, [*own[:10], *own[:2]]), Drift(200, 900, 3))
 
     def test_never_of_right_inserters(self) -> None:
         """Next to none of those drifts that are late as they may be."""

@@ -11,7 +11,7 @@ from subtitles.clock.alignment import (
     AGAIN, Apart, Base, Early, Edge, MOST_APART, MOST_BASES, REPEATED, Shown, back_at, bases_of,
     edges_of, likeliest, most_changed, settled, single_texts, without_repeats)
 from subtitles.clock.stretches import (
-    FittedPart, Stretch, Track, by_times, parts_of, runs_of, sent_between)
+    FittedPart, Stretch, Track, border_of, by_times, parts_of, runs_of, sent_between)
 from subtitles.common.command_line import Lateness
 from subtitles.common.times import CLOCK, EARLY, TICKS
 from subtitles.stream.packets import Change, Packets, Run
@@ -180,12 +180,21 @@ class Fits(unittest.TestCase):
         for frame, text, is_there in ((20, b"b", True), (20, b"x", False), (21, b"b", False)):
             one = base_with(self.edges, [(TICKS * frame, text)])
             self.assertEqual(one.has(self.edges[2], 10), is_there)
+        one = base_with(self.edges, [(TICKS * 20, b"b"), (TICKS * 21, b"x"), (TICKS * 22, b"b"),
+                                     (TICKS * 36, b"")], 60, 2)
+        for at, start, late in ((2, 10, 0), (2, 9, 1), (2, 8, 0), (2, 7, None), (2, 11, 1),
+                                (3, 10, 1), (3, 9, 0), (3, 8, None), (3, 11, 2)):
+            found = one.agreed(self.edges[at], start)
+            self.assertEqual(found and found.late, late, (at, start))
         fit = base_with(self.edges, [(TICKS * 22, b"b")], 60, 2).fit(10)
         self.assertEqual((fit.start, fit.late), (8, [0]))
         base = base_with(self.edges, [(TICKS * (frame + 2), text) for frame, text in self.SENT],
                          60, 2)
         for start in (8, 9, 10):  # what all share is no delay
             self.assertEqual((base.fit(start).start, base.fit(start).late), (8, [0] * 6), start)
+        self.assertEqual([min(one.late) for one in base.fits], [0] * len(base.fits))
+        for edges, some in ((self.edges, []), ([], self.SENT), ([], [])):
+            self.assertEqual(base_with(edges, some).fits, [])
 
     def test_apart(self) -> None:
         """Half that agree are not apart; of two delays that as many have the smaller is told; that
@@ -204,6 +213,12 @@ class Fits(unittest.TestCase):
         half = [(0, b"a"), (10, b""), (12, b""), (20, b"b"), (37, b"")]  # as due, or all later
         base = base_with(self.edges[:4], [(TICKS * frame, text) for frame, text in half])
         self.assertIsNone(base.apart(base.fit_at(10)))
+        base = base_with(self.edges, [(TICKS * frame, text) for frame, text in self.SENT], 49)
+        for is_begin, late, wanted in ((True, 0, (3, 3)), (False, 0, (2, 2)), (True, 10, (0, 2)),
+                                       (True, -1, (0, 2)), (False, -1, (0, 3)), (True, 9, (0, 3)),
+                                       (False, -36, (0, 1)), (True, 20, (0, 2))):
+            self.assertEqual(base.late_by(base.fit_at(10), is_begin, late),
+                             Apart(is_begin, late, *wanted))
         for at, is_told in ((MOST_APART, True), (MOST_APART + 1, False)):
             base = base_with(self.edges[:2], [(0, b"a"), (TICKS * (10 + at), b"")])
             found = base.apart(base.fit_at(10))
@@ -328,6 +343,27 @@ class Parts(unittest.TestCase):
         for some, start in ((ends, 0), (begins, -3)):
             [part] = parts_of(self.shown, [base_with(edges, some)], [])
             self.assertEqual(part.best.start, start)
+
+    def test_border(self) -> None:
+        """The second of two stretches begins where it gains the most, behind five of the first, and
+        what is due there is sent later; of two the later one."""
+        edges = [Edge(50 * at, b"", True) for at in range(15)]
+        for before, own, start, wanted in (
+                ([3] * 6 + [0] * 9, [0] * 10 + [3] * 5, -9, 10),
+                ([3] * 6 + [0] * 9, [0] * 8 + [3, 0] + [3] * 5, -9, 8),
+                ([3] * 7 + [2] + [0] * 7, [0] * 6 + [3, 0, 3, 0] + [3] * 5, -9, 8),
+                ([3] * 6 + [0] * 9, [0] * 6 + [3, 0, 3, 0] + [3] * 5, -9, 6),
+                ([3] * 6 + [0, 3] + [0] * 7, [0] * 6 + [3, 0, 3, 0] + [3] * 5, -9, 8),
+                ([3] * 6 + [0, 2] + [0] * 7, [0] * 6 + [3, 0, 3, 0] + [3] * 5, -9, 6),
+                ([0] * 15, [3] * 15, -9, 5), ([0] * 15, [3] * 15, 49, 5),
+                ([0] * 15, [3] * 15, 50, 10),
+                ([1] * 8 + [0] * 7, [0] * 7 + [3, 0, 0] + [3] * 5, -9, 7),
+                ([1] * 10 + [0] * 5, [0] * 7 + [3, 0, 0] + [3] * 5, -9, 10)):
+            base = base_with([], [])
+            tracks = [Track(0, 0, base), Track(0, start, base)]
+            tracks[0].points, tracks[1].points = before, own
+            self.assertEqual(border_of(edges, Stretch(tracks[0], 0, 10), Stretch(
+                tracks[1], 10, 15)), wanted, (before, own, start))
 
 
 class Runs(unittest.TestCase):

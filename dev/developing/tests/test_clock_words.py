@@ -77,6 +77,13 @@ class Words(unittest.TestCase):
               "none", "no cue is late", "2 of 10 cues come up to 1 frame before what is usual for "
               "the others: early subtitles, or an inserter that is late for the others? Give "
               "--origin or --start"])]
+        for count, words in ((5, ""), (6, " and 1 more")):
+            rows.append((self.part(9, 9, 9, first_other=0, others=[
+                self.other(at, 9) for at in range(count)]), 20, [
+                    "9 of 9 cues agree, 9 with the letters that are due; the file has 20; next "
+                    "best: --origin 0 with 9", "it is not unique: as good as --origin 9 are "
+                    f"--origin 0, --origin 1, --origin 2, --origin 3, --origin 4{words}",
+                    "the first cue that does not agree is 00:00:00:00"]))
         rows.append((self.part(3, 3, 3, within=3, late=[2, 1, 3, 2]), 20, [
             "3 of 3 cues agree, 3 with the letters that are due; the file has 20; next best: none",
             "cues are 1 to 3 frames late, 2 in the middle"]))

@@ -3,6 +3,7 @@ pair."""
 from __future__ import annotations
 
 import io
+import os
 import unittest
 from types import SimpleNamespace
 from typing import Any
@@ -12,8 +13,10 @@ from subtitles.common.markup import markup
 from subtitles.common.shapes import (
     Flag, Integer, Listed, Maybe, Member, Number, OneOf, Record, Rules, Shape, Text)
 from subtitles.common.times import ALL_DAY, Between, FRAMES_OF_A_DAY
-from subtitles.request.commands import Listener, Progress, Speech
+from subtitles.request.commands import (
+    Listener, Names, NamesOfList, Progress, Speech, pair_name)
 from subtitles.request.request import ORIGIN_CHOICE, Selection
+from .bench import Case
 
 
 class Shapes(unittest.TestCase):
@@ -143,3 +146,38 @@ class Heard(unittest.TestCase):
                 "subtitles.request.commands.silence") as silence:
             speech.say("nobody reads it")
         self.assertEqual((silence.call_args.args, speech.last), ((out,), "nobody reads it"))
+
+
+class Named(Case):
+    """Names of files that a call makes."""
+
+    def test_files(self) -> None:
+        """Where somebody else gives them their place; the subtitle file as the program is given
+        it, of a part too, by a name that is UTF-8."""
+        later = Names("one", self.folder, "out", "later")  # somebody else puts them into `out`
+        for one, name in ((later, "one"), (later.of_part(2), "one.2")):
+            self.must(f"{name}: later", (one.typed("html"), one.report, one.machine) == (
+                f"out/{name}.html", f"later/{name}.html", f"later/{name}.json"))
+        later.give(self.write("a.stl", b"one"))
+        self.must("as it is", later.of_part(1).given == later.given == self.path("a.stl"))
+        own = os.fsdecode(os.fsencode(self.path("caf")) + b"\xe9")
+        self.write(own, b"two")
+        for _ in range(2):
+            later.give(own)
+            self.must("by another name", later.given == self.path("one.given.stl") and
+                      later.of_part(1).given == later.given and self.read("one.given.stl") ==
+                      b"two" and later.as_program(own, "x") != later.given)
+
+    def test_names(self) -> None:
+        """What was given before is given to nobody else; long names are cut, and differ."""
+        of_taken: list[tuple[list[str], str]] = [
+            ([], "a"), (["a"], "a~2"), (["a~3", "a~2"], "a~4"), (["a~2", "a~5", "a"], "a~6"),
+            (["b", "ab~3"], "a"), (["a~x"], "a"), (["~2"], "a")]
+        for taken, wanted in of_taken:
+            names = NamesOfList()
+            self.must(f"taken {taken}", [names.take(one) for one in taken] == taken and
+                      names.pair("a.stl") == wanted)
+        long = ["a" * 179, "a" * 180, "a" * 181, "a" * 182, "a" * 181 + "b", "é" * 90, "é" * 91]
+        found = [pair_name(f"{one}.stl") for one in long]
+        self.must("long", len({*found}) == len(long) and [one in found for one in long] == [
+            True, True, False, False, False, True, False], found)

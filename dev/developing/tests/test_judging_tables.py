@@ -271,19 +271,6 @@ class Named(Case):
                     os.path.join(self.folder, f"{name}.txt")))
                 self.must(f"{out} {name}: object", one.machine == (f"{typed}.json" if out else
                                                                    None))
-        later = Names("one", self.folder, "out", "later")  # somebody else puts them into `out`
-        for one, name in ((later, "one"), (later.of_part(2), "one.2")):
-            self.must(f"{name}: later", (one.typed("html"), one.report, one.machine) == (
-                f"out/{name}.html", f"later/{name}.html", f"later/{name}.json"))
-        later.give(self.write("a.stl", b"one"))
-        self.must("as it is", later.of_part(1).given == later.given == self.path("a.stl"))
-        own = os.fsdecode(os.fsencode(self.path("caf")) + b"\xe9")
-        self.write(own, b"two")
-        for _ in range(2):
-            later.give(own)
-            self.must("by another name", later.given == self.path("one.given.stl") and
-                      later.of_part(1).given == later.given and self.read("one.given.stl") ==
-                      b"two" and later.as_program(own, "x") != later.given)
 
     def test_names(self) -> None:
         """No two have the same, of pairs, of their parts and of lines; none is that of the page
@@ -313,18 +300,6 @@ class Named(Case):
         names = NamesOfList()
         self.must("of a list", [names.pair(one) for one in (
             "a.stl", "b/a.stl", "a~2.stl", "b.stl", "a.STL")] == ["a", "a~2", "a%7E2", "b", "a~3"])
-        of_taken: list[tuple[list[str], str]] = [
-            ([], "a"), (["a"], "a~2"), (["a~3", "a~2"], "a~4"), (["a~2", "a~5", "a"], "a~6"),
-            (["b", "ab~3"], "a"), (["a~x"], "a"), (["~2"], "a")]
-        for taken, wanted in of_taken:
-            names = NamesOfList()
-            self.must(f"taken {taken}", [names.take(one) for one in taken] == taken and
-                      names.pair("a.stl") == wanted)
-        long = ["a" * 179, "a" * 180, "a" * 181, "a" * 182, "a" * 181 + "b", "é" * 90, "é" * 91]
-        found = [pair_name(f"{one}.stl") for one in long]
-        self.must("long", len({*found}) == len(long) and [one in found for one in long] == [
-            True, True, False, False, False, True, False], found)
-        names = NamesOfList()
         self.must("of lines", [names.line(one) for one in (2, 3, 2)] ==
                   ["line 2", "line 3", "line 2~2"])
 

@@ -409,7 +409,7 @@ class Clear(unittest.TestCase):
                 (five, self.fit(5, 5, 0, start=MOST_APART + 1), True, False)):
             part = self.part(best, self.fit(1, 1), other, apart=apart if is_apart else None)
             self.assertEqual(as_good(part), [other] * wanted, (best, other))
-            self.assertEqual(is_clear(part), not wanted)
+            self.assertEqual([is_clear(part), is_clear(part, True)], [not wanted] * 2)
 
     def test_half(self) -> None:
         """Half of the cues agree, or begins and ends are apart; and early ones are not many, unless
@@ -418,7 +418,7 @@ class Clear(unittest.TestCase):
                                                (5, 11, True, True), (0, 0, False, True)):
             part = self.part(self.fit(agree, agree, among=among),
                              apart=Apart(True, 3, 5, 5) if is_apart else None)
-            self.assertEqual(is_clear(part), wanted, (agree, among))
+            self.assertEqual([is_clear(part), is_clear(part, True)], [wanted] * 2, (agree, among))
         for early, wanted, known in ((None, True, True), (Early(1, 21, 2), True, True),
                                      (Early(1, 20, 2), False, True)):
             part = self.part(self.fit(5, 5), early=early)
