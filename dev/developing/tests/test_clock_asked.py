@@ -67,6 +67,8 @@ class Asked(Case):
         wrong = [(ticks, text and b"x" + text) for ticks, text in self.sent([EACH] * 24)]
         found = self.find(self.sent([*[0] * 8, *[50] * 8, *[90] * 8]))
         self.assertEqual((found.shifted_from, len(found.shifts)), (self.edges[8].frame, 2))
+        found = self.find(self.sent([*[100] * 12, *[150] * 12]), origin=0)  # by what is known
+        self.assertIn("(150 frames) late", found.shifts[0])
         late_then = self.sent([*[0] * 12, *[50] * 6, *[600] * 6])  # a delay, and then a break
         self.assertEqual(len(self.find(late_then, breaks=1).parts), 2)
         for origin, runs in ((None, 2), (0, 0), (TICKS, 0)):

@@ -288,7 +288,7 @@ class Airings(unittest.TestCase):
                 (range(20), first, True), (range(19), first, False), (range(0, 40, 2), first, True),
                 (range(1, 40, 2), first, False), (range(0, 20, 4), first, False),
                 ((0, 4, 8, 16, 20), first, True), ((0, 4, 8, 16, 18), first, False),
-                ((0, 4, 8, 20), first, False), ((0, 4, 8, 16, 20), {0: (0, 0), 4: (0, 4)}, False),
+                (range(0, 36, 5), first, False), ((0, 4, 8, 16, 20), {0: (0, 0), 4: (0, 4)}, False),
                 ((0, 4, 8, 16, 20), {0: (0, 0), 4: (0, 4), 20: (0, 20)}, True), ((), first, False),
                 (range(0, 24, 4), {at: (0, at) for at in (0, 4, 20)}, True)):
             self.assertEqual(is_again([base], known, {at: (0, 100 + at) for at in some}), wanted,

@@ -8,8 +8,9 @@ from typing import Any, Sequence
 from unittest import mock
 
 from subtitles.clock.alignment import (
-    AGAIN, Apart, Base, Early, Edge, MOST_APART, MOST_BASES, REPEATED, Shown, back_at, bases_of,
-    edges_of, likeliest, most_changed, settled, single_texts, without_repeats)
+    AGAIN, Agreed, Apart, Base, Drift, Early, Edge, MOST_APART, MOST_BASES, REPEATED, Shown,
+    back_at, bases_of, drift_of, edges_of, likeliest, most_changed, settled, single_texts,
+    without_repeats)
 from subtitles.clock.stretches import (
     FittedPart, Stretch, Track, border_of, by_times, parts_of, runs_of, sent_between)
 from subtitles.common.command_line import Lateness
@@ -182,10 +183,10 @@ class Fits(unittest.TestCase):
             self.assertEqual(one.has(self.edges[2], 10), is_there)
         one = base_with(self.edges, [(TICKS * 20, b"b"), (TICKS * 21, b"x"), (TICKS * 22, b"b"),
                                      (TICKS * 36, b"")], 60, 2)
-        for at, start, late in ((2, 10, 0), (2, 9, 1), (2, 8, 0), (2, 7, None), (2, 11, 1),
+        for at, start, by in ((2, 10, 0), (2, 9, 1), (2, 8, 0), (2, 7, None), (2, 11, 1),
                                 (3, 10, 1), (3, 9, 0), (3, 8, None), (3, 11, 2)):
             found = one.agreed(self.edges[at], start)
-            self.assertEqual(found and found.late, late, (at, start))
+            self.assertEqual(found and found.late, by, (at, start))
         fit = base_with(self.edges, [(TICKS * 22, b"b")], 60, 2).fit(10)
         self.assertEqual((fit.start, fit.late), (8, [0]))
         base = base_with(self.edges, [(TICKS * (frame + 2), text) for frame, text in self.SENT],
@@ -193,8 +194,7 @@ class Fits(unittest.TestCase):
         for start in (8, 9, 10):  # what all share is no delay
             self.assertEqual((base.fit(start).start, base.fit(start).late), (8, [0] * 6), start)
         self.assertEqual([min(one.late) for one in base.fits], [0] * len(base.fits))
-        for edges, some in ((self.edges, []), ([], self.SENT), ([], [])):
-            self.assertEqual(base_with(edges, some).fits, [])
+        self.assertEqual((base_with(self.edges, []).fits, base_with([], self.SENT).fits), ([], []))
 
     def test_apart(self) -> None:
         """Half that agree are not apart; of two delays that as many have the smaller is told; that
@@ -214,11 +214,11 @@ class Fits(unittest.TestCase):
         base = base_with(self.edges[:4], [(TICKS * frame, text) for frame, text in half])
         self.assertIsNone(base.apart(base.fit_at(10)))
         base = base_with(self.edges, [(TICKS * frame, text) for frame, text in self.SENT], 49)
-        for is_begin, late, wanted in ((True, 0, (3, 3)), (False, 0, (2, 2)), (True, 10, (0, 2)),
-                                       (True, -1, (0, 2)), (False, -1, (0, 3)), (True, 9, (0, 3)),
-                                       (False, -36, (0, 1)), (True, 20, (0, 2))):
+        for is_begin, late, agree, of in (
+                (True, 0, 3, 3), (False, 0, 2, 2), (True, 10, 0, 2), (True, -1, 0, 2),
+                (False, -1, 0, 3), (True, 9, 0, 3), (False, -36, 0, 1), (True, 20, 0, 2)):
             self.assertEqual(base.late_by(base.fit_at(10), is_begin, late),
-                             Apart(is_begin, late, *wanted))
+                             Apart(is_begin, late, agree, of))
         for at, is_told in ((MOST_APART, True), (MOST_APART + 1, False)):
             base = base_with(self.edges[:2], [(0, b"a"), (TICKS * (10 + at), b"")])
             found = base.apart(base.fit_at(10))
@@ -287,7 +287,7 @@ class Parts(unittest.TestCase):
                *shown[3:]]
         rows: list[tuple[list[Shown], list[tuple[int, bytes]], list[tuple[int, ...]]]] = [
             (shown, [], [(100, 350, 6, 6, 0), (400, 650, 6, 6, 0)]),
-            (shown, [(360, b"x"), (4390, b"y")], [(100, 350, 6, 6, 0), (400, 650, 6, 6, 0)]),
+            (shown, [(351, b"x"), (4399, b"y")], [(100, 350, 6, 6, 0), (400, 650, 6, 6, 0)]),
             (up_to, [(400, b"")], [(100, 400, 6, 6, 0), (400, 650, 6, 6, 0)]),
             (into, [], [(100, 250, 4, 4, 1), (400, 650, 5, 6, 0)]),
             (two, [], [(100, 230, 4, 4, 1), (400, 650, 5, 6, 0)])]
@@ -455,6 +455,14 @@ class Ways(unittest.TestCase):
                           for at in range(1, len(delays) // 2 + 1)])
         return base_with(edges, [(TICKS * (edge.frame + by), edge.letters) for edge, by in zip(
             edges, delays) if by is not None], 9999, 1)
+
+    def test_sent_twice(self) -> None:
+        """A text that is sent twice tells no drift."""
+        edges = [Edge(100 * at, b"%d" % at, True) for at in range(12)]
+        sent = {100 * at + at // 2: Agreed(0, b"%d" % at, 0) for at in range(12)}
+        twice = {5000 + at: Agreed(0, b"%d" % at, 0) for at in (0, 1, 5)}
+        self.assertEqual((drift_of(edges, sent), drift_of(edges, {**sent, **twice})),
+                         (Drift(0, 1100, 5), Drift(200, 1100, 4)))
 
     def test_early_ends(self) -> None:
         """Ends that come before what is usual are early too."""
