@@ -332,7 +332,7 @@ class Parts(unittest.TestCase):
                               ([none, base_with(edges, own[:3]), none], 1),
                               ([base_with(edges, own[:5]), strange], 0),
                               ([strange, base_with(edges, own[:5])], 1)):
-            [part] = parts_of(self.shown, bases, [])
+            [part] = parts_of(self.shown[::-1], bases, [])  # in any order
             self.assertEqual((part.base, part[:2], part.best.start, part.over), (
                 number, (100, 650), 0, []), number)
             self.assertIs(part.sent, bases[number])
