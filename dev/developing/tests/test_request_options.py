@@ -342,6 +342,8 @@ class Beside(Case):
                 (f"--within 3 --profile {house}", None, (25, True, 3, None, True)),
                 (f"--within 2 --late 1:1/1:1 --profile {house}", None,
                  (25, True, 2, Lateness({1: 1}, {1: 1}), True)),
+                (f"--late 1:1/1:1 --within 3 --profile {house}", None,
+                 (25, True, 3, Lateness({1: 1}, {1: 1}), True)),
                 (f"--profile {house}", "", (25, True, 2, shares, True)),
                 (f"--profile {house}", "--every 9 --no-keeping", (9, False, 2, shares, True)),
                 (f"--profile {house}", "--within 1", (25, True, 1, None, True)),
