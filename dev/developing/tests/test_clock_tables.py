@@ -255,6 +255,7 @@ class Fits(unittest.TestCase):
         """Those that are there once; what is erased is none."""
         self.assertEqual(single_texts([(1, b"a"), (2, b""), (3, b"b"), (4, b"a"), (5, b""),
                                        (6, b"c"), (7, b"a")]), {b"b": 3, b"c": 6})
+        self.assertEqual(single_texts([(1, b""), (2, b"a")]), {b"a": 2})
 
 
 class Parts(unittest.TestCase):
