@@ -17,11 +17,10 @@ from subtitles.cli.channel.results import ALARMS, STOPPED, failure_of, refuse_co
 from subtitles.cli.channel.schedule import LOST
 from subtitles.cli.channel.spool import path_of
 from subtitles.common.command_line import Stop
-from subtitles.judging.status import STATUSES
 from .bench import SECONDS, Case, example
 from .channels import SECOND, fed, judged, until
 from .listings import BEGIN, Judging, Lines, Programmes, Told, texts_of
-from .results import result, row
+from .results import result
 
 
 class Machine(Programmes):
@@ -80,17 +79,6 @@ class Machine(Programmes):
                   {**counts, "open": 1, "judged": 1, "refused": 1}, self.told())
         again.machine.state = STOPPED
         self.must("stopped", self.look(again)["state"] == "stopped")
-
-    def test_counts_of_each_verdict(self) -> None:
-        """Whatever word it has: what has the status 1 counts as refused."""
-        channel = Told(self, self.listed("one"))
-        for word, status in ((None, None), *STATUSES.items()):
-            record: Any = SimpleNamespace(row=row("one", word) if word else None)
-            channel.records.by_name["one"] = record
-            found = channel.lines()
-            self.must(f"{word}", found == {
-                "open": status is None, "judged": status in (0, 1), "refused": status == 1,
-                "not_judged": status == 2, "not_written": 0}, found)
 
     def test_alarms(self) -> None:
         """Each once when it sets in, and once when it ends."""

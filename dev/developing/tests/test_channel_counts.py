@@ -1,0 +1,283 @@
+"""What came of a channel: what is judged by processes, counted, told and written."""
+from __future__ import annotations
+
+import contextlib
+import io
+import itertools
+import json
+import os
+import tempfile
+from types import SimpleNamespace
+from typing import Any
+from unittest import mock
+
+from subtitles.cli import single
+from subtitles.cli.channel import channel as module, records, results
+from subtitles.cli.channel.channel import BEFORE_IT, judge_channel
+from subtitles.cli.channel.recorder import Segments
+from subtitles.cli.channel.records import Due, Judged, Read
+from subtitles.cli.channel.results import Machine, UNREADABLE
+from subtitles.cli.channel.spool import path_of
+from subtitles.common.files import NOTHING
+from subtitles.judging.status import STATUSES, of_all
+from .channels import SECOND
+from .listings import Programmes, Told, results_in
+from .parts import defaults
+from .results import result, row
+
+NAMES = ["one", "two", "three", "four", "five"]
+WORDS = [None, *STATUSES]  # what a line of a list may have come to
+
+
+class Judgings(Programmes):
+    """What has to be judged."""
+
+    def test_is_there_as_a_whole(self) -> None:
+        """A result that is longer or shorter than what was written is written anew."""
+        os.mkdir(self.path("spool"))
+        made = results_in(self, self.path("spool"), self.path("out"))
+        record = made.records.new("one", self.files["one"], 5, 5)
+        made.end(record, result("accepted"))
+        whole = self.read("out/one.json")
+        for data in (None, b"", whole[:-1], whole, whole + b" "):
+            os.unlink(self.path("out/one.json"))
+            if data is not None:
+                self.write("out/one.json", data)
+            again = results_in(self, self.path("spool"), self.path("out"))
+            again.begin(["one"])
+            self.must(f"{data!r}", self.read("out/one.json") == whole and
+                      again.records.by_name["one"].is_mended == (data != whole) and
+                      again.verdicts == ["accepted"])
+
+    def test_several_that_are_due_at_the_end(self) -> None:
+        """Each is judged if it can be by then, else open, for its own reason."""
+        for number in range(8):
+            channel, names = Told(self, ""), NAMES[:3]
+            failing = {name for at, name in enumerate(names) if number >> at & 1}
+            for at, name in enumerate(names):
+                channel.records.put_due(channel.records.new(name, self.files[name], at, at), Due(
+                    [self.files[name]], 0, None, False, [Read(5, 1)]))
+            with mock.patch.multiple(
+                    channel.results, are_there=lambda due: True, judged=lambda record, due: Judged(
+                        None, f"no {record.name}") if record.name in failing else
+                    Judged(result("refused"))), mock.patch.object(records, "AGAIN", 0.01):
+                channel.results.end_due(BEFORE_IT)
+            ended = {line.partition("  ")[0]: line.partition("  ")[2] for line in channel.said
+                     if "tried again" not in line}
+            self.must(f"{failing}", ended == {name: f"not judged: no {name}" if name in failing
+                                              else "refused 72 Content" for name in names} and
+                      channel.results.open == failing and
+                      len(channel.results.verdicts) == 3, (ended, channel.results.open))
+
+    def test_page_that_moved(self) -> None:
+        """It is said of what is not judged alone, and where a judging failed for good."""
+        for moved, judged in itertools.product(("", "moved"), (
+                Judged(result("accepted")), Judged(result("refused")), Judged(None, "no room"),
+                Judged(result("not judged", reason="why")))):
+            channel = Told(self, "")
+            record = channel.records.new("one", self.files["one"], 5, 5)
+            channel.records.put_due(record, Due([], 0, None, False, [Read(5, 1)], moved))
+            with mock.patch.object(channel.results, "judged", lambda *_: judged):
+                channel.results.judge_due()
+            why = f"{moved}: {judged.reason}" if moved and judged.known else judged.reason
+            self.must(f"{moved} {judged}", channel.said == [
+                f"one  not judged: {why}" if judged.reason else
+                f"one  {judged.known and judged.known['lead']}"] and
+                channel.results.verdicts == [judged.known["verdict"] if judged.known else
+                                             "not judged"], channel.said)
+
+    def test_processes_that_judge(self) -> None:
+        """Whatever ends the wait for one, nothing of it goes on."""
+        for error in (None, False, KeyboardInterrupt(), OSError(5, "?"), SystemExit(3)):
+            call = mock.Mock(**{"end.return_value": (1, ["told"])})
+            with mock.patch.object(results, "Forked", return_value=call), mock.patch.object(
+                    results, "ended_of", side_effect=[error is None] if not error else error):
+                if error is None:
+                    self.must("ended", results.called(lambda: 0, 7.0) == (1, ["told"]))
+                else:
+                    with self.assertRaises(type(error) if isinstance(error, BaseException)
+                                           else TimeoutError):
+                        results.called(lambda: 0, 7.0)
+            self.must(f"{error!r}", (call.kill.call_count, call.end.call_count) == (
+                error is not None, 1), call.mock_calls)
+
+    def test_segments_that_are_there(self) -> None:
+        """All of which something has to be judged, with all that was read of each."""
+        channel = Told(self, "")
+        for sizes in itertools.product((None, 4, 5, 6), repeat=3):
+            for number, size in enumerate(sizes):
+                path = path_of(channel.folder, number)
+                with contextlib.suppress(FileNotFoundError):
+                    os.unlink(path)
+                if size is not None:
+                    with open(path, "wb") as file:
+                        file.write(bytes(size))
+            found = channel.results.are_there(Due([], 0, None, True, [
+                Read(number, 5) for number in range(3)]))
+            self.must(f"{sizes}", found == all(size is not None and size >= 5 for size in sizes))
+
+
+class Counted(Programmes):
+    """What is counted of a channel, and its status."""
+
+    def test_counts(self) -> None:
+        """Whatever three lines came to, and however many results are not written; the last line
+        says the same."""
+        channel = Told(self, self.listed("one", "two", "three"))
+        for words in itertools.product(WORDS, repeat=3):
+            for name, word in zip(NAMES, words):
+                record: Any = SimpleNamespace(row=row(name, word) if word else None)
+                channel.records.by_name[name] = record
+                if word is None and words[0] is None:
+                    del channel.records.by_name[name]
+            count = sum(word is not None for word in words)
+            channel.results.failed = {f"{at}": "why" for at in range(count)}
+            statuses = [STATUSES[word] for word in words if word is not None]
+            found = channel.lines()
+            if found != {"open": words.count(None), "judged": count - statuses.count(2),
+                         "refused": statuses.count(1), "not_judged": statuses.count(2),
+                         "not_written": count}:
+                self.must(f"{words}", False, found)
+            channel.said.clear()
+            channel.machine.state = UNREADABLE
+            channel.say_ended()
+            judged = count - statuses.count(2)
+            if channel.said != [f"unreadable: {judged} line{'s' * (judged != 1)} judged, "
+                                f"{statuses.count(2)} not judged, {words.count(None)} open"]:
+                self.must(f"{words}: the last line", False, channel.said)
+
+    def test_status(self) -> None:
+        """That of the verdicts, of an earlier call too; 2 where there is none, a signal ends it, or
+        a result is not written, which is said."""
+        words = defaults()
+        vars(words).update(channel=self.write("list", b""), stl="-", out=self.path("out"),
+                           spool=None, on_result=None, on_alarm=None)
+        lists: list[list[str]] = [[], *([word] for word in STATUSES), ["accepted", "not judged"],
+                                  ["not judged", "accepted"], ["refused", "waived"]]
+        several: list[dict[str, str]] = [{}, {"one: its result": "no room", "two": "none"}]
+        for verdicts, is_stopped, failed in itertools.product(lists, (False, True), several):
+            channel = mock.MagicMock(results=SimpleNamespace(verdicts=verdicts, failed=failed),
+                                     machine=SimpleNamespace(state="running"))
+            channel.hear.side_effect = [KeyboardInterrupt if is_stopped else BEFORE_IT]
+            told = io.StringIO()
+            with mock.patch.multiple(single, heed_signals=mock.DEFAULT,
+                                     ignore_signals=mock.DEFAULT), \
+                    mock.patch.object(module, "Channel", return_value=channel), \
+                    mock.patch.object(tempfile, "tempdir", None), \
+                    contextlib.redirect_stderr(told):
+                status = judge_channel(words, "tools/qc")
+            about = f"{verdicts} {is_stopped} {failed}"
+            self.must(about, status == (2 if is_stopped or failed or not verdicts else
+                                        of_all(verdicts)), status)
+            self.must(f"{about}: ends", channel.say_ended.call_count == 1 and
+                      channel.hearing.close.call_count == 1 and channel.stop.call_args_list ==
+                      [mock.call(BEFORE_IT)] * (not is_stopped) and
+                      (channel.machine.state == "stopped") == is_stopped ==
+                      (channel.tell_machine.call_count == 1), channel.mock_calls)
+            said = [line.partition(": ")[2] for line in told.getvalue().splitlines()]
+            self.must(f"{about}: told", said == [
+                *(f"{what} was not written: {why}" for what, why in failed.items()),
+                *[f"{words.channel} names no programme"] * (not verdicts and not is_stopped)], said)
+
+
+class ToldAtOnce(Programmes):
+    """channel.json as things change."""
+
+    FEED: dict[str, Any] = {"came": None, "header": None, "silent_since": None, "bytes": 1}
+
+    def tells(self, machine: Machine, known: dict[str, Any], **feed: Any) -> dict[str, Any] | None:
+        """What is written, where it is."""
+        with contextlib.suppress(FileNotFoundError):
+            os.unlink(self.path("out/channel.json"))
+        machine.tell(known, {**self.FEED, **feed}, NOTHING)
+        with contextlib.suppress(FileNotFoundError):
+            return dict(json.loads(self.read("out/channel.json")))
+        return None
+
+    def test_each_change(self) -> None:
+        """At once, whatever changes, and as it is; what changes of the feed all the time waits."""
+        machine, known = Machine(self.path("out"), 7), dict[str, Any]()
+        changes: dict[str, Any] = {
+            "sent": "one", "waiting": ["two"], "lines": {"open": 1}, "alarms": ["loss"],
+            "recorder": True, "last_verdict": {"verdict": "refused"}}
+        own = {"state": "ended", "loss": "yesterday", "error": "no room"}
+        with mock.patch("time.monotonic", lambda: 5.0):
+            self.must("first", self.tells(machine, known))
+            for name, value in (*changes.items(), *own.items()):
+                if name in own:
+                    setattr(machine, name, value)
+                else:
+                    known = {**known, name: value}
+                found = self.tells(machine, known, bytes=2)
+                self.must(name, found and found[name if name in ("state", *changes) else
+                                                f"last_{name}"] == value, found)
+                self.must(f"{name}: once", self.tells(machine, known, bytes=3) is None)
+        found = self.tells(machine, known, came=0.0, header=86_400.0, silent_since=1.0)
+        self.must("dates", found and found["restarts"] == 7 and
+                  [found[name] for name in self.FEED] == [
+                      "1970-01-01T00:00:00Z", "1970-01-02T00:00:00Z", "1970-01-01T00:00:01Z", 1],
+                  found)
+        self.write("out/channel.json", text := b"of somebody else")
+        machine.next, machine.error = 0.0, "another"
+        machine.tell(known, self.FEED, NOTHING)
+        self.must("another's file", self.read("out/channel.json") == text)
+
+    def test_silence(self) -> None:
+        """Of the feed, or of any page of it; since the last header of any, else since its last
+        byte. A header is one of whatever page."""
+        channel = Told(self, self.listed("one") + self.listed("two", options=" --page 889"),
+                       self.path("out"))
+        pages = [*channel.hearing.by_page.values()]
+        about = {"came": 5.0, "behind_seconds": 0, "segments": 0, "bytes": 0}
+        for is_told, stills, headers in itertools.product(
+                (False, True), itertools.product((0, SECOND), repeat=2), ((0, 0), (3, 4), (5, 2),
+                                                                          (5, 3))):
+            channel.stall.is_told, before = is_told, channel.header
+            for page, still, count in zip(pages, stills, headers):
+                page.silence.still, page.headers = still, count
+            with mock.patch.object(Segments, "about", lambda self: about), \
+                    mock.patch.object(Segments, "read_date", lambda self: 100.0 + sum(headers)):
+                channel.tell_machine()
+            channel.machine.next = 0.0
+            known, is_silent = json.loads(self.read("out/channel.json")), is_told or any(stills)
+            self.must(f"{is_told} {stills} {headers}", channel.header == (
+                100.0 + sum(headers) if any(headers) else before) and known["alarms"] ==
+                ["silence"] * is_silent and (known["silent_since"] is None) != is_silent and (
+                    not is_silent or known["silent_since"] == (known["header"] or known["came"])),
+                known)
+            line = channel.alarms.get("silence", "nothing")
+            self.must(f"{is_told} {stills}: line", line.startswith("nothing"), line)
+
+    def test_results_of_which_some_cant_be_written(self) -> None:
+        """Whichever these are: the others are written, and each is told once it stands there."""
+        for number, is_first in itertools.product(range(8), (False, True)):
+            out, names = self.path(f"out {number} {is_first}"), NAMES[:3]
+            os.mkdir(out)
+            os.mkdir(self.path(f"spool {number} {is_first}"))
+            made = results_in(self, self.path(f"spool {number} {is_first}"), out)
+            made.fail, made.words.on_result = lambda line: None, "told"
+            blocked = [name for at, name in enumerate(names) if number >> at & 1]
+            told = list[tuple[str, str]]()
+            for name in blocked:
+                os.mkdir(f"{out}/{name}.json")
+            with mock.patch.object(results, "failure_of", lambda command, *words: told.append(
+                    (os.path.basename(words[0]), words[1]))):
+                for at, name in enumerate(names):
+                    record = made.records.new(name, self.files[name], at, at)
+                    made.end(record, result("refused" if at else "accepted"))
+                about = f"{blocked}"
+                self.must(f"{about}: failed", [*made.failed] == [
+                    f"{name}: its result" for name in blocked] and
+                    [record.name for record in made.records.all.values() if not record.is_told]
+                    == blocked, made.failed)
+                for name in blocked if is_first else blocked[::-1]:
+                    os.rmdir(f"{out}/{name}.json")
+                    made.publish()
+                    blocked = [one for one in blocked if one != name]
+                    self.must(f"{about}: {name} goes", {*made.failed} == {
+                        f"{name}: its result" for name in blocked
+                        if os.path.isdir(f"{out}/{name}.json")}, made.failed)
+            self.must(f"{about}: told", sorted(told) == [
+                ("one.json", "accepted"), ("three.json", "refused"), ("two.json", "refused")], told)
+            self.must(f"{about}: verdicts", made.verdicts == ["accepted", "refused", "refused"] and
+                      made.last and made.last["name"] == "three" and [*made.rows] == names)
