@@ -20,10 +20,11 @@ from subtitles.cli.channel.results import Machine, UNREADABLE
 from subtitles.cli.channel.spool import path_of
 from subtitles.common.files import NOTHING
 from subtitles.judging.status import STATUSES, of_all
+from subtitles.results.files import unjudged
 from .channels import SECOND
 from .listings import Programmes, Told, results_in
 from .parts import defaults
-from .results import result, row
+from .results import FAULT, result, row
 
 NAMES = ["one", "two", "three", "four", "five"]
 WORDS = [None, *STATUSES]  # what a line of a list may have come to
@@ -85,6 +86,23 @@ class Judgings(Programmes):
                 f"one  {judged.known and judged.known['lead']}"] and
                 channel.results.verdicts == [judged.known["verdict"] if judged.known else
                                              "not judged"], channel.said)
+
+    def test_time_of_a_fault(self) -> None:
+        """Of that which the lead names, where that has no frame: when its PES packet came."""
+        def fault(line: str, frame: int | None, time: str | None) -> dict[str, Any]:
+            return {**FAULT, "line": line, "frame": frame, "pes_time": time}
+
+        faults = [fault("refused 10 A", None, "10:00:00:01"),
+                  fault("refused 72 B", 5, "11:00:00:02"),
+                  fault("refused 60 C", None, "12:00:00:03"), fault("refused 61 D", None, None)]
+        for lead, wanted in (("refused 10 A", ", at 10:00:00:01"), ("refused 72 B", ""),
+                             ("refused 60 C", ", at 12:00:00:03"), ("refused 61 D", ""),
+                             ("refused 60 C\nmore", ", at 12:00:00:03"), ("refused 99 E", ""),
+                             ("accepted", "")):
+            for line in ("refused 10 A", "refused 72 B"):
+                known = result(line=line, lead=lead, faults=faults)
+                self.must(f"{lead} {line}", results.time_of_lead(known) == wanted)
+        self.must("none", results.time_of_lead(unjudged("one", "why")) == "")
 
     def test_processes_that_judge(self) -> None:
         """Whatever ends the wait for one, nothing of it goes on."""

@@ -3,10 +3,12 @@ from __future__ import annotations
 
 import itertools
 import os
-from typing import Callable
+from types import SimpleNamespace
+from typing import Any, Callable
 from unittest import mock
 
-from subtitles.cli.channel.channel import BEFORE_IT
+from subtitles.cli.channel.channel import BEFORE_IT, LOOK
+from subtitles.cli.channel.recorder import Begin, Segments
 from subtitles.cli.channel.results import ENDED, UNREADABLE
 from subtitles.cli.channel.schedule import AT_ONCE, Queue
 from subtitles.cli.channel.spool import ERROR
@@ -153,6 +155,64 @@ class Ends(Programmes):
                 for some in (channel, fresh))
             self.must(f"{before} {after}", found == wanted and
                       {*fresh.hearing.by_page} <= {*channel.hearing.by_page}, (found, wanted))
+
+    def test_what_is_known_of_the_feed(self) -> None:
+        """By the segments that are there; where there is none, when the last one was over. Up to
+        the last one an earlier call has heard it."""
+        for known, ended, times in itertools.product(
+                (None, Begin(5, 7, True), Begin(900, None, False)), (0, 70), ((), (3,), (9, 40, 8))):
+            channel = Told(self, self.listed("one"))
+            channel.queue.ended = ended
+            with mock.patch.object(Segments, "begun", lambda self: known), mock.patch.object(
+                    Segments, "__init__", lambda self, folder: self.__dict__.update(
+                        folder=folder, before=None, begins=dict(enumerate(
+                            Begin(time, None, True) for time in times)))):
+                channel.open()
+            self.must(f"{known} {ended} {times}", channel.own.known == (
+                known or (Begin(70, None, False) if ended else None)) and
+                channel.queue.latest == max(times, default=0), channel.own.known)
+
+    def test_each_turn(self) -> None:
+        """Of what is read: bytes are heard, each second is told for which nothing comes, and each
+        turn tries what is due, keeps and shows. A segment begins with its first bytes."""
+        channel = Told(self, self.listed("one"))
+        turns: list[tuple[float, bytes, Begin | None]] = [
+            (0.5, b"one", None), (0.5, b"two", Begin(5, 7, True)), (0.75, b"", None),
+            (0.25, b"", None), (0.5, b"", None), (0.5, b"three", Begin(9, 7, True)),
+            (3.0, b"", None)]
+        now, left, doing = [channel.came], list(turns), mock.Mock()
+        channel.hearing = doing.hearing
+        doing.hearing.has_ended.return_value = False
+        doing.hearing.begin.side_effect = [begin for _, data, begin in turns if data]
+
+        def read() -> bytes:
+            seconds, data, _ = left.pop(0)
+            now[0] += seconds
+            return data
+
+        doing.read.side_effect = read
+        recording: Any = SimpleNamespace(has_ended=lambda: len(left) == 1)
+        channel.segments.at = channel.segments.oldest = 3
+        with mock.patch.multiple(channel.segments, read=doing.read, begin=doing.begin), \
+                mock.patch.multiple(channel, take=doing.take, take_all=doing.take_all,
+                                    keep=doing.keep, show=doing.show, stall=doing.stall), \
+                mock.patch.object(channel.results, "judge_due", doing.judge_due), \
+                mock.patch("time.monotonic", lambda: now[0]), mock.patch("time.sleep", doing.sleep):
+            channel.follow(recording)
+        taken = [b"one", b"two", b"", b"", b"", b"three"]
+        self.must("heard", [call[0] for call in doing.hearing.take.call_args_list] == [
+            (data,) for data in taken] and doing.take_all.call_count == len(taken))
+        self.must("begins", doing.begin.call_args_list == [
+            mock.call(Begin(5, 7, True)), mock.call(Begin(9, 7, True))] and
+            doing.hearing.begin.call_args_list == [mock.call(True)] * 3, doing.mock_calls)
+        stills = [0, 0, 0.75, 1.0, 1.5, 0]
+        self.must("still", [call[0][0] for call in doing.stall.take.call_args_list] == stills and
+                  [call[1] for call in doing.take.call_args_list] == [
+                      {"is_still": still >= 1} for still in stills], doing.mock_calls)
+        self.must("waits", doing.sleep.call_args_list == [mock.call(LOOK)] * 3)
+        names = [name for name, _, _ in doing.mock_calls if name in (
+            "stall.take", "take", "judge_due", "keep", "show")]
+        self.must("each turn", names == ["stall.take", "take", "judge_due", "keep", "show"] * 6)
 
     def test_when_patience_begins(self) -> None:
         """Where there was nothing to wait for, with the first line that comes, though what is heard

@@ -18,6 +18,7 @@ from subtitles.cli.channel.feed import Stall
 from subtitles.cli.single import claimed
 from subtitles.common.command_line import Lateness, Stop
 from subtitles.common.program import MadeWith, about_program
+from subtitles.judging.status import STATUSES
 from subtitles.request.lines import Item
 from subtitles.request.request import Profile
 from subtitles.results.files import (
@@ -124,13 +125,16 @@ class Objects(Case):
     def test_many_values(self) -> None:
         """One of so many values that Python takes gigabytes for them is not judged, unread; as many
         as may be are read."""
-        for count, words in ((MOST_VALUES, "has more than 4,000,000 values"), (1000, "")):
+        for data, words in ((b"0," * MOST_VALUES, "has more than 4,000,000 values"),
+                            (b"[]," * (MOST_VALUES // 2), "has more than 4,000,000 values"),
+                            (b"{}," * (MOST_VALUES // 2), "has more than 4,000,000 values"),
+                            (b"0," * 1000, "")):
             path = self.write("many.json", b'{"verdict":0,"format":%d,"a":[' % FORMAT +
-                              b"0," * count + b"0]}")
+                              data + b"0]}")
             with mock.patch("json.loads", side_effect=ValueError("loaded")):
                 known = object_at(path)
-            self.must(f"{count}", known is not None and (words or "loaded") in known["reason"],
-                      known)
+            self.must(f"{data[:9]!r}", known is not None and (words or "loaded") in
+                      known["reason"], known)
 
     def test_rows(self) -> None:
         """All that a table takes of an object, and what stands there where it has none of it."""
@@ -151,6 +155,8 @@ class Objects(Case):
         self.must("not judged", unjudged("a", "why") == none and
                   unjudged("a", "why", True) == {**none, "open": True})
         self.must("reason", row_of_object(result("not judged"), "x").line == "why")
+        self.must("the lead", row_of_object(result(line="refused 10 A", lead="refused 72 B"),
+                                            "x").line == "refused 72 B")
         self.must("judged", row_of_object(result(), "x").is_judged and not row_of_object(
             unjudged("x", "why"), "x").is_judged)
 
@@ -187,6 +193,20 @@ class Objects(Case):
             self.write("one.json", text)
             self.must(f"{text!r}", (object_at(path) is not None) == is_one)
         self.must("not there", (object_at(self.path("none.json")) or {}).get("name") == "none")
+
+    def test_shape_of_no_pair(self) -> None:
+        """What is no pair is not judged, whatever it says."""
+        none = unjudged("one", "why")
+        others: list[dict[str, Any]] = [{}, {"open": True}, {"open": False}, {"line": "accepted"}]
+        for word, status, reason, opened in itertools.product(
+                (*STATUSES, "other", None), (0, 1, 2, None), ("why", "", None), others):
+            known = {**none, "verdict": word, "status": status, "reason": reason, **opened}
+            self.write("one.json", json.dumps(known).encode())
+            is_one = (word, status, reason) == ("not judged", 2, "why") and \
+                opened in ({}, {"open": True})
+            found = object_at(self.path("one.json")) or {}
+            if (found == known) != is_one or row_of_object(found, "one").status != 2:
+                self.must(f"{known}", False, found)
 
     def test_of_a_folder(self) -> None:
         """In the order of their names; other files, hidden ones and folders are passed over."""
