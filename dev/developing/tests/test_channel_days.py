@@ -4,7 +4,7 @@ from __future__ import annotations
 import itertools
 import os
 from types import SimpleNamespace
-from typing import Any, Callable
+from typing import Any, Callable, Iterator
 from unittest import mock
 
 from subtitles.cli.channel.channel import BEFORE_IT, LOOK
@@ -16,7 +16,7 @@ from subtitles.common.command_line import Stop, Unanswered
 from subtitles.common.times import CLOCK, TICKS
 from subtitles.request.request import Unclear
 from .channels import FIRST, SECOND
-from .listings import BEGIN, LAST, Judging, Programmes, Told, texts_of
+from .listings import BEGIN, LAST, Judging, Lines, Programmes, Told, texts_of
 from .parts import defaults
 
 NAMES = ["one", "two", "three", "four", "five"]
@@ -40,7 +40,7 @@ class Ends(Programmes):
             channel.edit(self.listed("two", "three"))
 
         def later(channel: Told) -> None:
-            channel.give([channel.feed.pes(BEGIN + SECOND * 121)])
+            channel.give([channel.feed.pes(BEGIN + SECOND * 140)])
 
         rows: list[tuple[str, Callable[[Told], object], int, int, int, list[str]]] = [
             # How it ends, after so many lines; seconds; which are waited for then.
@@ -50,7 +50,8 @@ class Ends(Programmes):
             ("once more", heard_once_more, 14, 0, 0, NAMES[:3]),
             ("gone", gone, 8, 0, 0, NAMES[1:3]), ("gone, on air", gone, 14, 0, 0, NAMES[1:3]),
             ("patience", later, 8, 120, 0, NAMES[1:3]),
-            ("judged", lambda _: None, 18, 11, 11, NAMES[1:3])]
+            ("judged", lambda _: None, 18, 11, 11, NAMES[1:3]),
+            ("patience", later, 18, 131, 11, NAMES[2:3])]
         for name, does, count, since, ended, waiting in rows:
             about, spool = f"{name} after {count}", self.path(f"spool {name} {count}")
             channel = Told(self, self.listed(*NAMES[:3]), spool=spool)
@@ -61,23 +62,27 @@ class Ends(Programmes):
             channel.go_on()
             queue = channel.queue
             self.must(f"{about}: times", (queue.since, queue.ended) == (
-                TICKS * LAST if since == 11 else SECOND * since,
-                TICKS * LAST if ended == 11 else SECOND * ended), (queue.since, queue.ended))
+                SECOND * since, SECOND * ended), (queue.since, queue.ended))
             self.must(f"{about}: who", [one.name for one in queue.open()] == waiting and
                       queue.waiting == queue.open() and
                       (channel.running is None) != (name == "gone, on air"), queue.waiting)
             self.must(f"{about}: from when to when", {
                 (one.awaited and (one.awaited.since, one.awaited.until)) for one in queue.waiting
-                } == {(queue.ended, queue.since + channel.patience)}, queue.waiting)
+                } == {(queue.ended, queue.since + channel.patience)} and (
+                    name != "once more" or not any(one.awaited and one.awaited.count
+                                                   for one in queue.waiting)), queue.waiting)
+            known = [(one.name, one.stl) for one in channel.records.all.values()]
             times = [(one.over, one.since) for one in channel.records.all.values()]
-            self.must(f"{about}: record", times == [(queue.ended, queue.since)] * (
-                waiting == NAMES[1:3] and channel.running is None), times)
+            self.must(f"{about}: record", times[-1:] == [(queue.ended, queue.since)] * (
+                waiting != NAMES[:3] and channel.running is None) and known == [
+                    (one, self.files[one]) for one in NAMES[:3] if one not in waiting][
+                        :len(times)], times)
             os.unlink(f"{spool}/list")  # what records say is enough
             again = Told(self, self.listed(*waiting), spool=spool).queue if times else queue
             self.must(f"{about}: again", (again.since, again.ended) == (queue.since, queue.ended))
             Judging.made = []
             if channel.running is None:
-                begin = BEGIN + {"anew": CLOCK // 2 + SECOND, "patience": 140 * SECOND}.get(
+                begin = BEGIN + {"anew": CLOCK // 2 + SECOND, "patience": 150 * SECOND}.get(
                     name, 40 * SECOND)
                 channel.give(channel.feed.sent(texts_of("three"), begin, 20))
                 self.must(f"{about}: three", self.names()[-1:] == ["three"] and
@@ -124,18 +129,24 @@ class Ends(Programmes):
             channel.hearing = mock.MagicMock(by_page={}, **{  # its calls are there
                 "begin.return_value": begin, "end.return_value": iter(()),
                 "refuse.side_effect": error if where == "refuse" else None})
+            channel.hearing.calls = [1] * number  # where there is one, the pages of the list
             if where == "end":
                 channel.hearing.end = mock.Mock(side_effect=error or [()])
             channel.segments.state[ERROR] = number
             following = mock.Mock(side_effect=error if where == "follow" else None)
             with mock.patch.object(channel, "follow", following), mock.patch("time.sleep"), \
-                    mock.patch.object(channel, "open"), mock.patch.object(channel, "go_on"):
+                    mock.patch.object(channel, "open") as opened, \
+                    mock.patch.object(channel, "go_on"):
                 found = channel.hear(channel.folder)
             if error and number and begin is None and not isinstance(error, Unanswered):
                 why = "the feed could not be kept: No space left on device"
             self.must(f"{where} {error} {begin} {number}", (found, channel.machine.state) == (
                 why, UNREADABLE if error else ENDED) and channel.machine.error == (
                     f"the feed can't be read any further: {why}" if error else None), found)
+            heard, anew = channel.hearing.turn_to.call_args_list, 4 * isinstance(error, Unanswered)
+            self.must("the page of the call", heard == [mock.call([channel.words.page])] * (
+                1 + anew) * (not number), heard)
+            self.must("anew", opened.call_count == channel.hearing.close.call_count == anew)
 
     def test_list_as_if_it_were_new(self) -> None:
         """Whatever is edited of it: each that waits is waited for as by a call that begins then,
@@ -159,8 +170,8 @@ class Ends(Programmes):
     def test_what_is_known_of_the_feed(self) -> None:
         """By the segments that are there; where there is none, when the last one was over. Up to
         the last one an earlier call has heard it."""
-        for known, ended, times in itertools.product(
-                (None, Begin(5, 7, True), Begin(900, None, False)), (0, 70), ((), (3,), (9, 40, 8))):
+        begins = (None, Begin(5, 7, True), Begin(900, None, False))
+        for known, ended, times in itertools.product(begins, (0, 70), ((), (3,), (9, 40, 8))):
             channel = Told(self, self.listed("one"))
             channel.queue.ended = ended
             with mock.patch.object(Segments, "begun", lambda self: known), mock.patch.object(
@@ -242,13 +253,59 @@ class Ends(Programmes):
                       and [*channel.alarms] == ["loss"] * is_lost and
                       channel.said[2 * is_said:] == [channel.loss] * is_lost, channel.said)
 
+    def test_what_is_told_at_last(self) -> None:
+        """Of what comes before a loss, and before the end of the feed, each line counts."""
+        def end(channel: Told) -> None:
+            channel.stop(channel.hear(channel.folder))
+
+        for does in (Told.lose, end):
+            channel = Told(self, self.listed("one"))
+            told = [*channel.feed.sent(texts_of("one"), BEGIN)]
+            channel.give(told[:14])
+            heard = channel.hearing.by_page[0, 0x88]
+
+            def last() -> Iterator[str]:
+                for line in told[14:]:
+                    heard.take(line)
+                    yield line
+
+            with mock.patch.multiple(channel.hearing, end=last, refuse=mock.DEFAULT), \
+                    mock.patch.object(channel, "follow"):
+                does(channel)
+            self.must(f"{does}", self.names() == ["one"] and
+                      channel.results.verdicts == ["accepted"], channel.said)
+
+    def test_page_of_its_own(self) -> None:
+        """By what is sent of it, and by its clock: another page may go on, and its encoder may
+        have begun anew."""
+        channel = Told(self, self.listed("one") + self.listed("two", options=" --page 889"))
+        own, other, base = Lines(5), Lines(6), CLOCK // 2
+        channel.give([own.pes(BEGIN)])
+        channel.give([other.pes(BEGIN), other.pes(base)], (0, 0x89))
+        channel.give(other.sent(texts_of("two"), base + SECOND), (0, 0x89))
+        for at in (13, 20, 60):  # it was sent up to 12
+            channel.give([own.pes(BEGIN + SECOND * at)])
+            self.must(f"not yet at {at}", channel.running and not self.names(), channel.said)
+        channel.give([other.pes(base + SECOND + TICKS * LAST + SECOND, "hecb", 5, SECOND)],
+                     (0, 0x89))
+        self.must("by its clock", [(one.name, one.words.origin) for one in Judging.made] == [
+            ("two", (base + SECOND - TICKS * FIRST) % CLOCK)], channel.said)
+        # A page that falls silent: by the time of the feed it is over.
+        channel = Told(self, self.listed("one") + self.listed("two", options=" --page 889"))
+        channel.give([own.pes(BEGIN)])
+        channel.give([*other.sent(texts_of("two"), BEGIN)][:14], (0, 0x89))
+        channel.give(own.pes(BEGIN + SECOND * at) for at in range(1, 140))
+        self.must("silent", self.names() == ["two"], channel.said)
+
     def test_gone_at_the_end(self) -> None:
         """Each that has left the list at its last look has a result, and so has each line that is
         none."""
         channel = Told(self, self.listed(*NAMES), self.path("out"))
         self.write("list", b"none.stl --pes 1-2\nx.stl --pes 1-2\n")
+        channel.queue.said += ["a line", "another"]
         channel.stop(BEFORE_IT)
-        found = [line.partition("  ")[0] for line in channel.said[1:]]
+        self.must("all is said", channel.said[:2] == ["a line", "another"], channel.said)
+        found = [line.partition("  ")[0] for line in channel.said[3:]]
         self.must("each", found == [*NAMES, "line 1", "line 2"] and
                   channel.results.verdicts == ["not judged"] * 7 and not channel.results.open and
                   all(os.path.exists(self.path(f"out/{name}.json")) for name in found), found)

@@ -9,10 +9,12 @@ from typing import Any
 from unittest import mock
 
 from subtitles.cli.channel import schedule
+from subtitles.cli.channel.records import Outcome
 from subtitles.cli.channel.schedule import LAST, LATER, OnAir, Programme, Queue
 from subtitles.common.command_line import Stop
 from subtitles.common.times import CLOCK, FRAMES_OF_A_DAY, TICKS
 from subtitles.request.lines import Line
+from subtitles.results.files import found_at
 from .bench import Case
 from .listings import Programmes, Told
 from .parts import asked_for, defaults
@@ -172,6 +174,41 @@ class Known(Programmes):
                         [one.name for one in again.queue.open()] == [
                             name for name in rest if name in names[2:]] and
                         {*names[:2], *gone} == {*again.records.by_name}, again.said)
+
+    def test_names_are_given_once(self) -> None:
+        """Of what an earlier call knew, also of what is gone since, no name is given anew."""
+        spool, one = self.path("spool"), self.files["one"]
+        os.mkdir(spool)
+        for gone in itertools.product((False, True), repeat=3):
+            with open(f"{spool}/list", "w", encoding="ascii") as file:
+                for entry in [[self.path("list"), "", None], *(
+                        [name, is_gone, at, [f"of {name}"], ""] for at, (name, is_gone) in
+                        enumerate(zip(("one", "one~2", "line 3"), gone), 1))]:
+                    file.write(f"{json.dumps(entry)}\n")
+            self.write("list", f"{one}\n{one}\n--pid 5 {one}\n".encode())
+            queue = Queue(self.path("list"), defaults(), spool)
+            queue.look(True)
+            self.must(f"{gone}", [one.name for one in queue.programmes] == [
+                "one~3", "one~4", "line 3~2"], queue.programmes)
+
+    def test_files_that_changed(self) -> None:
+        """Of what has its result it is said once where its subtitle file is another one by now; one
+        that is gone, or of which nothing is known, says nothing."""
+        found: Any = found_at(self.files["one"])
+        rows: list[tuple[bool, str, Any]] = [
+            (has_ended, stl, about) for has_ended in (False, True) for stl, about in (
+                (self.files["one"], found), (self.files["one"], {"size": 5, "modified": "then"}),
+                (self.path("none"), found), (self.files["two"], None))] + [(True, "", None)]
+        queue = Queue(self.path("list"), defaults())
+        queue.look_at_file()
+        queue.programmes = [Programme(f"{at}", Line(at, ("a",)), None, None, has_ended)
+                            for at, (has_ended, _, _) in enumerate(rows)]
+        queue.known = lambda name, stl: None if name == "8" else Outcome(
+            0, name, "", rows[int(name)][1], rows[int(name)][2], 0, 0)
+        for _ in range(2 * len(rows)):
+            queue.look_at_file()
+        self.must("said", [line.partition(" is another")[0] for line in queue.said] == [
+            f"5: {self.files['one']}"], queue.said)
 
     def test_another_list(self) -> None:
         """With another list, or another folder of results, nothing of the one before counts, which

@@ -40,7 +40,10 @@ class Edits(Case):
                 ("a --every 5", "a", [1], "", "1"), ("a\na", "a\na", [1, 2], "", ""),
                 ("a\na", "a", [1], "2", ""), ("a *\na", "a", [2], "1", ""),
                 ("a *\na\na", "a\na", [2, 3], "1", ""), ("a *\na *\na", "a\na", [2, 3], "1", ""),
-                ("a", "a\na", [1, 0], "", ""), ("a *\nb", "b\na", [2, 1], "", ""),
+                ("a", "a\na", [1, 0], "", ""), ("a *\na *", "a\na\na", [1, 2, 0], "", ""),
+                ("a *\na *\na", "a\na\na\na", [1, 2, 3, 0], "", ""),
+                ("a *\na *\na", "a", [3], "12", ""), ("a 1 *\na 2 *", "a\na\na", [1, 2, 0], "",
+                                                     "12"), ("a *\nb", "b\na", [2, 1], "", ""),
                 ("a 1\na 2", "a 2\na 1", [2, 1], "", ""), ("a 1\na 2", "a 3\na 1", [2, 1], "", "2"),
                 ("a *\nb", "# a\nb", [2], "1", ""), ("a\nb", "a\n\n\nb", [1, 2], "", "")):
             edits = edits_of(programmes(before), lines_in(after))
@@ -76,7 +79,7 @@ class Edits(Case):
 
     def test_each_programme_is_one(self) -> None:
         """Whatever the lists are: each line one programme at most, each programme one line or
-        gone."""
+        gone; of each file as many stay as there can."""
         words = ["", "a", "b", "a 1", "b 1", "a *", "b *", "# x"]
         for number in range(8 ** 4):
             before = [words[number // 8 ** at % 8] for at in range(2)]
@@ -84,7 +87,11 @@ class Edits(Case):
             known = programmes("\n".join(before))
             edits = edits_of(known, lines_in("\n".join(after)))
             taken = [one for one, _ in edits.rows if one] + [*edits.gone]
-            if sorted(one.name for one in taken) != sorted(one.name for one in known):
+            files = [[line.words[0] for line in lines] for lines in (
+                [one.line for one in known], [line for _, line in edits.rows])]
+            stay = sum(min(several.count(name) for several in files) for name in "ab")
+            if sorted(one.name for one in taken) != sorted(one.name for one in known) or \
+                    len(known) - len(edits.gone) != stay:
                 self.must(f"{before} {after}", False, edits)
 
 
