@@ -18,12 +18,14 @@ from subtitles.cli.channel.recorder import Segments
 from subtitles.cli.channel.records import Due, Judged, Read
 from subtitles.cli.channel.results import Machine, UNREADABLE
 from subtitles.cli.channel.spool import path_of
-from subtitles.common.files import NOTHING
+from subtitles.common.files import Inputs, NOTHING
 from subtitles.judging.status import STATUSES, of_all
-from subtitles.results.files import unjudged
+from subtitles.request.request import Request
+from subtitles.results.files import put_object, unjudged
+from subtitles.results.schema import ASKED
 from .channels import SECOND
 from .listings import Programmes, Told, results_in
-from .parts import defaults
+from .parts import asked_for, defaults
 from .results import FAULT, result, row
 
 NAMES = ["one", "two", "three", "four", "five"]
@@ -86,6 +88,75 @@ class Judgings(Programmes):
                 f"one  {judged.known and judged.known['lead']}"] and
                 channel.results.verdicts == [judged.known["verdict"] if judged.known else
                                              "not judged"], channel.said)
+
+    def test_what_is_handed_on(self) -> None:
+        """To who judges: what the line asks, by the origin and the PID that were found; a file of
+        what was read of the segments, which is gone then; whose results are wanted, and where."""
+        def judged(asked: Request, call: single.PairCall, called: str) -> SimpleNamespace:
+            with open(call.given or "", "rb") as file:
+                data = file.read().decode()
+            put_object(self.path("seen"), {
+                "asked": ASKED.made(asked), "data": data, "call": [
+                    call.name, call.is_kept, call.is_fitted, call.is_claimed, call.out,
+                    call.json and call.json.replace(channel.folder, "")],
+                "here": call.here == tempfile.tempdir == os.path.dirname(call.given or "")})
+            return SimpleNamespace(status=0, is_final=True)
+
+        for out, (pid, is_fitted, is_kept) in itertools.product(
+                (None, self.path("out")), ((0x101, True, False), (None, False, True))):
+            channel = Told(self, "", out, "--every", "99", is_kept=is_kept)
+            for number, data in enumerate((b"first", b"second")):
+                self.write(path_of(channel.folder, number), data)
+            record = channel.records.new("one", self.files["one"], 5, 5)
+            due = Due([self.files["one"], "--within", "3", "--origin", "7"], 70, pid, is_fitted,
+                      [Read(0, 5), Read(1, 3)])
+            with mock.patch.object(single, "judged", judged):
+                results.Results.judged(channel.results, record, due)
+            wanted = asked_for(self.files["one"], "-", "--every", "99", "--within", "3",
+                               "--origin", "70", *(["--pid", f"{pid}"] if pid else []))
+            json_path = f"/{record.number:09}.files/one.json" if out is None else None
+            self.must(f"{out} {pid}", json.loads(self.read("seen")) == {
+                "asked": json.loads(json.dumps(ASKED.made(wanted))), "data": "firstsec", "call": [
+                    "one", is_kept, is_fitted, True, out, json_path], "here": out is not None},
+                      self.read("seen"))
+            self.must(f"{out} {pid}: gone", os.listdir(channel.records.work(record.number)) == [])
+
+    def test_files_of_a_programme(self) -> None:
+        """All of its own get their place, and no others; on another disk they are copied. An input,
+        and what is no result, stays, which is told."""
+        for error, kind in itertools.product((None, OSError(18, "another disk")), (
+                "", "input", "stranger")):
+            out = self.path(f"out {error} {kind}")
+            made = results_in(self, tempfile.mkdtemp(dir=self.folder), out)
+            made.fail, made.inputs = lambda line: None, NOTHING
+            record = made.records.new("one", self.files["one"], 5, 5)
+            os.mkdir(work := made.records.work(record.number))
+            os.mkdir(out)
+            own = {f"one.{ending}": f"<title>{ending}" for ending in ("html", "1.txt", "2.cut.pes")}
+            for name, text in {**own, "other.txt": "x", "one~2.txt": "x"}.items():
+                self.write(f"{work}/{name}", text.encode())
+            if kind:
+                self.write(f"{out}/one.2.cut.pes", kind.encode())
+            if kind == "input":
+                made.inputs = Inputs(f"{out}/one.2.cut.pes")
+            real = os.replace
+
+            def replace(source: str, target: str) -> None:
+                if error and source.startswith(work):
+                    raise error
+                real(source, target)
+
+            with mock.patch("os.replace", replace):
+                made.end(record, result("accepted"))
+            there = {name: self.read(f"{out}/{name}").decode() for name in os.listdir(out)
+                     if name not in ("one.json", "index.html")}
+            about = f"{error} {kind}"
+            if kind:
+                self.must(about, there["one.2.cut.pes"] == kind and [*made.failed] == [
+                    "one: its result"] and not os.path.exists(f"{out}/one.json"), made.failed)
+            else:
+                self.must(about, there == own and not made.failed and
+                          os.path.exists(f"{out}/one.json"), there)
 
     def test_time_of_a_fault(self) -> None:
         """Of that which the lead names, where that has no frame: when its PES packet came."""

@@ -15,6 +15,7 @@ from subtitles.common.command_line import Stop
 from subtitles.common.times import CLOCK, FRAMES_OF_A_DAY, TICKS
 from subtitles.request.lines import Line
 from subtitles.results.files import found_at
+from subtitles.results.schema import ASKED
 from .bench import Case
 from .listings import Programmes, Told
 from .parts import asked_for, defaults
@@ -36,6 +37,19 @@ class Asked(Case):
             self.must(line, (found.every, found.within) == wanted, found)
         self.write("house", b"--pid 5\n")
         self.assertRaisesRegex(Stop, "--pid goes with", queue.asked_of, ["a", "--profile", "house"])
+
+    def test_options(self) -> None:
+        """The same as a call for the pair, whether the line has an option or the call."""
+        options: list[list[str]] = [[], ["--page", "889"], ["--every", "50"], ["--option", "german"],
+                   ["--origin", "0"], ["--within", "3"], ["--severity", "file"], ["--no-complete"],
+                   ["--allow-lost"], ["--strict"], ["--from", "10:00:00:00"], ["--keeping"],
+                   ["--pace", "25"]]
+        for own, other in itertools.product(options, repeat=2):
+            if own[:1] != other[:1] or own == other:
+                queue = Queue(self.path("list"), defaults(*other))
+                found = queue.asked_of(["a.stl", *own])
+                wanted = asked_for("a.stl", "-", *other * (own != other), *own)
+                self.must(f"{own} {other}", ASKED.made(found) == ASKED.made(wanted), found)
 
     def test_files_that_are_none(self) -> None:
         """Of each it is known why, and nothing is waited for; nobody reads a device."""
