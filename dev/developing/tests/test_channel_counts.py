@@ -1,6 +1,7 @@
 """What came of a channel: what is judged by processes, counted, told and written."""
 from __future__ import annotations
 
+import argparse
 import contextlib
 import io
 import itertools
@@ -17,7 +18,8 @@ from subtitles.cli.channel.channel import BEFORE_IT, judge_channel
 from subtitles.cli.channel.recorder import Segments
 from subtitles.cli.channel.records import Due, Judged, Read
 from subtitles.cli.channel.results import Machine, UNREADABLE
-from subtitles.cli.channel.spool import path_of
+from subtitles.cli.channel.spool import MARK, path_of
+from subtitles.common.command_line import Stop
 from subtitles.common.files import Inputs, NOTHING
 from subtitles.judging.status import STATUSES, of_all
 from subtitles.request.request import Request
@@ -235,12 +237,47 @@ class Counted(Programmes):
                                 f"{statuses.count(2)} not judged, {words.count(None)} open"]:
                 self.must(f"{words}: the last line", False, channel.said)
 
+    def words(self, **more: str | None) -> argparse.Namespace:
+        """Those of a call."""
+        words = defaults()
+        vars(words).update({"channel": self.write("list", b""), "stl": "-", "spool": None,
+                            "out": self.path("out"), "on_result": None, "on_alarm": None, **more})
+        return words
+
+    def test_what_is_refused(self) -> None:
+        """Before anything is heard: commands that can't be called, files of others in the place of
+        its own, and folders that another call has."""
+        out, feed = self.path("out"), self.path("out.feed")
+        os.mkdir(feed)
+        self.write(f"{feed}/{MARK}", b"")
+        rows: list[tuple[str, dict[str, str], bytes | None, str]] = [
+            ("none", {}, None, ""), ("a command of results", {"on_result": "/none/a"}, None, ""),
+            ("a command of alarms", {"on_alarm": "/none/b"}, None, ""),
+            ("another's page", {}, b"GSI", ""), ("an input", {"stl": f"{out}/index.html"}, b"", ""),
+            ("a severity", {"severity": f"{out}/index.html"}, b"", ""),
+            ("an input in its folder", {"stl": f"{feed}/state"}, None, ""),
+            ("the feed is recorded", {}, None, feed), ("it is judged", {}, None, out)]
+        for name, more, page, locked in rows:
+            with contextlib.suppress(FileNotFoundError):
+                os.unlink(f"{out}/index.html")
+            if page is not None:
+                self.write("out/index.html", page)
+            self.write(f"{feed}/state", bytes(64))
+            with contextlib.ExitStack() as stack:
+                if locked:
+                    stack.enter_context(single.locking(locked, "", "another test has "))
+                begun = stack.enter_context(mock.patch.object(
+                    module, "Channel", side_effect=Stop("it has begun")))
+                stack.enter_context(mock.patch.object(single, "heed_signals"))
+                stack.enter_context(mock.patch.object(tempfile, "tempdir", None))
+                with self.assertRaises(Stop):
+                    judge_channel(self.words(**more), "tools/qc")
+                self.must(name, begun.call_count == (name == "none"))
+
     def test_status(self) -> None:
         """That of the verdicts, of an earlier call too; 2 where there is none, a signal ends it, or
         a result is not written, which is said."""
-        words = defaults()
-        vars(words).update(channel=self.write("list", b""), stl="-", out=self.path("out"),
-                           spool=None, on_result=None, on_alarm=None)
+        words = self.words()
         lists: list[list[str]] = [[], *([word] for word in STATUSES), ["accepted", "not judged"],
                                   ["not judged", "accepted"], ["refused", "waived"]]
         several: list[dict[str, str]] = [{}, {"one: its result": "no room", "two": "none"}]
