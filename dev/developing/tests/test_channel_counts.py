@@ -216,7 +216,8 @@ class Counted(Programmes):
         says the same."""
         channel = Told(self, self.listed("one", "two", "three"))
         for words in itertools.product(WORDS, repeat=3):
-            for name, word in zip(NAMES, words):
+            for programme, name, word in zip(channel.queue.programmes, NAMES, words):
+                programme.has_ended = word is not None
                 record: Any = SimpleNamespace(row=row(name, word) if word else None)
                 channel.records.by_name[name] = record
                 if word is None and words[0] is None:

@@ -2,6 +2,7 @@
 from __future__ import annotations
 
 import itertools
+import json
 import os
 from types import SimpleNamespace
 from typing import Any, Callable, Iterator
@@ -240,7 +241,7 @@ class Ends(Programmes):
 
     def test_what_an_earlier_call_said(self) -> None:
         """What is heard once more is said of what comes behind that alone, each line once; a loss
-        is one of the segment behind it already."""
+        is one of the segment behind it already. It has the date of what came before it."""
         for at, is_lost, is_said in ((4, False, False), (5, True, False), (6, True, True)):
             channel = Told(self, self.listed("one"))
             channel.give([channel.feed.pes(BEGIN)])
@@ -248,9 +249,10 @@ class Ends(Programmes):
             channel.hearing.by_page[0, 0x88].said += ["a line", "another", "a line"]
             channel.take()
             self.must(f"{at}", channel.said == ["a line", "another"] * is_said, channel.said)
-            channel.lose()
-            self.must(f"{at}: lost", (channel.loss is not None) == is_lost and channel.machine.loss
-                      and [*channel.alarms] == ["loss"] * is_lost and
+            with mock.patch.object(channel.segments, "read_date", lambda: 5.0):
+                channel.lose()
+            self.must(f"{at}: lost", (channel.loss is not None) == is_lost and
+                      channel.machine.loss == "1970-01-01T00:00:05Z" and [*channel.alarms] == ["loss"] * is_lost and
                       channel.said[2 * is_said:] == [channel.loss] * is_lost, channel.said)
 
     def test_what_is_told_at_last(self) -> None:
@@ -309,6 +311,22 @@ class Ends(Programmes):
         self.must("each", found == [*NAMES, "line 1", "line 2"] and
                   channel.results.verdicts == ["not judged"] * 7 and not channel.results.open and
                   all(os.path.exists(self.path(f"out/{name}.json")) for name in found), found)
+
+    def test_open_at_the_end(self) -> None:
+        """What waits for its turn, whatever stands before it; a line that is none is not."""
+        for kinds in itertools.product((False, True), repeat=3):
+            out = self.path(f"out {kinds}")
+            channel = Told(self, "".join(self.listed(name) if is_one else "a.stl --pes 1-2\n"
+                                         for name, is_one in zip(NAMES, kinds)), out)
+            channel.stop(BEFORE_IT)
+            names = [name if is_one else f"line {at}" for at, (name, is_one) in
+                     enumerate(zip(NAMES, kinds), 1)]
+            found = [json.loads(self.read(f"{out}/{name}.json")) for name in names]
+            self.must(f"{kinds}", [one.get("open", False) for one in found] == [*kinds] and
+                      [one["reason"] == BEFORE_IT for one in found] == [*kinds] and
+                      channel.results.open == {
+                          name for name, is_one in zip(NAMES, kinds) if is_one} and
+                      channel.results.verdicts == ["not judged"] * 3, found)
 
     def test_from_when_on(self) -> None:
         """A call waits from the last of three times on, however many seconds it has patience."""

@@ -196,6 +196,12 @@ class Members(unittest.TestCase):
         recording: Any = SimpleNamespace(stream=lambda: (0x101, 204))
         part = dataclasses.replace(part, recording=recording, pes=(3, 9), alignment=None,
                                    judged=SummedFile("a.cut.pes", 5, "sum"))
+        for count in (0, 1, 1_000_000):
+            many: Any = SimpleNamespace(verdict="refused", line="l", frames=3, transmissions=1,
+                                        count=count)
+            words = JUDGED_PART.made(PartOf(dataclasses.replace(part, answer=many), False))
+            self.assertEqual((words["faults"], words["verdict"], words["line"]),
+                             (count, "refused", "l"))
         for is_kept, name in ((True, "a.cut.pes"), (False, None)):
             words = JUDGED_PART.made(PartOf(part, is_kept))
             self.assertEqual([words[name] for name in ("pid", "packet_size", "pes", "judged",

@@ -170,7 +170,7 @@ class Channel:
             self.loss = f"{LOST}: {os.strerror(error) if error else 'it was recorded anew'}"
             self.fail(self.loss)
             self.alarm(LOSS, self.loss)
-        self.machine.loss = now()
+        self.machine.loss = now(self.segments.read_date())  # it may be heard once more
         self.begin_anew(LOST)
         self.hearing.renew()
 
