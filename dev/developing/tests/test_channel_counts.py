@@ -177,6 +177,22 @@ class Judgings(Programmes):
                 self.must(f"{lead} {line}", results.time_of_lead(known) == wanted)
         self.must("none", results.time_of_lead(unjudged("one", "why")) == "")
 
+    def test_results_that_stand_there(self) -> None:
+        """One of this version as a whole, or of another one; half of one, or what says more than
+        one says, is none."""
+        whole = result("accepted")
+        rows: list[tuple[bytes | None, str | None]] = [
+            (None, None), (b"", None), (b"[]", None), (b"{}", None), (b'{"verdict": ', None),
+            (json.dumps(whole).encode(), "accepted"), (json.dumps(whole).encode()[:-9], None),
+            (json.dumps({**whole, "status": 1}).encode(), None),
+            (json.dumps({**whole, "more": 1}).encode(), None),
+            (json.dumps({**whole, "format": 5}).encode(), "not judged"),
+            (json.dumps(unjudged("x", "why")).encode(), "not judged"), (b"[" * 9999, None)]
+        for data, wanted in rows:
+            path = self.path("none") if data is None else self.write("x.json", data)
+            found = results.result_at(path)
+            self.must(f"{data!r}"[:40], (found and found["verdict"]) == wanted, found)
+
     def test_processes_that_judge(self) -> None:
         """Whatever ends the wait for one, nothing of it goes on."""
         for error in (None, False, KeyboardInterrupt(), OSError(5, "?"), SystemExit(3)):

@@ -252,7 +252,8 @@ class Ends(Programmes):
             with mock.patch.object(channel.segments, "read_date", lambda: 5.0):
                 channel.lose()
             self.must(f"{at}: lost", (channel.loss is not None) == is_lost and
-                      channel.machine.loss == "1970-01-01T00:00:05Z" and [*channel.alarms] == ["loss"] * is_lost and
+                      channel.machine.loss == "1970-01-01T00:00:05Z" and
+                      [*channel.alarms] == ["loss"] * is_lost and
                       channel.said[2 * is_said:] == [channel.loss] * is_lost, channel.said)
 
     def test_what_is_told_at_last(self) -> None:

@@ -40,10 +40,10 @@ class Asked(Case):
 
     def test_options(self) -> None:
         """The same as a call for the pair, whether the line has an option or the call."""
-        options: list[list[str]] = [[], ["--page", "889"], ["--every", "50"], ["--option", "german"],
-                   ["--origin", "0"], ["--within", "3"], ["--severity", "file"], ["--no-complete"],
-                   ["--allow-lost"], ["--strict"], ["--from", "10:00:00:00"], ["--keeping"],
-                   ["--pace", "25"]]
+        options: list[list[str]] = [
+            [], ["--page", "889"], ["--every", "50"], ["--option", "german"], ["--origin", "0"],
+            ["--within", "3"], ["--severity", "file"], ["--no-complete"], ["--allow-lost"],
+            ["--strict"], ["--from", "10:00:00:00"], ["--keeping"], ["--pace", "25"]]
         for own, other in itertools.product(options, repeat=2):
             if own[:1] != other[:1] or own == other:
                 queue = Queue(self.path("list"), defaults(*other))
@@ -105,8 +105,8 @@ class Over(Case):
                 last=self.pts(page[0]))] * (page[0] is not None))
             behind = self.pts(clock[0])
             survey: Any = SimpleNamespace(clock_of=lambda pid: None if behind is None else (
-                0, behind + 700))
-            with mock.patch.object(schedule, "late_of", lambda packets: 700), \
+                0, behind + 2 * TICKS))
+            with mock.patch.object(schedule, "late_of", lambda packets: 2 * TICKS), \
                     mock.patch.object(schedule, "cut_of", return_value=SimpleNamespace(
                         is_over=is_over, has_end=has_end)) as cut:
                 found = self.on_air(*words).is_over(survey, packets, is_still)
@@ -188,6 +188,21 @@ class Known(Programmes):
                         [one.name for one in again.queue.open()] == [
                             name for name in rest if name in names[2:]] and
                         {*names[:2], *gone} == {*again.records.by_name}, again.said)
+
+    def test_kept_as_it_is(self) -> None:
+        """After each look another call knows the same lines by the same names, and who is gone."""
+        spool, (one, two) = self.path("spool"), (self.files[name] for name in ("one", "two"))
+        os.mkdir(spool)
+        queue = Queue(self.path("list"), defaults(), spool)
+        for text in (f"{one}\n", f"{one}\n{two}\n{one}\n", f"{one}\n{two} --every 9\n'\n",
+                     f"{two}\n{one}\n{one}\n", "", f"{one}\n"):
+            self.write("list", text.encode())
+            queue.look(True)
+            again = Queue(self.path("list"), defaults(), spool)
+            found, wanted = ([[(programme.name, programme.line) for programme in several]
+                              for several in (some.programmes, some.gone)]
+                             for some in (again, queue))
+            self.must(text, found == wanted and again.names.counts == queue.names.counts, found)
 
     def test_names_are_given_once(self) -> None:
         """Of what an earlier call knew, also of what is gone since, no name is given anew."""

@@ -73,6 +73,13 @@ class Tables(unittest.TestCase):
             ("two", "", "not judged", "", "", "no file\nat all", ""),
             ("three.stl", "", "accepted", "", "", "", "accepted")])
 
+    def test_counts_of_subtitles(self) -> None:
+        """How many were judged, and how many are refused, of a pair and beside each fault."""
+        for counts, wanted in (({"judged": 9, "refused": 2}, ("9", "2")), (None, ("", ""))):
+            rows = self.rows([result("refused", subtitle_counts=counts, faults=[fault(38)])])
+            self.assertEqual([(row["subtitles_judged"], row["subtitles_refused"]) for row in rows],
+                             [wanted, wanted])
+
     def test_order(self) -> None:
         """The lines of objects are those of each by itself, in any order, after one head."""
         for order in ((0, 1, 2), (2, 1, 0), (1, 0, 2), (0,), ()):
