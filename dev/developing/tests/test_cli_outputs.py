@@ -74,11 +74,12 @@ class Tables(unittest.TestCase):
             ("three.stl", "", "accepted", "", "", "", "accepted")])
 
     def test_counts_of_subtitles(self) -> None:
-        """How many were judged, and how many are refused, of a pair and beside each fault."""
+        """How many were judged, and how many are refused, of a pair and beside each fault, of which
+        all are there."""
         for counts, wanted in (({"judged": 9, "refused": 2}, ("9", "2")), (None, ("", ""))):
-            rows = self.rows([result("refused", subtitle_counts=counts, faults=[fault(38)])])
+            rows = self.rows([result("refused", subtitle_counts=counts, faults=[fault(38)] * 150)])
             self.assertEqual([(row["subtitles_judged"], row["subtitles_refused"]) for row in rows],
-                             [wanted, wanted])
+                             [wanted] * 151)
 
     def test_order(self) -> None:
         """The lines of objects are those of each by itself, in any order, after one head."""
