@@ -1,0 +1,203 @@
+"""What a batch does with pairs that are not begun, and what else of a call is heeded beside others:
+files of other calls, standard output that a file takes, signals."""
+from __future__ import annotations
+
+import argparse
+import contextlib
+import io
+import itertools
+import json
+import os
+import signal
+from typing import Any, ContextManager
+from unittest import mock
+
+from subtitles.cli import batch, collection
+from subtitles.cli.batch import Calls, ended_of
+from subtitles.cli.single import (
+    PairCall, SIGNALS, claimed, claimed_for_batch, heed_signals, ignore_signals)
+from subtitles.common.command_line import Stop
+from subtitles.common.files import Inputs
+from subtitles.request.commands import CommandWords, Speech
+from subtitles.request.lines import Item
+from subtitles.results.files import put_object
+from .bench import Case, SECONDS, example, example_bytes
+from .parts import asked_for, qc
+from .results import result
+from .test_cli_ended import ACCEPTED, HELLO, Story
+
+
+class NotBegun(Case):
+    """Pairs that are known at once."""
+
+    def setUp(self) -> None:
+        super().setUp()
+        for name in ("out", "temporary"):
+            os.mkdir(self.path(name))
+        for name in ("one.stl", "one.ts"):
+            self.write(name, b"1")
+
+    def calls(self) -> Calls:
+        return Calls(CommandWords("tools/qc", self.bench.program), self.path("temporary"),
+                     self.path("out"), False)
+
+    def test_files_for_machines(self) -> None:
+        """What says so stands in each of them, and in the status, whatever an earlier call left
+        where the object would be."""
+        rows: list[tuple[str, str, str, str]] = [
+            ("in use", "", "", "another call is writing the files of one"),
+            ("an input", "", "--severity out/one.html", "is an input too"),
+            ("no result", "", "", "is no result of these tools"),
+            ("no pair", "none.ts", "", "none.ts: No such file")]
+        before = os.getcwd()
+        self.addCleanup(os.chdir, before)
+        os.chdir(self.folder)
+        for name, recording, words, why in rows:
+            put_object("out/one.json", result("accepted"))
+            if name in ("an input", "no result"):
+                self.write("out/one.html", b"67 warning\n")
+            self.write("list", f"one.stl {recording or 'one.ts'} {words}\n".encode())
+            held: ContextManager[object] = claimed("out", "one") if name == "in use" else \
+                contextlib.nullcontext()
+            with held, contextlib.redirect_stdout(io.StringIO()) as out, \
+                    contextlib.redirect_stderr(io.StringIO()):
+                status = qc(["--batch", "list", "-o", "out", "-p", self.bench.program, "--json",
+                             "all.json", "--csv", "all.csv", "--junit", "all.xml"])
+            [known] = json.loads(self.read("all.json"))["pairs"]
+            self.must(name, status == 2 and known["verdict"] == "not judged" and why in
+                      known["reason"] and b",not judged,2," in self.read("all.csv") and
+                      b'errors="1"' in self.read("all.xml") and "1 not judged" in out.getvalue(),
+                      (status, known, out.getvalue()))
+            is_kept = json.loads(self.read("out/one.json"))["verdict"] == "accepted"
+            self.must(f"{name}: the other's file", is_kept == (name != "no pair"))
+            if os.path.exists("out/one.html"):
+                os.unlink("out/one.html")
+
+    def test_claims(self) -> None:
+        """As long as a pair is judged its files are those of its call; then they are free."""
+        item, calls = Item("one", asked_for(self.path("one.stl"), self.path("one.ts")), None), \
+            self.calls()
+        for is_stopped in (True, False):
+            with mock.patch.object(batch, "judge_alone", lambda *_: is_stopped and signal.pause()):
+                self.must("begun", calls.begin(item) is None)
+            other = self.calls()
+            row = other.begin(item)
+            self.must("another call", row and not row.is_judged and other.in_use == {"one"} and
+                      "another call" in other.unwritten["one"]["reason"] and not other.running, row)
+            _ = calls.stop() if is_stopped else [*calls.rows(SECONDS)]
+            with claimed(self.path("out"), "one"):
+                self.must("free again", not calls.running)
+            self.must("no lock is left", ".one.lock" not in os.listdir(self.path("out")))
+
+    def test_over_and_judged(self) -> None:
+        """One that was judged when it was told to end, since it took too long, is judged."""
+        calls = self.calls()
+        item = Item("one", asked_for(self.path("one.stl"), self.path("one.ts")), None)
+
+        def judge(*_: object) -> int:
+            put_object(self.path("out/one.json"), result("accepted"))
+            return 0
+
+        with mock.patch.object(batch, "judge_alone", judge):
+            calls.begin(item)
+        [call] = ended_of(calls.running, SECONDS)
+        calls.over.add(call)
+        self.must("judged", calls.end(call).verdict == "accepted" and not calls.over)
+
+    def test_language(self) -> None:
+        """The option that a subtitle file names is that of the file that is judged, whatever it was
+        when the list was read."""
+        path = self.write("one.stl", example_bytes("story.stl"))
+        asked = asked_for(path, example("story.pes"), "--option", "auto")
+        typed = asked_for(path, example("story.pes"), "--option", "english")
+        data = example_bytes("story.stl")
+        self.write("one.stl", data[:14] + b"08" + data[16:])
+        for one, option in ((asked, "german"), (typed, "english")):
+            with mock.patch.object(batch, "judge_request", return_value=0) as judged:
+                self.must(option, batch.judge_alone(one, PairCall(None)) == 0 and
+                          judged.call_args[0][0].option == option)
+
+    def test_one_line(self) -> None:
+        """It is judged beside other calls, whatever they judge: nothing over all is written, and
+        what other lines name is an input of it too."""
+        names = ("two.stl", "two.ts", "levels")
+        for name in names:
+            self.write(name, b"72 warning\n")
+        self.write("list", b"one.stl one.ts\ntwo.stl two.ts --severity levels\n")
+
+        def judge(_: object, call: PairCall) -> int:
+            put_object(os.path.join(call.out or "", f"{call.name}.json"), result("accepted"))
+            return 0
+
+        self.addCleanup(os.chdir, os.getcwd())
+        os.chdir(self.folder)
+        words = ["--batch", "list", "--line", "1", "-o", "out", "-p", self.bench.program]
+        with mock.patch.object(batch, "judge_alone", judge), claimed_for_batch("out"), \
+                contextlib.redirect_stdout(io.StringIO()), \
+                contextlib.redirect_stderr(io.StringIO()) as told:
+            self.must("judged", qc(words) == 0 and
+                      sorted(os.listdir("out")) == [".lock", "one.json"], told.getvalue())
+            for option, name in itertools.product(("--json", "--csv"), (*names, "list", "one.ts")):
+                before = self.read(name)
+                self.must(f"{option} {name}", qc([*words, option, name]) == 2 and
+                          before == self.read(name) and told.getvalue().endswith(
+                              f"{name} is an input too\n"), told.getvalue())
+
+    def test_outputs_of_all(self) -> None:
+        """None is an input, by whatever name: of each of the files for machines, and of the page
+        over all."""
+        path = self.write("input", b"")
+        os.symlink(path, self.path("link"))
+        os.link(path, self.path("hard"))
+        for option, name in itertools.product(("json", "csv", "junit"), ("input", "link", "hard")):
+            words = argparse.Namespace(**{"json": None, "csv": None, "junit": None,
+                                          option: self.path(name)})
+            with self.assertRaises(Stop):
+                collection.refuse_names(words, Inputs(path))
+            collection.refuse_names(words, Inputs(self.path("one.ts")))
+
+
+class Beside(Story):
+    """One call beside others, and what its output and signals are to it."""
+
+    def test_output_that_a_file_takes(self) -> None:
+        """By each of its names, for each file: nothing else is printed there."""
+        program = self.saying(ACCEPTED)
+        os.mkdir(self.path("results"))
+        self.judge(program, "--json", self.path("results/hello.json"))
+        begins = {"--json": "{", "--csv": "stl,recording,", "--junit": "<?xml"}
+        for option, name in (*itertools.product(begins, "-"), *itertools.product(
+                ["--json"], ("/dev/stdout", "/dev/fd/1", "/proc/self/fd/1"))):
+            for done in (self.judge(program, option, name),
+                         self.qc("--collect", self.path("results"), option, name)):
+                told = "\n".join(done.told)
+                self.must(f"{option} {name}", done.status == 0 and "accepted" in told and
+                          done.printed[0].startswith(begins[option]) and not any(
+                              line.startswith(("accepted", "pair ", "+ ", "1 pair"))
+                              for line in done.printed), done)
+
+    def test_signals(self) -> None:
+        """All that end a call are heeded, but those that were ignored; in the end none is, before
+        the line stands that the status goes with."""
+        for one in SIGNALS:
+            self.addCleanup(signal.signal, one, signal.getsignal(one))
+        for some in itertools.product((False, True), repeat=len(SIGNALS)):
+            for one, is_ignored in zip(SIGNALS, some):
+                signal.signal(one, signal.SIG_IGN if is_ignored else signal.SIG_DFL)
+            heed_signals()
+            self.must(f"{some}: heeded", [signal.getsignal(one) for one in SIGNALS] == [
+                signal.SIG_IGN if one else signal.default_int_handler for one in some])
+            ignore_signals()
+            self.must(f"{some}: ignored", {signal.getsignal(one) for one in SIGNALS} == {
+                signal.SIG_IGN})
+        seen: list[tuple[str, bool]] = []
+        for one in SIGNALS:
+            signal.signal(one, signal.default_int_handler)
+
+        def put(line: str, _: object) -> None:
+            seen.append((line, all(signal.getsignal(one) == signal.SIG_IGN for one in SIGNALS)))
+
+        with mock.patch.object(Speech, "put", staticmethod(put)):
+            self.judge(self.saying(ACCEPTED))
+        self.must("the last line alone", seen[-1] == (ACCEPTED, True) and len(seen) > 2 and
+                  not any(is_ignored for _, is_ignored in seen[:-1]), seen)
