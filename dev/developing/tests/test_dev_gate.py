@@ -5,6 +5,7 @@ import contextlib
 import glob
 import importlib.util
 import io
+import itertools
 import os
 import re
 import shutil
@@ -14,6 +15,7 @@ from random import Random
 from typing import Any
 from unittest import mock
 
+from developing import counts_in
 from developing.every_place.carried_laws import LAWS, random_packets
 from developing.every_place.recordings import UNSEEN
 from developing.every_place.streams import multiplexed, with_losses
@@ -163,6 +165,67 @@ class Lacking(Case):
             found = of_program.missing_in(over, known.__contains__)
             self.must(f"{known}", found == wanted, found)
         self.must("nothing was passed over", not of_program.missing_in([], lambda _: True))
+
+    def test_counts(self) -> None:
+        """What a script said counts by its last line alone, and where its status goes with that."""
+        for said, status, wanted in (
+                ("7 passed, 0 failed\n", 0, (7, 0)), ("a\n7 passed, 2 failed\n", 1, (7, 2)),
+                ("7 passed, 2 failed\n", -9, (7, 2)), ("7 passed, 2 failed\n", 0, None),
+                ("7 passed, 0 failed\n", 1, None), ("7 passed, 0 failed\n", -9, None),
+                ("7 passed, 0 failed\nmore\n", 0, None), ("7 passed, 0 failed", 0, None),
+                ("of 7 passed, 0 failed\n", 0, None), ("", 0, None),
+                ("1 passed, 1 failed\n7 passed, 0 failed\n", 0, (7, 0))):
+            self.must(f"{said!r} {status}", counts_in(said, status) == wanted)
+
+    def test_whole(self) -> None:
+        """Each script counts, whichever it is and however it ends, and so do the examples and what
+        is lacking where CI is set; the status says whether all of it passed."""
+        whole, good = script("check-program"), ("3 passed, 0 failed\n", 0)
+        ends: list[tuple[Any, int]] = [
+            (good, 0), (("2 passed, 1 failed\n", 1), 1), (("2 passed, 2 failed\n", 1), 2),
+            (("3 passed, 0 failed\n", 1), 1), (("", 0), 1), (OSError(8, "no"), 1),
+            (subprocess.TimeoutExpired("x", 1), 1),
+            (("passed over: ffmpeg\n3 passed, 0 failed\n", 0), 0)]
+        for (end, failed), name, is_ci in itertools.product(
+                ends, whole.SCRIPTS, (False, True)):
+            def run(one: str, _: str) -> Any:
+                said = end if one == name else good
+                if isinstance(said, Exception):
+                    raise said
+                return subprocess.CompletedProcess([], said[1], said[0])
+
+            over = "ffmpeg" in f"{end}"
+            for examples in ((5, 0), (4, 1)) if name == whole.SCRIPTS[0] else ((5, 0),):
+                with mock.patch.multiple(whole, run=run, is_known=lambda _: True,
+                                         compare_examples=lambda _: examples), \
+                        mock.patch.dict(os.environ, {"CI": "1"} if is_ci else {}), \
+                        contextlib.redirect_stdout(io.StringIO()) as out:
+                    if not is_ci:
+                        os.environ.pop("CI", None)
+                    status = whole.main(["-p", self.bench.program])
+                bad = failed + examples[1] + (over and is_ci)
+                *_, before, last = out.getvalue().splitlines()
+                self.must(f"{end} of {name}, {examples}, {is_ci}", status == bool(bad) and
+                          last.endswith(f" passed, {bad} failed") and (
+                              before == "passed over: ffmpeg") == over, out.getvalue())
+                if not failed:
+                    self.must("passed", last.startswith(
+                        f"{3 * len(whole.SCRIPTS) + examples[0]} passed"), last)
+        with contextlib.redirect_stdout(io.StringIO()) as out:
+            self.must("no program", whole.main(["-p", self.path("none")]) == 1 and
+                      out.getvalue().endswith("\n0 passed, 1 failed\n"))
+
+    def test_examples(self) -> None:
+        """Each that is another one, that is made no more, or that is new counts."""
+        whole, old = script("check-program"), {"a": b"1", "b": b"2"}
+        for new, counts in ((old, (2, 0)), ({"a": b"1", "b": b"3"}, (1, 1)), ({"a": b"1"}, (1, 1)),
+                            ({**old, "c": b""}, (2, 1)), ({}, (0, 2))):
+            with mock.patch.object(whole, "contents", side_effect=[old, new]), \
+                    mock.patch("subprocess.run"), contextlib.redirect_stdout(io.StringIO()):
+                self.must(f"{new}", whole.compare_examples("x") == counts)
+        for name in ("a.stl", "README.md"):
+            self.write(name, b"1")
+        self.must("its files", whole.contents(self.folder) == {"a.stl": b"1"})
 
 
 # The second implementation: the status of a last line, and what is promised of a recording.
