@@ -308,6 +308,10 @@ class Watched(Case):
                   ["b  accepted", "a  refused: 72 X: a hint"], out.getvalue())
         page = self.read("out/index.html").decode()
         self.must("page", "4 pairs" in page and page.index("<td>a<") < page.index("<td>b<"))
+        with contextlib.redirect_stdout(out):
+            results.take(row("b", "not judged", "why"))
+        self.must("once more", "4 pairs: 2 accepted, 1 not judged, 1 refused" in self.read(
+            "out/index.html").decode())
 
     def looked(self, looks: int, judged: Callable[[Calls, Item], Row],
                change: Callable[[int], None] = lambda look: None) -> list[str]:
@@ -406,6 +410,26 @@ class Watched(Case):
 
         lines = self.looked(9, lambda calls, item: row(item.name, "accepted"), change)
         self.must("judged", lines == [f"{name}  accepted" for name in "aabab"], lines)
+
+    def test_what_changes_back(self) -> None:
+        """What an earlier call has judged is not taken for what comes back later: a pair that
+        changes is judged each time."""
+        self.write_pair()
+        os.mkdir(self.path("out"))
+        asked, path = asked_for(self.path("in/a.stl"), self.path("in/a.ts"), "--every", "99"), \
+            self.path("in/a.ts")
+        self.write("out/a.json", json.dumps(result(
+            asked=ASKED.made(asked), found=found(asked),
+            program=about_program(self.bench.program)._asdict())).encode())
+        before = os.stat(path).st_mtime_ns
+
+        def change(look: int) -> None:
+            if look in (2, 5):
+                self.write("in/a.ts", b"1" * (1 + (look == 2)))
+                os.utime(path, ns=(before, before))
+
+        lines = self.looked(9, lambda calls, item: row(item.name, "accepted"), change)
+        self.must("each time", lines == ["a  accepted"] * 2, lines)
 
     def test_what_is_no_pair(self) -> None:
         """It is told once, and again where its reason is another one."""

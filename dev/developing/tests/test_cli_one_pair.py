@@ -342,6 +342,7 @@ class Writes(Case):
         verdict.parts += [part_with(0, 9, 0), self.part(2, [*many, "70 faults"])]
         lines = self.files(verdict).lines()
         self.must("lines", lines == [*many, "70 faults", *many[:29]], lines[65:75])
+        self.must("all in a table", len([*self.files(verdict).table_lines()]) == 2 + 140)
         self.must("name", pair_title(asked_for("a.stl", None)) == "a.stl" and
                   pair_title(asked_for("a.stl", "b.ts")) == "a.stl b.ts")
 

@@ -312,6 +312,13 @@ class Words(Case):
                 ("other", True, False), ("none", True, False)):
             told = refused(lambda: inputs.refuse(self.path(name), is_followed))
             self.must(f"{name}", bool(told) == wanted, told)
+        before = os.dup(0)
+        for name, wanted in (("one", True), ("pipe", False)):
+            standard = os.open(self.path("one"), os.O_RDONLY) if wanted else os.pipe()[0]
+            os.dup2(standard, 0)
+            self.must(f"{name} as standard input", bool(refused(
+                lambda: Inputs("-").refuse(self.path("one"), True))) == wanted)
+        os.dup2(before, 0)
         os.symlink("one", self.path("another"))
         for is_followed in (False, True):
             self.must(f"another link {is_followed}", bool(refused(
