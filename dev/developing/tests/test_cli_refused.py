@@ -9,6 +9,7 @@ import itertools
 import json
 import os
 import signal
+import sys
 from typing import Any, ContextManager
 from unittest import mock
 
@@ -16,7 +17,7 @@ from subtitles.cli import batch, collection
 from subtitles.cli.batch import Calls, ended_of
 from subtitles.cli.single import (
     PairCall, SIGNALS, claimed, claimed_for_batch, heed_signals, ignore_signals)
-from subtitles.common.command_line import Stop
+from subtitles.common.command_line import Stop, ended
 from subtitles.common.files import Inputs
 from subtitles.request.commands import CommandWords, Speech
 from subtitles.request.lines import Item
@@ -175,6 +176,28 @@ class Beside(Story):
                           done.printed[0].startswith(begins[option]) and not any(
                               line.startswith(("accepted", "pair ", "+ ", "1 pair"))
                               for line in done.printed), done)
+
+    def test_output_that_fails_at_the_end(self) -> None:
+        """What was printed and can't be written out: nothing is judged, and the file says so."""
+        class Full(io.StringIO):
+            def flush(self) -> None:
+                raise OSError(28, "No space left on device")
+
+        for does in (lambda: ended(lambda _: 0, []), lambda: qc(["--json", self.path("one.json")])):
+            with mock.patch("subtitles.cli.main.answer", return_value=0), mock.patch.object(
+                    sys, "stdout", Full()), contextlib.redirect_stderr(io.StringIO()) as told:
+                self.must("status", does() == 2 and told.getvalue().endswith(
+                    ": the output: No space left on device\n"), told.getvalue())
+        self.must("its file", self.object()["verdict"] == "not judged")
+
+    def test_folder_that_is_needed(self) -> None:
+        """What is kept, or was judged, needs one, of a pair as of many."""
+        self.write("list", " ".join(HELLO).encode())
+        for words in ([*HELLO, "--keep"], ["--batch", "list", "--keep"],
+                      ["--batch", "list", "--resume"], ["--watch", self.folder]):
+            done = self.qc(*words)
+            self.must(f"{words}", done.status == 2 and not done.printed and
+                      " goes with -o" in done.told[0], done)
 
     def test_signals(self) -> None:
         """All that end a call are heeded, but those that were ignored; in the end none is, before

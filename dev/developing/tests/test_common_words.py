@@ -5,6 +5,7 @@ import argparse
 import ast
 import contextlib
 import io
+import itertools
 import os
 import random
 import shlex
@@ -23,6 +24,7 @@ from subtitles.common.files import (
     Input, Inputs, Sums, bounded_bytes, first_bytes, is_replaced, is_utf_8, naming, plain_name,
     result_file, temporary_folder, whole_file)
 from subtitles.common.markup import joined, markup
+from subtitles.common.program import built_program, program_at
 from subtitles.formats import listing
 from subtitles.request.lines import MOST_BYTES, MOST_OF_LINE, lines_in, list_at, split
 from .bench import Case
@@ -300,6 +302,17 @@ class Words(Case):
                       self.read("link") == b"own" and self.read("one") == b"theirs" and
                       not os.path.exists(self.path("none")))
             os.unlink(self.path("link"))
+
+    def test_programs(self) -> None:
+        """What can be called is one, and nothing else."""
+        self.write_program("program", "#!/bin/sh\n")
+        self.write("text", b"#!/bin/sh\n")
+        os.mkdir(self.path("folder"))
+        for look, name in itertools.product((program_at, built_program), (
+                "program", "text", "folder", "none")):
+            path = self.path(name)
+            self.must(f"{look} {name}", refused(lambda: look(path)) == (
+                "" if name == "program" else f"{path} is no program"))
 
     def test_files_that_are_read(self) -> None:
         """By any name, also a link by which one was named; what is gone is none any more."""
