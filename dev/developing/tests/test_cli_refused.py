@@ -10,11 +10,12 @@ import json
 import os
 import signal
 import sys
+from collections import deque
 from typing import Any, ContextManager
 from unittest import mock
 
 from subtitles.cli import batch, collection
-from subtitles.cli.batch import Calls, ended_of
+from subtitles.cli.batch import Calls, ended_of, judged_next
 from subtitles.cli.single import (
     PairCall, SIGNALS, claimed, claimed_for_batch, heed_signals, ignore_signals)
 from subtitles.common.command_line import Stop, ended
@@ -55,6 +56,7 @@ class NotBegun(Case):
         os.chdir(self.folder)
         for name, recording, words, why in rows:
             put_object("out/one.json", result("accepted"))
+            self.write("out/one.txt", b"refused 68 Parity frame 00:00:01:00 packet 9\n1 faults\n")
             if name in ("an input", "no result"):
                 self.write("out/one.html", b"67 warning\n")
             self.write("list", f"one.stl {recording or 'one.ts'} {words}\n".encode())
@@ -70,7 +72,8 @@ class NotBegun(Case):
                       b'errors="1"' in self.read("all.xml") and "1 not judged" in out.getvalue(),
                       (status, known, out.getvalue()))
             is_kept = json.loads(self.read("out/one.json"))["verdict"] == "accepted"
-            self.must(f"{name}: the other's file", is_kept == (name != "no pair"))
+            self.must(f"{name}: the other's files", is_kept == os.path.exists("out/one.txt") == (
+                name != "no pair"))
             if os.path.exists("out/one.html"):
                 os.unlink("out/one.html")
 
@@ -89,6 +92,17 @@ class NotBegun(Case):
             with claimed(self.path("out"), "one"):
                 self.must("free again", not calls.running)
             self.must("no lock is left", ".one.lock" not in os.listdir(self.path("out")))
+
+    def test_at_a_time(self) -> None:
+        """As many pairs run as may, while others wait."""
+        for jobs, count in itertools.product((1, 2, 3), range(4)):
+            calls, waiting = self.calls(), deque(Item(f"{at}", None, None) for at in range(count))
+            running: Any = calls.running
+            with mock.patch.object(calls, "begin", lambda item: running.update({item: item})), \
+                    mock.patch.object(calls, "rows", return_value=[]):
+                left = [*judged_next(calls, waiting, jobs)]
+            self.must(f"{jobs} of {count}", (len(running), len(waiting), left) == (
+                min(jobs, count), max(count - jobs, 0), []))
 
     def test_over_and_judged(self) -> None:
         """One that was judged when it was told to end, since it took too long, is judged."""

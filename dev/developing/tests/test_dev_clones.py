@@ -190,11 +190,18 @@ class Clones(Case):
         clone.does_not_run("no file", "dist/subttx is no program")
 
     def test_finds_changes(self) -> None:
-        """A source is another one, is new, or is gone; also after the choice was kept."""
+        """A source is another one, of each kind, is new, or is gone; also after the choice was
+        kept."""
         clone = Clone(self)
-        clone.runs("as it is")
+        for name in (SOURCE, *(os.path.join("crates", "sub_listing", part, "Lib.antt")
+                               for part in ("specs", "proofs")), "crates.txt"):
+            clone.runs("as it is")
+            text = read(clone.path(name)) or ""
+            clone.write(name, text.replace("subttx:", "subttx: sub_laws", 1)
+                        if name == "crates.txt" else text + "// changed\n")
+            clone.does_not_run(name, "dist/subttx was built from other sources")
+            clone.write(name, text)
         clone.add_to(SOURCE, "// changed\n")
-        clone.does_not_run("a source", "dist/subttx was built from other sources")
         clone.put("dist", self.bench.program)
         clone.runs("with a program of its own")
         os.rename(clone.path(SOURCE), clone.path(SOURCE + "2"))
