@@ -187,6 +187,7 @@ class Writes(Case):
         others = {"two.json", "one~2.json", "onex.1.txt", "one.0.txt", "one.1.json", "one.x.txt"}
         for name in ("one.json", "one.html", "one.txt", "one.1.html", "one.12.txt", *others):
             self.write(f"out/{name}", b"")
+        os.symlink("nowhere", self.path("out/one.3.txt"))
         clear(self.path("out"), "one")
         self.must("left", {*os.listdir(self.path("out"))} == others)
         os.symlink(example("story.stl"), self.path("link"))

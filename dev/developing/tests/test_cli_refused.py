@@ -14,13 +14,13 @@ from collections import deque
 from typing import Any, ContextManager
 from unittest import mock
 
-from subtitles.cli import batch, collection
+from subtitles.cli import batch, collection, single
 from subtitles.cli.batch import Calls, ended_of, judged_next
 from subtitles.cli.single import (
-    PairCall, SIGNALS, claimed, claimed_for_batch, heed_signals, ignore_signals)
+    Files, PairCall, SIGNALS, claimed, claimed_for_batch, heed_signals, ignore_signals)
 from subtitles.common.command_line import Stop, ended
 from subtitles.common.files import Inputs
-from subtitles.request.commands import CommandWords, Speech
+from subtitles.request.commands import CommandWords, Names, Speech
 from subtitles.request.lines import Item
 from subtitles.results.files import put_object
 from .bench import Case, SECONDS, example, example_bytes
@@ -203,6 +203,13 @@ class Beside(Story):
                 self.must("status", does() == 2 and told.getvalue().endswith(
                     ": the output: No space left on device\n"), told.getvalue())
         self.must("its file", self.object()["verdict"] == "not judged")
+        for count in (1, 2) if os.path.exists("/dev/full") else ():
+            os.symlink("/dev/full", self.path(f"full{count}"))
+            several = [f"full{at}" for at in range(1, count + 1)]
+            done = self.judge(self.saying(ACCEPTED), "--json", "one.json", *(
+                word for words in zip(("--csv", "--junit"), several) for word in words))
+            self.must(f"{count} of them", done.status == 2 and all(
+                name in self.object()["reason"] for name in several), done)
 
     def test_folder_that_is_needed(self) -> None:
         """What is kept, or was judged, needs one, of a pair as of many."""
@@ -212,6 +219,37 @@ class Beside(Story):
             done = self.qc(*words)
             self.must(f"{words}", done.status == 2 and not done.printed and
                       " goes with -o" in done.told[0], done)
+
+    def test_what_is_said_of_it(self) -> None:
+        """What a profile says comes first; a part names what is kept of it; what is to be known of
+        several parts is told once."""
+        program, words = self.saying(ACCEPTED), ("-o", "out", "--json", "one.json")
+        self.write("house", b"--every 99\n")
+        done = self.judge(program, *words, "--profile", "house")
+        self.must("profile", done.printed[0].endswith("house: --every 99"), done)
+        asked = asked_for(HELLO[0], "-", "--origin", "0")
+        for is_kept in (False, True):
+            with mock.patch("subtitles.cli.single.hints_of", return_value=["a", "b", "a"]), \
+                    mock.patch.object(single, "ignore_signals"), \
+                    contextlib.redirect_stdout(io.StringIO()), \
+                    contextlib.redirect_stderr(io.StringIO()):
+                found = single.judged(asked, PairCall(
+                    program, self.path("out"), is_kept, name="own", given=HELLO[1]), "tools/qc")
+            [part] = self.object("out/own.json")["parts"]
+            kept = part["judged"]["name"]
+            self.must(f"{is_kept}", found.hints == ["a", "b"] and bool(kept) == is_kept == any(
+                one.startswith("own.recording") for one in os.listdir(self.path("out"))), part)
+
+    def test_what_is_kept(self) -> None:
+        """A recording, where that is asked and it has something of the PID."""
+        names, verdict = Names("one", self.folder, self.folder), mock.Mock(parts=[])
+        for is_kept, count, ending in itertools.product(
+                (False, True), (0, 1), (None, "recording.pes")):
+            files = Files(PairCall(None, self.folder, is_kept), verdict, mock.Mock(), names)
+            found = files.raw(mock.Mock(**{"packets.count": count, "kept_ending": ending}))
+            self.must(f"{is_kept} {count} {ending}", [one.path for one in found] == [
+                self.path("one.recording.pes")] * bool(is_kept and count and ending), found)
+            self.must("none", files.raw(None) == [])
 
     def test_signals(self) -> None:
         """All that end a call are heeded, but those that were ignored; in the end none is, before
