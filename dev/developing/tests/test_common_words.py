@@ -24,7 +24,7 @@ from subtitles.common.files import (
     Input, Inputs, Sums, bounded_bytes, first_bytes, is_replaced, is_utf_8, naming, plain_name,
     result_file, temporary_folder, whole_file)
 from subtitles.common.markup import joined, markup
-from subtitles.common.program import built_program, program_at
+from subtitles.common.program import built_program, program_at, sources
 from subtitles.formats import listing
 from subtitles.request.lines import MOST_BYTES, MOST_OF_LINE, lines_in, list_at, split
 from .bench import Case
@@ -313,6 +313,20 @@ class Words(Case):
             path = self.path(name)
             self.must(f"{look} {name}", refused(lambda: look(path)) == (
                 "" if name == "program" else f"{path} is no program"))
+
+    def test_program_that_was_built(self) -> None:
+        """That of the sources; where there is none, or they can't be read, that is told."""
+        rows: list[tuple[tuple[str, str], str]] = [
+            (("path", ""), ""), (("", "damaged"), "damaged"), (("", ""), "no program is built")]
+        for chosen, why in rows:
+            with mock.patch("subtitles.common.program.chosen", return_value=chosen):
+                told = refused(lambda: self.assertEqual(built_program(), "path"))
+            self.must(f"{chosen}", told.startswith(why) and bool(told) == bool(why), told)
+        for status in (0, 1, -9):
+            done = subprocess.CompletedProcess([], status, b"a sum\n")
+            with mock.patch("subprocess.run", return_value=done):
+                told = refused(lambda: self.assertEqual(sources(), "a sum"))
+            self.must(f"{status}", bool(told) == (status != 0), told)
 
     def test_files_that_are_read(self) -> None:
         """By any name, also a link by which one was named; what is gone is none any more."""
