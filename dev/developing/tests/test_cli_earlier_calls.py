@@ -318,9 +318,10 @@ class Watched(Case):
         """The lines of a call that watches, which looks so many times."""
         count = 0
 
-        def next_look(_: float) -> None:
+        def next_look(seconds: float) -> None:
             nonlocal count
             count += 1
+            self.assertEqual(seconds, batch.LOOK)
             if count == looks:
                 raise KeyboardInterrupt
             change(count)

@@ -15,14 +15,14 @@ from typing import Any, ContextManager
 from unittest import mock
 
 from subtitles.cli import batch, collection, single
-from subtitles.cli.batch import Calls, ended_of, judged_next
+from subtitles.cli.batch import Calls, LEAST_SECONDS, judged_next
 from subtitles.cli.single import (
     Files, PairCall, SIGNALS, claimed, claimed_for_batch, heed_signals, ignore_signals)
 from subtitles.common.command_line import Stop, ended
 from subtitles.common.files import Inputs
 from subtitles.request.commands import CommandWords, Names, Speech
 from subtitles.request.lines import Item
-from subtitles.results.files import put_object
+from subtitles.results.files import found, put_object
 from .bench import Case, SECONDS, example, example_bytes
 from .parts import asked_for, qc
 from .results import result
@@ -92,6 +92,11 @@ class NotBegun(Case):
             with claimed(self.path("out"), "one"):
                 self.must("free again", not calls.running)
             self.must("no lock is left", ".one.lock" not in os.listdir(self.path("out")))
+        with claimed(self.path("out"), "one"):
+            self.must("in use", calls.begin(item) and calls.in_use == {"one"})
+        self.write("out/one.html", b"theirs")
+        row = calls.begin(item)
+        self.must("no result", row and "is no result" in row.line and not calls.in_use, row)
 
     def test_at_a_time(self) -> None:
         """As many pairs run as may, while others wait."""
@@ -104,20 +109,53 @@ class NotBegun(Case):
             self.must(f"{jobs} of {count}", (len(running), len(waiting), left) == (
                 min(jobs, count), max(count - jobs, 0), []))
 
-    def test_over_and_judged(self) -> None:
-        """One that was judged when it was told to end, since it took too long, is judged."""
+    def test_begun(self) -> None:
+        """Its files are kept in mind as they were before, and its limit, which may be given."""
+        asked, begun = asked_for(self.path("one.stl"), self.path("one.ts")), list[batch.Begun]()
+        for limit, wanted in ((None, LEAST_SECONDS), (5, 5)):
+            calls, before = self.calls(), found(asked)
+            calls.limit = limit
+
+            def forked(_: object) -> Any:
+                self.write("one.ts", b"1" * (2 + len(begun)))
+                return mock.Mock()
+
+            with mock.patch.object(batch, "Forked", forked):
+                calls.begin(Item("one", asked, None))
+            begun += calls.running.values()
+            begun[-1].claim.close()
+            self.must(f"{limit}", (begun[-1].found, begun[-1].limit) == (before, wanted) and
+                      found(asked) != before, begun)
+
+    def test_ends(self) -> None:
+        """A verdict counts with its own status alone: not where a signal ended its process; but
+        where that was told to end, since it took too long, and was judged."""
+        asked = asked_for(self.path("one.stl"), self.path("one.ts"))
+        rows: list[tuple[str, int, bool]] = [
+            ("accepted", 0, True), ("refused", 1, True), ("accepted", 1, False),
+            ("refused", 0, False), *((verdict, -number, False) for verdict in (
+                "accepted", "refused") for number in (1, 2, 9))]
+        for (verdict, status, counts), is_over in itertools.product(rows, (False, True)):
+            calls, call = self.calls(), mock.Mock(**{"end.return_value": (status, ["qc: why"])})
+            calls.running[call] = batch.Begun(Item("one", asked, None), found(asked), 7,
+                                              contextlib.ExitStack())
+            calls.over |= {call} if is_over else {mock.Mock()}
+            put_object(self.path("out/one.json"), result(verdict))
+            row = calls.end(call)
+            self.must(f"{verdict} {status} {is_over}", row.verdict == (
+                verdict if counts else "not judged") and call not in calls.over and (
+                    "it took more than 7 seconds" in row.line) == (is_over and not counts) and
+                json.loads(self.read("out/one.json"))["verdict"] == row.verdict, row)
+
+    def test_strange_words(self) -> None:
+        """What a call told last is why, whatever its bytes are, and whatever others are."""
         calls = self.calls()
-        item = Item("one", asked_for(self.path("one.stl"), self.path("one.ts")), None)
-
-        def judge(*_: object) -> int:
-            put_object(self.path("out/one.json"), result("accepted"))
-            return 0
-
-        with mock.patch.object(batch, "judge_alone", judge):
-            calls.begin(item)
-        [call] = ended_of(calls.running, SECONDS)
-        calls.over.add(call)
-        self.must("judged", calls.end(call).verdict == "accepted" and not calls.over)
+        calls.over.add(mock.Mock())
+        with mock.patch.object(batch, "judge_alone", lambda *_: 2 * bool(os.write(
+                2, b"qc: first\nqc: caf\xe9: \x1b\n"))):
+            calls.begin(Item("one", asked_for(self.path("one.stl"), self.path("one.ts")), None))
+        [row] = calls.rows(SECONDS)
+        self.must("its line", (row.verdict, row.line) == ("not judged", "caf\ufffd: \x1b"), row)
 
     def test_language(self) -> None:
         """The option that a subtitle file names is that of the file that is judged, whatever it was
@@ -233,11 +271,11 @@ class Beside(Story):
                     mock.patch.object(single, "ignore_signals"), \
                     contextlib.redirect_stdout(io.StringIO()), \
                     contextlib.redirect_stderr(io.StringIO()):
-                found = single.judged(asked, PairCall(
+                verdict = single.judged(asked, PairCall(
                     program, self.path("out"), is_kept, name="own", given=HELLO[1]), "tools/qc")
             [part] = self.object("out/own.json")["parts"]
             kept = part["judged"]["name"]
-            self.must(f"{is_kept}", found.hints == ["a", "b"] and bool(kept) == is_kept == any(
+            self.must(f"{is_kept}", verdict.hints == ["a", "b"] and bool(kept) == is_kept == any(
                 one.startswith("own.recording") for one in os.listdir(self.path("out"))), part)
 
     def test_what_is_kept(self) -> None:
@@ -246,9 +284,9 @@ class Beside(Story):
         for is_kept, count, ending in itertools.product(
                 (False, True), (0, 1), (None, "recording.pes")):
             files = Files(PairCall(None, self.folder, is_kept), verdict, mock.Mock(), names)
-            found = files.raw(mock.Mock(**{"packets.count": count, "kept_ending": ending}))
-            self.must(f"{is_kept} {count} {ending}", [one.path for one in found] == [
-                self.path("one.recording.pes")] * bool(is_kept and count and ending), found)
+            outputs = files.raw(mock.Mock(**{"packets.count": count, "kept_ending": ending}))
+            self.must(f"{is_kept} {count} {ending}", [one.path for one in outputs] == [
+                self.path("one.recording.pes")] * bool(is_kept and count and ending), outputs)
             self.must("none", files.raw(None) == [])
 
     def test_signals(self) -> None:
