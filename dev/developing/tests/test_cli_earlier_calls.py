@@ -88,7 +88,10 @@ class EarlierCalls(Case):
         self.must("the prover's line is no matter",
                   is_current(known, asked, PROGRAM._replace(proved="logic=proved")))
         self.must("none", not is_current(unjudged("one", "why"), asked, PROGRAM))
-        sums = {about_program(self.write("program", data)).sha256 for data in (b"one", b"two")}
+        sums = set()
+        for data in (b"one", b"two"):  # of the same size and time
+            os.utime(self.write("program", data), (0, 0))
+            sums.add(about_program(self.path("program")).sha256)
         self.must("written anew", len(sums) == 2)
 
     def test_object_of_files_that_changed(self) -> None:
@@ -310,6 +313,10 @@ class Watched(Case):
         self.must("page", "4 pairs" in page and page.index("<td>a<") < page.index("<td>b<"))
         with contextlib.redirect_stdout(out):
             results.take(row("b", "not judged", "why"))
+        with contextlib.redirect_stdout(out), contextlib.redirect_stderr(io.StringIO()) as told, \
+                mock.patch.object(collection, "result_file", side_effect=OSError(28, "full")):
+            results.take(row("c", "accepted", "accepted 5"))  # it goes on where no page is written
+        self.must("told", "full" in told.getvalue() and "c  accepted" in out.getvalue())
         self.must("once more", "4 pairs: 2 accepted, 1 not judged, 1 refused" in self.read(
             "out/index.html").decode())
 

@@ -10,6 +10,7 @@ import json
 import os
 import signal
 import sys
+import time
 from collections import deque
 from typing import Any, ContextManager
 from unittest import mock
@@ -17,7 +18,7 @@ from unittest import mock
 from subtitles.cli import batch, collection, single
 from subtitles.cli.batch import Calls, LEAST_SECONDS, judged_next
 from subtitles.cli.single import (
-    Files, PairCall, SIGNALS, claimed, claimed_for_batch, heed_signals, ignore_signals)
+    Files, Output, PairCall, SIGNALS, claimed, claimed_for_batch, heed_signals, ignore_signals)
 from subtitles.common.command_line import Stop, ended
 from subtitles.common.files import Inputs
 from subtitles.request.commands import CommandWords, Names, Speech
@@ -81,14 +82,17 @@ class NotBegun(Case):
         """As long as a pair is judged its files are those of its call; then they are free."""
         item, calls = Item("one", asked_for(self.path("one.stl"), self.path("one.ts")), None), \
             self.calls()
-        for is_stopped in (True, False):
-            with mock.patch.object(batch, "judge_alone", lambda *_: is_stopped and signal.pause()):
+        for does in (signal.pause, time.tzset):  # one that waits to be stopped, one that ends
+            with mock.patch.object(batch, "judge_alone", lambda *_: does() or 2):
                 self.must("begun", calls.begin(item) is None)
             other = self.calls()
             row = other.begin(item)
             self.must("another call", row and not row.is_judged and other.in_use == {"one"} and
                       "another call" in other.unwritten["one"]["reason"] and not other.running, row)
-            _ = calls.stop() if is_stopped else [*calls.rows(SECONDS)]
+            if does == signal.pause:
+                calls.stop()
+            else:
+                self.must("its row", len([*calls.rows(SECONDS)]) == 1)
             with claimed(self.path("out"), "one"):
                 self.must("free again", not calls.running)
             self.must("no lock is left", ".one.lock" not in os.listdir(self.path("out")))
@@ -156,6 +160,28 @@ class NotBegun(Case):
             calls.begin(Item("one", asked_for(self.path("one.stl"), self.path("one.ts")), None))
         [row] = calls.rows(SECONDS)
         self.must("its line", (row.verdict, row.line) == ("not judged", "caf\ufffd: \x1b"), row)
+
+    def test_beside(self) -> None:
+        """What is done beside has one file of this process, and its status says that it went well;
+        a call for a pair reads nothing, whatever this one reads."""
+        files = [os.open(self.path("one.ts"), os.O_RDONLY) for _ in range(3)]
+        rows: list[tuple[Any, int]] = [
+            (lambda: True, 0), (lambda: False, 1), (lambda: 1 // 0, 1), (lambda: sys.exit(0), 1),
+            (lambda: os.kill(os.getpid(), signal.SIGKILL), -9),
+            *((lambda kept=kept: [one for one in files if os.path.exists(
+                f"/proc/self/fd/{one}")] == [kept], 0) for kept in files)]
+        for at, (does, status) in enumerate(rows):
+            _, ended = os.waitpid(batch.beside(does, files[at % 3 if at < 5 else at - 5]), 0)
+            self.must(f"{at}", os.waitstatus_to_exitcode(ended) == status, ended)
+        before = os.dup(0)
+        os.dup2(files[0], 0)
+        call = batch.Forked(lambda: len(os.read(0, 9)) + 2 * any(os.path.exists(
+            f"/proc/self/fd/{one}") and os.path.samefile(f"/proc/self/fd/{one}", files[0])
+            for one in files))
+        os.dup2(before, 0)
+        self.must("nothing to read", call.end() == (0, []))
+        for one in (before, *files):
+            os.close(one)
 
     def test_language(self) -> None:
         """The option that a subtitle file names is that of the file that is judged, whatever it was
@@ -235,12 +261,18 @@ class Beside(Story):
             def flush(self) -> None:
                 raise OSError(28, "No space left on device")
 
-        for does in (lambda: ended(lambda _: 0, []), lambda: qc(["--json", self.path("one.json")])):
-            with mock.patch("subtitles.cli.main.answer", return_value=0), mock.patch.object(
-                    sys, "stdout", Full()), contextlib.redirect_stderr(io.StringIO()) as told:
-                self.must("status", does() == 2 and told.getvalue().endswith(
-                    ": the output: No space left on device\n"), told.getvalue())
-        self.must("its file", self.object()["verdict"] == "not judged")
+        os.mkdir(self.path("results"))
+        put_object(self.path("results/one.json"), result("accepted"))
+        words = ["--collect", self.path("results"), "--json", self.path("one.json")]
+        with mock.patch.object(sys, "stdout", Full()), contextlib.redirect_stderr(
+                io.StringIO()) as told:
+            statuses = [qc(words)]
+            with mock.patch("subtitles.cli.main.answer", return_value=0):
+                statuses += [ended(lambda _: 0, []), qc(["--json", self.path("two.json")])]
+        self.must("told", statuses == [2] * 3 and told.getvalue().count(
+            ": the output: No space left on device\n") == 3, told.getvalue())
+        self.must("its file", [self.object(name)["verdict"] for name in (
+            "one.json", "two.json")] == ["not judged"] * 2)
         for count in (1, 2) if os.path.exists("/dev/full") else ():
             os.symlink("/dev/full", self.path(f"full{count}"))
             several = [f"full{at}" for at in range(1, count + 1)]
@@ -288,6 +320,17 @@ class Beside(Story):
             self.must(f"{is_kept} {count} {ending}", [one.path for one in outputs] == [
                 self.path("one.recording.pes")] * bool(is_kept and count and ending), outputs)
             self.must("none", files.raw(None) == [])
+        files = Files(PairCall(None, self.folder), verdict, CommandWords(
+            "tools/qc", self.bench.program), names)
+        self.must("the object is last", [os.path.basename(one.path) for one in files.wanted(
+            None)] == ["one.html", "one.json"])
+        os.symlink(self.write("theirs", b""), self.path("link"))
+        for is_result in (False, True):
+            files.put(Output(self.path("link"), lambda: iter([b"own"]), is_result))
+            self.must(f"a link {is_result}", os.path.islink(self.path("link")) != is_result and
+                      (self.read("link"), self.read("theirs")) == (
+                          b"own", b"" if is_result else b"own"))
+            self.write("theirs", b"")
 
     def test_signals(self) -> None:
         """All that end a call are heeded, but those that were ignored; in the end none is, before

@@ -4,6 +4,7 @@ from __future__ import annotations
 import argparse
 import ast
 import contextlib
+import hashlib
 import io
 import itertools
 import os
@@ -21,8 +22,8 @@ from unittest import mock
 from subtitles.common import command_line
 from subtitles.common.command_line import Stop
 from subtitles.common.files import (
-    Input, Inputs, Sums, bounded_bytes, first_bytes, is_replaced, is_utf_8, naming, plain_name,
-    result_file, temporary_folder, whole_file)
+    Input, Inputs, ROOM, SummedFile, Sums, bounded_bytes, first_bytes, is_replaced, is_utf_8,
+    naming, plain_name, result_file, temporary_folder, whole_file)
 from subtitles.common.markup import joined, markup
 from subtitles.common.program import built_program, program_at, sources
 from subtitles.formats import listing
@@ -303,13 +304,26 @@ class Words(Case):
                       not os.path.exists(self.path("none")))
             os.unlink(self.path("link"))
 
+    def test_sums(self) -> None:
+        """Of each file all its bytes, once for each time that it is named; any error is told."""
+        names = []
+        for size in (0, 1, ROOM - 1, ROOM, ROOM + 1, 2 * ROOM + 5):
+            names.append(self.write(f"{size}", bytes(range(251)) * (size // 251) + b"x" * (
+                size % 251)))
+        names += names[:2]
+        wanted = [SummedFile(name, os.path.getsize(name), hashlib.sha256(
+            self.read(name)).hexdigest()) for name in names]
+        self.must("all", Sums(names).all() == wanted)
+        for wrong in (self.folder, self.path("none"), f"{names[0]}/x"):
+            self.assertRaises(OSError, Sums([names[0], wrong, names[1]]).all)
+
     def test_programs(self) -> None:
         """What can be called is one, and nothing else."""
         self.write_program("program", "#!/bin/sh\n")
         self.write("text", b"#!/bin/sh\n")
         os.mkdir(self.path("folder"))
-        for look, name in itertools.product((program_at, built_program), (
-                "program", "text", "folder", "none")):
+        looks: list[Callable[[str], str]] = [program_at, built_program]
+        for look, name in itertools.product(looks, ("program", "text", "folder", "none")):
             path = self.path(name)
             self.must(f"{look} {name}", refused(lambda: look(path)) == (
                 "" if name == "program" else f"{path} is no program"))
