@@ -265,8 +265,9 @@ class Beside(Story):
         put_object(self.path("results/one.json"), result("accepted"))
         words = ["--collect", self.path("results"), "--json", self.path("one.json")]
         with mock.patch.object(sys, "stdout", Full()), contextlib.redirect_stderr(
-                io.StringIO()) as told:
+                io.StringIO()) as told, mock.patch.object(collection, "silence") as silenced:
             statuses = [qc(words)]
+            self.must("not as for a reader that leaves", not silenced.called)
             with mock.patch("subtitles.cli.main.answer", return_value=0):
                 statuses += [ended(lambda _: 0, []), qc(["--json", self.path("two.json")])]
         self.must("told", statuses == [2] * 3 and told.getvalue().count(
