@@ -222,6 +222,14 @@ class NotBegun(Case):
                           before == self.read(name) and told.getvalue().endswith(
                               f"{name} is an input too\n"), told.getvalue())
 
+    def test_faults_that_are_left_out(self) -> None:
+        """That a table has not all of them is told, be it one."""
+        for count in range(3):
+            known = {**result(), "left_out": {**result()["left_out"], "faults": count}}
+            with contextlib.redirect_stderr(io.StringIO()) as told:
+                self.must("itself", collection.all_told(known) == known)
+            self.must(f"{count}", bool(told.getvalue()) == bool(count), told.getvalue())
+
     def test_outputs_of_all(self) -> None:
         """None is an input, by whatever name: of each of the files for machines, and of the page
         over all."""
