@@ -212,6 +212,7 @@ class Writes(Case):
         rows: list[tuple[str, bytes, bool]] = [
             ("one.json", b'{\n "format": 3,\n "verdict": "accepted",', True),
             ("one.json", b'{"format": 2, "verdict": "refused"', True), ("one.json", b"{}", False),
+            ("one.json", b' {"format": 3, "verdict": "accepted"', False),
             ("one.txt", b"5 faults\n", False), ("one.txt", b"refused by me", False),
             ("one.txt", b"refused 68 Parity frame 00:00:01:00 packet 9\n1 faults\n", True),
             ("one.1.txt", b"a note", False), ("one.12.html", b"<p>a page</p>", False),
