@@ -158,7 +158,8 @@ class Silences(unittest.TestCase):
             ([-9, 0, 10], -1, [], (2, 10, 0, None)), ([0, 9.75, 15], None, [], (3, 10, 0, None)),
             ([*steady], None, [], (10, 10, 0, 10)), ([*steady], 99, [20, 50], (10, 10, 0, 10)),
             ([*steady], None, [20, 40, 60, 80], (10, 10, 0, None))]
-        for origin, (frames, last, edges, wanted) in itertools.product(ORIGINS, rows):
+        origins = *ORIGINS, *(CLOCK - TICKS * one for one in (5, 10, 19, 39, 40, 99))
+        for origin, (frames, last, edges, wanted) in itertools.product(origins, rows):
             pts = [round(origin + TICKS * one) % CLOCK for one in frames]
             end = None if last is None else round(origin + TICKS * last) % CLOCK
             found = repeats_in(pts, end, origin, [*zip(edges, edges[1:])])
@@ -305,6 +306,7 @@ class Heard(unittest.TestCase):
             ("there and back", "10:heo:a 20:c 30:heo:a 40:c", "10 a", [10, 20, 30, 40], [10, 30]),
             ("in one frame", "10:heo:a 20:c 20:heo 30:c", "10 a", [10, 30], [10, 20]),
             ("twice in a frame", "10:heo:a 10:ho:b 20:ho", "10 b", [10], [10, 20]),
+            ("twice in a later one", "10:heo:a 20:ho:b 20:ho", "10 a 20 b", [10], [10, 20]),
             ("one not heard", "10:heo:a 15!:heo:b 30:ho", "10 a", [10], [10, 30]),
             ("nor one behind it", "10:heo:a 15!:heo:b 16!:- 30:ho", "10 a", [10], [10, 30]),
             ("one of no frame", "10:heo:a 15.5:heo:b 30:ho", "10 a", [10], [10, 30]),

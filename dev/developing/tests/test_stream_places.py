@@ -4,7 +4,7 @@ from __future__ import annotations
 import argparse
 import itertools
 import os
-from typing import Tuple
+from typing import Optional, Tuple
 
 from developing.multiplex import PACKET
 from developing.pes import pts_in
@@ -18,7 +18,8 @@ from subtitles.request.request import request_of
 from subtitles.results.files import found, is_current
 from subtitles.results.schema import ASKED
 from subtitles.stream.gaps import (
-    ClockJump, MOST_LATE, Place, SECOND, jumps_of, late_of, overlap, places_of, reach_of, what_of)
+    ClockJump, MOST_LATE, Place, SECOND, jumps_of, late_of, marks_told, overlap, places_of, reach_of,
+    what_of)
 from subtitles.stream.packets import Clocked, Mark, Packets, Run
 from subtitles.stream.survey import ProgramMap, Survey, survey
 from ..cited import too_long
@@ -33,31 +34,39 @@ from .sent import packets, programme, scheduled
 
 # Where something is missing, and how late PTS are.
 
-Jump = Tuple[int, int]  # the PTS around one
+Jump = Tuple[Optional[int], Optional[int]]  # the PTS around one
 
 
 class Places(Case):
     """Where something is missing: marks, the PCR, jumps that are announced."""
 
     def test_places(self) -> None:
-        """Each once; what is announced is left out where it is known already."""
-        runs = [Run(at, 1, at * TICKS, 0, "-", "") for at in range(9)]
-        jump = 3 * TICKS, 5 * TICKS
-        clocked = Clocked(3 * TICKS, 5 * TICKS, 9 * TICKS, 9, TICKS, 9, "broken")
-        rows: list[tuple[list[Mark], list[Clocked], list[Jump], list[tuple[Jump, bool]]]] = [
+        """Each once, at the ends too; what is announced is left out where it is known already.
+        Wherever PTS begin anew."""
+        for shift in range(9):
+            pts = [TICKS * (at - shift) % CLOCK for at in range(9)]
+            jump, other = (pts[3], pts[5]), (pts[7], pts[8])
+            clocked = Clocked(*jump, 9 * TICKS, 9, TICKS, 9, "broken")
+            mark, ends = Mark(4, pts[3], 2, 0), [Mark(0, None, 1, 0), Mark(8, pts[7], 1, 0)]
+            rows: list[tuple[list[Mark], list[Clocked], list[Jump], list[tuple[Jump, bool]]]] = [
                 ([], [], [], []), ([], [], [jump], [(jump, True)]),
-                ([], [], [jump, (7 * TICKS, 8 * TICKS)],
-                 [(jump, True), ((7 * TICKS, 8 * TICKS), True)]),
+                ([], [], [jump, other], [(jump, True), (other, True)]),
                 ([], [clocked], [jump], [(jump, False)]),
-                ([Mark(4, 3 * TICKS, 2, 0)], [], [jump, (7 * TICKS, 8 * TICKS)],
-                 [(jump, False), ((7 * TICKS, 8 * TICKS), True)])]
-        for marks, clocks, jumps, wanted in rows:
-            own = [run._replace(pts=None, fault=45) if run.first in {mark.number for mark in marks}
-                   else run for run in runs]
-            packets = Packets(5, own, marks=marks, clocked=clocks)
-            told = [((one.before, one.after), one.is_announced)
-                    for one in places_of(packets, jumps)]
-            self.must(f"{marks} {clocks} {jumps}", told == wanted, told)
+                (ends, [], [], [((None, pts[1]), False), ((pts[7], None), False)]),
+                ([mark], [], [jump, other], [(jump, False), (other, True)])]
+            for marks, clocks, jumps, wanted in rows:
+                gone = {one.number for one in marks}
+                own = [Run(at, 1, None if at in gone else one, 0, "-", "", fault=45 * (at in gone))
+                       for at, one in enumerate(pts)]
+                packets = Packets(5, own, marks=marks, clocked=clocks)
+                told = [((one.before, one.after), one.is_announced)
+                        for one in places_of(packets, jumps)]
+                self.must(f"{shift} {marks} {clocks} {jumps}", told == wanted, told)
+                where = [line.partition(",")[0] for line in marks_told(packets)]
+                self.must(f"{shift} {marks}: lines", where == [
+                    f"between PTS {before} and {after}" if None not in (before, after) else
+                    f"before PTS {after}" if before is None else f"after PTS {before}"
+                    for (before, after), _ in wanted[:len(marks)]], where)
         self.must("said", what_of(Place(1, 2, is_announced=True)) == "more time passes than usual, "
                   "and a jump of the counter is announced")
 

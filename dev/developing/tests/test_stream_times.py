@@ -200,6 +200,8 @@ class Times(unittest.TestCase):
         hole, back = clocked(500, 99_000, "broken"), clocked(500, -99_000, "broken")
         rows: list[tuple[list[int], list[Clocked], list[tuple[int, int]]]] = [
                 ([], [hole], [(500, 90_000)]), ([], [back], []),
+                ([], [clocked(500, 9001, "broken")], [(500, 1)]),
+                ([], [clocked(500, 0, "broken")], []),
                 ([], [hole, hole], [(500, 90_000)] * 2),
                 ([1], [], [(100, 0)]), ([1], [hole], [(100, 0), (500, 90_000)]),
                 ([1], [clocked(150, 99_000, "broken")], [(100, 0)]),
