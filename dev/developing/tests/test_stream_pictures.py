@@ -226,16 +226,21 @@ SIZES = (188, 192, 204)
 
 
 def ts_packet(pid: int = PID, begin: Optional[int] = None, field: Optional[int] = None,
-              has_payload: bool = True) -> bytes:
+              has_payload: bool = True, length: int = 30) -> bytes:
     """A TS packet: one in which a PES packet with a PTS begins; the flags of its adaptation field,
-    or an empty field where these are 0."""
+    and how long that is, or an empty field where these are 0."""
     made = b"" if field is None else b"\0" if not field and has_payload else \
-        bytes([30, field]).ljust(31, b"\xff")
+        bytes([length, field]).ljust(length + 1, b"\xff")
     if not has_payload:
         made = bytes([PACKET - 5]) + made[1:].ljust(PACKET - 5, b"\xff")
     data = b"\xd5" * PACKET if begin is None else pes_packet(begin, [])
     control = PAYLOAD * has_payload | ADAPTATION_ALONE * (field is not None)
     return (head(pid, BEGINS * (begin is not None), control) + made + data)[:PACKET]
+
+
+def in_size(packet: bytes, size: int) -> bytes:
+    """A TS packet with what stands before it, or behind it, in packets of a size."""
+    return b"\0" * (4 * (size == 192)) + packet + b"\0" * (16 * (size == 204))
 
 
 class Announced(Case):
@@ -247,6 +252,7 @@ class Announced(Case):
         plain, first, second = ts_packet(), ts_packet(begin=5), ts_packet(begin=CLOCK - 7)
         says, alone = ts_packet(field=0x80), ts_packet(field=0x80, has_payload=False)
         both = ts_packet(begin=9, field=0x80)
+        full, over = (ts_packet(begin=9, field=0x80, length=one) for one in (169, 170))
         rows: list[tuple[str, list[bytes], list[int]]] = [
                 ("none", [], []), ("no jump", [first, plain, second], []),
                 ("before", [first, says, plain, second], [CLOCK - 7]),
@@ -255,7 +261,9 @@ class Announced(Case):
                 ("last", [first, says, plain], []), ("two", [says, alone, first], [5]),
                 ("each", [both, second, says, first], [9, 5]),
                 ("another flag", [ts_packet(field=0x40), first], []),
-                ("an empty field", [ts_packet(field=0), first], [])]
+                ("an empty field", [ts_packet(field=0), first], []),
+                ("its PTS is the end of the packet", [full, first], [9]),
+                ("its PTS goes on in the next", [over, first], [5])]
         for name, packets, wanted in rows:
             told = [*announced_in(iter(packets))]
             self.must(name, told == wanted, told)
@@ -264,10 +272,9 @@ class Announced(Case):
         """The TS packets of a PID, of each size, behind bytes of none and where some stand between,
         once and often; the last is whole."""
         own = [ts_packet(begin=at) for at in range(40)]
-        others = [ts_packet(pid) for pid in (0x001, 0x201, 0x102, 0x1FFF)]
+        others = [ts_packet(PID ^ bits) for bits in (*(1 << bit for bit in range(13)), 0x1FFF)]
         for size in SIZES:
-            spaced = [b"\0" * (4 * (size == 192)) + one + b"\0" * (16 * (size == 204))
-                      for some in own for one in (some, *others)]
+            spaced = [in_size(one, size) for some in own for one in (some, *others)]
             cut = [b"".join(spaced[:70]), b"".join(spaced[70:])]
             often = [b"".join(spaced[at:at + 20]) for at in range(0, len(spaced), 20)]
             for name, data in (("whole", b"".join(cut)), ("junk", b"\x47junk" + b"".join(cut)),
@@ -284,21 +291,22 @@ class Announced(Case):
     def test_jumps(self) -> None:
         """Of those after which more frames pass than usual, each once; over the wrap too."""
         path = self.path("one.ts")
-        for origin in (0, CLOCK - 5 * TICKS):
+        for origin, size in itertools.product((0, CLOCK - 5 * TICKS), SIZES):
             frames = [0, 1, 2, 5, 6, 8, 9, 12]
             pts = [(origin + frame * TICKS) % CLOCK for frame in frames]
             packets = Packets(PID, [Run(at, 1, one, 0, "-", "") for at, one in enumerate(pts)])
             with open(path, "wb") as file:
-                file.write(b"".join(ts_packet(begin=one, field=0x80 * (frame in (2, 5, 8)) or None)
-                                    for one, frame in zip(pts, frames)))
+                file.write(b"".join(in_size(ts_packet(
+                    begin=one, field=0x80 * (frame in (2, 5, 8)) or None), size)
+                    for one, frame in zip(pts, frames)))
             rows: list[tuple[int, tuple[int, int], list[tuple[int, int]]]] = [
                 (1, (0, 7), [(2, 5), (6, 8)]), (2, (0, 7), [(2, 5)]), (3, (0, 7), []),
                 (1, (0, 2), []), (1, (3, 7), [(6, 8)]), (1, (2, 3), [(2, 5)])]
             for usual, inside, wanted in rows:
-                told = jumps_at(packets, inside, usual, path, 188)
+                told = jumps_at(packets, inside, usual, path, size)
                 pairs = [(pts[frames.index(one)], pts[frames.index(other)])
                          for one, other in wanted]
-                self.must(f"{origin} {usual} {inside}", told == pairs, told)
+                self.must(f"{origin} {size} {usual} {inside}", told == pairs, told)
                 packets.seams = [frames.index(frame) for frame in (2, 5, 5, 8)]
                 told = jumps_told(packets, inside, usual)
                 self.must(f"{origin} {usual} {inside}: as survey tells", told == pairs, told)
