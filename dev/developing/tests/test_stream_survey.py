@@ -6,6 +6,7 @@ Recordings are made here, and the lines that there are of them by docs/manual/su
 from __future__ import annotations
 
 import os
+import random
 from typing import Callable, Collection, Iterable, Sequence
 
 from developing.pes import packet, pes_packet
@@ -364,11 +365,12 @@ class Answered(Case):
                  Announced((0, 0xFF), "eng", 1)]}), ProgramMap(1, 8, {9: 2})]),
             ("sub 5 888; subs 5 888 9; subs 5 150 7", lambda it: on_5(it).sent,
              {"888": 9, "150": 7}),
-            ("programme 1 9; stream 5 6; announce 5 888 656e67 2; announce 5 888 656e67 2; "
-             "sub 5 889; " + "; ".join(f"sub 5 2{page}" for page in range(10, 22)),
-             lambda it: it.lines(), [
-                 "PID 0x5: announced 888 eng subtitles in programme 1; subtitle pages sent: 210 "
-                 "211 212 213 214 215 216 217 218 219 220 221 and 1 more"]),
+            *(("programme 1 9; stream 5 6; announce 5 888 656e67 2; announce 5 888 656e67 2; " +
+               "; ".join(f"sub 5 2{page}" for page in range(9 + count, 9, -1)),
+               lambda it: it.lines(), [
+                   "PID 0x5: announced 888 eng subtitles in programme 1; subtitle pages sent: 210 "
+                   f"211 212 213 214 215 216 217 218 219 220 221{more}"])
+              for count, more in ((12, ""), (13, " and 1 more"), (14, " and 2 more"))),
             # The PCR before a PMT is that of its PID, or of a PID before, of eight at most.
             *((f"pcr 9 5; programme 1 9; pcr 9 8; {more}",
                lambda it: [one.after for one in it.programmes[1:]], wanted) for more, wanted in (
@@ -422,6 +424,25 @@ class Answered(Case):
                 for line in lines.split("; "):
                     heard.take(line + more)
                 self.must(f"{lines}{more}", known(heard) == wanted, known(heard))
+
+    def test_clock_before_a_map(self) -> None:
+        """The last PCR of its PID; where that has none, of the PID that a PMT of its programme
+        named last of eight at most that have one."""
+        chance = random.Random(7)
+        for _ in range(200):
+            heard, used, clocks = Survey(), dict[int, list[int]](), dict[int, int]()
+            for _ in range(40):
+                pid, number, pcr = (chance.randrange(most) for most in (12, 2, CLOCK))
+                if chance.random() < 0.2:
+                    clocks[pid] = pcr * (chance.random() < 0.8)
+                    heard.take(f"pcr {pid} {clocks[pid]}")
+                    continue
+                heard.take(f"programme {number} {pid}")
+                before = used.setdefault(number, [])
+                known = [one for one in [*dict.fromkeys(reversed(before))][:8] if one in clocks]
+                wanted = clocks.get(pid, clocks[known[0]] if known else None)
+                self.assertEqual(heard.programmes[-1].after, wanted, (before, pid, clocks))
+                before.append(pid)
 
     def teller(self, lines: Sequence[str], status: int = 0) -> str:
         """One that tells these lines, its words as bytes of the head, and what is not ASCII."""
