@@ -285,7 +285,8 @@ class Pages(Case):
         rows: list[tuple[list[bytes], bytes | None]] = [
             ([], None), ([new], None), ([HEADER], None), ([HEADER, new], None),
             ([CLOSING], b"old"), ([CLOSING, HEADER, new], b"old"), ([new, CLOSING], b"new"),
-            ([HEADER, new, CLOSING], b"new"), ([HEADER, CLOSING], b"")]
+            ([HEADER, new, CLOSING], b"new"), ([HEADER, CLOSING], b""),
+            ([HEADER, CLOSING, HEADER, new], b""), ([CLOSING, HEADER, CLOSING], b"")]
         for units, wanted in rows:
             screen = self.held(pes_packet(0, [HEADER, old]) +
                                pes_packet(TICKS * 10, units)).state.screen

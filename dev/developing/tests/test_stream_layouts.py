@@ -288,7 +288,8 @@ TAKEN = [
     ("strip=03,before=030B0B", "strip=03"), ("text,up", ""), ("before=07*0B0B", ""),
     ("strip=03,before=*070B0B", "before=*070B0B,strip=03"),
     *((text, text if code in (*OVERRULING, 0x08) else "")
-      for code in range(0x01, 0x0E) for text in [f"before=0B*{code:02X}0B"])]
+      for code in range(0x01, 0x0E)
+      for text in (f"before=0B*{code:02X}0B", f"before=0B*0B{code:02X}"))]
 
 
 def meant(text: str) -> Layout:
