@@ -34,7 +34,8 @@ from .sent import packets, programme, scheduled
 
 # Where something is missing, and how late PTS are.
 
-Jump = Tuple[Optional[int], Optional[int]]  # the PTS around one
+Jump = Tuple[int, int]  # the PTS around one
+Around = Tuple[Optional[int], Optional[int]]  # those around a place
 
 
 class Places(Case):
@@ -47,8 +48,8 @@ class Places(Case):
             pts = [TICKS * (at - shift) % CLOCK for at in range(9)]
             jump, other = (pts[3], pts[5]), (pts[7], pts[8])
             clocked = Clocked(*jump, 9 * TICKS, 9, TICKS, 9, "broken")
-            mark, ends = Mark(4, pts[3], 2, 0), [Mark(0, None, 1, 0), Mark(8, pts[7], 1, 0)]
-            rows: list[tuple[list[Mark], list[Clocked], list[Jump], list[tuple[Jump, bool]]]] = [
+            mark, ends = Mark(4, pts[3], 2, 0), [Mark(0, None, 0, 0), Mark(8, pts[7], 0, 1)]
+            rows: list[tuple[list[Mark], list[Clocked], list[Jump], list[tuple[Around, bool]]]] = [
                 ([], [], [], []), ([], [], [jump], [(jump, True)]),
                 ([], [], [jump, other], [(jump, True), (other, True)]),
                 ([], [clocked], [jump], [(jump, False)]),
