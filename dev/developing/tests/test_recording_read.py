@@ -1,0 +1,188 @@
+"""A recording as it is read, by tables: which PID is chosen, what is said of it, what is kept."""
+from __future__ import annotations
+
+import itertools
+import os
+import subprocess
+from types import SimpleNamespace
+from typing import Any, Sequence
+from unittest import mock
+
+from subtitles.common.command_line import Stop
+from subtitles.common.times import TICKS
+from subtitles.recording.notices import NeverSent
+from subtitles.recording.recording import Recording, refuse_stream
+from subtitles.request.commands import Names
+from subtitles.request.request import Unclear
+from subtitles.stream.gaps import SECOND
+from subtitles.stream.packets import Mark, PES, Packets, Run
+from subtitles.stream.ranges import Stage
+from subtitles.stream.survey import Survey
+from .bench import Case
+from .parts import asked_for
+
+ONE, TWO, THREE = 257, 258, 259
+SIZE = "subtitles.recording.recording.size_of"
+
+
+def surveyed(*lines: str) -> Survey:
+    """What lines of `survey` tell."""
+    survey = Survey()
+    for line in lines:
+        survey.take(line)
+    return survey
+
+
+def recorded(survey: Survey, *words: str, name: str = "one.ts", size: int | None = 9,
+             given: str | None = None, folder: str = "") -> Any:
+    """A recording of which this is told."""
+    lines = list[str]()
+    listener: Any = SimpleNamespace(lines=lines, said=lines.append,
+                                    chosen=lambda one: lines.append(one.line))
+    with mock.patch(SIZE, lambda name: size):
+        made: Any = Recording(asked_for("a.stl", name, *words), mock.Mock(),
+                              Names("one", folder, None), listener, given, [(100, 150)])
+    made.survey, made.again = survey, lambda *more: " ".join(more)
+    made.said, made.header_words = str, lambda packets: ""
+    return made
+
+
+def header(pid: int, does: str = "heob", number: int = 0, pts: int = SECOND) -> str:
+    """The line of a PES packet."""
+    return f"pes {pid} {number} 1 {pts} 0 {does}/{'0' * ('h' in does)} 1 0"
+
+
+def table(number: int, pid: int) -> list[str]:
+    """The lines of a PMT that announces the page, and of a minute of its clock."""
+    return ["pcr 100 0", f"programme {number} 100", f"stream {pid} 6",
+            f"announce {pid} 888 656e67 2", f"pcr 100 {60 * SECOND}"]
+
+
+class Chosen(Case):
+    """Which PID."""
+
+    def test_which(self) -> None:
+        """The only one with a header of the page, whatever it shows; the one that is asked for; one
+        after another where the PMT moves it, but not of a range. Else what a person may type."""
+        both = [header(ONE), header(TWO, "he")]
+        moves = [*table(7, ONE), header(ONE), *table(7, TWO), header(TWO, pts=60 * SECOND)]
+        others = [header(ONE), f"sub {TWO} 888", f"sub {THREE} 801"]
+        rows: list[tuple[list[str], list[str], object]] = [
+            ([header(ONE)], [], ONE), ([header(ONE, "he")], [], ONE),
+            ([header(ONE), header(TWO, "-")], [], ONE), ([header(TWO), header(ONE, "-")], [], TWO),
+            (both, [], ["--pid 0x101", "--pid 0x102"]),
+            (both[::-1], [], ["--pid 0x101", "--pid 0x102"]),
+            ([header(ONE, "-")], [], []), ([header(ONE, "-"), f"sub {TWO} 801"], [], ["--page P"]),
+            ([], [], []), ([header(ONE, "-"), *table(7, ONE)], [], NeverSent),
+            (moves, [], ONE), (moves, ["--pes", "0-9"], ["--pid 0x101", "--pid 0x102"]),
+            (others, ["--pid", f"{ONE}"], ONE), (both, ["--pid", f"{TWO}"], TWO),
+            ([header(ONE), header(TWO, "-")], ["--pid", f"{TWO}"], TWO),
+            (others, ["--pid", f"{THREE}"], [f"--pid 0x{TWO:X}"]),
+            ([header(ONE)], ["--pid", f"{TWO}"], ["--pid PID"]),
+            ([header(ONE, "-"), *table(7, ONE)], ["--pid", f"{ONE}"], NeverSent)]
+        for lines, words, wanted in rows:
+            recording = recorded(surveyed("size 188", *lines), *words)
+            found: object = None
+            try:
+                packets = recording.chosen()
+                found = packets.pid
+                self.must(f"{lines}: all", packets.count == (2 if lines is moves else 1))
+            except NeverSent:
+                found = NeverSent
+            except Unclear as reason:
+                found = [*reason.to_type]
+            self.must(f"{lines} {words}", found == wanted, found)
+        for count in (0, 1):
+            packets = recorded(surveyed("size 0", *[header(PES)] * count)).chosen()
+            self.must(f"{count}", (packets.pid, packets.count) == (PES, count))
+
+    def test_what_it_is(self) -> None:
+        """A file, what comes through a pipe, all that came of a feed; PES packets, or a stream."""
+        rows: list[tuple[str, int | None, str | None, int, bool, tuple[str, str | None]]] = [
+            ("one.ts", 9, None, 188, False, ("one.ts", "recording.pes")),
+            ("one.ts", 9, None, 204, False, ("one.ts", "recording.pes")),
+            ("one.ts", 9, None, 0, False, ("one.ts", None)),
+            ("one.ts", None, None, 192, True, ("one.recording.ts", "recording.ts")),
+            ("one.ts", None, None, 0, True, ("one.recording.pes", "recording.pes")),
+            ("-", 9, None, 188, True, ("one.recording.ts", "recording.ts")),
+            ("-", None, "kept", 0, True, ("one.recording.pes", "recording.pes"))]
+        for name, size, given, packet_size, is_piped, wanted in rows:
+            one = recorded(surveyed(f"size {packet_size}"), name=name, size=size, given=given)
+            one.packets = Packets(ONE)
+            self.must(f"{name} {size} {packet_size}", (
+                one.is_piped, one.path, one.is_cut, one.stream(), (one.shown, one.kept_ending)) == (
+                    is_piped, given or ("one.recording" if is_piped else name), given is not None,
+                    (ONE, packet_size) if packet_size else None, wanted), vars(one))
+            other = one.of(Stage(Packets(TWO), (0, 0)))
+            self.must("of another PID", (one.packets.pid, other.packets.pid) == (ONE, TWO))
+        jumped = recorded(Survey())
+        self.must("jumps", [one.is_announced for one in jumped.places([(5, 9)])] == [True])
+
+    def test_no_recording(self) -> None:
+        """What it is is told."""
+        for head, size, words in (
+                (b"", None, "is empty"), (b"850STL25", None, "is a subtitle file"),
+                (b"\0\0\1\xe0", None, "stream_id E0 instead of BD"), (b"\0\0\1\xe0", 188, ""),
+                (b"\0\0\1", None, "no transport stream"), (b"\0\0\1\xbd", None, "no transport"),
+                (b"\0\0\1\xbd", 0, ""), (b"G", None, "no transport stream"), (b"G", 192, "")):
+            survey, found = Survey(), ""
+            survey.head, survey.size = head, size
+            try:
+                refuse_stream(survey, "one")
+            except (Stop, Unclear) as reason:
+                found = str(reason)
+            self.must(f"{head!r} {size}", words in found and bool(words) == bool(found), found)
+
+
+class Told(Case):
+    """What is said of one that was read."""
+
+    def assertSaid(self, lines: Sequence[str], wanted: Sequence[str]) -> None:
+        """In each line what it has to say, and no other line."""
+        self.assertEqual(len(lines), len(wanted), (lines, wanted))
+        self.assertTrue(all(map(str.__contains__, lines, wanted)), (lines, wanted))
+
+    def test_what_is_missing(self) -> None:
+        """Each of several: why it ends, why nothing more is given, what is skipped, each mark."""
+        for damage, refusal, skipped, marks, size in itertools.product(
+                (None, "is damaged"), (0, 31), (0, 40), range(3), (0, 188)):
+            one = recorded(surveyed(f"size {size}", f"over {skipped} 9"))
+            one.packets = Packets(ONE, [Run(0, 9, 0, TICKS, "-", "")] + [
+                Run(9 + at, 1, None, 0, "m", "") for at in range(marks)], damage=damage,
+                refusal=refusal, marks=[Mark(9 + at, 8 * TICKS, 1, 0) for at in range(marks)])
+            one.say_read()
+            wanted = [["is damaged"] * bool(damage), [
+                *["refused 31 Start"] * bool(refusal), *["40 bytes of no TS packet"] * bool(skipped),
+                *["1 TS packet lost"] * marks] * bool(size)]
+            self.assertSaid(one.listener.lines, [*wanted[0], *wanted[1]])
+
+    def test_strange(self) -> None:
+        """Another size than before, and an end within a PES packet, which of a feed is none."""
+        for before, now, is_cut, refusal, damage, size, given in itertools.product(
+                (None, 8, 9), (None, 8, 9), (False, True), (0, 31), (None, "is damaged"), (0, 188),
+                (None, "kept")):
+            one = recorded(surveyed(f"size {size}"), size=before, given=given)
+            one.packets = Packets(ONE, is_cut=is_cut, refusal=refusal, damage=damage)
+            with mock.patch(SIZE, lambda name: now):
+                found = [notice.line.split(" ", 1)[1] for notice in one.strange()]
+            sizes = ["grew" if now == 9 else "became shorter"] * ({before, now} == {8, 9})
+            ends = ["ends within"] * (is_cut and not refusal and size > 0) + ["is damaged"] * bool(
+                damage)
+            self.assertSaid(found, sizes + ends * (given is None))
+
+    def test_kept(self) -> None:
+        """Each PID once, as it is extracted; where that fails nothing is given for whole."""
+        path = self.write("program", b'#!/bin/sh\nfor file; do :; done\necho "$3" >"$file"\n'
+                                     b'[ "$3" != 0x103 ]\n')
+        os.chmod(path, 0o755)
+        rows: list[tuple[Sequence[int], bytes | None]] = [
+            ((), b"0x101\n"), ((ONE, TWO, ONE), b"0x101\n0x102\n"), ((ONE, THREE), None)]
+        for pids, wanted in rows:
+            one, found = recorded(surveyed("size 188"), folder=self.folder), None
+            one.typed.program_path, one.packets = path, Packets(ONE)
+            one.stages = [Stage(Packets(pid), (0, 0)) for pid in pids]
+            try:
+                found = b"".join(one.kept())
+            except subprocess.CalledProcessError:
+                pass
+            self.must(f"{pids}", found == wanted, found)
