@@ -11,19 +11,19 @@ from typing import Callable
 from unittest import mock
 
 from developing.pes import pes_packet
-from developing.stl import gsi_block
+from developing.stl import gsi_block, tti_block
 from subtitles.cli.batch import Sighting, Watch
 from subtitles.cli.channel.spool import spool_of
 from subtitles.clock.origin import Origin
 from subtitles.clock.start import Clock, Found, RECORDING, START
 from subtitles.common.times import Between, Span, TICKS
-from subtitles.formats.stl import Subtitle
+from subtitles.formats.stl import Subtitle, SubtitleFile
 from subtitles.judging import part
 from subtitles.judging.part import parted, refuse_others
 from subtitles.judging.timing import unclear_origin, with_delay
 from subtitles.judging.transmissions import DuePages
 from subtitles.judging.verdict import frames_in, frames_until
-from subtitles.recording.notices import of_page
+from subtitles.recording.notices import count_notices, of_character_sets, of_page
 from subtitles.request.lines import of_folder, request_of_line
 from subtitles.request.request import Unclear
 from subtitles.results.files import hint_in
@@ -195,10 +195,31 @@ class Files(Case):
         for kinds, languages, wanted in (
                 ((2,), ("eng",), []), ((1,), ("eng",), ["type"]), ((1, 5), ("eng", "eng"), []),
                 ((5, 1), ("ger", "eng"), []), ((2, 2), ("ger", "fre"), ["language", "option"]),
-                ((1, 3), ("ger", "ger"), ["type", "language", "option"])):
+                ((1, 3), ("ger", "ger"), ["type", "language", "option"]),
+                ((2,), ("ENG",), []), ((2,), ("und",), []), ((2,), ("mul",), []),
+                ((2, 2), ("ger", "mul"), []), ((2,), ("GER",), ["language", "option"]),
+                ((2,), ("pol",), ["language", "option"])):
             own = [Announced(PAGE, language, kind) for kind, language in zip(kinds, languages)]
             found = [warned.kind for warned in of_page(own, asked)]
             self.must(f"{kinds} {languages}", found == wanted, found)
+
+    def test_character_sets(self) -> None:
+        """Each packet that names another set than the option's, or one that can't be read."""
+        for region, option, more in itertools.product((None, 0, 1), (None, 0, 4), (0, 1)):
+            sets = [(28, 0, region, option), *[(29, 4, 0, 1)] * more]
+            packets, asked = Packets(0, sets=sets), asked_for("one.stl", "one.ts")
+            told = ["unreadable" if None in (region, option) else
+                    f"{option:03b} of region {region:04b}"] * ((region, option) != (0, 0))
+            told += ["001 of region 0000"] * more
+            found = [one.line for one in of_character_sets(packets, asked)]
+            self.assertEqual(len(found), len(told), found)
+            self.assertTrue(all(map(str.__contains__, found, told)), found)
+
+    def test_counts_of_none(self) -> None:
+        """Of a GSI block that counts nothing."""
+        data = gsi_block(b"", 0, 0) + tti_block(1, 25, 45, 20, 2, b"a")
+        found = [one.kind for one in count_notices(SubtitleFile(self.write("one.stl", data)))]
+        self.must("both", found == ["blocks", "subtitles"], found)
 
 
 class Fitted(Case):

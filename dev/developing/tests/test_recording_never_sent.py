@@ -10,8 +10,8 @@ from unittest import mock
 from developing.pes import pes_packet, pts_in
 from subtitles.common.times import CLOCK, TICKS, frame_at
 from subtitles.recording.notices import (
-    Announcement, NeverSent, Notice, announcements_of, is_due_in, of_timing, refuse_elsewhere,
-    refuse_unsent, silent_beside, unsent_by)
+    Announcement, NeverSent, Notice, announcements_of, is_due_in, of_timing, origin_by,
+    refuse_elsewhere, refuse_unsent, silent_beside, unsent_by)
 from subtitles.recording.recording import Recording
 from subtitles.request.request import Unclear
 from subtitles.stream.gaps import SECOND
@@ -89,6 +89,7 @@ class Announced(Case):
             ("sent", [own], {ONE}, None), ("sent elsewhere", [other], {ONE}, other),
             ("one of two", [both], {ONE}, None), ("sent by none", [other], set(), None),
             ("another programme", [own, foreign], {ONE}, None),
+            ("one of two, another programme", [both, foreign], {ONE}, None),
             ("no programme announces it", [foreign], {ONE}, foreign),
             ("nothing announced", [], {ONE}, None),
             *((f"from {first} to {last}", [own, one], {ONE}, one if is_in else None)
@@ -155,11 +156,17 @@ class Announced(Case):
         of them carries is not known, or nothing is due by the first picture."""
         clock = ["pcr 100 0", f"pcr 100 {60 * SECOND}"]
         sent, scrambled = f"pes {ONE} 0 1 {SECOND} 0 h/ 1 0", f"end {TWO} 0 0 9 9 0 0 -"
+        known = f"pes {TWO} 0 1 {SECOND} 0 -/ 1 0; end {TWO} 0 0 9 9 31 0 -"  # and refused later
+        short = f"pcr 200 0; pcr 200 {SECOND}"
         start = [f"stream {THREE} 2", f"video {THREE} 0", f"picture {THREE} {90 * SECOND}"]
         rows: list[tuple[list[str], list[str], bool]] = [
             (table(1, ONE), [], True), (table(1, TWO), ["--pid", f"{TWO}"], True),
             (table(1, ONE), ["--pid", f"{TWO}"], False),
             ([*table(1, ONE, TWO), scrambled], [], False), ([*table(1, TWO), scrambled], [], False),
+            ([*table(1, TWO), known], [], True), ([*table(1, ONE, TWO), known, short], [], True),
+            ([*table(1, ONE, clock=100), *table(2, TWO, clock=200), short], [], True),
+            ([*table(1, ONE, clock=200), *table(2, TWO, clock=100), short], [], True),
+            ([*table(1, ONE, clock=200), short], [], False),
             ([*table(1, ONE), scrambled], [], True), ([*table(1, ONE), *start], [], True),
             ([*table(1, ONE), *start], ["--start", "00:00:00:00"], False),
             ([*table(1, ONE), *start], ["--start", "00:01:30:00"], True),
@@ -169,7 +176,7 @@ class Announced(Case):
             ([sent, *table(1, TWO)], ["--pid", f"{ONE}"], False)]
         for lines, words, is_refused in rows:
             survey, found = Survey(), ""
-            for line in [*lines, *clock]:
+            for line in "; ".join([*lines, *clock]).split("; "):
                 survey.take(line)
             asked = asked_for("a.stl", "a.ts", *words)
             try:
@@ -180,6 +187,9 @@ class Announced(Case):
             except NeverSent as reason:
                 found = str(reason)
             self.must(f"{lines} {words}", bool(found) == is_refused, found)
+        stl = self.write("none.stl", b" " * 1024)
+        self.must("no TCP", origin_by(asked_for(stl, "a.ts", "--start", "tcp"), surveyed(
+            *table(1, ONE), *start, f"stream {ONE} 6"), ONE) is None)
 
 
 class Judgements(OfProgramme):
