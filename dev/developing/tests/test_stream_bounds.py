@@ -330,6 +330,8 @@ class Heard(unittest.TestCase):
             held = self.timeline(twice, is_single=is_single, within=within)
             self.assertEqual(held.halt, halt, (is_single, within))
         self.assertEqual([run.first for run in held.members(10)], [0, 1])
+        held = self.timeline("200:he 200:he 190:he 310:he", begin=300, is_single=True)
+        self.assertEqual((held.halt, held.last, held.falls), (1, 200, [200, 190]))
         self.assertEqual([self.timeline(twice, came=came).first for came in (NO_FRAME, 0, 7)],
                          [10, 0, 7])
         held = self.timeline(twice, lost=[Span(5, 6)])

@@ -3,13 +3,14 @@ that is regular, and of others."""
 from __future__ import annotations
 
 import collections
+import itertools
 from typing import NamedTuple, Sequence
 
 from developing.pes import pes_packet
 from subtitles.common.times import CLOCK, TICKS
 from subtitles.stream.gaps import (
-    BY_EVERY, FEW, IRREGULAR, PAUSED, Pauses, REGULAR, TOO_FEW, each_of, frame_rows, pace_of,
-    pauses_of, unseen_from, usual_in)
+    BY_EVERY, FEW, IRREGULAR, Lull, PAUSED, Pauses, REGULAR, TOO_FEW, each_of, edges_of, frame_rows,
+    pace_of, pauses_of, silences_in, unseen_from, usual_in)
 from subtitles.stream.packets import Packets, Run
 from .bench import Case
 from .judged import Judged, OfProgramme, judged
@@ -266,8 +267,19 @@ class Told(Case):
                 1, round((total if size is None else size // 184) / 100)))
         self.must("no PES packet", each_of(Packets(5, packets=3), (0, 0), None) == 1)
 
+    def test_silences(self) -> None:
+        """All rows of six frames: where so many lie between two, and whether fewer PES packets lie
+        between two such places."""
+        for apart, steps in itertools.product(itertools.product((1, 4, 5, 6), repeat=5), (1, 2, 4)):
+            row = [*itertools.accumulate(apart, initial=7)]
+            places = [at for at, frames in enumerate(apart) if frames >= 5]
+            self.assertEqual([*silences_in(row, 5, steps)], [Lull(row[at], row[at + 1], any(
+                0 < abs(at - other) < steps for other in places)) for at in places], (row, steps))
+        self.must("one a frame", not [*silences_in(range(9), 1, 3)])
+
     def test_pauses(self) -> None:
-        """Before the first subtitle, between two, behind the last."""
+        """Before the first subtitle, between two, behind the last; each edge once."""
+        self.must("edges", edges_of([(5, 9), (9, 30), (2, 5)]) == [2, 5, 9, 30])
         self.must("none", not pauses_of([]))
         self.must("two", pauses_of([(5, 9), (20, 30)]) ==
                   [(None, 5), (9, 20), (30, None)])

@@ -18,7 +18,7 @@ from subtitles.judging.timing import last_time
 from subtitles.stream.gaps import (
     ClockJump, Place, SECOND, jumps_of, place_line, places_of, strange_of, what_of)
 from subtitles.stream.packets import Change, Clocked, Mark, Packets, Run, headers_in
-from subtitles.stream.ranges import cut_of
+from subtitles.stream.ranges import cut_of, is_outside
 from subtitles.stream.survey import Survey
 from .parts import asked_for
 
@@ -258,6 +258,8 @@ class Times(unittest.TestCase):
             ("with all of that frame", "100 he, 200 heb, 200 -, 201 -", every, (0, 2), True, True,
              4),
             ("with a later one", "100 he, 200 -, 210 he, 220 he", every, (0, 2), True, True, 4),
+            ("at the bound alone", "225 he, 226 he", every, (0, 0), True, True, 2),
+            ("behind the bound alone", "226 he, 227 he", every, None, False, False, 2),
             ("up to the bound", "100 he, 225 he, 226 he", every, (0, 1), True, True, 3),
             ("not behind it", "100 he, 226 he, 227 he", every, (0, 0), False, True, 3),
             ("without a bound at the last TCO", "100 he, 200 -, 201 he", whole, (0, 1), True, True,
@@ -346,6 +348,19 @@ class Times(unittest.TestCase):
                 found = cut_of(made, begin, end, origin, step).range
                 wanted = max(begin // step - 1, 0), min(end // step, count - 1)
                 self.assertEqual(found, wanted, (hours, before, after, length, origin))
+
+    def test_runs_outside(self) -> None:
+        """No run is passed over of which one may be of the time, forward, back, or standing; one
+        far off is."""
+        for first, step, length, shift in itertools.product(
+                range(14), (-2, -1, 0, 1, 3), (1, 2, 5), (0, 5, 7, 9)):
+            frames = [first + step * at for at in range(length)]
+            run = Run(0, length, TICKS * (first - shift) % CLOCK, TICKS * step, "-", "")
+            low, high = (TICKS * (frame - shift) % CLOCK for frame in (5, 8))
+            is_near = any(4 <= frame <= 9 for frame in frames)
+            self.assertFalse(is_near and is_outside(run, low, high), (frames, shift))
+            self.assertTrue(step < 0 or frames[-1] >= 4 or is_outside(run, low, high), frames)
+        self.assertTrue(is_outside(Run(0, 9, None, 0, "m", ""), 0, 9))
 
     def test_ends_within_some_frames(self) -> None:
         """Up to the longer of both bounds."""
