@@ -157,6 +157,9 @@ class Reasons(OfProgramme):
                                                              ["0001", "0002", "0003"]),
                               (("11", "12", "13", "14", "15", "16"), [])):
             self.assertEqual(turns_of(sent(*codes)), wanted, codes)
+        once = sent(*("11", "12") * 3, *("11",) * 6)
+        for inside, count in (((0, 5), 2), ((0, 11), 2), ((2, 11), 0), ((6, 11), 0)):
+            self.assertEqual(len(turns_of(once, inside)), count, inside)
         self.assertEqual([*other_words(sent("11", "12"), PAGE)], [])
 
     def test_losses_by_the_clock(self) -> None:

@@ -11,8 +11,8 @@ from subtitles.formats.layout import (
     Layout, PLAIN, Refused, drawn, layout_of, layout_text, page_rows, simplicity)
 from subtitles.formats.teletext import BY_WORD, ENGLISH, Page
 from subtitles.stream.layout import (
-    Choice, Evidence, MOST_ITEMS, Rest, Sent, choices_of, is_found, items_in, missed, taken_from,
-    with_items, without)
+    Choice, Evidence, MOST_ITEMS, Rest, Sent, choices_of, is_found, items_in, missed, pairs_of,
+    taken_from, with_items, without)
 from .. import DEV
 from ..every_place.on_air import Packet, rows_in, span_of
 from ..every_place.reading import header_of, pieces_of, sending_in
@@ -273,6 +273,7 @@ ITEMS = [
     ("strip=0307", [("strip=03", "strip=07"), ("strip=07", "strip=03")]),
     ("before=0D*0B0B", [("before=0D*0B0B", ""), ("before=0D*0B0B", "before=0D0B0B")]),
     ("before=*0B0B", [("before=*0B0B", "")]), ("before=070B0B", [("before=070B0B", "")]),
+    ("before=0B0B*07", [("before=0B0B*07", ""), ("before=0B0B*07", "before=0B0B07")]),
     ("after=0A,fit,left=2", [("after=0A", "fit,left=2"), ("fit", "after=0A,left=2"),
                              ("left=2", "after=0A,fit")]),
     ("", [])]
@@ -407,6 +408,28 @@ class Taken(Case):
                       found.rest(Layout(double=True), [("double", 0)]) ==
                       Rest("double", 10 + otherwise, 10), (layout, gone))
 
+    def test_which_goes_first(self) -> None:
+        """The item that decides the fewest; of two with one TEXT the one that does is told."""
+        found = Evidence(sent_of([WHITE] * 3 + [SPACES] * 5 + plain(92)), ENGLISH)
+        gone = found.supported(meant("strip=07,trim"))[1]
+        self.must("first", gone == [{("strip", 7)}, {("trim", 0)}], gone)
+        layout = meant("before=0D*0B0B")
+        found = Evidence(sent_of([One(b"\3Hi", b"\3Hi")] * 12 + plain(88), layout), ENGLISH)
+        told = found.choice(layout).items
+        self.must("told", told == (Rest("before=0D*0B0B", 12, 12),), told)
+
+    def test_which_are_found(self) -> None:
+        """By letters, of which there are some; lines by theirs, wherever they stand."""
+        blank = (b" " * 40,) * 24
+        self.must("no letters", not is_found(Sent(b"", 20, 2, blank), ENGLISH))
+        for lines, shown, count in (
+                ([b"ab", b"c"], [b"ab", b"c"], 2), ([b"ab", b"", b"c"], [b"", b" ab", b"c"], 2),
+                ([b"ab", b"c"], [b"a", b"bc"], 0), ([b"ab", b"c"], [b"abc"], 0), ([b""], [b""], 0)):
+            pairs = pairs_of(7, lines, shown)
+            self.must(f"{lines} {shown}", len(pairs) == count and all(
+                lines[one.number] == one.cells and shown[one.row - 1] == one.sent and
+                one.place == 7 for one in pairs), pairs)
+
     def test_items_that_undo_each_other(self) -> None:
         """Of two lines `last` and `row=1` draw what neither does alone: they rest on the subtitle
         of one line, however many each decides."""
@@ -455,5 +478,6 @@ class Taken(Case):
             closest, choice = choices_of(sent, ENGLISH)
             is_few = count * 10 <= len(sent)
             found = choice if is_few else closest
-            self.must(f"{text}, {count}", found.drawn == len(sent) - count
-                      and choice.is_clear == is_few, (closest, choice))
+            self.must(f"{text}, {count}", found.drawn == len(sent) - count and
+                      choice.is_clear == is_few and (is_few or choice == closest),
+                      (closest, choice))
