@@ -407,7 +407,7 @@ class Timeline(Order, Held):
             return
         self.is_behind = self.is_behind and not (ERASE in run.does or is_told)
         rows = before.rows if self.is_behind else self.told
-        is_open = before.is_open if self.is_behind and not is_of_page else OPEN in run.does
+        is_open = OPEN in run.does
         header, screen, held = before.header, before.screen, before.rows
         headers = iter(headers_in(run.control))
         for at, letter in enumerate(run.does):
