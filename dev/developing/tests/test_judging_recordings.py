@@ -230,8 +230,8 @@ class Recordings(Case):
             self.must(f"{words} {recording}: part", (part["pid"], part["packet_size"]) ==
                       (257, 188) and (part["judged"] is None) != is_feed and
                       part["pes"] == "0-4", part)
-            self.must(f"{words} {recording}: sum", own["name"] == recording and (is_feed or (
-                own["size"], own["sha256"]) == (len(data), hashlib.sha256(data).hexdigest())), own)
+            self.must(f"{words} {recording}: sum", (own["name"], own["size"], own["sha256"]) == (
+                recording, len(data), hashlib.sha256(data).hexdigest()), own)
             self.must(f"{words} {recording}: subtitles", found.result["inputs"]["stl"]["sha256"] ==
                       hashlib.sha256(example_bytes("story.stl")).hexdigest())
             self.must(f"{words} {recording}: kept", "recording.pes" not in kept or
