@@ -105,7 +105,8 @@ class Reasons(OfProgramme):
             self.must(f"{length}: asked for", words in self.judge_stream(
                 data, "--pid", "0x101").verdict.sentence)
             words = words.replace(" of PID 0x101", "")
-            self.assertEqual(pes_header_words(of_length[0], 0), words)
+            for one in (of_length[0], b"\0\0\1\xbe" + of_length[0][4:]):
+                self.assertEqual(pes_header_words(one, 0), words)
         found = judged(self, self.stl, self.write("one.pes", b"".join(of_length)), "--origin", "0")
         self.must("PES packets", words in found.verdict.sentence, found.said)
         for data in (b"", b"refused 60", self.pes[0], self.pes[0][:8]):

@@ -271,9 +271,9 @@ class Announced(Case):
     def test_packets(self) -> None:
         """The TS packets of a PID, of each size, behind bytes of none and where some stand between,
         once and often; the last is whole."""
-        own = [ts_packet(begin=at) for at in range(40)]
-        others = [ts_packet(PID ^ bits) for bits in (*(1 << bit for bit in range(13)), 0x1FFF)]
-        for size in SIZES:
+        for size, pid in zip(SIZES, (PID, 0x1EFE, 0xFF)):
+            own = [ts_packet(pid, at) for at in range(40)]
+            others = [ts_packet(pid ^ bits) for bits in (*(1 << bit for bit in range(13)), 0x1FFF)]
             spaced = [in_size(one, size) for some in own for one in (some, *others)]
             cut = [b"".join(spaced[:70]), b"".join(spaced[70:])]
             often = [b"".join(spaced[at:at + 20]) for at in range(0, len(spaced), 20)]
@@ -283,7 +283,7 @@ class Announced(Case):
                                ("often", b"junk ".join(often))):
                 for most in (1 << 22, 7000, 2000):
                     with mock.patch("subtitles.stream.packets.AT_A_TIME", most):
-                        told = [*packets_in(io.BytesIO(data), size, PID)]
+                        told = [*packets_in(io.BytesIO(data), size, pid)]
                     self.must(f"{size} {name} {most}", told == own, len(told))
         self.must("no packet", not [*packets_in(io.BytesIO(b""), 188, PID)]
                   and not [*packets_in(io.BytesIO(b"G" * 100), 188, PID)])
