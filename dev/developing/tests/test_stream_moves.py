@@ -63,6 +63,14 @@ class Moves(OfProgramme):
                              f"pes {pid} {number // 2} 1 {pts} 0 heo/80080810 3 0"):
                     heard.take(line)
             self.must(f"{count} {away}", len(stages_of(heard, PAGE)) == wanted)
+        for numbers, wanted in (((1, 1), 2), ((1, 2), 0), ((2, 1), 0)):  # of one programme alone
+            heard = Survey()
+            for at, (number, pid) in enumerate(zip(numbers, (OLD, NEW))):
+                for line in (f"pcr 100 {90_000 * at}", f"programme {number} 100",
+                             f"stream {pid} 6", f"announce {pid} 888 656e67 2",
+                             f"pes {pid} 0 1 {90_000 * (at + 1)} 0 heo/80080810 3 0"):
+                    heard.take(line)
+            self.must(f"{numbers}", len(stages_of(heard, PAGE)) == wanted)
 
     def test_stages(self) -> None:
         """By what the PMT names when, with what may have come in that time."""

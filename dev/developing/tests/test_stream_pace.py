@@ -200,8 +200,8 @@ class Told(Case):
                 row.kind, row.frames, row.closer), pace)
         self.must("words", pace_of([holed(LONG, (9, 20))], 2, 250)[:3] == (REGULAR, 1, 3) and
                   pace_of([holed(LONG, (9, 300))], 1, 999, [(0, 9)])[:3] == (PAUSED, 301, 3) and
-                  pace_of([holed(LONG, (9, 200), (999, 90), (2999, 90))], 1, 250,
-                          [(999, 1090), (2999, 3090)])[:3] == (PAUSED, 91, 3))
+                  pace_of([holed(LONG, (9, 200), (999, 90), (2999, 94))], 1, 250,
+                          [(999, 1090), (2999, 3094)])[:3] == (PAUSED, 95, 3))
         closest: list[tuple[list[list[int]], int]] = [
             ([], 0), ([[7]], 0), ([[0, 2, 9]], 7), ([[0, 1, 3], [9, 13, 18]], 1),
             ([[0, 9, 17, 24, 30, 31]], 6)]

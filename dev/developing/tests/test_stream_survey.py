@@ -395,12 +395,13 @@ class Answered(Case):
              [(3, ((20, b"A"), (21, b"BC"))), (9, ())]),
             # A space that was hit, and a row of spaces, change no text.
             ("pes 5 0 1 100 0 he/ 1 0; rows 5 0 20:2041a042; pes 5 1 3 200 50 o/ 1 0; "
-             "rows 5 1 20:20412042,21:2020; rows 5 3 -; pes 5 4 1 9 0 o/ 1 0; rows 5 4 20:20412042",
+             "rows 5 1 20:20412042,21:2020; rows 5 3 -; pes 5 4 1 9 0 o/ 1 0; rows 5 4 20:20412042; "
+             "pes 5 5 1 10 0 o/ 1 0; rows 5 5 21:20412042",
              lambda it: (on_5(it).held, on_5(it).changes),
              ([(0, ((20, b" A\xa0B"),)), (1, ((20, b" A B"), (21, b"  "))), (3, ()),
-               (4, ((20, b" A B"),))],
+               (4, ((20, b" A B"),)), (5, ((21, b" A B"),))],
               [Change(100, b"AB", 0, ((20, b" A B"),)), Change(300, b"", 3),
-               Change(9, b"AB", 4, ((20, b" A B"),))])),
+               Change(9, b"AB", 4, ((20, b" A B"),)), Change(10, b"AB", 5, ((21, b" A B"),))])),
             ("damaged 5 3 start", lambda it: on_5(it).damage,
              "PES packet 3 does not begin with 00 00 01 BD"),
             ("damaged 5 0 cut", lambda it: on_5(it).damage, "PES packet 0 is cut"),

@@ -193,6 +193,9 @@ class Times(unittest.TestCase):
             self.assertEqual([(one.kind, one.number, one.worst) for one in found], wanted, more)
             self.assertTrue(all(one.among == len(samples) and one.pts in dict(samples[9:])
                                 for one in found))
+        for alone, kind in ((-5, "behind"), (0, ""), (SECOND, ""), (SECOND + 1, "early")):
+            found = list(strange_of(packets_with([], samples=[(7, alone)])))
+            self.assertEqual([(one.kind, one.pts) for one in found], [(kind, 7)] * bool(kind))
 
     def test_places(self) -> None:
         """Marks, and what the PCR and the counters of other PIDs alone tell elsewhere; a clock that
@@ -240,6 +243,8 @@ class Times(unittest.TestCase):
             ("with itself, where it erases a page that shows text at the first TCI",
              "80 heb, 90 he, 100 hex, 200 heb", every, (2, 3), True, False, 4),
             ("not where nothing changes then", "80 heb, 90 he, 100 he, 200 heb", every, (0, 3),
+             True, False, 4),
+            ("not where another one changes", "80 hebx, 90 he, 100 he, 200 heb", every, (0, 3),
              True, False, 4),
             ("not later than the first TCI", "80 heb, 90 he, 101 hex, 200 heb", every, (0, 3),
              True, False, 4),
