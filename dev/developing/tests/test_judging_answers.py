@@ -289,7 +289,8 @@ class Values(Case):
     def test_pauses(self) -> None:
         """What comes before the first PES packet is no pause."""
         for before, frames, wanted in (
-                (NO_FRAME, [900], []), (10, [900], [Span(11, 899)]), (10, [900, 990], [
+                (NO_FRAME, [900], []), (10, [900], [Span(11, 899)]), (0, [4], [Span(1, 3)]),
+                (0, [3], []), (10, [900, 990], [
                     Span(11, 899), Span(901, 989)]), (NO_FRAME, [900, 990], [Span(901, 989)])):
             self.must(f"{before} {frames}", [*pauses_in(before, frames)] == wanted)
 

@@ -313,6 +313,8 @@ class Pages(Case):
                                pes_packet(TICKS * 10, units)).state.screen
             text = screen and screen[0][19].strip(b"\x0b ")
             self.must(f"{units}", text == wanted, text)
+        for units in ([CLOSING, HEADER, new], [CLOSING, HEADER], [CLOSING]):
+            self.must(f"first {units}", self.held(pes_packet(0, units)).state.screen is None)
 
     def test_doubts(self) -> None:
         """From before what can't be read to the next: a first place, and a second."""

@@ -330,6 +330,11 @@ class Heard(unittest.TestCase):
             held = self.timeline(twice, is_single=is_single, within=within)
             self.assertEqual(held.halt, halt, (is_single, within))
         self.assertEqual([run.first for run in held.members(10)], [0, 1])
+        before, behind = "200:heos:a 205!:he 220:c ", "150:heos:b 160!:h 170:c 310:ho:c"
+        alone, both = (self.timeline(sent, begin=300) for sent in (behind, before + behind))
+        for name in ("frames", "pages", "turns", "sendings", "erasings", "strays", "doubts", "pauses",
+                     "begins", "ends", "count", "first", "last", "state", "stored"):
+            self.assertEqual(getattr(both, name), getattr(alone, name), name)
         held = self.timeline("200:he 200:he 190:he 310:he", begin=300, is_single=True)
         self.assertEqual((held.halt, held.last, held.falls), (1, 200, [200, 190]))
         self.assertEqual([self.timeline(twice, came=came).first for came in (NO_FRAME, 0, 7)],
@@ -368,6 +373,8 @@ class Heard(unittest.TestCase):
             self.assertEqual((held.first, held.last, held.is_lost(6, 7)), (first, last, True))
             self.assertEqual([held.stretch(at) for at in (0, len(held.frames) - 1)], [
                 Span(held.frames[0], held.frames[0] + 9), Span(last, last)])
+        held = timeline_near(packets, (0, 0x88), EARLY, 1, Span(1000, 1200), 25)
+        self.assertEqual((held.first, held.last), (750, 1450))
         held = timeline_near(packets, (0, 0x88), 0, 0, Span(9000, 9100), 25)
         self.assertEqual((held.count, held.first), (0, NO_FRAME))
 

@@ -11,8 +11,8 @@ from subtitles.formats.layout import (
     Layout, PLAIN, Refused, drawn, layout_of, layout_text, page_rows, simplicity)
 from subtitles.formats.teletext import BY_WORD, ENGLISH, Page
 from subtitles.stream.layout import (
-    Choice, Evidence, MOST_ITEMS, Rest, Sent, choices_of, is_found, items_in, missed, pairs_of,
-    taken_from, with_items, without)
+    Choice, Evidence, MOST_ITEMS, Rest, Sent, choices_of, draws, is_found, items_in, missed,
+    pairs_of, taken_from, with_items, without)
 from .. import DEV
 from ..every_place.on_air import Packet, rows_in, span_of
 from ..every_place.reading import header_of, pieces_of, sending_in
@@ -422,6 +422,8 @@ class Taken(Case):
         """By letters, of which there are some; lines by theirs, wherever they stand."""
         blank = (b" " * 40,) * 24
         self.must("no letters", not is_found(Sent(b"", 20, 2, blank), ENGLISH))
+        self.must("drawn", draws(PLAIN, sent_of(plain(1))[0], ENGLISH) and not draws(
+            PLAIN, Sent(b"\x00Hi", 20, 2, blank), ENGLISH))
         for lines, shown, count in (
                 ([b"ab", b"c"], [b"ab", b"c"], 2), ([b"ab", b"", b"c"], [b"", b" ab", b"c"], 2),
                 ([b"ab", b"c"], [b"a", b"bc"], 0), ([b"ab", b"c"], [b"abc"], 0), ([b""], [b""], 0)):
