@@ -313,8 +313,9 @@ class Pages(Case):
                                pes_packet(TICKS * 10, units)).state.screen
             text = screen and screen[0][19].strip(b"\x0b ")
             self.must(f"{units}", text == wanted, text)
-        for units in ([CLOSING, HEADER, new], [CLOSING, HEADER], [CLOSING]):
-            self.must(f"first {units}", self.held(pes_packet(0, units)).state.screen is None)
+        packets = packets_told(self, pes_packet(0, [HEADER, old]) + pes_packet(
+            TICKS, [CLOSING, HEADER, new]))
+        self.must("tuned in later", Timeline(packets, PAGE, 0, 0, (1, 1)).state.screen is None)
 
     def test_doubts(self) -> None:
         """From before what can't be read to the next: a first place, and a second."""

@@ -413,6 +413,11 @@ class Taken(Case):
         found = Evidence(sent_of([WHITE] * 3 + [SPACES] * 5 + plain(92)), ENGLISH)
         gone = found.supported(meant("strip=07,trim"))[1]
         self.must("first", gone == [{("strip", 7)}, {("trim", 0)}], gone)
+        found = Evidence(sent_of([COLOUR] * 5 + [SPACES] + plain(20)), ENGLISH)
+        left = found.left_of(PLAIN, [frozenset({("strip", 3)}), frozenset({("trim", 0)})],
+                             meant("strip=03,trim"))
+        self.must("left", [(one.text, one.more) for one in left] == [
+            ("strip=03", 5), ("trim", 1), ("strip=03,trim", 6)], left)
         layout = meant("before=0D*0B0B")
         found = Evidence(sent_of([One(b"\3Hi", b"\3Hi")] * 12 + plain(88), layout), ENGLISH)
         told = found.choice(layout).items
