@@ -258,6 +258,7 @@ class Times(unittest.TestCase):
              False, 4),
             # Where it ends.
             ("with what is there", "100 he, 150 -", every, (0, 1), False, False, 2),
+            ("back in the time", "100 he, 150 -, 120 -", every, (0, 2), False, False, 3),
             ("with a header at the last TCO", "100 he, 200 heb, 201 -, 202 -", every, (0, 1), True,
              True, 3),
             ("with all of that frame", "100 he, 200 heb, 200 -, 201 -", every, (0, 2), True, True,
@@ -310,8 +311,10 @@ class Times(unittest.TestCase):
             with self.subTest(name):
                 self.assertEqual((found.range, found.has_end, found.is_over, found.read),
                                  (wanted, has_end, is_over, read))
-                self.assertEqual((found.came, found.first),
-                                 (came[0] if came else None, taken[0] if taken else None))
+                ends = [frame for frame in frames[wanted[0]:wanted[1] + 1] if low <= frame <= high] \
+                    if wanted else [None]
+                self.assertEqual((found.came, found.first, found.last), (
+                    came[0] if came else None, taken[0] if taken else None, ends[-1]))
                 words = f"{read} PES packet{'s' * (read != 1)}"
                 self.assertTrue(found.words().startswith(f"none of {words} is of" if wanted is None
                                 else f"{wanted[1] - wanted[0] + 1} of {words}, from 00:00:0"))
