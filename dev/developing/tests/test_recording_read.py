@@ -152,7 +152,8 @@ class Told(Case):
                 refusal=refusal, marks=[Mark(9 + at, 8 * TICKS, 1, 0) for at in range(marks)])
             one.say_read()
             wanted = [["is damaged"] * bool(damage), [
-                *["refused 31 Start"] * bool(refusal), *["40 bytes of no TS packet"] * bool(skipped),
+                *["refused 31 Start"] * bool(refusal),
+                *["40 bytes of no TS packet"] * bool(skipped),
                 *["1 TS packet lost"] * marks] * bool(size)]
             self.assertSaid(one.listener.lines, [*wanted[0], *wanted[1]])
 

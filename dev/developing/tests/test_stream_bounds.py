@@ -332,8 +332,8 @@ class Heard(unittest.TestCase):
         self.assertEqual([run.first for run in held.members(10)], [0, 1])
         before, behind = "200:heos:a 205!:he 220:c ", "150:heos:b 160!:h 170:c 310:ho:c"
         alone, both = (self.timeline(sent, begin=300) for sent in (behind, before + behind))
-        for name in ("frames", "pages", "turns", "sendings", "erasings", "strays", "doubts", "pauses",
-                     "begins", "ends", "count", "first", "last", "state", "stored"):
+        for name in ("frames", "pages", "turns", "sendings", "erasings", "strays", "doubts",
+                     "pauses", "begins", "ends", "count", "first", "last", "state", "stored"):
             self.assertEqual(getattr(both, name), getattr(alone, name), name)
         held = self.timeline("200:he 200:he 190:he 310:he", begin=300, is_single=True)
         self.assertEqual((held.halt, held.last, held.falls), (1, 200, [200, 190]))

@@ -18,8 +18,8 @@ from subtitles.request.request import request_of
 from subtitles.results.files import found, is_current
 from subtitles.results.schema import ASKED
 from subtitles.stream.gaps import (
-    ClockJump, MOST_LATE, Place, SECOND, jumps_of, late_of, marks_told, overlap, places_of, reach_of,
-    what_of)
+    ClockJump, MOST_LATE, Place, SECOND, jumps_of, late_of, marks_told, overlap, places_of,
+    reach_of, what_of)
 from subtitles.stream.packets import Clocked, Mark, Packets, Run
 from subtitles.stream.survey import ProgramMap, Survey, survey
 from ..cited import too_long

@@ -395,8 +395,8 @@ class Answered(Case):
              [(3, ((20, b"A"), (21, b"BC"))), (9, ())]),
             # A space that was hit, and a row of spaces, change no text.
             ("pes 5 0 1 100 0 he/ 1 0; rows 5 0 20:2041a042; pes 5 1 3 200 50 o/ 1 0; "
-             "rows 5 1 20:20412042,21:2020; rows 5 3 -; pes 5 4 1 9 0 o/ 1 0; rows 5 4 20:20412042; "
-             "pes 5 5 1 10 0 o/ 1 0; rows 5 5 21:20412042",
+             "rows 5 1 20:20412042,21:2020; rows 5 3 -; pes 5 4 1 9 0 o/ 1 0; rows 5 4 20:20412042"
+             "; pes 5 5 1 10 0 o/ 1 0; rows 5 5 21:20412042",
              lambda it: (on_5(it).held, on_5(it).changes),
              ([(0, ((20, b" A\xa0B"),)), (1, ((20, b" A B"), (21, b"  "))), (3, ()),
                (4, ((20, b" A B"),)), (5, ((21, b" A B"),))],

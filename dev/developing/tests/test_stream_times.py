@@ -311,8 +311,8 @@ class Times(unittest.TestCase):
             with self.subTest(name):
                 self.assertEqual((found.range, found.has_end, found.is_over, found.read),
                                  (wanted, has_end, is_over, read))
-                ends = [frame for frame in frames[wanted[0]:wanted[1] + 1] if low <= frame <= high] \
-                    if wanted else [None]
+                first, last = wanted or (0, -1)
+                ends = [one for one in frames[first:last + 1] if low <= one <= high] or [None]
                 self.assertEqual((found.came, found.first, found.last), (
                     came[0] if came else None, taken[0] if taken else None, ends[-1]))
                 words = f"{read} PES packet{'s' * (read != 1)}"
