@@ -312,9 +312,10 @@ class Times(unittest.TestCase):
                 self.assertEqual((found.range, found.has_end, found.is_over, found.read),
                                  (wanted, has_end, is_over, read))
                 first, last = wanted or (0, -1)
-                ends = [one for one in frames[first:last + 1] if low <= one <= high] or [None]
+                ends = [one for one in frames[first:last + 1] if low <= one <= high]
                 self.assertEqual((found.came, found.first, found.last), (
-                    came[0] if came else None, taken[0] if taken else None, ends[-1]))
+                    came[0] if came else None, taken[0] if taken else None,
+                    ends[-1] if ends else None))
                 words = f"{read} PES packet{'s' * (read != 1)}"
                 self.assertTrue(found.words().startswith(f"none of {words} is of" if wanted is None
                                 else f"{wanted[1] - wanted[0] + 1} of {words}, from 00:00:0"))
