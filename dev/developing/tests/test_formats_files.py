@@ -4,17 +4,20 @@ and the last.
 from __future__ import annotations
 
 import itertools
+import random
 import shutil
 import subprocess
 import unittest
-from typing import Callable, Sequence
+from typing import Callable, NamedTuple, Sequence
 from unittest import mock
 
 from developing.stl import gsi_block, tti_block
 from subtitles.common.command_line import Stop
 from subtitles.common.files import Damaged
+from subtitles.common.times import ALL_DAY, Between
 from subtitles.formats import listing, stl
-from subtitles.formats.stl import Subtitle, SubtitleList, titles_in
+from subtitles.formats.stl import (
+    LAST, Subtitle, SubtitleFile, SubtitleList, USER_DATA, titles_in)
 from subtitles.formats.teletext import letters_of, option_name
 from .bench import Case
 
@@ -98,6 +101,84 @@ class Blocks(unittest.TestCase):
         self.assertEqual(stl.letters_on_page(b" \x20!", "german"), b"!")
 
 
+class Grouped(NamedTuple):
+    """A subtitle as one finds it who looks at each block: its blocks, and what these say."""
+
+    blocks: list[int]
+    begin: int | None
+    end: int | None
+    is_ended: bool
+    text: bytes
+
+
+class Files(Case):
+    """A subtitle file by its blocks and frames, at random: what one finds who looks at each."""
+
+    TEXTS = (b"one", b"two \x8f not", b"\x8f\x8f", b"\xc8a", b"x" * 112)
+
+    def file(self, chance: random.Random) -> tuple[bytes, list[Grouped]]:
+        """Blocks of subtitles that rise, some of several blocks or of no time of the day, among
+        comments and user data; the last one may have no end."""
+        blocks, groups, frame = list[bytes](), list[Grouped](), chance.randrange(50)
+        for number in range(1, chance.randrange(2, 7)):
+            begin, end = frame, frame + chance.randrange(1, 40)
+            frame, own, text = end + chance.choice((0, 0, 30)), list[int](), b""
+            is_none = chance.randrange(6) == 0
+            last = chance.choice((LAST, LAST, LAST, 3)) if number == 5 else LAST
+            for ebn in [*range(chance.choice((0, 0, 1, 2))), last]:
+                for _ in range(chance.choice((0, 0, 1))):
+                    blocks.append(tti_block(number, begin, end, 20, 2, b"no", *chance.choice((
+                        (USER_DATA, 0), (LAST, 1), (0, 1), (USER_DATA, 1)))))
+                some = chance.choice(self.TEXTS)
+                block = bytearray(tti_block(number + (number > 3), begin, end, 20, 2, some, ebn))
+                block[5] = 24 if is_none else block[5]
+                blocks.append(bytes(block))
+                own.append(len(blocks))
+                text += some.split(b"\x8f")[0]
+            groups.append(Grouped(own, None if is_none else begin, end, last == LAST, text))
+        return gsi_block(b"", 0, 0) + b"".join(blocks), groups
+
+    def test_at_random(self) -> None:
+        """Each block and each frame, with frames that are judged and subtitles that are left out;
+        what is read of the same bytes are the same subtitles."""
+        chance = random.Random(11)
+        for _ in range(150):
+            data, groups = self.file(chance)
+            between = chance.choice((ALL_DAY, Between(chance.randrange(40), 90)))
+            left = {at for at in range(1, 7) if chance.randrange(5) == 0}
+            file = SubtitleFile(self.write("one.stl", data), between, left)
+            outside = [one.begin is not None and not between.has(one.begin) for one in groups]
+            own = [(at, one) for at, one in enumerate(groups, 1) if at not in left
+                   and one.begin is not None and between.has(one.begin)]
+            lasts = [one.blocks[-1] for one, is_out in zip(groups, outside)
+                     if one.is_ended and not is_out]
+            self.assertEqual([found.position for found in file.all()], [at for at, _ in own])
+            self.assertEqual((list(file.lasts()), file.ended()[0], list(file.starts)), (
+                lasts, len(lasts), [one.blocks[0] for one in groups]))
+            self.assertEqual(file.ended()[1], sum(data[at + 3] == LAST for at in range(
+                GSI, len(data), 128)))
+            for at, one in enumerate(groups, 1):
+                earlier = [some for place, some in own if some.blocks[0] < one.blocks[0]]
+                for block in one.blocks:
+                    found = file.at_block(block)
+                    self.assertEqual((found and (found.position, found.number), file.first_before(
+                        block), file.is_outside(block)), (
+                            (at, at + (at > 3)), earlier[-1].blocks[0] if earlier else None,
+                            outside[at - 1]))
+                self.assertEqual(file.text(one.blocks[-1]), one.text)
+            for frame in range(0, 300, 3):
+                due = [at for at, one in own if (one.begin or 0) <= frame < (one.end or 0)]
+                found = file.at_frame(frame)
+                self.assertEqual([found.position] if found else [], due, frame)
+            if groups[-1].is_ended:
+                self.assertEqual([one.text for one in stl.subtitles_in(data)],
+                                 [one.text for one in groups])
+                self.assertEqual([(one.index, one.begin, one.end, one.text) for one in
+                                  stl.subtitles_read(data)],
+                                 [(at, one.begin, one.end, one.text) for at, one in enumerate(
+                                     groups, 1) if one.begin is not None])
+
+
 class Titles(Case):
     """The titles of a GSI block."""
 
@@ -137,7 +218,20 @@ class Lines(unittest.TestCase):
                           listing.OFF_FRAME, listing.GAP, listing.LOST_PACKETS, listing.CONTENT,
                           listing.CHARACTER, listing.CONTROL, listing.BEGIN, listing.END),
                          (60, 21, 56, 61, 73, 45, 72, 50, 67, 63, 74))
-        self.assertEqual((listing.LETTERS, listing.WITH_CAUSE), ((50, 51), {63, 72, 74}))
+        self.assertEqual((listing.LETTERS, listing.WITH_CAUSE, listing.LOSSES, listing.UNDECIDED),
+                         ((50, 51), {63, 72, 74}, {45, 79}, 78))
+
+    def test_whole(self) -> None:
+        """A line is one of these as a whole alone: with something before or behind it, or without
+        its last word, it is none, or one of another place."""
+        for line in ("accepted 1 frames 2 transmissions", "trusted frames 00:00:01:00 00:00:02:00",
+                     "5 faults", "refused 72 Content frame 00:00:01:00 row 3 column 4",
+                     "ended 72 Content frame 00:00:01:00", "refused 50 Character block 3 at 4",
+                     "refused 68 Parity frame 00:00:01:00 packet 5", "refused 33 Flags pes 6"):
+            self.assertTrue(listing.is_line(line))
+            for other in (f"x {line}", f" {line}", f"{line} ", f"{line} x", f"{line}\n",
+                          line.rpartition(" ")[0], line.replace(" ", "  ", 1), line.upper()):
+                self.assertFalse(listing.is_line(other), other)
 
     def test_quickly(self) -> None:
         """What is taken of a line without reading all of it is what all of it says."""
