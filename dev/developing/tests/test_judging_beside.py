@@ -16,13 +16,15 @@ from developing.every_place.words import options_of
 from developing.multiplex import BEGINS, PACKET, PAYLOAD, head
 from developing.stl import gsi_block, tti_block
 from subtitles.cli.collection import pair_line, table_of
+from subtitles.common.command_line import counted
 from subtitles.common.times import ALL_DAY, Between
 from subtitles.formats.listing import fault_of_line
-from subtitles.formats.stl import SubtitleFile
+from subtitles.formats.stl import NamedSubtitle, SubtitleFile
 from subtitles.formats.teletext import OPTIONS, has_characters
 from subtitles.judging import subtitles
 from subtitles.judging.pair import Pair
-from subtitles.judging.subtitles import Counts, beside_of, due_beside, is_judged_beside
+from subtitles.judging.subtitles import (
+    Counts, JudgedBeside, RefusedSubtitle, beside_of, due_beside, is_judged_beside)
 from subtitles.request.commands import Names
 from subtitles.results.files import row_of_object
 from .bench import Case, example_bytes
@@ -283,6 +285,25 @@ class Judgeable(unittest.TestCase):
             ({72, 60}, False), ({57, 78, 60}, True)]
         for numbers, wanted in rows:
             self.assertEqual(is_judged_beside(numbers), wanted, numbers)
+
+
+    def test_words_of_many(self) -> None:
+        """Each of the first forty has a line, and how many more there are is one; the sentence has
+        the first three, and how many more."""
+        for count in (0, 1, 2, 3, 4, 5, 39, 40, 41, 42):
+            refused = [RefusedSubtitle(NamedSubtitle(at, at, "00:00:01:00", "00:00:02:00"),
+                                       fault_of(f"refused 19 Row block {at}"), f"letter {at}", "")
+                       for at in range(1, count + 1)]
+            found = JudgedBeside([], refused, frozenset(range(count + 2)))
+            more = [f"undecided: {counted(count - 40, 'more subtitle')}"] * (count > 40)
+            self.assertEqual([*found.lines()], [one.line() for one in refused[:40]] + more)
+            if count < 2:
+                continue
+            said = found.words()
+            self.assertTrue(said.startswith(f"{count} of {count + 2} subtitles are refused, "))
+            self.assertEqual([at for at in range(1, count + 1) if f", letter {at}" in said],
+                             [*range(1, min(count, 3) + 1)])
+            self.assertEqual(re.findall(r" and (\d+) more$", said), [f"{count - 3}"] * (count > 3))
 
 
 class AtRandom(Case):

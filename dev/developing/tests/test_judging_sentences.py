@@ -6,17 +6,23 @@ import itertools
 import json
 import re
 import unittest
-from typing import Callable
+from types import SimpleNamespace
+from typing import Any, Callable
 
 from developing.pes import packet
-from subtitles.common.times import CLOCK
-from subtitles.formats.listing import fault_of_line, meanings
-from subtitles.formats.teletext import OPTIONS
+from subtitles.common.times import CLOCK, time_of
+from subtitles.formats.layout import PLAIN, Refused, cell_lines, prepared
+from subtitles.formats.listing import NOT_SHOWN, NamedFault, fault_of_line, meanings
+from subtitles.formats.stl import Subtitle
+from subtitles.formats.teletext import ENGLISH, OPTIONS
 from subtitles.judging.causes import IN_PAUSE, NAMES
-from subtitles.judging.pages import Sight, hidden_words, letters_in, sight_of
+from subtitles.judging.pages import (
+    HIDDEN as HIDDEN_KIND, Sight, hidden_rows, hidden_words, letters_in, may_hide, sight_of)
 from subtitles.judging.sentence import Count, Facts, SAID, WORDS, of_causes, sentence_of
 from subtitles.judging.status import ACCEPTED, LOST, NOT_JUDGED, REFUSALS, REFUSED, WAIVED, WARNED
 from subtitles.judging.transmissions import control_words
+from subtitles.recording.notices import Notice
+from subtitles.stream.receiver import BLANK_PAGE
 from .bench import Case
 from .judged import OfProgramme, judged
 from .sent import CLOSING, HEADER, Sent, joined, programme, row, sendings
@@ -299,6 +305,42 @@ class Rows(Case):
         for cells, _, _ in ROWS:
             wanted = "".join(chr(one.code) for one in letters_in(cells) if one.is_seen)
             self.must(cells.hex(), receiver.letters(cells) == wanted, receiver.letters(cells))
+
+    def test_each_row(self) -> None:
+        """Each row of each page that is not seen as a whole is told, as a fault with the first
+        block of its subtitle or as a warning, whatever stands before it."""
+        blank = BLANK_PAGE[0]
+        rows = [blank, *(next(cells for cells, sight, _ in ROWS if sight == one).ljust(40)
+                         for one in Sight)]
+        file: Any = SimpleNamespace(starts=[2, 5, 6])
+        for cells in itertools.product(rows, repeat=4):
+            subtitles = [Subtitle(index, index, 25 * index, 25 * index + 9, 1, 2, b"")
+                         for index in (1, 3)]
+            pages = [(*cells[at:at + 2], *BLANK_PAGE[2:]) for at in (0, 2)]
+            wanted = [(subtitle, row, one) for subtitle, page in zip(subtitles, pages)
+                      for row, one in enumerate(page[:2], 1) if sight_of(one) != Sight.ALL]
+            said = [(sight_of(one) == Sight.NONE, f"{subtitle.name} at {time_of(subtitle.begin)}, "
+                     f"row {row}: {hidden_words(one, 'english')}",
+                     file.starts[subtitle.index - 1], time_of(subtitle.begin))
+                    for subtitle, row, one in wanted]
+            found = hidden_rows(subtitles, pages, file, "english")
+            self.assertEqual(found.faults, [NamedFault(NOT_SHOWN, words, block=block)
+                                            for is_none, words, block, _ in said if is_none])
+            self.assertEqual(found.warnings, [Notice(HIDDEN_KIND, words, when)
+                                              for is_none, words, _, when in said if not is_none])
+
+    def test_may_hide(self) -> None:
+        """A file is looked at where one of its texts has a code that hides letters, wherever it
+        stands, or there is a layout."""
+        for code, has_layout, at in itertools.product(range(256), (False, True), range(3)):
+            texts = [b"one", b"two", b"three"]
+            texts[at] = texts[at][:at] + bytes([code]) + texts[at][at:]
+            subtitles = [Subtitle(1, 1, 25, 50, 20, 2, text) for text in texts]
+            lines = cell_lines(texts[at], ENGLISH)
+            drawn = [] if isinstance(lines, Refused) else [prepared(one, PLAIN) for one in lines]
+            found = may_hide(subtitles, has_layout)
+            self.assertEqual(found, has_layout or code in (0x0A, 0x0B, 0x1D), (code, at))
+            self.assertTrue(found or all(sight_of(one) == Sight.ALL for one in drawn), code)
 
     def test_judged(self) -> None:
         """A row of which nobody sees a letter is refused, with its block, also where it is sent as
