@@ -7,11 +7,12 @@ import unittest
 from types import SimpleNamespace
 from typing import Any
 
+from subtitles.common.command_line import counted
 from subtitles.common.program import TOP, read
 from subtitles.common.times import Span, Spans, TICKS, time_of
 from subtitles.formats.listing import fault_of_line
 from subtitles.formats.stl import Subtitle
-from subtitles.judging.causes import Causes, NAMES
+from subtitles.judging.causes import Causes, NAMES, count_line, counts_of, names_line
 from subtitles.judging.transmissions import DuePages
 from subtitles.judging.verdict import frames_of
 from subtitles.stream.packets import Packets
@@ -379,6 +380,36 @@ class ByHand(unittest.TestCase):
             held.first, held.last = 10, 20
             causes = Causes(DuePages([], []), held, reach and Span(*reach))
             self.assertEqual(causes.reached(), wanted, reach)
+
+    def test_edges(self) -> None:
+        """What is held beside the first frame that is judged, and the last one, is looked at where
+        the recording has all that is due there, or it is known that nothing came early."""
+        for held_from, first, last, wanted in (
+                (100, 100, 149, (0, None)), (101, 97, 149, (0, None)), (101, 98, 149, (None, None)),
+                (101, 98, 150, (None, 0)), (101, 98, 151, (None, 0)), (90, 103, 150, (0, 0))):
+            programme, held = DuePages([Subtitle(1, 1, 100, 150, 20, 2, b"")], [page_of("a")]), \
+                empty()
+            for frame, name in ((held_from, "-"), (103, "a"), (155, "-")):
+                held.change(frame, page_of(name))
+            held.first, held.last = 103, 140
+            causes = Causes(programme, held, Span(first, last))
+            causes.name(told([], (63, 103), (74, 140)))
+            found = tuple(one and one.place for one in (causes.of(63, 103), causes.of(74, 140)))
+            self.assertEqual(found, wanted, (held_from, first, last))
+
+    def test_counts(self) -> None:
+        """Of several parts together, how many of each name, in the order of the names."""
+        chance = random.Random(3)
+        for count in (1, 1, 2, 2, 3, 3, 4):
+            names = [chance.choices(NAMES[:4], k=chance.choice((0, 1, 2, 5))) for _ in range(count)]
+            several: Any = [SimpleNamespace(named={at: SimpleNamespace(name=name) for at, name in
+                                                   enumerate(some)}) for some in names]
+            together = [name for some in names for name in some]
+            wanted = ", ".join(f"{together.count(name)} {name}" for name in NAMES
+                               if name in together)
+            self.assertEqual((names_line(several), count_line(several), counts_of(several)), (
+                wanted, f"causes of {counted(len(together), 'subtitle')}: {wanted}",
+                {name: together.count(name) for name in NAMES}))
 
 
 if __name__ == "__main__":

@@ -28,16 +28,18 @@ def at(frame: int) -> str:
     return time_of(frame)
 
 
-def faults(*lines: str) -> Faults:
-    """What is told of the three subtitles; `@N` stands for the time of a frame."""
-    told = (" ".join(time_of(int(word[1:])) if word[0] == "@" else word for word in
-                     line.split()) for line in lines)
+def faults(*lines: str, lead: int | None = None) -> Faults:
+    """What is told of the three subtitles; `@N` stands for the time of a frame. A line of them is
+    said first."""
+    told = [" ".join(time_of(int(word[1:])) if word[0] == "@" else word for word in
+                     line.split()) for line in lines]
     with tempfile.NamedTemporaryFile() as file:
         answer = Answer(file.name)
         for line in told:
             answer.take(line)
         answer.stop()
-        return Faults(answer, PROGRAMME, answer.trusted)
+        return Faults(answer, PROGRAMME, answer.trusted,
+                      None if lead is None else fault_of(told[lead]))
 
 
 class Told(unittest.TestCase):
@@ -124,11 +126,16 @@ class Told(unittest.TestCase):
 
     def test_many(self) -> None:
         """The first 1,000 entries are listed, and the first 20,000 faults of a subtitle file."""
-        made = faults(*(f"refused {67 + at % 2} X frame @{at}" for at in range(1000)),
-                      "refused 69 RowChanged frame @1000", "refused 67 X frame @1001")
+        lines = [*(f"refused {67 + at % 2} X frame @{at}" for at in range(1000)),
+                 "refused 69 RowChanged frame @1000", "refused 67 X frame @1001"]
+        made = faults(*lines)
         self.assertEqual((len(made.entries), made.entry_count, made.count), (1000, 1002, 1002))
         self.assertEqual((made.first_entries, sorted(made.counts.values())),
                          ({67: 1, 68: 2}, [1, 500, 501]))
+        self.assertIsNone(made.leading)
+        for lead in (0, 999, 1000, 1001):  # what is said first is known wherever it stands
+            leading = faults(*lines, lead=lead).leading
+            self.assertEqual(leading and (leading.index, leading.first.frame), (lead + 1, lead))
         made = faults(*(f"refused 50 X block {at // 2} at 1" for at in range(20_000)),
                       "refused 51 X block 10000 at 2")
         self.assertEqual((len(made.of_blocks), made.entry_count, made.count),

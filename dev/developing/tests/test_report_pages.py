@@ -2,6 +2,7 @@
 from __future__ import annotations
 
 import collections
+import itertools
 import unittest
 from types import SimpleNamespace
 from typing import Any, cast
@@ -14,17 +15,19 @@ from subtitles.common.program import MadeWith
 from subtitles.common.times import CLOCK, FRAMES_OF_A_DAY, Spans, TICKS
 from subtitles.formats.teletext import ENGLISH
 from subtitles.judging.status import ACCEPTED, LOST, REFUSED, WAIVED, WARNED
+from subtitles.judging.verdict import Gap
 from subtitles.report import drawing, page as report_page
 from subtitles.report.faults import Entry
-from subtitles.report.page import lost_places, pages_table, subtitles_words
+from subtitles.report.page import lost_places, pages_table, subtitles_words, trusted_words
 from subtitles.report.pictures import (
     CellStyle, LOW_ROWS, cut_of, differences, frames_of, is_boxed, picture, row_drawing, spans_of,
     text_of_code)
 from subtitles.report.report import BETWEEN, DELAY, ROW_0, Report, Scope, Subject
 from subtitles.report.transmission import place_of_pts
 from subtitles.request.commands import CommandWords
+from subtitles.stream.gaps import Place
 from subtitles.stream.receiver import BLANK_PAGE, HIT, OLD, Rows
-from .bench import Case, example
+from .bench import BENCH, Case, example
 from .parts import asked_for, fault_of, in_page, part_with
 from .test_judging_verdicts import verdict_of
 
@@ -161,6 +164,11 @@ class Rowed(unittest.TestCase):
                               (page(r20=b"Abd"), [(20, 0), (20, 2), (22, 0)]),
                               (page(r20=b"abc\xa0", r22=b"\xf8"), [])):
             self.assertEqual(differences(one, other), wanted)
+        for row, column in itertools.product(range(24), range(40)):  # each cell alone
+            cells = bytearray(one[row])
+            cells[column] ^= 1
+            other = (*one[:row], bytes(cells), *one[row + 1:])
+            self.assertEqual(differences(one, other), [(row + 1, column)])
 
     def test_words(self) -> None:
         """What a cell holds."""
@@ -268,7 +276,43 @@ class Bounds(unittest.TestCase):
             self.assertEqual((text.count("<tr>") - bool(count), text.count(
                 ">C7 (9); C8 (4); C4 (3); C6 (2)<"), f"{count - 200} more page" in text), (
                     min(count, 200), min(count, 200), count > 200), count)
+            for one, is_there in (((0, 0x88), False), ((1, 0), count > 0), ((1, 1), count > 1)):
+                seen.page = one
+                text = in_page(pages_table(report, seen))
+                self.assertEqual(("No header of page 888, which is checked" in text, text.count(
+                    " checked</th>")), (not is_there, is_there), (one, count))
 
+    def test_trusted(self) -> None:
+        """What is undecided, and what is trusted, is explained where there is some, each by
+        itself; within more, what is promised there."""
+        for undecided, trusted, within in itertools.product((0, 1), (0, 1), (0, 2)):
+            report: Any = SimpleNamespace(asked=asked_for("a", "b", "--within", str(within)),
+                                          faults=SimpleNamespace(
+                                              undecided=Spans([(1, 2)] * undecided),
+                                              trusted=Spans([(1, 2)] * trusted)))
+            words = in_page(trusted_words(report))
+            self.assertEqual(("<b>Undecided.</b>" in words, "<b>Trusted.</b>" in words,
+                              "There, at the end of each frame" in words),
+                             (undecided, trusted, trusted and within > 0))
+
+    def test_gaps_of_a_part(self) -> None:
+        """The page of the only part has all places that are judged, that of one of several its
+        own."""
+        parts = [part_with(100 * at, 100 * at + 99, 0, number=at + 1) for at in range(3)]
+        for count in (1, 2, 3):
+            verdict = verdict_of(parts[:count])
+            verdict.gaps = [Gap(None, None, f"{at} {is_judged}", Place(
+                TICKS * (100 * at + 40), TICKS * (100 * at + 50), 1), is_judged)
+                for at in range(3) for is_judged in (True, False)]
+            with mock.patch.object(report_page, "Report") as made:
+                for part in verdict.parts:
+                    report_page.Made(verdict, CommandWords("qc", BENCH.program)).report(part)
+            found = [[gap.words for gap in one.args[0].judged.gaps] for one in made.call_args_list]
+            self.assertEqual(found, [["0 True", "1 True", "2 True"]] if count == 1 else [
+                [f"{at} True"] for at in range(count)])
+            self.assertEqual([(one.args[0].part, one.args[0].parts, one.args[0].judged.parts)
+                              for one in made.call_args_list], [
+                                  (part, count, [part]) for part in verdict.parts])
 
     def test_options(self) -> None:
         """All as they hold, also where there is no clock, and those that are not as left out."""
