@@ -283,9 +283,8 @@ class Order(unittest.TestCase):
                         one for pair in times for one in pair if frame < one <= last])
                 for count in range(1, len(times) + 1):
                     places = list(range(0, len(times), count))
-                    near = programme.nearest(places, frame)
-                    self.assertEqual(abs(times[near][0] - frame),
-                                     min(abs(times[place][0] - frame) for place in places))
+                    self.assertEqual(programme.nearest(places, frame), min(
+                        places, key=lambda place: abs(times[place][0] - frame)))  # the first of two
             self.assertEqual([programme.before(at) for at in range(len(times))],
                              [0, *(end for _, end in times)][:len(times)])
             self.assertEqual([programme.after(at) for at in range(len(times))],

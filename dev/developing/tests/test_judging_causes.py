@@ -303,6 +303,12 @@ BY_HAND: list[tuple[str, str, list[tuple[int, str, int | None, int | None, str |
     # One of no subtitle comes in a pause, and stays in the time of the next: there it is wrong too.
     ("100-150 a;200-250 b", "0:- 100:a 150:- 180:z 220:b 250:-", [
         (0, "another text in a pause", None, None, "z"), (1, "wrong text", None, None, "z")]),
+    # Just at the TCO it is no text of ours that stays; at the last one it is the next programme's.
+    ("100-150 a;200-250 b", "0:- 100:a 150:z 170:- 200:b 250:-", [
+        (0, "another text in a pause", None, None, "z")]),
+    ("100-150 a;200-250 b", "0:- 100:a 150:- 200:b 250:z 270:-", [(1, "unknown", None, None, "z")]),
+    ("100-150 a;200-250 b", "0:- 100:a 150:- 200:b 250:- 251:z 270:-", [
+        (1, "another text in a pause", None, None, "z")]),
     ("100-150 a;200-250 b", "0:z 100:a 150:- 200:b 250:-", [(0, "unknown", None, None, "a")]),
     ("100-150 a;200-250 b", "0:- 100:a 150:b 250:-", [(1, "early", 50, None, "b")]),
     ("100-150 a", "0:- 100:a 120:z 150:-", [(0, "wrong text", None, None, "z")]),

@@ -341,6 +341,25 @@ class Listed(Case):
         self.assertEqual([one["line"] for one in faults_of(verdict)][:2], [
             "refused never sent frame 00:00:03:07", "refused not shown block 2"])
 
+    def test_cells(self) -> None:
+        """Of a cell that is not as it is due what is due and what is held, whatever is allowed."""
+        data = pes_packet(25 * TICKS, [HEADER, row(20, b"\x01xyz"), CLOSING])
+        due = (*BLANK_PAGE[:19], b"  [b".ljust(40), *BLANK_PAGE[20:])
+        lines = [f"refused 72 Content frame 00:00:01:00 row 20 column {at}" for at in (2, 3, 4)]
+        for within, (option, letter) in itertools.product((0, 3), (
+                ("english", "\u2190"), ("german", "\u00c4"))):
+            part = part_with(0, 99, 0, answer([*lines, "3 faults"], path=self.path("cells")),
+                             packets=packets_told(self, data), pes=(0, 0), due=lambda: DuePages(
+                                 [Subtitle(1, 1, 25, 50, 20, 2, b"")], [due]))
+            part.names.given = programme(self, [(25, 50)])
+            verdict = verdict_of([part])
+            verdict.request = asked_for("one.stl", "one.pes", "--within", str(within), "--option",
+                                        option)
+            self.assertEqual([[(one[name]["code"], one[name]["character"]) for name in (
+                "due", "held")] for one in faults_of(verdict)], [
+                    [("5B", letter), ("01", None)], [("62", "b"), ("78", "x")],
+                    [("20", " "), ("79", "y")]])
+
     def test_letter_of_parity(self) -> None:
         """The first letter that comes with even parity, else the first other byte; of the subtitle
         that is due, or the page behind one; nothing where it is not known what is held."""
