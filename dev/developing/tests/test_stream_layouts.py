@@ -3,12 +3,13 @@ from __future__ import annotations
 
 import os
 import random
-from typing import NamedTuple, Sequence
+from typing import Iterable, NamedTuple, Sequence
 
 from developing.pes import address_of
 from developing.stl import gsi_block, subtitle_blocks
 from subtitles.formats.layout import (
     Layout, PLAIN, Refused, drawn, layout_of, layout_text, page_rows, simplicity)
+from subtitles.formats.listing import fault_of_line
 from subtitles.formats.teletext import BY_WORD, ENGLISH, Page
 from subtitles.stream.layout import (
     Choice, Evidence, MOST_ITEMS, Rest, Sent, choices_of, draws, is_found, items_in, missed,
@@ -192,11 +193,28 @@ class Rows(Case):
     layouts.tsv` has the bytes of a text, VP, JC, the TEXT or `-`, and each row that is sent, its
     column and its cells, or the line that is printed."""
 
-    def test_schedule_sends_and_check_accepts(self) -> None:
+    def rows(self) -> list[list[str]]:
         with open(os.path.join(DEV, "vectors", "layouts.tsv"), encoding="utf-8") as file:
             rows = [line.split("\t") for line in file.read().splitlines()]
         self.must("all rows", len(rows) == 146)
-        for number, (text, row, justify, layout, want) in enumerate(rows):
+        return rows
+
+    def test_drawn_here(self) -> None:
+        """What these tools draw of each is what the program sends, or refuses."""
+        for text, row, justify, words, want in self.rows():
+            layout = layout_of(words) if words != "-" else PLAIN
+            if layout is None:
+                self.must(words, want == "usage 89 Layout", want)
+                continue
+            lines = drawn(bytes.fromhex(text), int(row), int(justify), layout, ENGLISH)
+            fault = fault_of_line(want)
+            found: object = lines if isinstance(lines, Refused) else rows_said(
+                enumerate(page_rows(lines), 1))
+            self.must(f"{text} {row} {justify} {words}", found == (
+                Refused(fault.number, fault.at or 0) if fault else want), (found, want))
+
+    def test_schedule_sends_and_check_accepts(self) -> None:
+        for number, (text, row, justify, layout, want) in enumerate(self.rows()):
             stl = self.write("one.stl", gsi_block(b"One", 1, 1) + subtitle_blocks(
                 1, 0, 50, int(row), int(justify), bytes.fromhex(text)))
             words = [] if layout == "-" else ["--layout", layout]
@@ -205,7 +223,7 @@ class Rows(Case):
             if done.status:
                 self.must(name, done.out.decode() == f"{want}\n", (done, want))
                 continue
-            self.must(name, sent_in(self.read("one.pes")) == ("" if want == "blank" else want),
+            self.must(name, sent_in(self.read("one.pes")) == want,
                       (sent_in(self.read("one.pes")), want))
             done = self.call([self.bench.program, "check", stl, "one.pes", *words])
             self.must(f"{name}: check", done.out == b"accepted 51 frames 2 transmissions\n", done)
@@ -217,9 +235,13 @@ def sent_in(pes: bytes) -> str:
     sending = sending_in(pieces_of(pes)[0][0], 0, 0)
     assert not isinstance(sending, int)
     packets = [Packet(one, address_of(one), header_of(one)) for one in sending[1]]
-    rows = rows_in(span_of(packets, page)[0], page)
+    return rows_said(sorted(rows_in(span_of(packets, page)[0], page).items()))
+
+
+def rows_said(rows: Iterable[tuple[int, bytes]]) -> str:
+    """Rows that have cells, as the table says them."""
     return "; ".join(f"{number} {len(codes) - len(codes.lstrip(b' '))} {codes.strip(b' ').hex()}"
-                     for number, codes in sorted(rows.items()))
+                     for number, codes in rows if codes.strip(b" ")) or "blank"
 
 
 # Which items of a layout are taken: those that ten subtitles show, and that take from no page what
