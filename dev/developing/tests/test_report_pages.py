@@ -18,7 +18,7 @@ from subtitles.judging.status import ACCEPTED, LOST, REFUSED, WAIVED, WARNED
 from subtitles.judging.verdict import Gap
 from subtitles.report import drawing, page as report_page
 from subtitles.report.faults import Entry
-from subtitles.report.page import lost_places, pages_table, subtitles_words, trusted_words
+from subtitles.report.page import pages_table, subtitles_words, told_places, trusted_words
 from subtitles.report.pictures import (
     CellStyle, LOW_ROWS, cut_of, differences, frames_of, is_boxed, picture, row_drawing, spans_of,
     text_of_code)
@@ -197,26 +197,28 @@ class Box(unittest.TestCase):
     def test_lost(self) -> None:
         """Five places are told at once, more are unfolded."""
         for count, is_unfolded in ((1, False), (5, False), (6, True)):
-            words = in_page(lost_places(["<x>"] * count))
+            words = in_page(told_places("what", ["<x>"] * count))
             self.assertEqual((words.count("<li>&lt;x&gt;</li>"), "<details>" in words),
                              (count, is_unfolded))
 
     def test_kind(self) -> None:
         """The box of a part has the verdict's colour where that is waived, lost or warned; else
-        that of the part, which may be accepted where another one is refused."""
-        rows: list[tuple[str, bool, list[str], str]] = [
-            (ACCEPTED, False, [], "accepted"), (REFUSED, True, [], "refused"),
-            (REFUSED, False, [], "accepted"), (REFUSED, False, ["<x>"], "unseen"),
-            (WARNED, False, [], "unseen"), (LOST, False, [], "unseen"),
-            (LOST, False, ["<x>"], "unseen"), (WAIVED, True, [], "waived"),
-            (WAIVED, False, [], "waived")]
-        for word, is_refused, lost, kind in rows:
+        that of the part, which may be accepted where another one is refused; the only part has
+        none that is better than the verdict's."""
+        rows: list[tuple[str, bool, list[str], int, str]] = [
+            (ACCEPTED, False, [], 1, "accepted"), (REFUSED, True, [], 1, "refused"),
+            (REFUSED, False, [], 2, "accepted"), (REFUSED, False, ["<x>"], 2, "unseen"),
+            (REFUSED, False, [], 1, "refused"), (REFUSED, False, ["<x>"], 1, "refused"),
+            (WARNED, False, [], 1, "unseen"), (LOST, False, [], 2, "unseen"),
+            (LOST, False, ["<x>"], 1, "unseen"), (ACCEPTED, False, ["<x>"], 1, "unseen"),
+            (WAIVED, True, [], 2, "waived"), (WAIVED, False, [], 1, "waived")]
+        for word, is_refused, lost, count, kind in rows:
             report: Any = SimpleNamespace(
                 faults=SimpleNamespace(count=0), first=None, seen=None, notes=[], line="<line>",
-                is_refused=is_refused, lost=lost,
-                subject=SimpleNamespace(judged=SimpleNamespace(word=word, sentence="<said>")))
+                is_refused=is_refused, lost=lost, subject=SimpleNamespace(
+                    judged=SimpleNamespace(word=word, sentence="<said>", named=[]), parts=count))
             box = in_page(report_page.verdict_box(report))
-            with self.subTest(word, is_refused=is_refused, lost=lost):
+            with self.subTest(word, is_refused=is_refused, lost=lost, count=count):
                 self.assertTrue(box.startswith(f'<div class="verdict {kind}">'), box)
 
     def test_scope(self) -> None:

@@ -18,6 +18,7 @@ from ..judging.status import ACCEPTED, LOST, NOT_JUDGED, REFUSED, WAIVED, WARNED
 from ..judging.verdict import Verdict, spread_of
 from ..request.commands import CommandWords
 from ..request.request import Request
+from ..stream.gaps import first_lines
 from .drawing import Looks, meaning_of_verdict, numbers_table
 from .faults import heads, table_row
 from .report import Blocks, Report, Scope, Subject, block_place, names_block, refused_blocks
@@ -47,6 +48,7 @@ SAYS = markup("The verdict and the faults are lines that <code>subttx check --al
               "by a script that is not proved; they show one receiver, tuned in before the first "
               "packet.")
 LOST_WORDS = "TS packets of the recording are lost: that part was not recorded"
+NAMED_WORDS = "Faults without a number, which check does not tell"
 ACCEPTED_WORDS = ("Frames are counted from the first PES packet's to the last one's, "
                   "transmissions by the headers of the page.")
 
@@ -116,7 +118,7 @@ def report_page(verdict: Verdict, typed: CommandWords) -> Markup:
     if verdict.word == NOT_JUDGED:
         parts = [unjudged_box(verdict), *names_list(verdict)]
     elif not verdict.parts:  # as of a page that is never sent
-        parts = [box_of(verdict, verdict.lead or "", [], [
+        parts = [box_of(verdict, verdict.lead or "", named_faults(verdict), [
             *verdict.said(), *(warned.said() for warned in verdict.warnings)]),
             *names_list(verdict)]
     elif len(verdict.parts) == 1:
@@ -236,14 +238,16 @@ def verdict_box(report: Report) -> Markup:
                                 "</a>, {}</p>", report.reasons.counted()))
         parts.append(advice(report))
     else:
-        if report.seen:
+        if report.seen and report.line == report.part.lead:
             parts.append(markup("<p>{}</p>", ACCEPTED_WORDS))
         if report.seen and report.asked.within:
             parts.append(markup("<p>What receivers show, once they have heard the page: {}.</p>",
                                 promised(report.asked)))
-    parts += [lost_places(report.lost)] if report.lost else []
-    judged = report.subject.judged
-    word = REFUSED if report.is_refused else LOST if report.lost else ACCEPTED
+    parts += [told_places(LOST_WORDS, report.lost)] if report.lost else []
+    judged, is_whole = report.subject.judged, report.subject.parts == 1
+    parts += named_faults(judged) if is_whole else []
+    is_refused = report.is_refused or is_whole and judged.word == REFUSED
+    word = REFUSED if is_refused else LOST if report.lost else ACCEPTED
     kind, shape = FRAMES.get(judged.word if judged.word in (WAIVED, LOST, WARNED) else word,
                              REFUSAL)
     parts += [markup('<p class="note">{}</p>', words) for words in report.notes]
@@ -262,13 +266,19 @@ def advice(report: Report) -> Markup:
                   words)
 
 
-def lost_places(places: list[str]) -> Markup:
-    """That TS packets are lost, and where."""
+def told_places(what: str, places: list[str]) -> Markup:
+    """What is wrong, and where."""
     told = joined(markup("<li>{}</li>", words) for words in places)
     listed = markup('<ul class="lost">{}</ul>', told)
     if len(places) > MOST_LOST:
         listed = markup("<details><summary>where</summary>{}</details>", listed)
-    return markup('<p class="count bad">{}</p>{}', LOST_WORDS, listed)
+    return markup('<p class="count bad">{}</p>{}', what, listed)
+
+
+def named_faults(verdict: Verdict) -> list[Markup]:
+    """The faults without a number, of which the lists of `check` have none."""
+    lines = [f"{fault.line}: {fault.words}" for fault in verdict.named]
+    return [told_places(NAMED_WORDS, first_lines(lines))] if lines else []
 
 
 def navigation(report: Report) -> Markup:
@@ -400,7 +410,8 @@ def several_parts(verdict: Verdict, reports: Sequence[Report]) -> list[Markup]:
 def pair_box(verdict: Verdict) -> Markup:
     """The verdict on several parts, and what stands beside it."""
     lost = [gap.line() for gap in verdict.gaps if gap.is_judged]
-    return box_of(verdict, verdict.lead or "", [lost_places(lost)] if lost else [],
+    places = [told_places(LOST_WORDS, lost)] if lost else []
+    return box_of(verdict, verdict.lead or "", [*places, *named_faults(verdict)],
                   [*verdict.said(), *(warned.said() for warned in verdict.warnings)])
 
 

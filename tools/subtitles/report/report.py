@@ -164,7 +164,10 @@ class Report:
         answer = self.part.answer
         self.stl, self.page = self.part.request.stl, page_name(*self.asked.page)
         self.origin = self.part.origin or 0
-        self.line, self.first = self.part.lead, self.part.leading
+        # A fault without a number is of the pair: no part has it.
+        is_named = subject.parts == 1 and bool(subject.judged.named)
+        self.line = (subject.judged.lead if is_named else None) or self.part.lead
+        self.first = self.part.leading
         self.is_refused = bool(answer.status)
         # Subtitles are refused; the others are judged beside them where PES packets are.
         is_of_file = self.first is not None and self.first.block is not None
