@@ -75,6 +75,9 @@ class Table(unittest.TestCase):
                     whole = codes_of(text, option)
                     if (option.word, text) not in known and len(whole) == 1:
                         self.assertEqual(whole, [None], (option.word, text))
+                    if (option.word, text) not in known:  # then each byte is one by itself
+                        self.assertEqual(whole, [code for byte in text for code in codes_of(
+                            bytes([byte]), option)], (option.word, text))
 
     def test_texts_in_eleven_languages(self) -> None:
         count = 0

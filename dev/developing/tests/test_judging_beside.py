@@ -19,7 +19,7 @@ from subtitles.cli.collection import pair_line, table_of
 from subtitles.common.command_line import counted
 from subtitles.common.times import ALL_DAY, Between
 from subtitles.formats.listing import fault_of_line
-from subtitles.formats.stl import NamedSubtitle, SubtitleFile
+from subtitles.formats.stl import NamedSubtitle, Subtitle, SubtitleFile
 from subtitles.formats.teletext import OPTIONS, has_characters
 from subtitles.judging import subtitles
 from subtitles.judging.pair import Pair
@@ -286,6 +286,16 @@ class Judgeable(unittest.TestCase):
         for numbers, wanted in rows:
             self.assertEqual(is_judged_beside(numbers), wanted, numbers)
 
+
+    def test_pages_between(self) -> None:
+        """Between two subtitles nothing is due, where a frame is between them."""
+        for gap in range(4):
+            some = [Subtitle(at, at, begin, begin + 50, 20, 2, b"Number %d" % at)
+                    for at, begin in ((1, 100), (2, 150 + gap))]
+            due = due_beside(some, PAGE, "english")
+            held = due.timeline
+            self.assertEqual([held and held.page_at(frame) for frame in range(99, 203 + gap)], [
+                due.page_at(frame) for frame in range(99, 203 + gap)], gap)
 
     def test_words_of_many(self) -> None:
         """Each of the first forty has a line, and how many more there are is one; the sentence has

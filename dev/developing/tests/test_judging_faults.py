@@ -13,10 +13,11 @@ from typing import Any
 from unittest import mock
 
 from developing.pes import packet, pes_packet
+from developing.stl import gsi_block, tti_block
 from subtitles.clock.start import Clock, Found, GIVEN
 from subtitles.common.program import proved_line
 from subtitles.common.times import CLOCK, Span, TICKS, time_of
-from subtitles.formats.listing import NamedFault, fault_of_line
+from subtitles.formats.listing import NamedFault, fault_of_line, meanings, plain
 from subtitles.formats.stl import Subtitle
 from subtitles.judging import faults as judging_faults
 from subtitles.judging.causes import (
@@ -26,6 +27,7 @@ from subtitles.judging.faults import (
 from subtitles.judging.part import Explanation, Part, tell_causes
 from subtitles.judging.sentence import Count, Facts, of_causes, what_is_wrong
 from subtitles.judging.status import Severity
+from subtitles.judging.subtitles import AT_MIDNIGHT
 from subtitles.judging.transmissions import DuePages, program_answer
 from subtitles.request.commands import CLEAR, Listener, Progress, Speech
 from subtitles.request.request import Unclear
@@ -297,7 +299,7 @@ class Listed(Case):
         times = [f"00:00:0{at}:00" for at in (number, number + 1)]
         frames = range(25, 151, 25)
         programme = DuePages([Subtitle(at, at, frame, frame + 20, 22, 2, b"") for at, frame in
-                              enumerate(frames, 1)], [BLANK_PAGE] * len(frames))
+                              enumerate(frames, 1)], [(b"[".ljust(40), *BLANK_PAGE[1:])] * 6)
         causes = Causes(programme, timeline_of(self, b""))
         causes.named = {at: cause(at, NEVER) for at in range(len(frames))}
         causes.of_edge = {63: number, 74: number + 1}
@@ -318,6 +320,7 @@ class Listed(Case):
                 1, 4))):
             verdict = verdict_of([self.part(kind, number, stl)
                                   for number, kind in enumerate(kinds, 1)], severity)
+            verdict.request = asked_for("one.stl", "one.pes", "--option", "german")
             last = len(kinds)
             verdict.named = [NamedFault("never sent", "a", f"00:00:0{last}:07", "00:00:09:00",
                                         part=last), NamedFault("not shown", "b", block=2)]
@@ -338,8 +341,37 @@ class Listed(Case):
                       one["until_pes"], one["cause"] and one["cause"]["subtitle"]["position"])
                      for one in faults_of(verdict)]
             self.assertEqual(found, wanted, kinds)
+            self.assertLessEqual({one["cause"]["text"] for one in faults_of(verdict)
+                                  if one["cause"]}, {"\u00c4"})
         self.assertEqual([one["line"] for one in faults_of(verdict)][:2], [
             "refused never sent frame 00:00:03:07", "refused not shown block 2"])
+
+    def test_means_and_do(self) -> None:
+        """What is known of the case stands in the place of what the manual says of its number."""
+        night = 2_159_990
+        stl = self.write("one.stl", gsi_block(b"", 3, 3).replace(b"STL25.011", b"STL25.010")
+                         + b"".join(tti_block(at, begin, end, 20, 2, b"\xc8a") for at, begin, end in (
+                             (1, 25, 50), (2, night, 5), (3, 10, 20))))
+        known = meanings()
+        rows: list[tuple[str, str, str]] = [
+            ("67 Control frame 00:00:01:00 packet 0", "C4 (erase page) is clear: a repeat that does "
+             "not erase", ""), ("50 Character block 1 at 0", "",
+                                "the whole file draws in --option german, swedish"),
+            ("50 Character block 1 at 2", "", ""), ("21 Times block 2", "", AT_MIDNIGHT),
+            ("21 Times block 1", "", ""), ("56 Order block 3", "", AT_MIDNIGHT),
+            ("56 Order block 2", "", ""), ("13 Display block 0", "",
+                                           "its DSC is 0, open subtitles: --open takes it"),
+            ("72 Content frame 00:00:01:00 row 1 column 1", "", "drawn otherwise"),
+            ("68 Parity frame 00:00:01:00 packet 0", "", "")]
+        part = part_with(0, 99, 0, answer([*(f"refused {line}" for line, _, _ in rows),
+                                           f"{len(rows)} faults"], path=self.path("list")),
+                         packets=packets_told(self, pes_packet(25 * TICKS, [NO_C4, CLOSING])),
+                         pes=(0, 0), explanation=Explanation(otherwise="drawn otherwise"))
+        part.names.given = stl
+        found = [(one["means"], one["do"]) for one in faults_of(verdict_of([part]))]
+        self.assertEqual(found, [
+            (means or plain(known[int(line[:2])].means), do or plain(known[int(line[:2])].do))
+            for line, means, do in rows])
 
     def test_cells(self) -> None:
         """Of a cell that is not as it is due what is due and what is held, whatever is allowed."""

@@ -97,6 +97,10 @@ class Told(unittest.TestCase):
         self.assertEqual(list(made.spans), [(30, 60), (80, 80), (90, 95)])
         self.assertEqual([(one.first.number, one.end.time) for one in made.entries],
                          [(72, at(40)), (68, None), (73, at(60)), (72, None), (77, at(95))])
+        undecided = faults("refused 78 Undecided frame @30", "ended 78 Undecided frame @40",
+                           "refused 68 Parity frame @50")
+        self.assertEqual((list(undecided.spans), list(undecided.undecided), list(made.undecided)),
+                         ([(50, 50)], [(30, 40)], []))
         made.mark([(10, 12), (99, 99)])
         self.assertEqual(list(made.spans), [(10, 12), (30, 60), (80, 80), (90, 95), (99, 99)])
         once = faults("refused 73 Gap frame @30", "ended 73 Gap frame @40",

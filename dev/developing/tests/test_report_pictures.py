@@ -148,6 +148,8 @@ class Seen(unittest.TestCase):
         for begin, wanted in ((0, 1), (30, 1), (31, 3), (81, None)):
             entry = found.entry_in(begin, 200)
             self.assertEqual(entry and entry.index, wanted, begin)
+        several = faults(*(f"refused 68 Parity frame @{at}" for at in (30, 35, 40)))
+        self.assertEqual(Entries(none, none, [], [], several).entry_frames, [30])
 
     def test_end_of_knowledge(self) -> None:
         """The frame behind the last one that was heard, unless all is known that is due."""
