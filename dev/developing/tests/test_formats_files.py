@@ -129,8 +129,9 @@ class Files(Case):
                 for _ in range(chance.choice((0, 0, 1))):
                     blocks.append(tti_block(number, begin, end, 20, 2, b"no", *chance.choice((
                         (USER_DATA, 0), (LAST, 1), (0, 1), (USER_DATA, 1)))))
-                some = chance.choice(self.TEXTS)
-                block = bytearray(tti_block(number + (number > 3), begin, end, 20, 2, some, ebn))
+                some, later = chance.choice(self.TEXTS), chance.randrange(99) * bool(own)
+                block = bytearray(tti_block(number + (number > 3), begin + later, end + later,
+                                            20 + bool(own), 2, some, ebn))
                 block[5] = 24 if is_none else block[5]
                 blocks.append(bytes(block))
                 own.append(len(blocks))
@@ -177,6 +178,19 @@ class Files(Case):
                                   stl.subtitles_read(data)],
                                  [(at, one.begin, one.end, one.text) for at, one in enumerate(
                                      groups, 1) if one.begin is not None])
+
+
+    def test_bounds(self) -> None:
+        """As many bytes are read as `check` takes blocks, and one more; through a pipe too."""
+        most, path = GSI + 128 * 99_999 + 1, self.path("long.stl")
+        for more in (-1, 0, 1):
+            with open(path, "wb") as file:
+                file.truncate(most + more)
+            self.assertEqual(len(stl.stl_bytes(path)), most + min(more, 0))
+        with subprocess.Popen(["cat", path], stdout=subprocess.PIPE) as run:
+            assert run.stdout
+            self.assertEqual(len(stl.stl_bytes(f"/dev/fd/{run.stdout.fileno()}")), most)
+            run.stdout.close()
 
 
 class Titles(Case):
@@ -289,6 +303,9 @@ class Order(unittest.TestCase):
                              [0, *(end for _, end in times)][:len(times)])
             self.assertEqual([programme.after(at) for at in range(len(times))],
                              [*(begin for begin, _ in times[1:]), *[2_160_000] * bool(times)])
+            for position, number in itertools.product(range(1, 5), range(7)):
+                more = f" (SN {number})" if number != position else ""
+                self.assertEqual(stl.subtitle_name(position, number), f"subtitle {position}{more}")
             self.assertEqual([one.name for one in all_of],
                              ["subtitle 1", "subtitle 2", "subtitle 3 (SN 4)",
                               "subtitle 4 (SN 5)"][:len(times)])

@@ -66,6 +66,9 @@ class Table(unittest.TestCase):
         self.assertEqual("".join(letters(ENGLISH.bits)[code] for code in b"[\\]^`{|}~"),
                          "←½→↑—¼‖¾÷")
         self.assertEqual(letters(GERMAN.bits)[0x5E:0x60], ["^", "_"])
+        for bits in (RESERVED, 8):  # no option's: its own letters are not known, the others are
+            self.assertEqual([(code, letters(bits)[code] != "\u25a1") for code in range(32, 127)],
+                             [(code, code not in PLACES) for code in range(32, 127)])
 
     def test_nothing_else_has_a_cell(self) -> None:
         known = {(row["option"], bytes.fromhex(row["stl"])) for row in rows_of("options.tsv")}

@@ -2,6 +2,7 @@
 from __future__ import annotations
 
 import csv
+import itertools
 import json
 import random
 import re
@@ -20,13 +21,14 @@ from subtitles.common.command_line import counted
 from subtitles.common.times import ALL_DAY, Between
 from subtitles.formats.listing import fault_of_line
 from subtitles.formats.stl import NamedSubtitle, Subtitle, SubtitleFile
-from subtitles.formats.teletext import OPTIONS, has_characters
+from subtitles.formats.teletext import BY_WORD, OPTIONS, has_characters
 from subtitles.judging import subtitles
 from subtitles.judging.pair import Pair
 from subtitles.judging.subtitles import (
     Counts, JudgedBeside, RefusedSubtitle, beside_of, due_beside, is_judged_beside)
 from subtitles.request.commands import Names
 from subtitles.results.files import row_of_object
+from subtitles.stream.receiver import national_option
 from .bench import Case, example_bytes
 from .judged import Judged, judged
 from .parts import answer, fault_of
@@ -288,14 +290,17 @@ class Judgeable(unittest.TestCase):
 
 
     def test_pages_between(self) -> None:
-        """Between two subtitles nothing is due, where a frame is between them."""
-        for gap in range(4):
+        """Between two subtitles nothing is due, where a frame is between them. Each header has the
+        national option."""
+        for gap, option in itertools.product(range(4), ("english", "german")):
             some = [Subtitle(at, at, begin, begin + 50, 20, 2, b"Number %d" % at)
                     for at, begin in ((1, 100), (2, 150 + gap))]
-            due = due_beside(some, PAGE, "english")
-            held = due.timeline
-            self.assertEqual([held and held.page_at(frame) for frame in range(99, 203 + gap)], [
-                due.page_at(frame) for frame in range(99, 203 + gap)], gap)
+            due = due_beside(some, PAGE, option)
+            frames, held = range(99, 203 + gap), due.timeline
+            assert held
+            self.assertEqual(list(map(held.page_at, frames)), list(map(due.page_at, frames)), gap)
+            self.assertEqual({national_option(held.state_at(frame).header or b"") for frame in
+                              frames[1:]}, {BY_WORD[option].bits})
 
     def test_words_of_many(self) -> None:
         """Each of the first forty has a line, and how many more there are is one; the sentence has

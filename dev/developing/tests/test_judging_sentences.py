@@ -295,6 +295,10 @@ class Rows(Case):
         for cells, sight, words in ROWS:
             self.must(cells.hex(), (sight_of(cells), hidden_words(cells, "english")) ==
                       (sight, words), (sight_of(cells), hidden_words(cells, "english")))
+        for paper, ink, of_paper, of_ink in itertools.product(range(8), range(8), (0, 16), (0, 16)):
+            for behind, wanted in ((b"", ink == paper), (b"\x1c", ink == 0)):  # black background
+                cells = b"\x0b\x0b%c\x1d%c%sHi" % (paper + of_paper, ink + of_ink, behind)
+                self.assertEqual(sight_of(cells), Sight.NONE if wanted else Sight.ALL, cells)
 
     def test_as_libzvbi(self) -> None:
         """It draws just the letters that are said to be seen by it."""

@@ -33,8 +33,8 @@ class Whole(Case):
 
     KINDS = {"a": ["accepted 10 frames 2 transmissions"], "r": [
         "refused 68 Parity frame 00:00:03:10 packet 1", "refused 67 Control frame 00:00:03:12 "
-        "packet 0", "refused 68 Parity frame 00:00:03:15 packet 1", "3 faults"], "b": ["refused 19 Row block 2", "refused 16 Cumulative block 3",
-                                       "2 faults"]}
+        "packet 0", "refused 68 Parity frame 00:00:03:15 packet 1", "3 faults"], "b": [
+            "refused 19 Row block 2", "refused 16 Cumulative block 3", "2 faults"]}
 
     def verdict(self, kinds: str, is_fitted: bool = False, is_read: bool = True) -> Verdict:
         """A verdict on parts, of which the last is fitted; with places, notes, warnings."""

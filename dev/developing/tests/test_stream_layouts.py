@@ -8,7 +8,8 @@ from typing import Iterable, NamedTuple, Sequence
 from developing.pes import address_of
 from developing.stl import gsi_block, subtitle_blocks
 from subtitles.formats.layout import (
-    Layout, PLAIN, Refused, drawn, layout_of, layout_text, page_rows, simplicity)
+    Layout, PLAIN, Refused, drawn, layout_of, layout_text, letters_of_text, letters_on, page_rows,
+    simplicity)
 from subtitles.formats.listing import fault_of_line
 from subtitles.formats.teletext import BY_WORD, ENGLISH, Page
 from subtitles.stream.layout import (
@@ -119,6 +120,9 @@ class Layouts(Case):
             found = layout_of(text)
             self.must(text, found and layout_text(found) == simple, found)
             self.must(f"{text}, read again", (layout_of(simple) if simple else PLAIN) == found)
+        order = ["", "up", "fit", "text", "last", "after=", "row=-1", "before=0D070B0B", "fit,up"]
+        self.must("the simplest first", sorted(order[::-1], key=lambda text: simplicity(
+            layout_of(text) or PLAIN)) == ["", "up", "fit", "last", "text", *order[5:]])
 
     def test_lines_are_drawn(self) -> None:
         for said, row, justify, text, want in DRAWN:
@@ -127,6 +131,8 @@ class Layouts(Case):
             found = said_of(text_bytes(said), row, justify, layout)
             self.must(f"{said} {text}", found == want, (found, want))
         pair = drawn(b"a\x0a\xc8a", 5, 2, Layout(strip=b"\x0a"), GERMAN)
+        self.must("letters", [letters_of_text(text, ENGLISH) for text in (
+            b"a\xe6b", b" \x03 ", b"a\x8a\x03b")] == [None, b"", b"ab"])
         self.must("a pair", not isinstance(pair, Refused)
                   and pair[0].cells == b"\x0b\x0ba{\x0a\x0a", pair)
         parted = drawn(b"\xc8\x0aa", 5, 2, Layout(strip=b"\x0a"), GERMAN)
@@ -200,7 +206,8 @@ class Rows(Case):
         return rows
 
     def test_drawn_here(self) -> None:
-        """What these tools draw of each is what the program sends, or refuses."""
+        """What these tools draw of each is what the program sends, or refuses; its letters are
+        those of the page, whatever the layout."""
         for text, row, justify, words, want in self.rows():
             layout = layout_of(words) if words != "-" else PLAIN
             if layout is None:
@@ -212,6 +219,9 @@ class Rows(Case):
                 enumerate(page_rows(lines), 1))
             self.must(f"{text} {row} {justify} {words}", found == (
                 Refused(fault.number, fault.at or 0) if fault else want), (found, want))
+            letters = letters_of_text(bytes.fromhex(text), ENGLISH)
+            if not isinstance(lines, Refused):
+                self.must(f"letters of {text}", letters == letters_on(page_rows(lines)), letters)
 
     def test_schedule_sends_and_check_accepts(self) -> None:
         for number, (text, row, justify, layout, want) in enumerate(self.rows()):

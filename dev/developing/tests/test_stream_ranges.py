@@ -3,7 +3,7 @@ from __future__ import annotations
 
 import os
 
-from developing.stl import gsi_block, tti_block
+from developing.stl import gsi_block, subtitle_blocks, tti_block
 from subtitles.cli.channel.feed import Awaited
 from subtitles.cli.channel.schedule import Queue
 from subtitles.common.times import Between, FRAMES_OF_A_DAY, TICKS, time_of
@@ -169,6 +169,12 @@ class Read(Case):
         path = programme(self, [(9, 20), (20, 30), (40, 50)], 2)
         with open(path, "rb") as file:
             self.must("read", subtitles_read(file.read()) == subtitles_in(self.bench.program, path))
+        data = b"".join(subtitle_blocks(at, 50 * at, 50 * at + 9, 20 + at, at % 4, text)
+                        for at, text in enumerate((b"one", b"", b"x" * 38 + b"\x8a" + b"y" * 80,
+                                                   b"\x8f".join([b"z"] * 60))))
+        path = self.write("long.stl", gsi_block(b"", 6, 4) + data)
+        shown = subtitles_in(self.bench.program, path)
+        self.must("long texts", len(shown) == 4 and subtitles_read(self.read(path)) == shown, shown)
 
     def test_words(self) -> None:
         """The options for some frames, as `check` takes them."""
