@@ -368,10 +368,34 @@ class Listed(Case):
                          packets=packets_told(self, pes_packet(25 * TICKS, [NO_C4, CLOSING])),
                          pes=(0, 0), explanation=Explanation(otherwise="drawn otherwise"))
         part.names.given = stl
-        found = [(one["means"], one["do"]) for one in faults_of(verdict_of([part]))]
+        verdict = verdict_of([part])
+        firsts = {line[:2]: means or do for line, means, do in reversed(rows)}
+        self.assertEqual(list(hints_of(verdict)), [
+            f"{number}: {words or 'a byte of the page comes with even parity'}"
+            for number in dict.fromkeys(line[:2] for line, _, _ in rows)
+            for words in [firsts[number]]])
+        found = [(one["means"], one["do"]) for one in faults_of(verdict)]
         self.assertEqual(found, [
             (means or plain(known[int(line[:2])].means), do or plain(known[int(line[:2])].do))
             for line, means, do in rows])
+
+    def test_pes_packets(self) -> None:
+        """The PES packet of each fault with its PTS and its time, also the first one, by an origin
+        of 0 and over a wrap; none where no PES packet is in a frame."""
+        lines = [*(f"refused 38 UnitLength pes {at}" for at in range(3)), *(
+            f"refused 68 Parity frame {time_of(frame)} packet 0" for frame in (0, 75, 150)),
+                 "refused 73 Gap frame 00:00:00:10", "7 faults"]
+        wanted = [(at, 75 * at) for at in (0, 1, 2, 0, 1, 2)]
+        for origin in (0, ORIGIN, BEFORE):
+            pts = [(origin + TICKS * frame) % CLOCK for frame in (0, 75, 150)]
+            part = part_with(0, 150, origin, answer(lines, path=self.path("list")), pes=(0, 2),
+                             packets=packets_told(self, b"".join(pes_packet(one, [HEADER, CLOSING])
+                                                                 for one in pts)))
+            part.names.given = programme(self, [(25, 50)])
+            found = [(one["pes"], one["pes_pts"], one["pes_time"])
+                     for one in faults_of(verdict_of([part]))]
+            self.assertEqual(found, [*((at, pts[at], time_of(frame)) for at, frame in wanted),
+                                     (None, None, None)])
 
     def test_cells(self) -> None:
         """Of a cell that is not as it is due what is due and what is held, whatever is allowed."""

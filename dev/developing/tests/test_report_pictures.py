@@ -10,7 +10,7 @@ from unittest import mock
 from developing.stl import gsi_block, tti_block
 from subtitles.common.markup import Markup
 from subtitles.formats.stl import Subtitle, SubtitleFile
-from subtitles.report.drawing import Strip, end_of_knowledge, runs_of
+from subtitles.report.drawing import Strip, end_of_knowledge, mark_unheard, runs_of
 from subtitles.report.faults import Entries, Entry, Looked, looked_at
 from subtitles.report.pictures import (
     DIFFERENT, Figures, NOTHING, NOT_KNOWN, NOT_READ, SAME, marks_words)
@@ -150,6 +150,32 @@ class Seen(unittest.TestCase):
             self.assertEqual(entry and entry.index, wanted, begin)
         several = faults(*(f"refused 68 Parity frame @{at}" for at in (30, 35, 40)))
         self.assertEqual(Entries(none, none, [], [], several).entry_frames, [30])
+
+    def test_most_pictures(self) -> None:
+        """The first 500 that are not as due have pictures; each of them is known not to be."""
+        some = [Subtitle(at, at, 10 * at, 10 * at + 5, 20, 2, b"") for at in range(1, 1004)]
+        figures: Any = SimpleNamespace(kind_at=lambda frame: (SAME, DIFFERENT, NOTHING, NOT_KNOWN)[
+            frame // 10 % 4], at=lambda frame: Markup(f"at {frame}"))
+        held: Any = SimpleNamespace(sendings_between=lambda begin, end: 0)
+        for count in (499, 500, 501, 502, 1003):
+            found = Entries(figures, held, some[:count], [Looked(0, one.begin) for one in some],
+                            faults())
+            odd = [one.index for one in some[:count] if one.index % 4 in (1, 2)]
+            self.assertEqual((sorted(found.odd), sorted(found.drawn), sorted(found.unknown)), (
+                odd, odd[:500], [one.index for one in some[:count] if one.index % 4 == 3]))
+
+    def test_unheard(self) -> None:
+        """Marked are the frames that go back, those around what is passed over, and the last that
+        was heard where any entry says that reading ended behind it."""
+        told = ["refused 68 Parity frame @10", "refused 38 UnitLength pes 3", "refused 44 Cut pes 7"]
+        for count, last, stop, wanted in ((3, 60, 7, [60]), (3, 60, 8, []), (2, 60, 7, []),
+                                          (3, None, 7, [])):
+            made = faults(*told[:count])
+            seen: Any = SimpleNamespace(falls=[30], doubted=lambda: [(40, 45)], last_frame=last,
+                                        stop=stop)
+            mark_unheard(made, seen)
+            self.assertEqual(list(made.spans), [(10, 10), (30, 30), (40, 45), *(
+                (one, one) for one in wanted)])
 
     def test_end_of_knowledge(self) -> None:
         """The frame behind the last one that was heard, unless all is known that is due."""

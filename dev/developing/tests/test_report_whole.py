@@ -9,7 +9,7 @@ from typing import Any
 from developing.pes import pes_packet
 from subtitles.clock.start import GIVEN, RECORDING
 from subtitles.common.markup import escape
-from subtitles.common.times import TICKS
+from subtitles.common.times import Spans, TICKS
 from subtitles.formats.listing import NamedFault
 from subtitles.formats.stl import Subtitle
 from subtitles.judging.part import Explanation
@@ -19,11 +19,13 @@ from subtitles.judging.verdict import Gap, Unjudged, Verdict
 from subtitles.recording.notices import Notice
 from subtitles.report import page as report_page
 from subtitles.report.report import BETWEEN, DELAY, Report, Subject
+from subtitles.report.transmission import Seen, pes_words
 from subtitles.request.commands import CommandWords
 from subtitles.stream.gaps import Place
-from subtitles.stream.receiver import BLANK_PAGE, Held
+from subtitles.stream.packets import Packets, Run
+from subtitles.stream.receiver import BLANK_PAGE, Held, Timeline
 from .bench import Case, example
-from .parts import answer, asked_for, in_page, packets_told, part_with
+from .parts import answer, asked_for, fault_of, in_page, packets_told, part_with
 from .sent import CLOSING, HEADER
 from .test_judging_verdicts import verdict_of
 
@@ -132,3 +134,34 @@ class Whole(Case):
             verdict.request = asked
             made = Report(Subject(verdict, part, 1))
             self.must(f"{number} {within}", made.seen and made.seen.halt == halt, made.seen)
+
+    def test_passed_over(self) -> None:
+        """What stands around PES packets that can't be read: one, some in a row, the first, the
+        last; with their PTS where they have been read."""
+        between = " The last frame before {}: {}; the next one: {}. What {} on air is not known"
+        for first, last, number, words in (
+                (2, 2, 33, "PES packet 2 can't be read." + between.format(
+                    "it", "00:00:01:00", "00:00:03:00", "it puts")),
+                (2, 3, 33, "PES packets 2 to 3 can't be read." + between.format(
+                    "them", "00:00:01:00", "00:00:04:00", "they put")),
+                (2, 3, 38, "PES packets 2 to 3 can't be read. PTS: 180000 (00:00:02:00) to 270000 "
+                 "(00:00:03:00)." + between.format("them", "00:00:01:00", "00:00:04:00",
+                                                   "they put")),
+                (0, 1, 33, "PES packets 0 to 1 can't be read. The first frame after them: "
+                 "00:00:02:00."),
+                (5, 5, 33, "PES packet 5 can't be read. The last frame before it: 00:00:04:00.")):
+            held = Timeline(Packets(0, [Run(at, 1, TICKS * 25 * at, 0, "h", "8808081", 2, number if
+                                            first <= at <= last else 0) for at in range(6)]),
+                            (0, 0x88), 0)
+            seen = Seen(held, Spans([(first, last)]), None)
+            found = in_page(pes_words(fault_of(f"refused {number} Name pes {first}"),
+                                      None if first == last else last, seen))
+            self.must(words, escape(words) in found, found)
+            self.must(f"{words}: doubted", list(seen.doubted()) == (
+                [] if first == 0 else [(25 * (first - 1), 25 * (last + 1) - 1 if last < 5 else
+                                        100)]), [*seen.doubted()])
+            for ending in (None, fault_of("refused 44 Cut pes 6")):
+                seen = Seen(held, Spans(), ending)
+                self.must(f"{ending}: whole", seen.is_whole() == (ending is None) and [
+                    seen.state_at(one) is None for one in (held.last, held.last + 1)] == [
+                        False, ending is not None])
