@@ -5,7 +5,6 @@ from __future__ import annotations
 
 import contextlib
 import io
-import itertools
 import os
 import random
 from types import SimpleNamespace
@@ -13,30 +12,24 @@ from typing import Any
 from unittest import mock
 
 from developing.pes import packet, pes_packet
-from developing.stl import gsi_block, tti_block
 from subtitles.clock.start import Clock, Found, GIVEN
 from subtitles.common.program import proved_line
-from subtitles.common.times import CLOCK, Span, TICKS, time_of
-from subtitles.formats.listing import NamedFault, fault_of_line, meanings, plain
-from subtitles.formats.stl import Subtitle
-from subtitles.judging import faults as judging_faults
+from subtitles.common.times import CLOCK, Span, TICKS
+from subtitles.formats.listing import fault_of_line
 from subtitles.judging.causes import (
-    ATTRIBUTE, Cause, Causes, EARLY, IN_PAUSE, LATE, NEVER, NOT_ERASED, OTHER, PLACE, TEXT, UNKNOWN)
-from subtitles.judging.faults import (
-    FaultPlace, end_words, fault_place, faults_of, gap_words, hints_of, letter_words)
-from subtitles.judging.part import Explanation, Part, tell_causes
+    ATTRIBUTE, Cause, EARLY, IN_PAUSE, LATE, NEVER, NOT_ERASED, OTHER, PLACE, TEXT, UNKNOWN)
+from subtitles.judging.faults import end_words, fault_place, gap_words, hints_of
+from subtitles.judging.part import Explanation, tell_causes
 from subtitles.judging.sentence import Count, Facts, of_causes, what_is_wrong
-from subtitles.judging.status import Severity
-from subtitles.judging.subtitles import AT_MIDNIGHT
-from subtitles.judging.transmissions import DuePages, program_answer
+from subtitles.judging.transmissions import program_answer
 from subtitles.request.commands import CLEAR, Listener, Progress, Speech
 from subtitles.request.request import Unclear
 from subtitles.stream.packets import Packets, Run
-from subtitles.stream.receiver import BLANK_PAGE, HIT, Meeting
+from subtitles.stream.receiver import BLANK_PAGE, Meeting
 from .bench import Case
 from .judged import Heard
-from .parts import answer, asked_for, fault_of, packets_told, part_with, script, timeline_of
-from .sent import CLOSING, HEADER, ORIGIN, programme, row
+from .parts import answer, asked_for, packets_told, part_with, script, timeline_of
+from .sent import CLOSING, HEADER, ORIGIN, row
 from .test_judging_verdicts import verdict_of
 
 BEFORE = CLOCK - 60 * TICKS  # an origin whose frames go on over the wrap
@@ -281,163 +274,6 @@ class Words(Case):
                           heard.lines == [
                     *(f"cause {at}" for at in range(min(count, 40))),
                     *[f".. {count - 40} more causes"] * (count > 40)], heard.lines)
-
-
-class Listed(Case):
-    """All that is known of each fault, as results have it."""
-
-    LINES = {"a": ["accepted 1 frames 1 transmissions"], "r": [
-        "refused 63 Begin frame 00:00:0{}:01", "refused 33 Flags pes 1", "ended 33 Flags pes 3",
-        "refused 72 Content frame 00:00:0{}:02 row 1 column 2", "ended 72 Content frame "
-        "00:00:0{}:03", "refused 72 Content frame 00:00:0{}:04 row 1 column 0", "refused 74 Late "
-        "frame 00:00:0{}:05", "5 faults"], "s": ["refused 50 Character block {} at 1", "1 faults"]}
-
-    def part(self, kind: str, number: int, stl: str) -> Part:
-        """A part of the second of its number, whose subtitles come in it alone; the causes of its
-        faults are those of that number's subtitle and of those around it."""
-        lines = [line.replace("{}", str(number)) for line in self.LINES[kind]]
-        times = [f"00:00:0{at}:00" for at in (number, number + 1)]
-        frames = range(25, 151, 25)
-        programme = DuePages([Subtitle(at, at, frame, frame + 20, 22, 2, b"") for at, frame in
-                              enumerate(frames, 1)], [(b"[".ljust(40), *BLANK_PAGE[1:])] * 6)
-        causes = Causes(programme, timeline_of(self, b""))
-        causes.named = {at: cause(at, NEVER) for at in range(len(frames))}
-        causes.of_edge = {63: number, 74: number + 1}
-        made = part_with(25 * number, 25 * number + 24, 0, answer(lines, path=self.path(
-            f"list{number}")), number, request=asked_for("one.stl", "one.pes", "--from", times[0],
-                                                         "--to", times[1]),
-                         explanation=Explanation(causes if kind == "r" else None))
-        made.names.given = stl
-        return made
-
-    def test_of_parts(self) -> None:
-        """Those of each part in their order, each with the part's number, its severity, its own
-        subtitle, where it ended, and the subtitle whose fault it is; before them those without a
-        number, each of its part."""
-        stl = programme(self, [(25 * at, 25 * at + 20) for at in range(1, 7)])
-        severity = Severity(self.write("severity", b"others warning\nnot shown error\n63 error\n"))
-        for kinds in itertools.chain(*(itertools.product("ars", repeat=count) for count in range(
-                1, 4))):
-            verdict = verdict_of([self.part(kind, number, stl)
-                                  for number, kind in enumerate(kinds, 1)], severity)
-            verdict.request = asked_for("one.stl", "one.pes", "--option", "german")
-            last = len(kinds)
-            verdict.named = [NamedFault("never sent", "a", f"00:00:0{last}:07", "00:00:09:00",
-                                        part=last), NamedFault("not shown", "b", block=2)]
-            wanted: list[tuple[Any, ...]] = [
-                (last, None, "warning", last, "00:00:09:00", None, None),
-                (1, None, "error", 2, None, None, None)]
-            for number, kind in enumerate(kinds, 1):
-                some: dict[str, list[tuple[Any, ...]]] = {"a": [], "s": [
-                    (number, 50, "warning", number, None, None, None)], "r": [
-                    (number, 63, "error", number, None, None, number + 1),
-                    (number, 33, "warning", None, None, 3, None),
-                    (number, 72, "warning", number, f"00:00:0{number}:03", None, number),
-                    (number, 72, "warning", number, None, None, number),
-                    (number, 74, "warning", number, None, None, number + 2)]}
-                wanted += some[kind]
-            found = [(one["part"], one["number"], one["severity"],
-                      one["subtitle"] and one["subtitle"]["position"], one["until"],
-                      one["until_pes"], one["cause"] and one["cause"]["subtitle"]["position"])
-                     for one in faults_of(verdict)]
-            self.assertEqual(found, wanted, kinds)
-            self.assertLessEqual({one["cause"]["text"] for one in faults_of(verdict)
-                                  if one["cause"]}, {"\u00c4"})
-        self.assertEqual([one["line"] for one in faults_of(verdict)][:2], [
-            "refused never sent frame 00:00:03:07", "refused not shown block 2"])
-
-    def test_means_and_do(self) -> None:
-        """What is known of the case stands in the place of what the manual says of its number."""
-        night = 2_159_990
-        stl = self.write("one.stl", gsi_block(b"", 3, 3).replace(b"STL25.011", b"STL25.010")
-                         + b"".join(tti_block(at, begin, end, 20, 2, b"\xc8a") for at, begin, end in (
-                             (1, 25, 50), (2, night, 5), (3, 10, 20))))
-        known = meanings()
-        rows: list[tuple[str, str, str]] = [
-            ("67 Control frame 00:00:01:00 packet 0", "C4 (erase page) is clear: a repeat that does "
-             "not erase", ""), ("50 Character block 1 at 0", "",
-                                "the whole file draws in --option german, swedish"),
-            ("50 Character block 1 at 2", "", ""), ("21 Times block 2", "", AT_MIDNIGHT),
-            ("21 Times block 1", "", ""), ("56 Order block 3", "", AT_MIDNIGHT),
-            ("56 Order block 2", "", ""), ("13 Display block 0", "",
-                                           "its DSC is 0, open subtitles: --open takes it"),
-            ("72 Content frame 00:00:01:00 row 1 column 1", "", "drawn otherwise"),
-            ("68 Parity frame 00:00:01:00 packet 0", "", "")]
-        part = part_with(0, 99, 0, answer([*(f"refused {line}" for line, _, _ in rows),
-                                           f"{len(rows)} faults"], path=self.path("list")),
-                         packets=packets_told(self, pes_packet(25 * TICKS, [NO_C4, CLOSING])),
-                         pes=(0, 0), explanation=Explanation(otherwise="drawn otherwise"))
-        part.names.given = stl
-        verdict = verdict_of([part])
-        firsts = {line[:2]: means or do for line, means, do in reversed(rows)}
-        self.assertEqual(list(hints_of(verdict)), [
-            f"{number}: {words or 'a byte of the page comes with even parity'}"
-            for number in dict.fromkeys(line[:2] for line, _, _ in rows)
-            for words in [firsts[number]]])
-        found = [(one["means"], one["do"]) for one in faults_of(verdict)]
-        self.assertEqual(found, [
-            (means or plain(known[int(line[:2])].means), do or plain(known[int(line[:2])].do))
-            for line, means, do in rows])
-
-    def test_pes_packets(self) -> None:
-        """The PES packet of each fault with its PTS and its time, also the first one, by an origin
-        of 0 and over a wrap; none where no PES packet is in a frame."""
-        lines = [*(f"refused 38 UnitLength pes {at}" for at in range(3)), *(
-            f"refused 68 Parity frame {time_of(frame)} packet 0" for frame in (0, 75, 150)),
-                 "refused 73 Gap frame 00:00:00:10", "7 faults"]
-        wanted = [(at, 75 * at) for at in (0, 1, 2, 0, 1, 2)]
-        for origin in (0, ORIGIN, BEFORE):
-            pts = [(origin + TICKS * frame) % CLOCK for frame in (0, 75, 150)]
-            part = part_with(0, 150, origin, answer(lines, path=self.path("list")), pes=(0, 2),
-                             packets=packets_told(self, b"".join(pes_packet(one, [HEADER, CLOSING])
-                                                                 for one in pts)))
-            part.names.given = programme(self, [(25, 50)])
-            found = [(one["pes"], one["pes_pts"], one["pes_time"])
-                     for one in faults_of(verdict_of([part]))]
-            self.assertEqual(found, [*((at, pts[at], time_of(frame)) for at, frame in wanted),
-                                     (None, None, None)])
-
-    def test_cells(self) -> None:
-        """Of a cell that is not as it is due what is due and what is held, whatever is allowed."""
-        data = pes_packet(25 * TICKS, [HEADER, row(20, b"\x01xyz"), CLOSING])
-        due = (*BLANK_PAGE[:19], b"  [b".ljust(40), *BLANK_PAGE[20:])
-        lines = [f"refused 72 Content frame 00:00:01:00 row 20 column {at}" for at in (2, 3, 4)]
-        for within, (option, letter) in itertools.product((0, 3), (
-                ("english", "\u2190"), ("german", "\u00c4"))):
-            part = part_with(0, 99, 0, answer([*lines, "3 faults"], path=self.path("cells")),
-                             packets=packets_told(self, data), pes=(0, 0), due=lambda: DuePages(
-                                 [Subtitle(1, 1, 25, 50, 20, 2, b"")], [due]))
-            part.names.given = programme(self, [(25, 50)])
-            verdict = verdict_of([part])
-            verdict.request = asked_for("one.stl", "one.pes", "--within", str(within), "--option",
-                                        option)
-            self.assertEqual([[(one[name]["code"], one[name]["character"]) for name in (
-                "due", "held")] for one in faults_of(verdict)], [
-                    [("5B", letter), ("01", None)], [("62", "b"), ("78", "x")],
-                    [("20", " "), ("79", "y")]])
-
-    def test_letter_of_parity(self) -> None:
-        """The first letter that comes with even parity, else the first other byte; of the subtitle
-        that is due, or the page behind one; nothing where it is not known what is held."""
-        due = b"\x0b\x0bAb \x01c"
-        pages = [((due if row == 21 else b"").ljust(40)) for row in range(24)]
-        part = part_with(0, 99, 0, due=lambda: DuePages(
-            [Subtitle(1, 1, 25, 50, 22, 2, b"")], [tuple(pages)]))
-        rows: list[tuple[tuple[int, ...], str]] = [
-            ((), "a byte"), ((0,), "a byte, start box,"), ((4, 5), "a byte, a space,"),
-            ((5,), "a byte, alpha red,"), ((3,), 'the letter "b"'), ((2, 3, 6), 'the letter "A"'),
-            ((0, 6), 'the letter "c"')]
-        for (hit, words), (frame, whose) in itertools.product(rows, (
-                (24, "the page"), (25, 'subtitle 1, "Ab  c",'),
-                (50, "the page behind subtitle 1"))):
-            fault = fault_of(f"refused 68 Parity frame {time_of(frame)} packet 1")
-            cells = bytes(HIT if at in hit else code for at, code in enumerate(pages[21]))
-            held = FaultPlace(None, None, (*pages[:21], cells, *pages[22:]))
-            said = words if frame == 25 or not hit else "a byte, a space,"
-            for place, wanted in ((held, f"{said} of {whose} comes with even parity"),
-                                  (held._replace(rows=None), "")):
-                with mock.patch.object(judging_faults, "fault_place", return_value=place):
-                    self.assertEqual(letter_words(fault, part), wanted, (hit, frame))
 
 
 class Calls(Case):

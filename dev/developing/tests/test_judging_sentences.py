@@ -261,7 +261,7 @@ ROWS: tuple[tuple[bytes, Sight, str], ...] = (
     (b"\x0b\x0b\x0a\x0aHi", Sight.NONE, NO_BOX), (b"Hi", Sight.NONE, NO_BOX),
     (b"\x0b\x0b\x1dHi", Sight.NONE, ALIKE), (b"\x0b\x0b\x03\x1dHi", Sight.NONE, ALIKE),
     (b"\x0b\x0b\x03\x1d\x04\x1dHi", Sight.NONE, ALIKE), (b"\x0b\x1dHi", Sight.NONE, ALIKE),
-    (b"\x0b\x0b\x1d\x01\x07Hi", Sight.NONE, ALIKE),
+    (b"\x0b\x0b\x1d\x01\x07Hi", Sight.NONE, ALIKE), (b"\x1dHi", Sight.NONE, ALIKE),
     (b"\x0bHi", Sight.SOME, ONE), (b"\x0b\x07\x0bHi", Sight.SOME, ONE),
     (b"\x0bHi\x0a\x0a", Sight.SOME, ONE),
     (b"\x0b\x0bH\x0a\x0ai", Sight.SOME, 'no set shows "i", outside of a box'),

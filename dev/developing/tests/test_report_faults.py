@@ -213,6 +213,9 @@ class Lists(unittest.TestCase):
         entry = Entry(1, fault_of(f"refused 68 Parity frame {at(30)}"))
         entry.add(fault_of(f"refused 68 Parity frame {at(80)}"))
         self.assertEqual(in_page(self.made().details(entry)), "subtitle 1")
+        for line, is_read in (("refused 74 End", True), (f"refused 68 P frame {at(30)}", False)):
+            said = in_page(self.made().item(Entry(1, fault_of(line))))
+            self.assertEqual("followed up to there" in said, not is_read, said)
 
     def test_causes(self) -> None:
         """A row for each of the first 1000, what was sent in words, and how many are left out."""

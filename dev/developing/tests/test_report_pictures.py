@@ -167,9 +167,11 @@ class Seen(unittest.TestCase):
     def test_unheard(self) -> None:
         """Marked are the frames that go back, those around what is passed over, and the last that
         was heard where any entry says that reading ended behind it."""
-        told = ["refused 68 Parity frame @10", "refused 38 UnitLength pes 3", "refused 44 Cut pes 7"]
-        for count, last, stop, wanted in ((3, 60, 7, [60]), (3, 60, 8, []), (2, 60, 7, []),
-                                          (3, None, 7, [])):
+        told = ["refused 68 Parity frame @10", "refused 38 UnitLength pes 3",
+                "refused 44 Cut pes 7"]
+        rows: list[tuple[int, int | None, int, list[int]]] = [
+            (3, 60, 7, [60]), (3, 60, 8, []), (2, 60, 7, []), (3, None, 7, [])]
+        for count, last, stop, wanted in rows:
             made = faults(*told[:count])
             seen: Any = SimpleNamespace(falls=[30], doubted=lambda: [(40, 45)], last_frame=last,
                                         stop=stop)
