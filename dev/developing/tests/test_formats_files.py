@@ -8,7 +8,7 @@ import random
 import shutil
 import subprocess
 import unittest
-from typing import Callable, NamedTuple, Sequence
+from typing import Any, Callable, NamedTuple, Sequence
 from unittest import mock
 
 from developing.stl import gsi_block, tti_block
@@ -121,7 +121,7 @@ class Files(Case):
         comments and user data; the last one may have no end."""
         blocks, groups, frame = list[bytes](), list[Grouped](), chance.randrange(50)
         for number in range(1, chance.randrange(2, 7)):
-            begin, end = frame, frame + chance.randrange(1, 40)
+            begin, end = frame, frame + chance.choice((0, *range(1, 40)))
             frame, own, text = end + chance.choice((0, 0, 30)), list[int](), b""
             is_none = chance.randrange(6) == 0
             last = chance.choice((LAST, LAST, LAST, 3)) if number == 5 else LAST
@@ -177,7 +177,15 @@ class Files(Case):
                 self.assertEqual([(one.index, one.begin, one.end, one.text) for one in
                                   stl.subtitles_read(data)],
                                  [(at, one.begin, one.end, one.text) for at, one in enumerate(
-                                     groups, 1) if one.begin is not None])
+                                     groups, 1) if one.begin is not None and one.end != one.begin])
+
+    def test_letters(self) -> None:
+        """A byte of a text, and its character, but of control codes."""
+        for byte in {*range(256)} - {0x8F}:
+            file = SubtitleFile(self.write("one.stl", gsi_block(b"", 1, 1) + tti_block(
+                1, 25, 50, 20, 2, b"a" + bytes([byte]))))
+            self.assertEqual(file.letter(1, 1), (f"{byte:02X}", None if byte < 0x20 or 0x7F <= byte
+                                                 < 0xA0 else letters_of(bytes([byte]))))
 
 
     def test_bounds(self) -> None:
@@ -234,6 +242,16 @@ class Lines(unittest.TestCase):
                          (60, 21, 56, 61, 73, 45, 72, 50, 67, 63, 74))
         self.assertEqual((listing.LETTERS, listing.WITH_CAUSE, listing.LOSSES, listing.UNDECIDED),
                          ((50, 51), {63, 72, 74}, {45, 79}, 78))
+
+    def test_without_numbers(self) -> None:
+        """Faults without a number: their lines, what the manual says, its words without marks."""
+        for more, place in (({}, ""), ({"block": 0}, " block 0"), ({"block": 7}, " block 7"),
+                            ({"time": "00:00:01:00"}, " frame 00:00:01:00")):
+            one: Any = listing.NamedFault("not shown", "words", **more)
+            self.assertEqual(one.line, f"refused not shown{place}")
+        self.assertEqual({*listing.named_meanings()}, {*listing.FAULT_NAMES})
+        self.assertTrue(all(map(all, listing.named_meanings().values())))
+        self.assertEqual(listing.plain("`a` [b c](d#e) f, [g](h)"), "a b c f, g")
 
     def test_whole(self) -> None:
         """A line is one of these as a whole alone: with something before or behind it, or without

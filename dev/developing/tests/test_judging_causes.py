@@ -312,6 +312,7 @@ BY_HAND: list[tuple[str, str, list[tuple[int, str, int | None, int | None, str |
     ("100-150 a;200-250 b", "0:z 100:a 150:- 200:b 250:-", [(0, "unknown", None, None, "a")]),
     ("100-150 a;200-250 b", "0:- 100:a 150:b 250:-", [(1, "early", 50, None, "b")]),
     ("100-150 a", "0:- 100:a 120:z 150:-", [(0, "wrong text", None, None, "z")]),
+    ("100-150 a", "0:- 100:a 120:z 130:a 160:-", [(0, "wrong text", None, None, "z")]),
     ("50-60 c;100-150 a;300-350 b", "0:- 50:c 110:- 120:b 150:- 300:b 350:-", [
         (0, "not erased", None, None, "c"), (1, "another subtitle's text", None, 2, "b")]),
     # No PES packet comes for some frames, of what else sends one in each: up to when the page is

@@ -37,7 +37,8 @@ NONE = ("", "fit,fit", "before=0", "before=0E", "before=00", "before=0B0B0B0B0B0
 MEANS = [("row=-0,left=00,free=01", ""), ("before=*", "before="), ("before=0b*0d", "before=0B*0D"),
          ("white,up", "up,white"), ("before=0B0B,after=0A0A,strip=", ""), ("row=-22", "row=-22"),
          ("row=22", "row=22"),
-         ("strip=1f00", "strip=1F00"), ("right=09", "right=9"), ("before=0B*", "before=0B")]
+         ("strip=1f00", "strip=1F00"), ("right=09", "right=9"), ("before=0B*", "before=0B"),
+         ("before=0B0B*07", "before=0B0B*07")]
 # Text, VP, JC, TEXT, and the lines that are drawn: row, column, cells; or the fault.
 DRAWN = [
     ("Hi", 22, 2, "", "22 17 0B0B4869 0A0A"), ("Hi", 22, 2, "white", "22 16 0B0B074869 0A0A"),
@@ -202,7 +203,7 @@ class Rows(Case):
     def rows(self) -> list[list[str]]:
         with open(os.path.join(DEV, "vectors", "layouts.tsv"), encoding="utf-8") as file:
             rows = [line.split("\t") for line in file.read().splitlines()]
-        self.must("all rows", len(rows) == 146)
+        self.must("all rows", len(rows) == 150)
         return rows
 
     def test_drawn_here(self) -> None:
