@@ -12,7 +12,9 @@ from subtitles.common.program import TOP, read
 from subtitles.common.times import Span, Spans, TICKS, time_of
 from subtitles.formats.listing import fault_of_line
 from subtitles.formats.stl import Subtitle
-from subtitles.judging.causes import Causes, NAMES, count_line, counts_of, names_line
+from subtitles.judging.causes import (
+    Cause, Causes, EARLY, LATE, NAMES, NEVER, NOT_ERASED, OTHER, TEXT, Wording, count_line,
+    counts_of, names_line)
 from subtitles.judging.transmissions import DuePages
 from subtitles.judging.verdict import frames_of
 from subtitles.stream.packets import Packets
@@ -403,6 +405,32 @@ class ByHand(unittest.TestCase):
             causes.name(told([], (63, 103), (74, 140)))
             found = tuple(one and one.place for one in (causes.of(63, 103), causes.of(74, 140)))
             self.assertEqual(found, wanted, (held_from, first, last))
+
+    def test_values(self) -> None:
+        """A cause for machines, and in words: of which subtitle, by how much, what is sent, and of
+        which other one the text is."""
+        pages = [page_of(name) for name in "abc"]
+        programme = DuePages([Subtitle(at, at + 5, 100 * at, 100 * at + 50, 20, 2, b"")
+                              for at in (1, 2, 3)], pages)
+        wording = Wording(Causes(programme, empty()), "english")
+        due, other, strange = (f"Line {name} / and more {name}" for name in "acz")
+        for name, frames, sent, of, words, said in (
+                (LATE, 3, "a", None, "", "late by 3 frames"),
+                (EARLY, 1, None, None, "why", "early by 1 frame: why"),
+                (NOT_ERASED, None, "a", None, "", "not erased at 00:00:06:00"),
+                (TEXT, None, "z", None, "why", f'wrong text: why, sent: "{strange}"'),
+                (NEVER, None, None, None, "", "never sent"),
+                (OTHER, None, "c", 2, "", f"another subtitle's text at its time, sent: \"{other}\""
+                 " of subtitle 3 (SN 8)")):
+            one = Cause(0, name, frames, sent and page_of(sent), of, words, 0)
+            known = wording.values(one)
+            self.assertEqual(
+                (known["cause"], known["frames"], known["text"], known["sent"], known["other"],
+                 known["other_position"], known["words"], known["subtitle"]),
+                (name, frames, due, sent and f"Line {sent} / and more {sent}", of and 8, of and 3,
+                 said, {"position": 1, "number": 6, "begin": "00:00:04:00", "end": "00:00:06:00"}))
+            self.assertEqual(wording.line(one), "cause: subtitle 1 (SN 6) at 00:00:04:00, "
+                             f'"{due}": {said}')
 
     def test_counts(self) -> None:
         """Of several parts together, how many of each name, in the order of the names."""

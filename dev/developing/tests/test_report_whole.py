@@ -38,14 +38,18 @@ class Whole(Case):
         "packet 0", "refused 68 Parity frame 00:00:03:15 packet 1", "3 faults"], "b": [
             "refused 19 Row block 2", "refused 16 Cumulative block 3", "2 faults"]}
 
+    def setUp(self) -> None:
+        super().setUp()
+        self.packets = packets_told(self, b"".join(pes_packet(
+            TICKS * frame, [HEADER, CLOSING]) for frame in (75, 85, 87, 90)))
+
     def verdict(self, kinds: str, is_fitted: bool = False, is_read: bool = True) -> Verdict:
         """A verdict on parts, of which the last is fitted; with places, notes, warnings."""
-        packets = packets_told(self, b"".join(pes_packet(TICKS * frame, [HEADER, CLOSING])
-                                              for frame in (75, 85, 87, 90)))
         parts = []
         for number, kind in enumerate(kinds, 1):
-            given: dict[str, Any] = {"packets": packets, "pes": (0, 3), "due": lambda: DuePages(
-                [Subtitle(1, 1, 75, 100, 20, 2, b"")], [BLANK_PAGE], Held())} if is_read else {}
+            given: dict[str, Any] = {
+                "packets": self.packets, "pes": (0, 3), "due": lambda: DuePages([Subtitle(
+                    1, 1, 75, 100, 20, 2, b"")], [BLANK_PAGE], Held())} if is_read else {}
             part = part_with(75, 99, 0, answer(self.KINDS[kind], path=self.path(f"{number}.txt")),
                              number, RECORDING if is_fitted and number == len(kinds) else GIVEN,
                              explanation=Explanation(delays=[0], was_read=True,
@@ -67,9 +71,10 @@ class Whole(Case):
         is lost, each note, each warning, each fault without a number, and of each part its line,
         its faults and what is drawn otherwise."""
         typed = CommandWords("tools/qc", self.bench.program)
-        for kinds, is_fitted, named, why in itertools.product(
-                ("", "a", "r", "b", "aa", "ar", "ra", "rar", "bb"), (False, True), (0, 1, 3),
-                (None, "why")):
+        cases: list[tuple[bool, int, str | None]] = [
+            (False, 0, None), (True, 0, None), (False, 1, None), (True, 3, None), (False, 1, "why")]
+        for kinds, (is_fitted, named, why) in itertools.product(
+                ("", "a", "r", "b", "ar", "rar", "bb"), cases):
             if not kinds and (is_fitted or not named and not why):
                 continue
             verdict = self.verdict(kinds, is_fitted, "b" not in kinds)
@@ -95,6 +100,8 @@ class Whole(Case):
             counts = [f"{len(self.KINDS[kind]) - 1}" for kind in kinds]
             self.assertEqual(re.findall('data-name="Faults">([0-9]+)</td><td data-name="Causes',
                                         page), counts if len(kinds) > 1 and not why else [])
+            self.assertEqual(page.count('data-name="From">00:00:03:00</td><td data-name="To">00:00:'
+                                        '03:24<'), len(kinds) if len(counts) > 1 and not why else 0)
 
     def test_made_of(self) -> None:
         """What is said of a part, and what is drawn of it: by what is refused, whether something
