@@ -170,6 +170,13 @@ class Rowed(unittest.TestCase):
             other = (*one[:row], bytes(cells), *one[row + 1:])
             self.assertEqual(differences(one, other), [(row + 1, column)])
 
+    def test_letters(self) -> None:
+        """Each picture has the letters of its header's national option, of the same row too."""
+        for option, letter in ((0, "\u2190"), (4, "\u00c4"), (0, "\u2190"), (7, "\u25a1")):
+            header = bytes([*SUBTITLE_HEADER[:7], option << 1])
+            self.assertIn(f">{letter}</text>", in_page(picture(
+                page(r20=b"\x0b\x0b["), header, (19, 21))))
+
     def test_words(self) -> None:
         """What a cell holds."""
         names = dict(enumerate(
