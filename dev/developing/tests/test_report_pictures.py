@@ -151,6 +151,18 @@ class Seen(unittest.TestCase):
         several = faults(*(f"refused 68 Parity frame @{at}" for at in (30, 35, 40)))
         self.assertEqual(Entries(none, none, [], [], several).entry_frames, [30])
 
+    def test_faults_in(self) -> None:
+        """Faults while a subtitle is due are told, with a link where one is listed that begins
+        then."""
+        none: Any = None
+        found = Entries(none, none, [], [], faults(
+            "refused 68 Parity frame @30", "refused 73 Gap frame @80", "ended 73 Gap frame @110"))
+        later = Subtitle(4, 4, 200, 225, 20, 2, b"")
+        for one, link in zip([*SUBTITLES, later], ('href="#e1"', 'href="#e2"', "", None)):
+            said = in_page(found.faults_in(one))
+            self.assertEqual(("faul" in said, "href" in said), (link is not None, bool(link)))
+            self.assertIn(link or "", said)
+
     def test_most_pictures(self) -> None:
         """The first 500 that are not as due have pictures; each of them is known not to be."""
         some = [Subtitle(at, at, 10 * at, 10 * at + 5, 20, 2, b"") for at in range(1, 1004)]
