@@ -8,7 +8,7 @@ import random
 import shutil
 import subprocess
 import unittest
-from typing import Any, Callable, NamedTuple, Sequence
+from typing import Callable, NamedTuple, Sequence
 from unittest import mock
 
 from developing.stl import gsi_block, tti_block
@@ -245,10 +245,10 @@ class Lines(unittest.TestCase):
 
     def test_without_numbers(self) -> None:
         """Faults without a number: their lines, what the manual says, its words without marks."""
-        for more, place in (({}, ""), ({"block": 0}, " block 0"), ({"block": 7}, " block 7"),
-                            ({"time": "00:00:01:00"}, " frame 00:00:01:00")):
-            one: Any = listing.NamedFault("not shown", "words", **more)
-            self.assertEqual(one.line, f"refused not shown{place}")
+        one = listing.NamedFault("not shown", "words")
+        for fault, place in ((one, ""), (one._replace(block=0), " block 0"), (one._replace(
+                block=7), " block 7"), (one._replace(time="00:00:01:00"), " frame 00:00:01:00")):
+            self.assertEqual(fault.line, f"refused not shown{place}")
         self.assertEqual({*listing.named_meanings()}, {*listing.FAULT_NAMES})
         self.assertTrue(all(map(all, listing.named_meanings().values())))
         self.assertEqual(listing.plain("`a` [b c](d#e) f, [g](h)"), "a b c f, g")

@@ -422,7 +422,7 @@ class ByHand(unittest.TestCase):
                 (NEVER, None, None, None, "", "never sent"),
                 (OTHER, None, "c", 2, "", f"another subtitle's text at its time, sent: \"{other}\""
                  " of subtitle 3 (SN 8)")):
-            one = Cause(0, name, frames, sent and page_of(sent), of, words, 0)
+            one = Cause(0, name, frames, None if sent is None else page_of(sent), of, words, 0)
             known = wording.values(one)
             self.assertEqual(
                 (known["cause"], known["frames"], known["text"], known["sent"], known["other"],
