@@ -172,12 +172,14 @@ class Told(Case):
             self.assertSaid(found, sizes + ends * (given is None))
 
     def test_kept(self) -> None:
-        """Each PID once, as it is extracted; where that fails nothing is given for whole."""
+        """Each PID once, as it is extracted, up to a PES packet that is refused; where that fails
+        nothing is given for whole."""
         path = self.write("program", b'#!/bin/sh\nfor file; do :; done\necho "$3" >"$file"\n'
-                                     b'[ "$3" != 0x103 ]\n')
+                                     b'[ "$3" != 0x103 ] || exit 2\n[ "$3" != 0x104 ]\n')
         os.chmod(path, 0o755)
         rows: list[tuple[Sequence[int], bytes | None]] = [
-            ((), b"0x101\n"), ((ONE, TWO, ONE), b"0x101\n0x102\n"), ((ONE, THREE), None)]
+            ((), b"0x101\n"), ((ONE, TWO, ONE), b"0x101\n0x102\n"), ((ONE, THREE), None),
+            ((0x104, ONE), b"0x104\n0x101\n")]
         for pids, wanted in rows:
             one, found = recorded(surveyed("size 188"), folder=self.folder), None
             one.typed.program_path, one.packets = path, Packets(ONE)
