@@ -150,7 +150,8 @@ class Folder:
             words = ["--collect", "out", *wanted]
         said = called(words, self.program, [] if words[0] == "--collect" else ["-p", self.program])
         self.ended.append(f"{said.status} {words[0]}")
-        self.log += [" ".join(words), str(said.status), *said.lines, *self.files()]
+        lines = (line.replace(TOP, "HERE") for line in said.lines)
+        self.log += [" ".join(words), str(said.status), *lines, *self.files()]
 
     def files(self) -> Iterator[str]:
         """All that stands there: sums of what calls made."""
@@ -169,7 +170,7 @@ class Folder:
             text = plain(text, self.program)
         except (ValueError, TypeError, AttributeError):
             return "half a result"
-        return text.encode("utf-8", "replace").decode()
+        return text.replace(TOP, "HERE").encode("utf-8", "replace").decode()
 
 
 def told(number: int, program: str) -> tuple[list[str], list[str]]:
