@@ -223,9 +223,8 @@ class Batches(Case):
 
 
 # Calls for pairs in processes that are forked: what each has, how it ends, what becomes of others.
-
-# A call that writes the object of its pair, with the verdict that its subtitle file names, and ends
-# with its status; or first does to a file what is named there.
+# One writes the object of its pair, with the verdict that its subtitle file names, and ends with
+# its status, or first does to a file what is named there; where nobody ends it, 20 s later.
 CALL = """#!/bin/sh
 words="$*" out= object=
 while [ $# -gt 0 ]; do
@@ -236,6 +235,7 @@ while [ $# -gt 0 ]; do
 done
 kind=$(cat "$stl")
 [ "$kind" = waits ] && exec sleep SECONDS
+ulimit -t 20
 [ "$kind" = busy ] && while :; do :; done
 [ "$kind" = deaf ] && { trap '' TERM; sh -c 'echo $$ >"$0"; while :; do :; done' "${0%/*}/its"; }
 case $kind in "does "*) (cd "${0%/*}" && eval "${kind#does }") && kind=accepted ;; esac
