@@ -203,7 +203,7 @@ class Rows(Case):
     def rows(self) -> list[list[str]]:
         with open(os.path.join(DEV, "vectors", "layouts.tsv"), encoding="utf-8") as file:
             rows = [line.split("\t") for line in file.read().splitlines()]
-        self.must("all rows", len(rows) == 152)
+        self.must("all rows", len(rows) == 161)
         return rows
 
     def test_drawn_here(self) -> None:
