@@ -109,7 +109,7 @@ def said_of(number: int, program: str) -> Said:
         words = scenario.call()
         said = called(words, program, wrong=by_one_reader)
         told = "".join(plain(said_by(*words), program) for words in scenario.tools(words[1]))
-        if number >= WIDER and not scenario.is_feed:  # which comes once
+        if number >= WIDER and number % 3 == 0 and not scenario.is_feed:  # which comes once
             told += plain(measured(words[1], program), program)
         return said._replace(files={**said.files, "tools": told})
 
