@@ -238,7 +238,7 @@ class Moves(OfProgramme):
                   "--from" not in found.lines("+ ")[-1] and found.word == "accepted", found.said)
 
     def test_what_is_strange(self) -> None:
-        """It is looked for on each PID, by its clock and in its frames, and told of each."""
+        """On each PID, by its clock and in its frames, beside a PES packet without a header."""
         def told(kind: str) -> Any:
             return lambda first, *more: [Notice(kind, " ".join(map(str, (
                 first.pid if isinstance(first, Packets) else len(first),
@@ -246,8 +246,7 @@ class Moves(OfProgramme):
 
         kinds = {"of_timing": "pts_early", "of_jumps": "clock_jump", "of_pauses": "pause",
                  "of_character_sets": "character_set", "of_repeat": "repeat"}
-        bare = pes_packet(pts_in(self.pes[3]) + TICKS, [])  # without a header
-        pes = [*self.pes[:4], bare, *self.pes[4:]]
+        pes = [*self.pes[:4], pes_packet(pts_in(self.pes[3]) + TICKS, []), *self.pes[4:]]
         for plan in ([(0, OLD)], [(0, OLD), (20, NEW)], [(0, OLD), (20, NEW), (30, OLD)]):
             pids = [pid for _, pid in plan]
             with mock.patch.multiple(notices, of_tables=lambda _, pid, asked: [

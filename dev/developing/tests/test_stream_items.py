@@ -1,0 +1,282 @@
+"""Which items of a layout are taken: those that subtitles show, and that take from no page."""
+from __future__ import annotations
+
+import random
+from typing import NamedTuple, Sequence
+
+from subtitles.formats.layout import (
+    Layout, PLAIN, Refused, drawn, layout_of, layout_text, page_rows)
+from subtitles.formats.teletext import ENGLISH
+from subtitles.stream.layout import (
+    Choice, Evidence, MOST_ITEMS, Rest, Sent, choices_of, draws, is_found, items_in, pairs_of,
+    taken_from, with_items, without)
+from .bench import Case
+from .test_stream_layouts import HOUSES, programme
+
+
+# Which items of a layout are taken: those that ten subtitles show, and that take from no page what
+# a viewer sees.
+
+SHORT_TEXTS = [b"cat", b"dog", b"the sun", b"and then", b"who knows", b"yes"]
+
+
+class One(NamedTuple):
+    """A text with its justification code, and the one that is sent in its place."""
+
+    text: bytes
+    sent: bytes
+    justify: int = 2
+
+
+class Row(NamedTuple):
+    """What is in a file of 100 subtitles otherwise than it was sent, in how many; the TEXT that is
+    taken, and what is left to be said, with how many it would draw."""
+
+    name: str
+    one: One
+    times: int
+    taken: str
+    left: str = ""
+    more: int = 0
+
+
+COLOUR, FLASH, DOUBLE = One(b"\3Hi", b"Hi"), One(b"\x08Hi", b"Hi"), One(b"\x0dHi", b"Hi")
+SPACES, EMPTY = One(b"  Hi", b"Hi"), One(b"Hi\x8a\x8aHo", b"Hi\x8aHo")
+WHITE, STEADY = One(b"\7Hi", b"Hi"), One(b"\x09Hi", b"Hi")
+NEW_BACKGROUND, BLACK = One(b"\x04\x1d\7Hi", b"\4\7Hi"), One(b"\x1cHi", b"Hi")
+NO_BOX = One(b"\x00Hi", b"Hi")  # 00 is no code of a page
+# Sent as if it were without its colour, its flash, ..: an item would draw it.
+ROWS = [
+    *(Row(f"{name}, {count}", one, count, "", left, count)
+      for name, one, left in (("colour", COLOUR, "strip=03"), ("flash", FLASH, "strip=08"),
+                              ("double height", DOUBLE, "strip=0D"),
+                              ("new background", NEW_BACKGROUND, "strip=1D"),
+                              ("black background", BLACK, "strip=1C"))
+      for count in (1, 9, 10)),
+    *(Row(f"{name}, {count}", one, count, "" if count < 10 else left,
+          left if count < 10 else "", count)
+      for name, one, left in (("spaces", SPACES, "trim"), ("empty line", EMPTY, "pack"),
+                              ("white", WHITE, "strip=07"), ("steady", STEADY, "strip=09"),
+                              ("00", NO_BOX, "strip=00")) for count in (1, 9, 10)),
+    Row("none", COLOUR, 0, ""),
+]
+# A layout, and its items as TEXTs; what the layout is without each.
+ITEMS = [
+    ("strip=0307", [("strip=03", "strip=07"), ("strip=07", "strip=03")]),
+    ("before=0D*0B0B", [("before=0D*0B0B", ""), ("before=0D*0B0B", "before=0D0B0B")]),
+    ("before=*0B0B", [("before=*0B0B", "")]), ("before=070B0B", [("before=070B0B", "")]),
+    ("before=0B0B*07", [("before=0B0B*07", ""), ("before=0B0B*07", "before=0B0B07")]),
+    ("after=0A,fit,left=2", [("after=0A", "fit,left=2"), ("fit", "after=0A,left=2"),
+                             ("left=2", "after=0A,fit")]),
+    ("", [])]
+OVERRULING = (*range(0x01, 0x08), 0x09, 0x0C)  # behind a line's own codes
+# A layout, and what of it takes from a page what a viewer sees.
+TAKEN = [
+    ("strip=0A0B", ""), ("strip=0D", "strip=0D"), ("strip=0D,before=0D0B0B", ""),
+    ("strip=0D,before=0B0B*0D", ""), ("strip=0A0B,before=", "before=,strip=0B"),
+    ("strip=0A,before=", "before="), ("before=0B", "before=0B"), ("before=0B06", "before=0B06"),
+    ("before=0B0B08", "before=0B0B08"), ("before=08*0B0B", "before=08*0B0B"), ("row=2", ""),
+    ("row=-2", ""), ("row=3", "row=3"), ("row=-10,fit", "row=-10"),
+    ("strip=070001090A0C", "strip=01"), ("strip=0106081C1D", "strip=0106081C1D"),
+    ("strip=03,before=030B0B", "strip=03"), ("text,up", ""), ("before=07*0B0B", ""),
+    ("strip=03,before=*070B0B", "before=*070B0B,strip=03"),
+    *((text, text if code in (*OVERRULING, 0x08) else "")
+      for code in range(0x01, 0x0E)
+      for text in (f"before=0B*{code:02X}0B", f"before=0B*0B{code:02X}"))]
+
+
+def meant(text: str) -> Layout:
+    """The layout that a TEXT means."""
+    found = layout_of(text) if text else PLAIN
+    assert found is not None, text
+    return found
+
+
+def rows_of(text: bytes, justify: int, layout: Layout, row: int = 18) -> tuple[bytes, ...]:
+    """The page that a layout draws."""
+    lines = drawn(text, row, justify, layout, ENGLISH)
+    assert not isinstance(lines, Refused), text
+    return page_rows(lines)
+
+
+def sent_of(several: Sequence[One], layout: Layout = PLAIN) -> list[Sent]:
+    """What is sent of texts by a layout."""
+    return [Sent(one.text, 18, one.justify, rows_of(one.sent, one.justify, layout))
+            for one in several]
+
+
+def plain(count: int) -> list[One]:
+    """Texts that are sent as they are."""
+    return [One(text, text) for at in range(count) for text in [SHORT_TEXTS[at % len(SHORT_TEXTS)]]]
+
+
+def moved(one: Sent, columns: int) -> Sent:
+    """A subtitle that was sent so many columns farther left."""
+    return one._replace(rows=tuple(row[columns:] + row[:columns] for row in one.rows))
+
+
+class Items(Case):
+    """Functions that decide."""
+
+    def test_items(self) -> None:
+        for text, items in ITEMS:
+            layout = meant(text)
+            told = [(layout_text(with_items(PLAIN, [item], layout)),
+                     layout_text(without(layout, [item])))
+                    for item in items_in(layout)]
+            self.must(text, told == items, told)
+            self.must(f"{text}, all", without(layout, items_in(layout)) == PLAIN
+                      and with_items(PLAIN, items_in(layout), layout) == layout)
+
+    def test_what_is_taken_from_a_page(self) -> None:
+        for text, gone in TAKEN:
+            layout = meant(text)
+            told = layout_text(with_items(PLAIN, taken_from(layout), layout))
+            self.must(text, told == gone, told)
+
+    def test_seen(self) -> None:
+        for decides, told, is_seen in ((9, 9, False), (10, 9, True), (10, 8, False), (0, 0, False),
+                                       (19, 17, False), (19, 18, True), (100, 90, True),
+                                       (100, 89, False)):
+            self.must(f"{decides} {told}", Rest("", decides, told).is_seen == is_seen)
+
+    def test_clear(self) -> None:
+        for found, count, is_clear in ((9, 9, False), (10, 9, True), (10, 8, False),
+                                       (100, 90, True), (100, 89, False)):
+            self.must(f"{count} of {found}", Choice(PLAIN, count, found).is_clear == is_clear)
+
+
+class Taken(Case):
+    """What is taken of 100 subtitles, some of which were sent otherwise than the file has them."""
+
+    def test_one_of_a_hundred(self) -> None:
+        """The whole table."""
+        for row in ROWS:
+            several = [row.one] * row.times + plain(100 - row.times)
+            closest, choice = choices_of(sent_of(several), ENGLISH)
+            left = [(one.text, one.more) for one in choice.left]
+            self.must(row.name, layout_text(choice.layout) == row.taken and choice.total == 100
+                      and choice.drawn == 100 - (row.times if row.left else 0)
+                      and left == ([(row.left, row.more)] if row.left else [])
+                      and closest.drawn == 100, (closest, choice))
+
+    def test_two_kinds(self) -> None:
+        """What would draw more of each, and of both."""
+        several = [COLOUR] * 5 + [SPACES] * 4 + plain(91)
+        choice = choices_of(sent_of(several), ENGLISH)[1]
+        left = [(one.text, one.more) for one in choice.left]
+        self.must("left", left == [("strip=03", 5), ("trim", 4), ("strip=03,trim", 9)], left)
+
+    def test_columns(self) -> None:
+        """Those on the right, two columns off."""
+        for count, taken in ((1, ""), (9, ""), (10, "right=2")):
+            right = [moved(one, 2) for one in sent_of([One(b"Hi", b"Hi", 3)] * count)]
+            choice = choices_of([*sent_of(plain(100 - count)), *right], ENGLISH)[1]
+            self.must(f"{count}", layout_text(choice.layout) == taken and choice.drawn == 100 - (
+                count if not taken else 0), choice)
+
+    def test_a_colour_that_is_overruled(self) -> None:
+        """By a white behind it, in however many: the codes then stand before a line's own."""
+        for count, text, drawn_so in ((1, "before=070B0B", 99), (10, "before=070B0B", 90),
+                                      (30, "", 0)):
+            sent = sent_of([One(b"\3Hi", b"\3Hi")] * count + plain(100 - count),
+                           meant("before=*070B0B"))
+            closest, choice = choices_of(sent, ENGLISH)
+            left = [(one.text, one.more) for one in choice.left]
+            self.must(f"{count}", closest.drawn == 100 and choice.drawn == drawn_so and
+                      layout_text(choice.layout) == text and choice.is_clear == bool(text) and
+                      left == [("before=*070B0B", 100 - drawn_so)], choice)
+
+    def test_evidence_is_of_what_is_decided(self) -> None:
+        """Of those that an item draws otherwise nine in ten have to be sent so, whatever the others
+        are: ten with two lines by `double`, one or two without."""
+        two = One(b"Hi\x8aHo", b"Hi\x8aHo")
+        for otherwise, taken in ((0, "double"), (1, "double"), (2, "")):
+            sent = [*sent_of([two] * 10, Layout(double=True)), *sent_of([two] * otherwise),
+                    *sent_of(plain(100))]
+            found = Evidence(sent, ENGLISH)
+            layout, gone = found.supported(Layout(double=True))
+            self.must(f"{otherwise}", layout_text(layout) == taken and bool(gone) == (not taken) and
+                      found.rest(Layout(double=True), [("double", 0)]) ==
+                      Rest("double", 10 + otherwise, 10), (layout, gone))
+
+    def test_which_goes_first(self) -> None:
+        """The item that decides the fewest; of two with one TEXT the one that does is told."""
+        found = Evidence(sent_of([WHITE] * 3 + [SPACES] * 5 + plain(92)), ENGLISH)
+        gone = found.supported(meant("strip=07,trim"))[1]
+        self.must("first", gone == [{("strip", 7)}, {("trim", 0)}], gone)
+        found = Evidence(sent_of([COLOUR] * 5 + [SPACES] + plain(20)), ENGLISH)
+        left = found.left_of(PLAIN, [frozenset({("strip", 3)}), frozenset({("trim", 0)})],
+                             meant("strip=03,trim"))
+        self.must("left", [(one.text, one.more) for one in left] == [
+            ("strip=03", 5), ("trim", 1), ("strip=03,trim", 6)], left)
+        layout = meant("before=0D*0B0B")
+        found = Evidence(sent_of([One(b"\3Hi", b"\3Hi")] * 12 + plain(88), layout), ENGLISH)
+        told = found.choice(layout).items
+        self.must("told", told == (Rest("before=0D*0B0B", 12, 12),), told)
+
+    def test_which_are_found(self) -> None:
+        """By letters, of which there are some; lines by theirs, wherever they stand."""
+        blank = (b" " * 40,) * 24
+        self.must("no letters", not is_found(Sent(b"", 20, 2, blank), ENGLISH))
+        self.must("drawn", draws(PLAIN, sent_of(plain(1))[0], ENGLISH) and not draws(
+            PLAIN, Sent(b"\x00Hi", 20, 2, blank), ENGLISH))
+        for lines, shown, count in (
+                ([b"ab", b"c"], [b"ab", b"c"], 2), ([b"ab", b"", b"c"], [b"", b" ab", b"c"], 2),
+                ([b"ab", b"c"], [b"a", b"bc"], 0), ([b"ab", b"c"], [b"abc"], 0), ([b""], [b""], 0)):
+            pairs = pairs_of(7, lines, shown)
+            self.must(f"{lines} {shown}", len(pairs) == count and all(
+                lines[one.number] == one.cells and shown[one.row - 1] == one.sent and
+                one.place == 7 for one in pairs), pairs)
+
+    def test_items_that_undo_each_other(self) -> None:
+        """Of two lines `last` and `row=1` draw what neither does alone: they rest on the subtitle
+        of one line, however many each decides."""
+        two = One(b"Hi\x8aHo", b"Hi\x8aHo")
+        layout = Layout(last=True, row=1)
+        for count in (1, 9, 10):
+            sent = [*sent_of([two] * 90), *sent_of(plain(count), layout)]
+            found = Evidence(sent, ENGLISH)
+            alone = [found.rest(layout, [item]).is_seen for item in items_in(layout)]
+            self.must(f"{count}", alone == [True, True] and found.supported(layout)[0] == (
+                layout if count == 10 else PLAIN), found.supported(layout))
+
+    def test_what_is_seen_stays(self) -> None:
+        """Another item that is not goes alone; and what is left then is counted anew."""
+        house = Layout(text=True, after=b"\x0a")
+        sent = [*sent_of([*plain(99), COLOUR], house)]
+        choice = choices_of(sent, ENGLISH)[1]
+        self.must("seen", layout_text(choice.layout) == "after=0A,text" or
+                  layout_text(choice.layout) == "after=0A", choice)
+        self.must("left", [one.text for one in choice.left] == ["strip=03"], choice)
+        several = [One(b"\x0dHi", b"Hi")] * 20 + plain(80)
+        found = Evidence(sent_of(several, Layout(before=b"\x0d\x0b\x0b")), ENGLISH)
+        whole = Layout(before=b"\x0d\x0b\x0b", strip=b"\x0d")
+        self.must("brought", found.supported(whole) == (whole, []), found.supported(whole))
+
+    def test_many_items(self) -> None:
+        """Of more items than can be looked at in groups one goes after another: none is taken that
+        was not looked at so."""
+        codes = bytes([0x00, 0x07, 0x09, 0x0A, 0x0C, *range(0x10, 0x1B)])
+        layout = Layout(strip=codes)
+        self.must("many", len(items_in(layout)) > MOST_ITEMS)
+        sent = sent_of([One(codes + b"Hi", b"Hi")] * 10)
+        taken, gone = Evidence(sent, ENGLISH).supported(layout)
+        self.must("few", len(items_in(taken)) <= MOST_ITEMS and len(gone) >= 4, taken)
+
+    def test_houses(self) -> None:
+        """How each house draws is found beside 1, 5 and 20 that are drawn otherwise; of 20 it is
+        the closest, and nothing is taken."""
+        for number, (has_codes, leaves_room, text) in enumerate(HOUSES):
+            some = random.Random(number)
+            sent = programme(some, has_codes, leaves_room, meant(text), 100)
+            count = (1, 5, 20)[number % 3]
+            for at in some.sample(range(len(sent)), count):
+                rows = sent[at].rows
+                sent[at] = sent[at]._replace(rows=rows[at % 3 + 1:] + rows[:at % 3 + 1])
+            closest, choice = choices_of(sent, ENGLISH)
+            is_few = count * 10 <= len(sent)
+            found = choice if is_few else closest
+            self.must(f"{text}, {count}", found.drawn == len(sent) - count and
+                      choice.is_clear == is_few and (is_few or choice == closest),
+                      (closest, choice))
