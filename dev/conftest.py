@@ -19,6 +19,11 @@ def pytest_configure() -> None:
     BENCH.make_top()
 
 
+def pytest_runtest_call() -> None:
+    """What is printed goes to the process's own output, which those that it forks have too."""
+    sys.stdout, sys.stderr = sys.__stdout__, sys.__stderr__
+
+
 def pytest_unconfigure() -> None:
     """And after them."""
     COMPILED.__exit__(None, None, None)
