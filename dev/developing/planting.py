@@ -126,7 +126,7 @@ class Copy:
         for passed, name in enumerate(names):
             counts = First(False)
             with contextlib.redirect_stdout(io.StringIO()), \
-                    contextlib.redirect_stderr(io.StringIO()):
+                    contextlib.redirect_stderr(sys.__stderr__):  # of what it forks, too
                 unittest.TestSuite(self.named(name)).run(counts)
             if counts.failed:
                 return {"passed": passed, "failed": name, "by": counts.by}
@@ -184,6 +184,7 @@ def apart(work: Callable[[], Answer], seconds: float) -> Answer:
     if not child:
         try:
             os.setsid()
+            os.dup2(os.open(os.devnull, os.O_WRONLY), 2)
             os.write(writing, json.dumps(work()).encode())
         except BaseException as error:  # a bug that ends loading
             os.write(writing, json.dumps(
