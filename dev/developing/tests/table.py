@@ -75,7 +75,8 @@ def lines(classes: Mapping[str, Called], kinds: Collection[Type[object]],
     its name in their text."""
     names = {name_of(one) for one in kinds}
     standing = {module: {*tests} & names for module, tests in before.items()}
-    functions = {one for called in classes.values() for one in called.functions}
+    functions = {one for called in classes.values() for one in called.functions
+                 if not one.partition(":")[0].endswith("__init__.py")}
     modules = {name_of(one): inspect.getsource(sys.modules[one.__module__]) for one in kinds}
     for module in sorted({one.partition(":")[0] for one in functions} | {
             one for one in standing if os.path.isfile(os.path.join(TOOLS, PACKAGE, one))}):

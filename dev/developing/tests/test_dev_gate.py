@@ -398,7 +398,7 @@ class Bugs(Case):
         module or script; it is said of what fails, or takes too long, that it was not looked at."""
         made = script("plant").Planting([], self.path("calls"), None)
         made.calls = {"test_dev_gate.Bugs.test_names": {
-            "calls": ["judging/status.py:decided"], "seconds": 1.0}}
+            "calls": ["judging/status.py:decided", "__init__.py:version"], "seconds": 1.0}}
         made.failed = {"test_a.B.c": TOO_LONG, "test_a.B.d": "test_a.B.d"}
         gone, here = "test_none.Gone", "test_dev_gate.Found"
         self.write("table", "".join(f"{module}\t{tests}\n" for module, tests in (
