@@ -4,7 +4,7 @@ files.
 `dev/vectors/calls.tsv` has what was said of each when somebody last looked at it: the words, the
 last line, and sums of all lines, of the JSON result, which has to be as the schema has it, and of
 the other files. A change that is meant changes them; from dev/,
-`python3 -m developing.tests.at_random ../dist/subttx 0 480` prints the table, `.. NUMBER` all that
+`python3 -m developing.tests.at_random ../dist/subttx 0 420` prints the table, `.. NUMBER` all that
 a call says, to compare, and without a number it prints the rows of calls that have a name: of a
 folder, a list, a profile, a PID that is refused, on pairs of the examples. A line `# NUMBER: ..`
 before a row says why it says something else than it once did; it stays where it is.

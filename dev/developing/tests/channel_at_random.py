@@ -3,7 +3,7 @@ list, feed, judging and calls meanwhile, and all that is said, called and writte
 
 `dev/vectors/channels.tsv` has what came of each when somebody last looked at it: the verdicts, and
 a sum of all. A change that is meant changes them; from dev/, `python3 -m
-developing.tests.channel_at_random ../dist/subttx 0 300` prints the table, `.. NUMBER` all that came
+developing.tests.channel_at_random ../dist/subttx 0 180` prints the table, `.. NUMBER` all that came
 of one, to compare.
 """
 from __future__ import annotations
