@@ -140,6 +140,22 @@ class Case(unittest.TestCase):
         return self.path(name)
 
 
+def give_rows(kind: type[Case], rows: Sequence[str], each: int,
+              found: Callable[[Any, int], str]) -> None:
+    """Gives a class of tests one for each so many rows of a table, each of which is what is found
+    of its number."""
+    def rows_from(first: int) -> Callable[[Case], None]:
+        def test(self: Case) -> None:
+            for number, row in enumerate(rows[first:first + each], first):
+                one = found(self, number)
+                self.must(row, row == one, one)
+
+        return test
+
+    for first in range(0, len(rows), each):
+        setattr(kind, f"test_from_{first:03}", rows_from(first))
+
+
 def tool_path(name: str) -> str:
     """The file of a tool, of tools/ where it has one there, else of dev/."""
     path = os.path.join(TOP, "tools", name)
