@@ -20,13 +20,18 @@ import sys
 import tempfile
 import traceback
 import unittest
-from typing import Any, Callable, NamedTuple, NoReturn, Sequence
+from typing import Any, Callable, Mapping, NamedTuple, NoReturn, Sequence, Tuple
 
 from developing import DEV, TOOLS
 from subtitles.common.program import TOP, built_program
+from .failures import Mismatch, calling_frame, comparison, explained, lines_of, place_of, shortened
 
 EXAMPLES = os.path.join(TOP, "examples")
+MOST_OF_NAME = 160  # characters that a failure prints
 SECONDS = 600  # for one call, or what is waited for, on a machine that does other things too
+
+
+Row = Tuple[Tuple[Any, ...], object]  # of a table: arguments, and the expected value
 
 
 class Done(NamedTuple):
@@ -80,10 +85,29 @@ class Case(unittest.TestCase):
         self.folder = self.bench.make_folder(self.id().rpartition("tests.")[2])
 
     def must(self, name: str, is_right: object, told: object = "") -> bool:
-        """Tests that something holds, and goes on where it does not."""
+        """Check that a condition is true, and go on. A failure names the caller's line and the
+        first fact of the condition that is false. Prefer `check`, which has an expected value."""
         with self.subTest(name):
-            self.assertTrue(is_right, told)
+            if not is_right:
+                frame = calling_frame()
+                parts = [f"{name[:MOST_OF_NAME]}\n  {place_of(frame)}", explained(frame)]
+                parts += [f"  found:    {shortened(lines_of(told))}"] * (told != "")
+                raise Mismatch("\n".join(filter(None, parts)))
         return bool(is_right)
+
+    def check(self, name: str, found: object, expected: object) -> bool:
+        """Compare one value, and go on. A failure shows the caller's line and both values."""
+        with self.subTest(name):
+            if found != expected:
+                raise Mismatch(f"{name[:MOST_OF_NAME]}\n  {place_of(calling_frame())}\n"
+                               f"{comparison(found, expected)}")
+        return found == expected
+
+    def check_each(self, function: Callable[..., object], rows: Mapping[str, Row]) -> None:
+        """Call a function for each named row, with its arguments, and compare what it returns."""
+        for name, (arguments, expected) in rows.items():
+            self.check(f"{name}: {getattr(function, '__name__', 'call')}"
+                       f"({', '.join(map(repr, arguments))})", function(*arguments), expected)
 
     def path(self, name: str) -> str:
         """A file of the test."""

@@ -14,6 +14,7 @@ from typing import Iterator, Sequence, Tuple, Type, Union
 from subtitles.common.command_line import Stop
 from .. import DEV
 from .bench import BENCH
+from .failures import Mismatch
 from .table import tests_of
 
 FOLDER = os.path.dirname(os.path.realpath(__file__))
@@ -44,8 +45,11 @@ class Counts(unittest.TestResult):
         self.passed += error is None
         self.failed += error is not None
         if error is not None:
-            told = self._exc_info_to_string(error, test)  # type: ignore[attr-defined]
-            print(f"FAILED: {name_of(test)}: {told}", file=self.out, flush=True)
+            told = str(error[1]) if isinstance(error[1], Mismatch) else \
+                self._exc_info_to_string(error, test)  # type: ignore[attr-defined]
+            whole = test.test_case if isinstance(error[1], Mismatch) and hasattr(
+                test, "test_case") else test  # the text begins with the name of the part
+            print(f"FAILED: {name_of(whole)}: {told}", file=self.out, flush=True)
         elif self.is_verbose:
             print(f"passed: {name_of(test)}", file=self.out, flush=True)
 

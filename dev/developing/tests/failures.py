@@ -1,0 +1,100 @@
+"""What a failed check prints: the caller's line, what was expected, what was found, and a diff."""
+from __future__ import annotations
+
+import ast
+import difflib
+import linecache
+import os
+import pprint
+import sys
+from types import FrameType
+from typing import Iterator
+
+HELPERS = ("bench.py", "failures.py", "snapshots.py")  # never the line that a failure names
+MOST = 60  # lines of a diff, and of a value
+WIDTH = 96
+
+
+class Mismatch(AssertionError):
+    """A failed check. Its text says all; the runner prints no traceback behind it."""
+
+
+def calling_frame() -> FrameType:
+    """Return the frame of the test that called a helper."""
+    frame: FrameType | None = sys._getframe(1)
+    while frame and os.path.basename(frame.f_code.co_filename) in HELPERS:
+        frame = frame.f_back
+    assert frame
+    return frame
+
+
+def place_of(frame: FrameType) -> str:
+    """Return file, line and source text of the line that a frame runs."""
+    path = frame.f_code.co_filename
+    line = linecache.getline(path, frame.f_lineno).strip()
+    return f"{os.path.basename(path)}:{frame.f_lineno}: {line}"
+
+
+def shortened(lines: list[str]) -> str:
+    """Join lines; leave out what is behind MOST of them."""
+    more = [f"  .. {len(lines) - MOST} more lines"] * (len(lines) > MOST)
+    return "\n".join([*lines[:MOST], *more])
+
+
+def lines_of(value: object) -> list[str]:
+    """Return a value as lines: a text as it is, anything else as Python prints it."""
+    return value.splitlines() if isinstance(value, str) and "\n" in value else \
+        pprint.pformat(value, width=WIDTH, compact=True).splitlines()
+
+
+def comparison(found: object, expected: object) -> str:
+    """Show two values that should be equal; long ones as a diff."""
+    own, wanted = lines_of(found), lines_of(expected)
+    if len(own) == 1 and len(wanted) == 1:
+        return f"  expected: {wanted[0]}\n  found:    {own[0]}"
+    diff = difflib.unified_diff(wanted, own, "expected", "found", lineterm="", n=2)
+    return shortened([f"  {line}" for line in diff])
+
+
+def condition_in(frame: FrameType, helper: str) -> ast.expr | None:
+    """Find the condition of the call of a helper that a frame runs: its second argument."""
+    source = "".join(linecache.getlines(frame.f_code.co_filename))
+    calls = [one for one in ast.walk(ast.parse(source)) if isinstance(one, ast.Call)
+             and isinstance(one.func, ast.Attribute) and one.func.attr == helper
+             and one.lineno <= frame.f_lineno <= (one.end_lineno or one.lineno)
+             and len(one.args) > 1]
+    return max(calls, key=lambda one: (one.lineno, one.col_offset)).args[1] if calls else None
+
+
+def facts_in(condition: ast.expr) -> Iterator[ast.expr]:
+    """Return the facts that `and` joins, each alone."""
+    if isinstance(condition, ast.BoolOp) and isinstance(condition.op, ast.And):
+        for one in condition.values:
+            yield from facts_in(one)
+    else:
+        yield condition
+
+
+def explained(frame: FrameType, helper: str = "must") -> str:
+    """Evaluate a failed condition again, and name the first of its facts that is false, with both
+    sides of a comparison. What an expression changes when it is evaluated twice is not undone."""
+    condition = condition_in(frame, helper)
+    names = {**frame.f_globals, **frame.f_locals}
+
+    def value(node: ast.expr) -> object:
+        return eval(compile(ast.Expression(node), "<check>", "eval"), names)
+
+    try:
+        for fact in facts_in(condition) if condition else ():
+            if value(fact):
+                continue
+            text = f"  false:    {ast.unparse(fact)}"
+            if isinstance(fact, ast.Compare) and len(fact.ops) == 1:
+                left, right = value(fact.left), value(fact.comparators[0])
+                kind = isinstance(fact.ops[0], ast.Eq)
+                return f"{text}\n" + (comparison(left, right) if kind else shortened(
+                    [f"  left:     {left!r}", f"  right:    {right!r}"]))
+            return text
+    except Exception as error:  # the condition can't be evaluated a second time
+        return f"  not explained: {type(error).__name__}: {error}"
+    return ""
