@@ -21,7 +21,7 @@ from .bench import Case, SECONDS, script
 # What imports what: a package imports of those below it alone. And what has one home has it.
 
 ORDER = ["common", "formats", "request", "stream", "clock", "recording", "judging", "results",
-         "report", "cli"]  # the packages of users, lowest first
+         "report", "cli", "air"]  # the packages of users, lowest first
 LONGEST_LINE = 100
 MAIN = "subtitles.cli.main"  # imports what a call needs when it needs it
 IN_ROWS = os.path.join("developing", "signs.py")  # a table: each of its rows is a line
