@@ -32,7 +32,7 @@ from subtitles.cli.single import claimed
 from subtitles.common.command_line import run
 from subtitles.common.program import TOP
 from subtitles.judging import faults, subtitles
-from subtitles.report import report
+from subtitles.report import page as report
 from .bench import example
 from .parts import MEANINGS
 from .results import schema, wrong_by_schema, wrong_choices, wrong_in

@@ -66,7 +66,7 @@ class Ends(Case):
                                       warnings=[Notice("kind", "strange")]))
         self.must("lines", said == [
             "! a note", said[1], "a hint",
-            "Accepted: 3 subtitles, each of them as it is due from the first frame on.",
+            "Accepted: all 3 subtitles have the right text from the first frame to the last.",
             "accepted 10 frames 2 transmissions"] and
             "strange" in said[1] and said[1].startswith("! "), said)
         fitted = part_with(0, 9, 0, source=RECORDING)

@@ -23,8 +23,10 @@ from .bench import Case, example, example_bytes, tool_path
 SHARES, EACH = 3, 20  # of the gate; with --speed there are 500 calls
 ALL = 500
 TAGS = {"html", "head", "meta", "title", "style", "body", "h1", "p", "small", "table", "thead",
-        "tbody", "tr", "th", "td", "br", "a"}
-ATTRIBUTES = {"lang", "charset", "http-equiv", "content", "name", "class", "href"}
+        "tbody", "tr", "th", "td", "br", "a", "main", "caption", "fieldset", "legend", "label",
+        "input", "span", "b"}
+ATTRIBUTES = {"lang", "charset", "http-equiv", "content", "name", "class", "href", "scope", "type",
+              "value", "checked"}
 # A page with others in frames, which says in the end what stands in each.
 AROUND = """<!DOCTYPE html><html><body><script>
 addEventListener("load", () => setTimeout(() => {{

@@ -24,7 +24,7 @@ from subtitles.judging.check import Answer, check
 from subtitles.judging.pair import Pair
 from subtitles.judging.subtitles import AT_MIDNIGHT, falls_at_midnight, midnight_words
 from subtitles.judging.verdict import is_in_move
-from subtitles.report.report import readable
+from subtitles.report.blocks import readable
 from subtitles.request.lines import request_of_line
 from subtitles.request.request import Unclear, add_options
 from subtitles.stream.gaps import Place

@@ -83,7 +83,7 @@ class Beside(Case):
         first = f"subtitle 3 at 00:00:12:00 is refused by 50 Character, \u0132: \u0132 is in no " \
             f"option: at level 1 {CURE}"
         slow = self.write("slow.pes", joined(late(5, 3600 * 600, 3600 * 650)(self.sent)))
-        for pes, end in ((self.pes, "each of them is as it is due from the first frame on"),
+        for pes, end in ((self.pes, "all have the right text from the first frame to the last"),
                          (slow, 'at 00:00:24:00 subtitle 6, "Number 6", is 5 frames late')):
             found = self.judge(self.file(3), pes)
             self.must(pes, found.word == "refused" and found.verdict.sentence ==
@@ -147,8 +147,8 @@ class Beside(Case):
                 (one["number"], one["severity"]) for one in found.result["faults"]} >= {
                     (50, "error" if text[:2] == b"78" else "warning")}, found.result["faults"])
             self.must(f"{text!r} {pes}: said", pes == slow or found.verdict.sentence.endswith(
-                "9 other subtitles were judged: each of them is as it is due from the first frame "
-                "on."), found.verdict.sentence)
+                "9 other subtitles were judged: all have the right text from the first frame to "
+                "the last."), found.verdict.sentence)
         unread = self.write("unread.pes", b"".join(
             broken(one, 33) for one in packets(self.read("one.pes"))))
         found = self.judge(self.file(3), unread, "--severity",
@@ -175,8 +175,8 @@ class Beside(Case):
         two = [(pts + 3600 * 500 * (pts >= 3600 * 480), some) for pts, some in self.sent]
         kept = [(pts, [KEEPING_HEADER, *some[1:]] if at in (2, 40) else some)
                 for at, (pts, some) in enumerate(two)]
-        for bad, sent, said in (((7,), two, "each of them is as it is due"),
-                                ((2, 7), two, "each of them is as it is due"),
+        for bad, sent, said in (((7,), two, "all have the right text"),
+                                ((2, 7), two, "all have the right text"),
                                 ((2, 7), kept, " see --keeping in the profile; in all 2 faults.")):
             found = judged(self, self.file(*bad), self.write("two.pes", joined(sent)), "--breaks",
                            "1", "--every", "100")
@@ -185,8 +185,8 @@ class Beside(Case):
                       found.verdict.counts == Counts(10 - len(bad), len(bad)), found.said)
 
     def test_reports(self) -> None:
-        """The report draws the refused subtitles as undecided, and pictures of those of the others
-        that are not as due. Each link leads somewhere, and each place has a name of its own."""
+        """The report lists all subtitles: those that are refused, and those that are late. Each
+        link leads somewhere, and each place has a name of its own."""
         slow = self.write("slow.pes", joined(late(5, 3600 * 600, 3600 * 650)(self.sent)))
         for number, (bad, pes) in enumerate((((3,), self.pes), ((3, 4, 9), slow))):
             out, stl = self.path(f"out{number}"), self.file(*bad)
@@ -198,16 +198,15 @@ class Beside(Case):
                 links = set(re.findall(r'href="#([^"]+)"', page))
                 self.must(f"{bad} {name}: names", len(names) == len(set(names)), names)
                 self.must(f"{bad} {name}: links", links <= {*names, "n78"}, links - {*names})
-                spans = re.findall(r'class="unknown"[^>]*><title>undecided: ([^<]*)<', page)
-                self.must(f"{bad} {name}: undecided", spans == {
-                    (3,): ["00:00:10:10 to 00:00:15:24"],
-                    (3, 4, 9): ["00:00:10:10 to 00:00:19:24", "00:00:34:10 to 00:00:39:24"]}[bad],
-                    spans)
-                drawn = set(re.findall(r'id="s(\d+)"', page))
-                self.must(f"{bad} {name}: drawn",
-                          drawn == ({"6"} if len(bad) > 1 else set()), drawn)
-                self.must(f"{bad} {name}: said", "other subtitles were judged: " in page and
-                          "It is drawn as undecided" in page and "Refused subtitles" in page)
+                rows = dict(re.findall(r'<tr id="s(\d+)" class="([^"]+)"', page))
+                self.must(f"{bad} {name}: all", len(rows) == 10, rows)
+                refused = {int(one) for one, kinds in rows.items() if "n50" in kinds}
+                self.must(f"{bad} {name}: refused", refused == set(bad), rows)
+                moved_rows = {int(one) for one, kinds in rows.items()
+                              if re.search(r"\bc\d", kinds)}
+                self.must(f"{bad} {name}: late", moved_rows == (
+                    {6} if len(bad) > 1 else set()), rows)
+                self.must(f"{bad} {name}: said", "other subtitles were judged: " in page)
 
     def test_layouts(self) -> None:
         """A layout draws what is due of the subtitles that are judged, with the letters of the
@@ -218,7 +217,7 @@ class Beside(Case):
         self.schedule(self.file(), "house.pes", "--every", "25", *words)
         others = "13 other subtitles were judged: "
         for bad, by, said in (
-                ((), 0, ""), ((3,), 0, f"{others}each of them is as it is due from the first"),
+                ((), 0, ""), ((3,), 0, f"{others}all have the right text from the first"),
                 ((3,), 5, f'{others}at 00:00:24:00 subtitle 6, "Nümber 6", is 5 frames late')):
             def with_late(_: int, pts: int, by: int = by) -> int:
                 return pts + 3600 * by * (pts == 3600 * 600)

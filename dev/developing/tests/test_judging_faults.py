@@ -64,27 +64,28 @@ class Words(Case):
                 ([cause(0, TEXT), cause(1, NEVER)], 'at 00:00:01:00 subtitle 2, "text", was never '
                  "sent; 1 other: 1 wrong text"),
                 ([cause(0, TEXT), cause(1, NEVER), cause(3, NEVER)],
-                 "from 00:00:01:00 to 00:00:03:00 the subtitles were never sent (2 of 9); 1 other: "
-                 "1 wrong text"),
+                 "2 of 9 subtitles were never sent (first at 00:00:01:00, last at 00:00:03:00); 1 "
+                 "other: 1 wrong text"),
                 ([cause(0, LATE, 2), cause(1, LATE, 1), cause(3, TEXT), cause(5, PLACE),
-                  cause(6, TEXT), cause(8, ATTRIBUTE)], "from 00:00:03:00 to 00:00:06:00 the "
-                 "subtitles have wrong texts (2 of 9); 4 others: 1 wrong place, 2 late, 1 wrong "
-                 "colour or attribute"),
+                  cause(6, TEXT), cause(8, ATTRIBUTE)], "2 of 9 subtitles have wrong texts "
+                 "(first at 00:00:03:00, last at 00:00:06:00); 4 others: 1 wrong place, 2 late, 1 "
+                 "wrong colour or attribute"),
                 ([cause(0, OTHER), cause(1, OTHER), cause(2, NEVER)], 'at 00:00:02:00 subtitle 3, '
                  '"text", was never sent; 2 others: 2 another subtitle\'s text'),
                 ([cause(0, TEXT)._replace(sent=(b" " * 40,) * 23 + (b"texts".ljust(40),))],
                  'at 00:00:00:00 subtitle 1, "text", has a wrong text, sent: "texts"'),
                 ([cause(4, LATE, 7), cause(6, LATE, 3), cause(8, LATE, 5)],
-                 "from 00:00:04:00 on the subtitles are 3 to 7 frames late (3 of 9)"),
+                 "3 of 9 subtitles are 3 to 7 frames late (first at 00:00:04:00, last at "
+                 "00:00:08:00)"),
                 ([cause(4, LATE, 7), cause(8, LATE, 7)],
-                 "from 00:00:04:00 on the subtitles are 7 frames late (2 of 9)"),
+                 "2 of 9 subtitles are 7 frames late (first at 00:00:04:00, last at 00:00:08:00)"),
                 ([cause(0, NOT_ERASED, None, "a"), cause(1, NOT_ERASED, None, "a")],
-                 "from 00:00:00:00 to 00:00:01:00 the subtitles are not erased (a) (2 of 9)"),
+                 "2 of 9 subtitles are not erased (a) (first at 00:00:00:00, last at 00:00:01:00)"),
                 ([cause(0, UNKNOWN, None, "a"), cause(1, UNKNOWN, None, "b")],
-                 "from 00:00:00:00 to 00:00:01:00 the subtitles are not held as they are due (2 "
-                 "of 9)"),
-                ([cause(0, OTHER), cause(7, OTHER)], "from 00:00:00:00 to 00:00:07:00 the "
-                 "subtitles have other subtitles' texts (2 of 9)"),
+                 "2 of 9 subtitles are not held as they are due (first at 00:00:00:00, last at "
+                 "00:00:01:00)"),
+                ([cause(0, OTHER), cause(7, OTHER)], "2 of 9 subtitles have other "
+                 "subtitles' texts (first at 00:00:00:00, last at 00:00:07:00)"),
                 ([cause(2, IN_PAUSE, None, "at 10:00")],
                  "another text was sent in a pause, at 10:00"),
                 ([cause(at, IN_PAUSE, None, f"at 10:0{at}") for at in (2, 4)],

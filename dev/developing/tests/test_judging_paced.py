@@ -197,6 +197,7 @@ class Taken(unittest.TestCase):
         for own, damage, is_over in itertools.product(((2, 5), None), ("PES packet 6 is odd", None),
                                                       (False, True)):
             recording: Any = SimpleNamespace(packets=SimpleNamespace(damage=damage), shown="a.pes",
+                                             other_pages=lambda several: ["--page P"],
                                              again=lambda *words: " ".join(words))
             part = PartFrames(3, programme.request, Names("a", "", None), programme.whole,
                               recording)

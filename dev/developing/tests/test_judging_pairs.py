@@ -218,20 +218,20 @@ class Said(OfProgramme):
 
         gone = [one for one in self.sent if not 301 * TICKS <= one[0] < 350 * TICKS]
         rows: list[tuple[Sent, list[str], str]] = [
-            (moved(range(2, 21)), [], "Refused: from 00:00:08:00 on the subtitles are 7 frames "
-             "late (19 of 20)."),
-            (moved(range(4, 8)), [], "Refused: from 00:00:16:00 to 00:00:28:00 the subtitles are 7 "
-             "frames late (4 of 20)."),
+            (moved(range(2, 21)), [], "Refused: 19 of 20 subtitles are 7 frames late (first at "
+             "00:00:08:00, last at 00:01:20:00)."),
+            (moved(range(4, 8)), [], "Refused: 4 of 20 subtitles are 7 frames late (first at "
+             "00:00:16:00, last at 00:00:28:00)."),
             (moved([3]), [], 'Refused: at 00:00:12:00 subtitle 3 (SN 52), "Number 52", is 7 frames '
              "late."),
             (moved([3], 2), [], 'Refused: at 00:00:12:00 subtitle 3 (SN 52), "Number 52", is 2 '
              "frames late."),
-            (self.sent, [], "Accepted: 20 subtitles, each of them as it is due from the first "
-             "frame on."),
-            (self.sent, ["--within", "2"], "Accepted: 20 subtitles, each of them as it is due "
+            (self.sent, [], "Accepted: all 20 subtitles have the right text from the first "
+             "frame to the last."),
+            (self.sent, ["--within", "2"], "Accepted: all 20 subtitles have the right text "
              "within 2 frames."),
             (self.sent, ["--strict"], "Not accepted: there are warnings, which count (repeat); "
-             "what was seen is as it is due."),
+             "what was received is right."),
             (gone, ["--every", "49"], "Refused: from 00:00:13:24 on the longest gap is 50 frames, "
              "and 25 are usual."),
             (gone, ["--every", "49", "--severity", self.write("mild", b"73 warning\n")],

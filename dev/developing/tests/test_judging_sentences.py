@@ -59,11 +59,12 @@ class Sentences(unittest.TestCase):
         for seen, wanted in (
                 (Facts(NOT_JUDGED, 0, reason="no\nmore"), "Not judged: no."),
                 (Facts(NOT_JUDGED, 0), "Not judged: check was not answered."),
-                (Facts(ACCEPTED, 1), "Accepted: 1 subtitle, as it is due from the first frame on."),
+                (Facts(ACCEPTED, 1), "Accepted: 1 subtitle has the right "
+                 "text from the first frame to the last."),
                 (Facts(ACCEPTED, 1, within=1),
-                 "Accepted: 1 subtitle, as it is due within 1 frame."),
+                 "Accepted: 1 subtitle has the right text within 1 frame."),
                 (Facts(LOST, 2, lost=["a", "b", "c"]),
-                 "Not accepted: a, and in 2 more places; what was seen is as it is due."),
+                 "Not accepted: a, and in 2 more places; what was received is right."),
                 (Facts(LOST, 2, first=fault, faults=1, lost=["a"]),
                  "Not accepted: a; all faults that were seen are named warnings."),
                 (Facts(LOST, 2, faults=1, named="pictures", lost=["a"]),
@@ -73,7 +74,7 @@ class Sentences(unittest.TestCase):
                 (Facts(WAIVED, 2, first=fault, faults=1, hint="no header"), "Waived, since these "
                  "faults are named warnings: from 10:00:00:00 on no header."),
                 (Facts(WARNED, 2, warnings=["page", "page", "fitted"]), "Not accepted: there are "
-                 "warnings, which count (page, fitted); what was seen is as it is due."),
+                 "warnings, which count (page, fitted); what was received is right."),
                 (Facts(REFUSED, 2, first=fault_of_line("refused 45 Lost pes 7"), faults=3, lost=[
                     "a", "b"], counts=[Count(45, "Lost", 2), Count(73, "Gap", 1)]), "Refused: a, "
                  "and in 1 more place; that part was not recorded; also 73 Gap."),
@@ -116,7 +117,7 @@ class Sentences(unittest.TestCase):
                 with self.subTest(name, count=len(several)):
                     self.assertIn(f" {said}", words)
                     self.assertRegex(words, VERB)
-                    self.assertRegex(words, r"^(at|from) \d\d:\d\d:\d\d:\d\d ")
+                    self.assertRegex(words, r"^(at \d\d:\d\d:\d\d:\d\d |2 of )")
 
 
 # What is told first of a verdict: what a viewer sees, in the sentence and wherever else a pair is

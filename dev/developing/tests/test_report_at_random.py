@@ -1,45 +1,33 @@
-"""Reports at random: pages that are read again, also beside refused subtitles."""
+"""Reports at random, read again beside what the program prints."""
 from __future__ import annotations
 
-import contextlib
-import hashlib
 import os
 import random
 import re
 import subprocess
-import sys
 import tempfile
 import unittest
 import xml.etree.ElementTree as tree
-from collections import Counter
-from typing import Callable, Iterator
+from typing import Callable, NamedTuple
 
 from developing.pes import DATA, UNIT, mirrored, packet, pts_bytes, pts_in, whole_in
 from developing.stl import boxed, gsi_block, subtitle_blocks, tti_block
-from subtitles.common.times import CLOCK, FRAMES_OF_A_DAY, TICKS, frame_of
-from subtitles.formats.listing import Meaning, PASSED_OVER, meanings
+from subtitles.common.times import CLOCK, FRAMES_OF_A_DAY, TICKS, frame_of, time_of
+from subtitles.formats.listing import (
+    BEGIN, ENDS_READING, FaultLine, PASSED_OVER, fault_of_line)
 from subtitles.formats.stl import NEW_LINE, USER_DATA
 from subtitles.formats.teletext import page_name
-from subtitles.report import report
-from .. import DEV
 from .bench import BENCH, example_bytes
 from .judged import Judged, judged_by
-from .parts import MEANINGS
 
 
-# Reports at random, each made by a number: `dev/vectors/reports.tsv` has of each the verdict, and
-# a sum of each part of the page as it was when somebody last looked at it.
+# Reports at random, each made by a number, and read again beside what the program prints.
 
-VECTORS = os.path.join(DEV, "vectors", "reports.tsv")
-COUNT, EACH = 240, 8  # rows, and how many a test has
-BESIDE = 120  # of these the first are looked at beside what the program prints, too
+COUNT, EACH = 240, 8  # reports, and how many a test has
 TEXTS = [b"Good evening.", b"Here is the news.", b"No! <&>", b"Thank you, Anne."]
-PARTS = re.compile('(?=<h2 id="|<section id="place"|<section class="fault" id="place")')
 HTML = "{http://www.w3.org/1999/xhtml}"
 FOREIGN = re.compile(r"<script|<link|<img|<iframe|@import|\burl\(|\bsrc=|\bon\w+="
                      r"|https?://(?!www\.w3\.org/1999/xhtml)")
-STYLE = re.compile("<style>.*?</style>", re.S)
-MADE = "files"  # the part that names files and dates
 BYTES = {3: (0, 0xF0, 0xFE, 7), 4: (1, 9), 5: (24,), 8: (25, 0), 9: (0, 23), 10: (60, 1),
          13: (0, 23, 24), 14: (4,), 15: (1, 2), 19: (0x61, 0xC2, 0x8A, 0x0E), 2: (1,),
          22: (0x81, 0x8A, 0x0D)}  # of a TTI block: what is wrong at which byte
@@ -172,81 +160,48 @@ class Made:
         return words + ["--no-complete"] * (chance.random() < 0.75)
 
 
-class Here:
-    """Whether a row is made."""
-
-    is_row = False
-
-
-HERE = Here()
+def run(*words: str) -> list[str]:
+    """The lines of the program."""
+    return subprocess.run([BENCH.program, *words], stdin=subprocess.DEVNULL, check=False,
+                          stdout=subprocess.PIPE, text=True).stdout.splitlines()
 
 
-def meanings_here() -> dict[int, Meaning]:
-    """The manual's words; of a row others, so that it stays as it is where these are worded anew.
-    """
-    return MEANINGS if HERE.is_row else meanings()
-
-
-setattr(report, "meanings", meanings_here)
+def text_of(item: tree.Element) -> str:
+    return "".join(item.itertext())
 
 
 def report_made(number: int, folder: str) -> tuple[Judged, str]:
-    """The pair of a number, judged, and its report; why, or its line, where there is none."""
+    """The pair of a number, judged, and its report; nothing if there is none."""
     out = os.path.join(folder, "out")
     found = judged_by(BENCH.program, *Made(number, folder).words(), "-o", out)
     path = os.path.join(out, "one.html")
     if not os.path.exists(path):
-        said = found.result.get("reason") or found.result["line"]
-        return found, said.replace("\n", "; ")
+        return found, ""
     with open(path, encoding="utf-8") as file:
         return found, file.read()
 
 
-@contextlib.contextmanager
-def made(number: int) -> Iterator[tuple[Judged, str]]:
-    """The same while its files are there, without the style and with other words for the manual's.
-    """
-    with tempfile.TemporaryDirectory() as folder:
-        HERE.is_row = True
-        try:
-            found, page = report_made(number, folder)
-        finally:
-            HERE.is_row = False
-        yield found, STYLE.sub("", page.replace(folder, "FOLDER"))
+class CueRow(NamedTuple):
+    """A row of the cue list."""
+
+    position: int
+    classes: set[str]
+    cells: list[str]
+
+    def frame(self, at: int) -> int | None:
+        """The frame of one of its times."""
+        return frame_of(self.cells[at])
 
 
-def page_of(number: int) -> str:
-    """The page of a number, or why there is none."""
-    with made(number) as (_, page):
-        return page
+def cue_rows(page: tree.Element) -> list[CueRow]:
+    """The cue list of a page."""
+    return [CueRow(int(row.get("id", "")[1:]), set(row.get("class", "").split()),
+                   [text_of(cell) for cell in row])
+            for row in page.iter(HTML + "tr") if re.fullmatch(r"s\d+", row.get("id", ""))]
 
 
-def row_of(number: int, page: str) -> str:
-    """The row of a number: its verdict, and each part with its sum."""
-    head, *parts = PARTS.split(page)
-    verdict = re.search("<title>(.*?) &#8211;", head)
-    sums = [f"head {sum_of(head)}"] if verdict else []
-    for part in parts:
-        name = re.findall(r'id="(\w+)"', part)[0]
-        sums += [f"{name} {sum_of(part)}"] * (name != MADE)
-    return "\t".join([str(number), verdict[1] if verdict else head, *sums])
-
-
-def sum_of(text: str) -> str:
-    return hashlib.sha256(text.encode()).hexdigest()[:8]
-
-
-class Rows(unittest.TestCase):
-    """Rows of the table."""
-
-    def holds(self, number: int, page: str) -> None:
-        """A page is as its row says, and stands alone."""
-        with open(VECTORS, encoding="utf-8") as file:
-            rows = file.read().splitlines()
-        with self.subTest(row=number):
-            self.assertEqual(row_of(number, page), rows[number])
-            if page.startswith("<"):
-                self.stands(page)
+class Reports(unittest.TestCase):
+    """Reports that qc makes of pairs at random."""
 
     def stands(self, page: str) -> None:
         """A page is XML, and stands alone: nothing is fetched or run, each name is there once, each
@@ -258,176 +213,90 @@ class Rows(unittest.TestCase):
         links = [item for item in items if item.tag == f"{HTML}a"]
         self.assertLessEqual({item.get("href") for item in links}, {f"#{name}" for name in names})
         for item in items:
-            has_label = bool(item.get("aria-label"))
             if item.tag == f"{HTML}th":
                 self.assertIn(item.get("scope"), ("col", "row"))
-            elif item.tag == f"{HTML}svg" and item.get("aria-hidden") != "true":
-                self.assertTrue(has_label and item.get("role") in ("img", "group"))
+            elif item.tag == f"{HTML}svg":
+                self.assertEqual(item.get("aria-hidden"), "true")
             elif item.tag == f"{HTML}a":
-                self.assertTrue(has_label or "".join(item.itertext()).strip())
+                self.assertTrue("".join(item.itertext()).strip())
+
+    def has_all(self, found: Judged, told: list[FaultLine], rows: list[CueRow]) -> None:
+        """Each subtitle that is judged has a row, none is right at whose time a fault is reported,
+        and all are if nothing is."""
+        part = found.verdict.parts[0]
+        judged = [one.index for one in part.due().subtitles]
+        self.assertLessEqual(set(judged), {row.position for row in rows})
+        self.assertEqual(sorted(row.position for row in rows), [row.position for row in rows])
+        frames = [fault.frame for fault in told
+                  if fault.frame is not None and fault.number != BEGIN]
+        for row in rows:
+            begin, end = row.frame(2), row.frame(3)
+            if "ok" in row.classes and begin is not None and end is not None:
+                self.assertEqual([one for one in frames if begin <= one < end], [], row)
+        if found.verdict.word == "accepted":
+            self.assertEqual(set[str]().union(*(row.classes for row in rows)), {"ok"})
+
+    def counts(self, found: Judged, page: tree.Element) -> None:
+        """The table has each number with its count."""
+        table = {row.get("id"): text_of(row[1]) for row in page.iter(HTML + "tr")
+                 if re.fullmatch(r"n\d+", row.get("id", ""))}
+        self.assertEqual(table, {f"n{number}": f"{count:,}" for number, count in
+                                 found.verdict.parts[0].answer.counts.items()})
+
+    def times(self, found: Judged, rows: list[CueRow]) -> None:
+        """At an actual in-cue the program's receiver holds the page that is due, and at the frame
+        before and at the out-cue another one."""
+        asked = found.verdict.request
+        receiver = ["--origin", str(asked.origin), "--page", page_name(*asked.page)]
+        due = asked.stl + ".due"
+        run("schedule", asked.stl, due, "--every", "1500", "--option", asked.option, *receiver)
+
+        def held(path: str, frame: int, *words: str) -> list[str]:
+            lines = run("listen", path, *receiver, *words, "--at", time_of(frame))
+            return lines[2:] if lines[:1] != ["heard no"] else ["blank"]
+
+        right = [row for row in rows if row.classes == {"ok"}]
+        for row in right[:3] + right[-3:]:
+            expected, begin, end = row.frame(2), row.frame(4), row.frame(5)
+            if expected is None or begin is None:
+                continue
+            page = held(due, expected)
+            within = ["--within", str(asked.within)]
+            self.assertEqual(held(asked.recording or "", begin, *within), page, row)
+            if row.cells[4] != row.cells[2]:
+                self.assertNotEqual(held(asked.recording or "", begin - 1, *within), page, row)
+            if end is not None and end != row.frame(3):
+                self.assertNotEqual(held(asked.recording or "", end, *within), page, row)
+
+    def read(self, number: int, folder: str) -> None:
+        """A report of a number."""
+        found, page = report_made(number, folder)
+        if not page:
+            return
+        self.stands(page)
+        if found.verdict.word != "not judged" and found.verdict.parts:
+            root = tree.fromstring(page)
+            rows = cue_rows(root)
+            with open(os.path.join(folder, "out", "one.txt"), encoding="utf-8") as file:
+                told = [fault for fault in map(fault_of_line, file.read().splitlines())
+                        if fault and fault.is_fault]
+            self.has_all(found, told, rows)
+            self.counts(found, root)
+            passed = found.verdict.parts[0].answer.numbers & {*PASSED_OVER, *ENDS_READING, 62}
+            if found.verdict.request.recording and not passed:
+                self.times(found, rows)
 
 
-class Reports(Rows):
-    """Those that `test_reports_beside` leaves, some at a time."""
-
-
-def rows_from(first: int) -> Callable[[Reports], None]:
-    """The test of the rows from a number on."""
+def reports_from(first: int) -> Callable[[Reports], None]:
+    """The test of the reports from a number on."""
 
     def test(self: Reports) -> None:
         for number in range(first, first + EACH):
-            self.holds(number, page_of(number))
+            with self.subTest(number), tempfile.TemporaryDirectory() as folder:
+                self.read(number, folder)
 
     return test
 
 
-for FIRST in range(BESIDE, COUNT, EACH):
-    setattr(Reports, f"test_from_{FIRST:03}", rows_from(FIRST))
-
-# Reports at random beside what the program prints: `check --all` each entry of the list and each
-# count, `listen` the rows of each picture, of the PES file and of the program's own schedule.
-
-EACH_BESIDE = 6  # pages that a test has
-MOST = 25  # pictures that are looked at, of a page
-TIME = re.compile(r"\d\d:\d\d:\d\d:\d\d")
-
-
-def run(*words: str) -> list[str]:
-    """The lines of the program."""
-    return subprocess.run([BENCH.program, *words], stdin=subprocess.DEVNULL, check=False,
-                          stdout=subprocess.PIPE, text=True).stdout.splitlines()
-
-
-def text_of(item: tree.Element) -> str:
-    return "".join(item.itertext())
-
-
-def of_class(page: tree.Element, name: str, kind: str) -> list[tree.Element]:
-    return [item for item in page.iter(HTML + name) if item.get("class") == kind]
-
-
-def written(path: str, ending: str, is_kept: Callable[[int], bool]) -> str:
-    """A file of some of the PES packets of another; of what is behind them, where that is kept."""
-    with open(path, "rb") as file:
-        data = file.read()
-    pes = whole_in(data)
-    rest = data[sum(map(len, pes)):] if is_kept(len(pes)) else b""
-    with open(path + ending, "wb") as out:
-        out.write(b"".join(one for number, one in enumerate(pes) if is_kept(number)) + rest)
-    return path + ending
-
-
-class Beside:
-    """What the program prints of a pair."""
-
-    def __init__(self, found: Judged) -> None:
-        self.asked, self.pes = found.verdict.request, found.verdict.parts[0].pes
-        asked = self.asked
-        self.receiver = ["--origin", str(asked.origin), "--page", page_name(*asked.page)]
-        options = [*self.receiver, "--option", asked.option]
-        within = ["--within", str(asked.within)]
-        more = [*["--complete"] * asked.is_complete, *within]
-        pieces = ["--pes", "{}-{}".format(*self.pes)] if self.pes else []
-        self.told = run("check", *options, "--every", str(asked.every), *more, *pieces, "--all",
-                        "--", asked.stl, asked.recording or os.devnull)
-        if not asked.recording:  # that there is no PES packet is no fault of a subtitle file alone
-            self.told = [line for line in self.told if line != "refused 60 Empty"]
-        times = [line.split()[1:3] for line in run("show", asked.stl) if " vp " in line]
-        self.times = [(frame_of(first) or 0, frame_of(end) or 0) for first, end in times]
-        self.due = asked.stl + ".due"
-        run("schedule", asked.stl, self.due, "--every", "1500", *options)
-        self.held, self.receiver = self.heard(), self.receiver + within
-
-    def entries(self) -> list[str]:
-        """Each fault of a block; else the first of each run of faults of one number in which
-        nothing ends, in one subtitle."""
-        found, before = list[str](), None
-        for line in self.told:
-            words = line.split()
-            if words[0] == "ended":
-                before = None
-            elif words[0] == "refused":
-                frame = frame_of(words[4]) if words[3:4] == ["frame"] else None
-                due = None if frame is None else [
-                    (first <= frame, first <= frame < end) for first, end in self.times]
-                if before != (words[1], due) or words[3:4] == ["block"]:
-                    found.append(line.partition(" ")[2])
-                before = words[1], due
-        return found
-
-    def heard(self) -> str:
-        """The PES file without those PES packets that a list of `check --all` passes over."""
-        passed: set[int] = set()
-        for words in map(str.split, self.told):
-            if words[3:4] == ["pes"] and int(words[1]) in PASSED_OVER:
-                last = int(words[4])
-                passed |= set(range(last if words[0] == "refused" else max(passed), last + 1))
-        first, end = self.pes or (0, -1)
-        return written(self.asked.recording or os.devnull, ".heard",
-                       lambda number: first <= number <= end and number not in passed)
-
-    def rows(self, kind: str | None, time: str) -> list[str]:
-        """The rows of a picture; nothing where the file can't be followed up to there."""
-        if kind == "due":
-            lines = run("listen", self.due, *self.receiver, "--at", time)
-            return ["blank"] if lines == ["heard no"] else lines[2:]  # before the first subtitle
-        words = [*self.receiver, *["--complete"] * (kind == "screen"), "--at", time]
-        lines = run("listen", self.held, *words)
-        if lines[-1].startswith("refused"):  # what is before that PES packet
-            end = int(lines[-1].split(" ")[-1])
-            lines = run("listen", written(self.held, ".cut", lambda number: number < end), *words)
-        return lines if lines[0] == "heard no" else lines[2:]
-
-
-class ReportsBeside(Rows):
-    """Pages, some at a time; each is as its row says."""
-
-    def lists(self, page: tree.Element, beside: Beside) -> None:
-        """The list has each entry in its order, the table how many there are of each number."""
-        codes = [text_of(code) for item in of_class(page, "ol", "faults")
-                 for code in item.iter(HTML + "code")]
-        self.assertEqual([code for code in codes if re.match(r"\d\d [A-Z]", code)],
-                         beside.entries()[:1000])
-        told = [line for line in beside.told if line.startswith("refused")]
-        counts = sorted(Counter(" ".join(line.split()[1:3]) for line in told).items())
-        rows = [[text_of(cell) for cell in row][:2] for table in of_class(page, "table", "numbers")
-                for row in table.iter(HTML + "tr")]
-        self.assertEqual(rows[1:], [[name, f"{count:,}"] for name, count in counts]
-                         if len(told) > 1 else [])
-
-    def pictures(self, page: tree.Element, beside: Beside) -> None:
-        """Each picture has its rows below it."""
-        for figure in list(page.iter(HTML + "figure"))[:MOST]:
-            kind, rows = figure.get("class"), "".join(map(text_of, figure.iter(HTML + "pre")))
-            found = TIME.search(text_of(figure[0]))
-            assert found
-            with self.subTest(kind=kind, time=found[0]):
-                self.assertEqual(rows.splitlines(), beside.rows(kind, found[0]))
-
-
-def pages_from(first: int) -> Callable[[ReportsBeside], None]:
-    """The test of the pages from a number on."""
-
-    def test(self: ReportsBeside) -> None:
-        for number in range(first, first + EACH_BESIDE):
-            with made(number) as (found, page):
-                self.holds(number, page)
-                with self.subTest(number):
-                    if page.startswith("<") and found.verdict.parts:
-                        beside, root = Beside(found), tree.fromstring(page)
-                        self.lists(root, beside)
-                        self.pictures(root, beside)
-
-    return test
-
-
-for FIRST in range(0, BESIDE, EACH_BESIDE):
-    setattr(ReportsBeside, f"test_from_{FIRST:03}", pages_from(FIRST))
-
-
-if __name__ == "__main__":
-    if sys.argv[1:]:
-        print(page_of(int(sys.argv[1])))
-    else:
-        for NUMBER in range(COUNT):
-            print(row_of(NUMBER, page_of(NUMBER)))
+for FIRST in range(0, COUNT, EACH):
+    setattr(Reports, f"test_from_{FIRST:03}", reports_from(FIRST))

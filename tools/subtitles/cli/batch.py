@@ -18,7 +18,7 @@ from ..common.command_line import Stop, counted, ended, error_line, tell
 from ..common.files import IsInput, NOTHING, temporary_folder
 from ..common.program import MadeWith, TOP, about_program
 from ..judging.status import NOT_JUDGED
-from ..report import page, report, transmission
+from ..report import page
 from ..request.commands import CommandWords, Progress
 from ..request.lines import Item, at_line, inputs_of, of_folder, pairs_at
 from ..request.request import Request, take_option
@@ -35,7 +35,7 @@ from .single import (
 # Python's start and the loading of all modules take ten times as long as a small pair does. One
 # that dies, is killed or hangs costs its own pair alone.
 
-LOADED = page, transmission, report  # which one pair loads only where it draws a report
+LOADED = page  # which one pair loads only if it draws a report
 INPUT, OUTPUT, ERRORS = range(3)
 FILES = "/proc/self/fd"  # those that this process has open
 

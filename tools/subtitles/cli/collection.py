@@ -2,6 +2,7 @@
 from __future__ import annotations
 
 import argparse
+import collections
 import json
 import os
 import sys
@@ -11,8 +12,8 @@ from urllib.parse import quote
 
 from ..common.command_line import Stop, counted, error_line, say, shown, silence, tell
 from ..common.files import Inputs, NOTHING, OWN_OUTPUT, refuse_name, result_file, whole_file
-from ..common.markup import BREAK, HEAD, Markup, joined, markup
-from ..judging.status import ACCEPTED, NOT_JUDGED, WAIVED, of_all
+from ..common.markup import BREAK, HEAD, Markup, NO_MARKUP, Value, joined, markup
+from ..judging.status import ACCEPTED, LOST, NOT_JUDGED, REFUSED, WAIVED, WARNED, of_all
 from ..request.commands import index_in
 from ..results.files import (
     ENDING, Row, TestCase, in_order, junit_file, object_at, objects_in, row_of_object, table_lines,
@@ -25,46 +26,79 @@ from .single import now, refuse_files_of_all
 
 STYLE = Markup("""<style>
 :root { --ground: #fff; --words: #1b1e23; --soft: #545c66; --line: #c3c9d1; --shade: #f1f3f6;
-  --link: #0b57b0; --good: #0a6b33; --bad: #b3150f; color-scheme: light dark; }
+  --link: #0b57b0; --good: #0a6b33; --bad: #b3150f; --amber: #855400; --lost: #6a3a9c;
+  color-scheme: light dark; }
 @media (prefers-color-scheme: dark) {
   :root { --ground: #14171c; --words: #e7eaee; --soft: #a9b2be; --line: #424a56; --shade: #1f242b;
-    --link: #82b4ff; --good: #5fd08d; --bad: #ff8a80; } }
+    --link: #82b4ff; --good: #5fd08d; --bad: #ff8a80; --amber: #f0b64a; --lost: #c9a2f5; } }
 * { box-sizing: border-box; }
 body { margin: 0 auto; padding: 16px 12px 60px; max-width: 1280px; background: var(--ground);
   color: var(--words); font: 15px/1.45 system-ui, "DejaVu Sans", Arial, sans-serif; }
 h1 { font-size: 22px; margin: 0 0 8px; }
 a { color: var(--link); }
-table { border-collapse: collapse; margin: 12px 0; width: 100%; }
+table { border-collapse: collapse; margin: 12px 0; } table.pairs { width: 100%; }
 th, td { border: 1px solid var(--line); padding: 4px 8px; text-align: left; vertical-align: top;
   overflow-wrap: anywhere; }
 th { background: var(--shade); font-weight: 600; }
-td.verdict { font-weight: 600; white-space: nowrap; }
-.accepted td.verdict { color: var(--good); }
-.refused td.verdict, .lost td.verdict, .warned td.verdict, .not-judged td.verdict {
-  color: var(--bad); }
+caption { text-align: left; color: var(--soft); font-size: 13px; }
+.pairs thead th { position: sticky; top: 0; overflow-wrap: normal; }
+td.verdict { font-weight: 600; white-space: nowrap; border-left: 4px solid; }
+.accepted .verdict { color: var(--good); } .refused .verdict { color: var(--bad); }
+.waived .verdict { color: var(--soft); } .lost .verdict { color: var(--lost); }
+.warned .verdict, .not-judged .verdict, .estimated { color: var(--amber); }
+.verdict .estimated { display: block; font-size: 13px; }
 small { color: var(--soft); }
-@media (max-width: 640px) {
-  thead { display: none; }
-  tr { display: block; margin: 0 0 10px; border: 1px solid var(--line); }
-  td { display: block; border: 0; padding: 2px 8px; }
-  td:empty { display: none; } }
-</style>""")
-PAGE_HEADS = ("Verdict", "Pair", "Faults", "Worst fault, or why it was not judged", "More")
+fieldset { border: 1px solid var(--line); display: flex; flex-wrap: wrap; gap: 4px 16px; }
+@media screen and (max-width: 640px) {
+  .pairs thead { display: none; }
+  .pairs tr { display: block; margin: 0 0 10px; border: 1px solid var(--line); }
+  .pairs td { display: block; border: 0; padding: 2px 8px; }
+  .pairs td.verdict { border-left: 4px solid; } td:empty { display: none; } }
+@media print { fieldset { display: none; } .pairs thead th { position: static; } }
+""")
+SHAPES = {ACCEPTED: "\u2713", WAIVED: "\u2212", REFUSED: "\u2715", LOST: "\u29d6", WARNED: "!",
+          NOT_JUDGED: "?"}
+PAGE_HEADS = ("Verdict", "Pair", "What is wrong", "Faults", "Files")
 MOST_CAUSES = 6
+ESTIMATED = "clock estimated"
 
 
 def index_page(folder: str, rows: Sequence[Row], date: str) -> bytes:
     """The page."""
-    verdicts = [row.verdict for row in rows]
-    counts = ", ".join(f"{verdicts.count(one)} {one}" for one in dict.fromkeys(sorted(verdicts)))
+    verdicts = collections.Counter(row.verdict for row in rows)
+    counts = ", ".join(f"{verdicts[one]} {one}" for one in sorted(verdicts))
     title = f"{counted(len(rows), 'pair')}: {counts}"
-    heads = joined(markup("<th>{}</th>", text) for text in PAGE_HEADS)
+    heads = joined(markup('<th scope="col">{}</th>', text) for text in PAGE_HEADS)
     lines = joined((pair_line(folder, row) for row in sorted(rows, key=rank)), "\n")
-    page = HEAD + markup("<title>{}</title>", title) + STYLE + markup(
-        "</head><body>\n<h1>{}</h1>\n<p><small>Made {}. Pairs that somebody has to look at stand "
-        "first.</small></p>\n<table><thead><tr>{}</tr></thead><tbody>\n{}\n</tbody></table>\n"
-        "</body></html>\n", title, date, heads, lines)
+    hiding = joined(markup('main:has([value="{}"]:checked) .pairs tbody tr:not(.{}) '
+                           "{{ display: none; }}\n", *[one.replace(" ", "-")] * 2)
+                    for one in sorted(verdicts))
+    radios = joined(
+        markup('<label><input type="radio" name="verdict" value="{}"{}/> {} ({})</label>',
+               one.replace(" ", "-"), markup(' checked="checked"') * (one == "all"), one, count)
+        for one, count in [("all", len(rows)), *sorted(verdicts.items())])
+    estimated = sum(row.is_estimated for row in rows)
+    note = markup('<p class="estimated">{}: a delay shared by all subtitles of such a pair would '
+                  "not be seen.</p>", f"{ESTIMATED.capitalize()} in {counted(estimated, 'pair')}") \
+        if estimated else NO_MARKUP
+    page = HEAD + markup("<title>{}</title>", title) + STYLE + hiding + markup(
+        "</style></head><body><main>\n<h1>{}</h1>\n<p><small>Made {}. Pairs that somebody has to "
+        "look at come first.</small></p>\n{}{}\n<fieldset><legend>Show</legend>{}</fieldset>\n"
+        '<table class="pairs"><caption>All pairs</caption><thead><tr>{}</tr></thead><tbody>\n{}\n'
+        "</tbody></table>\n</main></body></html>\n", title, date, note, totals(rows), radios, heads,
+        lines)
     return page.page()
+
+
+def totals(rows: Sequence[Row]) -> Markup:
+    """How many subtitles, or faults, of how many pairs have which cause."""
+    causes, pairs = collections.Counter[str](), collections.Counter[str]()
+    for row in rows:
+        causes.update(row.causes)
+        pairs.update(row.causes.keys())
+    words = joined((markup("<b>{:,}</b> {} in {}", count, cause, counted(pairs[cause], "pair"))
+                    for cause, count in causes.most_common()), "; ")
+    return markup("<p>Subtitles or faults by cause: {}.</p>", words) if causes else NO_MARKUP
 
 
 def rank(row: Row) -> tuple[int, str]:
@@ -79,24 +113,28 @@ def rank(row: Row) -> tuple[int, str]:
 def pair_line(folder: str, row: Row) -> Markup:
     """The line of a pair."""
     causes = list(row.causes.items())
-    told = [markup("{} &times; {}", count, cause) for cause, count in causes[:MOST_CAUSES]]
+    told = [markup("<b>{}</b>", counted(row.faults, "fault"))] if row.faults else []
+    told += [markup("<small>{} &times; {}</small>", count, cause)
+             for cause, count in causes[:MOST_CAUSES]]
     told += [markup("&hellip;")] if len(causes) > MOST_CAUSES else []
-    faults = markup("{}", counted(row.faults, "fault") if row.is_judged else "")
-    if told:
-        faults += markup("<br/><small>{}</small>", joined(told, BREAK))
-    why = [] if row.verdict == ACCEPTED else [
-        *row.line.splitlines()[:3], *filter(None, [row.hint, row.counts])]
+    why = [row.sentence or row.line, *([row.counts] if row.counts else [])]
+    verdict = markup("{} {}", SHAPES.get(row.verdict, ""), row.verdict)
+    if row.is_estimated:
+        verdict += markup('<span class="estimated">{}</span>', ESTIMATED)
+    name: Value = row.name
+    if os.path.isfile(os.path.join(folder, row.name + ".html")):
+        name = markup('<a href="./{}">{}</a>', quote(os.fsencode(row.name + ".html")), row.name)
     return markup(
-        '<tr class="{}"><td class="verdict">{}</td><td>{}<br/><small>{}</small></td><td>{}</td>'
-        "<td>{}</td><td>{}</td></tr>", row.verdict.replace(" ", "-"), row.verdict, row.name,
-        row.title, faults, joined(why, BREAK),
-        links(folder, row.name))
+        '<tr class="{}"><td class="verdict">{}</td><td>{}<br/><small>{}</small></td><td>{}<br/>'
+        "<small>{}</small></td><td>{}</td><td>{}</td></tr>", row.verdict.replace(" ", "-"), verdict,
+        name, row.title, joined(why, BREAK), row.line if row.sentence and row.is_judged else "",
+        joined(told, BREAK), links(folder, row.name))
 
 
 def links(folder: str, name: str) -> Markup:
-    """Links to what there is of a pair."""
+    """Links to what there is of a pair beside its report."""
     found = []
-    for ending, word in ((".html", "report"), (".txt", "list"), (ENDING, "object")):
+    for ending, word in ((".txt", "list"), (ENDING, "JSON")):
         if os.path.isfile(os.path.join(folder, name + ending)):
             found.append(markup('<a href="./{}">{}</a>', quote(os.fsencode(name + ending)), word))
     return joined(found, " ")

@@ -7,6 +7,7 @@ transmissions  page transmissions: their headers, which pages are due, which sub
 causes         why the content is refused: the cause of each subtitle, those of a list
 sentence       what is said first of what is refused, and the sentence before the last line
 subtitles      subtitles that are refused themselves: midnight, letters; what is judged beside them
+cues           each subtitle: when it was expected, and when a receiver decoded it
 part           a part of a pair, made in steps: frames, range, pace; with its answer, explained
 timing         the parts of a recording in time: clocks, PES packets, pace, pictures
 verdict        the verdict on a pair: all that is written of it, what is lost, delays

@@ -478,7 +478,8 @@ class Wording:
         if has_text and cause.sent not in (None, self.pages[cause.place]):
             sent = page_text(cause.sent or (), self.option)
             if sent != self.due_text(cause):
-                words += f', sent: "{sent}"'
+                words += f'; "{sent}" was shown instead' if cause.name == NEVER else \
+                    f', sent: "{sent}"'
         if cause.other is not None:
             words += f" of {self.subtitles[cause.other].name}"
         return words

@@ -120,7 +120,7 @@ def hint_words(fault: FaultLine, part: Part, verdict: Verdict) -> str:
     if fault.number in OF_HEADERS:
         return part.explanation.of_header
     if fault.number in OF_ENDS:
-        return end_words(fault.number, part, request.page_name)
+        return end_words(fault.number, part, request.page_name) or unrecorded_words(fault, part)
     if fault.number == CONTENT:
         return part.explanation.otherwise
     if fault.number in (EMPTY_TIME, OUT_OF_ORDER):
@@ -192,6 +192,23 @@ def end_words(number: int, part: Part, page: str) -> str:
     is_last = part.pes is not None and part.pes[1] == part.packets.count - 1
     return (why_refused(part.packets) or "") if number == END and is_last and \
         part.packets.refusal else ""
+
+
+def unrecorded_words(fault: FaultLine, part: Part) -> str:
+    """Return how many subtitles were not recorded, and the option that judges the others."""
+    frame, subtitles = fault.frame, part.due().subtitles
+    if frame is None or not subtitles or part.causes and fault.number in part.causes.of_edge:
+        return ""
+    if fault.number == BEGIN:
+        left = [one for one in subtitles if one.begin < frame]
+        option = [f"--from {time_of(one.begin)}" for one in subtitles if one.begin >= frame][:1]
+    else:
+        left = [one for one in subtitles if one.end > frame]
+        option = [f"--to {time_of(one.end + 1)}" for one, other in zip(subtitles, subtitles[1:])
+                  if one.end <= frame and one.end < other.begin][-1:]
+    words = f"{len(left):,} of {counted(len(subtitles), 'subtitle')} " \
+        f"{'was' if len(left) == 1 else 'were'} not recorded completely"
+    return f"{words}; {option[0]} judges the others" if option and left else words
 
 
 def open_words(subtitles: SubtitleFile) -> str:

@@ -54,7 +54,7 @@ class Explainer(NamedTuple):
         causes = part_causes(part) if part.answer.numbers & WITH_CAUSE else None
         if causes:
             tell_causes(self.listener, causes, self.programme.request.option)
-        part = dataclasses.replace(part, explanation=Explanation(
+        part = dataclasses.replace(part, severity=self.verdict.severity, explanation=Explanation(
             causes, otherwise=self.otherwise(part, causes) if causes else ""))
         part = with_more(part, delays=self.delays(part), was_read=part.is_read())
         if CONTROL in part.answer.numbers and not part.request.may_keep:
@@ -260,7 +260,7 @@ class Pair:
             answer.accept(f"{counted(count, 'subtitle')}, nothing is wrong with "
                           f"{'it' if count == 1 else 'them'}")
         part = Part(1, self.request, self.names, answer, explanation=Explanation(
-            was_read=self.request.recording is None))
+            was_read=self.request.recording is None), severity=self.verdict.severity)
         self.verdict.parts.append(part)
         if answer.first:
             part = with_more(part, hint=hint_words(answer.first, part, self.verdict))

@@ -26,7 +26,7 @@ from ..stream.receiver import Timeline, national_option, timeline_near
 from .causes import Causes, Wording
 from .check import Answer
 from .sentence import Lead, lead_of
-from .status import REFUSED, Said
+from .status import REFUSED, Said, Severity
 from .transmissions import DuePages, Kept, headers_of
 
 
@@ -111,6 +111,7 @@ class Part:
     due: Callable[[], DuePages] = nothing_due
     timeline: Callable[[], Timeline | None] = lambda: None
     explanation: Explanation = Explanation()
+    severity: Severity | None = None
 
     @property
     def packets(self) -> Packets:
@@ -136,15 +137,23 @@ class Part:
         assert self.recording and self.alignment
         return self.recording, self.alignment
 
+    @property
+    def waived(self) -> set[int]:
+        """The numbers that a severity file names warnings; none of them if all are: then the
+        verdict is about them."""
+        numbers = {number for number in self.answer.numbers
+                   if self.severity and not self.severity.is_error(number)}
+        return numbers if numbers != self.answer.numbers else set()
+
     @functools.cached_property
     def worst(self) -> Lead | None:
-        """What is said first of it, where something is refused."""
-        return lead_of(self.answer, self.causes)
+        """The fault to report first, if something is refused; a waived one never comes first."""
+        return lead_of(self.answer, self.causes, self.waived)
 
     @functools.cached_property
     def worst_sent(self) -> Lead | None:
         """The same of its transmission, beside subtitles that are refused."""
-        return lead_of(self.answer, self.causes, STL_FAULTS | {UNDECIDED})
+        return lead_of(self.answer, self.causes, STL_FAULTS | {UNDECIDED} | self.waived)
 
     @property
     def leading(self) -> FaultLine | None:

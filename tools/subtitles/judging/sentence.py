@@ -165,7 +165,7 @@ WORDS = {
     60: "nothing is read",
     61: "the PTS is no frame of the day at this origin",
     62: "its frame is not after that of the PES packet before",
-    63: "the first PES packet comes, and the first TCI is before it",
+    63: "the recording begins, and the first TCI is before it",
     64: "an address byte has a wrong bit",
     65: "one of the eight coded bytes of a header has a wrong bit",
     66: "C11 (magazine serial) differs from the first header's",
@@ -177,7 +177,7 @@ WORDS = {
     71: "the first frame has no header of the page",
     72: "the page shows something else than the subtitle file asks for",
     73: "no header of the page has come for as many frames as --every allows",
-    74: "the last PES packet comes, and the last TCO is after it",
+    74: "the recording ends, and the last TCO is after it",
     76: "the subtitle file has another text than its own pages show",
     77: "the page is still open, since no header after its last one has ended it",
     78: "what is due is not known, since a subtitle is refused",
@@ -236,6 +236,7 @@ class Facts(NamedTuple):
     refused: str = ""  # which subtitles are refused, beside which the others are judged
     within: int = 0
     named: str = ""
+    waived: Sequence[Count] = ()  # if something else is refused
 
 
 def sentence_of(seen: Facts) -> str:
@@ -243,11 +244,12 @@ def sentence_of(seen: Facts) -> str:
     if seen.word == NOT_JUDGED:
         return f"Not judged: {(seen.reason or 'check was not answered').splitlines()[0]}."
     if seen.word == REFUSED:
-        return f"Refused: {what_is_wrong(seen)}."
+        waived = f"; waived: {numbers_words(seen.waived)}" if seen.waived else ""
+        return f"Refused: {what_is_wrong(seen)}{waived}."
     if seen.word == WAIVED:
         return f"Waived, since these faults are named warnings: {what_is_wrong(seen)}."
     good = "all faults that were seen are named warnings" if seen.faults or seen.refused else \
-        "what was seen is as it is due"
+        "what was received is right"
     if seen.word == LOST:
         more = f", and in {counted(len(seen.lost) - 1, 'more place')}" if len(seen.lost) > 1 else ""
         lost = seen.lost[0] if seen.lost else "TS packets are lost"
@@ -264,8 +266,9 @@ def what_is_good(seen: Facts) -> str:
     subtitles = counted(seen.subtitles, "subtitle")
     if seen.is_file:
         return f"nothing is wrong with {subtitles}"
-    each = "each of them " if seen.subtitles > 1 else ""
-    return f"{subtitles}, {each}as it is due {since(seen)}"
+    if seen.subtitles > 1:
+        return f"all {subtitles} have the right text {since(seen)}"
+    return f"{subtitles} has the right text {since(seen)}"
 
 
 def beside_refused(seen: Facts) -> str:
@@ -275,15 +278,16 @@ def beside_refused(seen: Facts) -> str:
     sent = seen._replace(refused="")
     if seen.first is None:
         is_one = seen.subtitles == 1
-        how = f"{'it is' if is_one else 'each of them is'} as it is due {since(seen)}"
+        how = f"{'it has' if is_one else 'all have'} the right text {since(seen)}"
     else:
         how = what_is_wrong(sent)
     return f"{seen.refused}; {others}: {how}"
 
 
 def since(seen: Facts) -> str:
-    """From when on a subtitle has to be as it is due."""
-    return f"within {counted(seen.within, 'frame')}" if seen.within else "from the first frame on"
+    """Return from when to when a subtitle has to have its text."""
+    return f"within {counted(seen.within, 'frame')}" if seen.within else \
+        "from the first frame to the last"
 
 
 def what_is_wrong(seen: Facts) -> str:
@@ -377,18 +381,18 @@ def due_text(causes: Causes, place: int, option: str) -> str:
 
 
 def of_several(causes: Sequence[Cause], subtitles: Sequence[Subtitle]) -> str:
-    """A cause that some subtitles have: from when on, or between when, and how many of all."""
+    """A cause that some subtitles have: how many of all, and the first and the last of them."""
     first, last = subtitles[causes[0].place], subtitles[causes[-1].place]
     name = causes[0].name
     if name == IN_PAUSE:
         return f"another text was sent in {counted(len(causes), 'pause')}, the first " \
             f"{causes[0].words}"
-    is_to_the_end = causes[-1].place == len(subtitles) - 1
-    when = f"from {time_of(first.begin)} on" if is_to_the_end else \
-        f"from {time_of(first.begin)} to {time_of(last.begin)}"
+    which = f"all {len(subtitles):,} subtitles" if len(causes) == len(subtitles) else \
+        f"{len(causes):,} of {len(subtitles):,} subtitles"
+    when = f"first at {time_of(first.begin)}, last at {time_of(last.begin)}"
     frames = sorted(cause.frames or 0 for cause in causes)
     said = f"are {range_words(frames[0], frames[-1])} {name}" if name in (LATE, EARLY) else \
         SAID[name][1]
     words = {cause.words for cause in causes}
     more = f" ({words.pop()})" if len(words) == 1 and words != {""} else ""
-    return f"{when} the subtitles {said}{more} ({len(causes)} of {len(subtitles)})"
+    return f"{which} {said}{more} ({when})"

@@ -186,7 +186,7 @@ def clock_options(recording: Recording, origin: Origin) -> Iterator[str]:
         yield again("--pes", "I-J")
     elif origin.breaks is None:
         yield from () if origin.breaks is not None else (
-            again("--origin", "T"), again("--page", "P"))
+            again("--origin", "T"), *recording.other_pages([recording.packets]))
 
 
 # What is taken of the recording.
@@ -212,7 +212,8 @@ def cut_part(programme: PartSearch, part: PartFrames, listener: Listener) -> Ran
         listener.said(f"cut: {recording.shown}: {damage}; it was read up to there")
     if cut.range is None:
         raise Unclear("nothing of the page is in the recording at the time of the subtitles",
-                      recording.again("--origin", "T"), recording.again("--page", "P"))
+                      recording.again("--origin", "T"),
+                      *recording.other_pages([recording.packets]))
     return cut.range
 
 

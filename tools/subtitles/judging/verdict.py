@@ -247,10 +247,13 @@ class Verdict:
     @property
     def sentence(self) -> str:
         """It in one sentence for a person."""
-        refused = self.leading
+        refused, waived = self.leading, self.waived
         said = Facts(
-            self.word, self.count, option=self.request.option, faults=self.faults,
-            counts=counts_of_numbers(self.parts),
+            self.word, self.count, option=self.request.option,
+            faults=self.faults - sum(part.answer.counts[one] for part in self.parts
+                                     for one in waived),
+            counts=counts_of_numbers(self.parts, waived), waived=[
+                count for count in counts_of_numbers(self.parts) if count.number in waived],
             lost=[gap.line() for gap in self.gaps if gap.is_judged], warnings=self.seen().warnings,
             reason=self.why_not, named=self.first_named.words if self.first_named else "",
             is_file=self.request.recording is None, within=self.request.within)
@@ -322,12 +325,24 @@ class Verdict:
     def first_named(self) -> NamedFault | None:
         """The fault with a name that is said first, where it is as bad as what else is refused."""
         worst = self.leading.worst if self.leading else None
-        return worst_name(self.named, worst.rank if worst else None)
+        errors = [fault for fault in self.named if self.severity.is_error(fault.name)]
+        named = errors if errors or self.word == REFUSED else self.named
+        return worst_name(named, worst.rank if worst else None)
 
     @property
     def leading(self) -> Part | None:
         """The part that has the worst of what is refused."""
-        return worst_of([part for part in self.parts if part.is_refused], lambda part: part.worst)
+        refused = [part for part in self.parts if part.is_refused]
+        errors = [part for part in refused if any(map(self.severity.is_error, part.answer.numbers))]
+        return worst_of(errors or refused, lambda part: part.worst)
+
+    @property
+    def waived(self) -> set[int]:
+        """The numbers that a severity file names warnings, if something else is refused."""
+        numbers = {number for part in self.parts for number in part.answer.numbers}
+        left_out = STL_FAULTS | {UNDECIDED} if self.beside else set[int]()
+        return {number for number in numbers - left_out if not self.severity.is_error(number)} \
+            if self.word == REFUSED else set()
 
     def line_of(self, refused: str | None) -> str | None:
         """A line of `check`, with what became of it; `None` where nothing is judged."""

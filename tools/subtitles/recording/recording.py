@@ -1,6 +1,7 @@
 """A recording: which PID it is, how the program reads it, a pipe copied to a file."""
 from __future__ import annotations
 
+import collections
 import copy
 import functools
 import hashlib
@@ -26,6 +27,7 @@ from .notices import Notice, announcements_of, refuse_unsent, silent_beside
 # A recording that comes through a pipe: copied to a file, which is judged once all has come. To
 # judge it while it came took a rule of its own for when that was.
 
+MOST_PAGES = 3  # that an operator is offered
 MOST_PIPED = 32_000_000_000  # bytes: two hours of 35 Mbit/s
 
 
@@ -186,8 +188,7 @@ class Recording:
         if not pids:
             refuse_unsent(self.request, self.survey, self.times)
             why = "; ".join([f"{self.name} has no header of page {page}", *self.why_nothing()])
-            is_other = any(one.sent for one in by_pid.values())
-            raise Unclear(self.said(why), *([self.again("--page", "P")] if is_other else []))
+            raise Unclear(self.said(why), *self.other_pages(by_pid.values()))
         if self.request.pes is None:
             self.stages = stages_of(self.survey, self.request.page)
         if self.stages:
@@ -344,6 +345,14 @@ class Recording:
 
     def again(self, *more: str) -> str:
         return again(self.request, self.typed, *more)
+
+    def other_pages(self, several: Iterable[Packets]) -> Iterator[str]:
+        """Yield the calls for the other pages of some PIDs, those with the most headers first."""
+        counts = collections.Counter[str]()
+        for one in several:
+            counts.update(one.sent)
+        del counts[self.request.page_name]
+        return (self.again("--page", name) for name, _ in counts.most_common(MOST_PAGES))
 
     def said(self, reason: str) -> str:
         """A reason, and what there is."""

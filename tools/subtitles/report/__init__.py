@@ -1,9 +1,8 @@
 """A verdict shown as a page.
 
-transmission   what a report shows of a transmission: its pages and its PES packets
-pictures       pages as Teletext level 1 draws them, and the pictures of a frame
-faults         the faults of a report as entries; subtitles with pictures
-report         all that a report is made of; what it shows of a refused subtitle file
-drawing        what is drawn of a transmission: its strip of time, its pictures, its faults
-page           the page of a verdict: what is said of it, then each part
+blocks      the refused subtitles of a subtitle file
+cue_list    one row for each subtitle: expected, actual, text, verdict
+pictures    pages as level 1 Teletext draws them: expected beside decoded
+timeline    a lane for each kind of fault
+page        the page of a verdict
 """

@@ -1,4 +1,4 @@
-"""Pages as Teletext level 1 draws them, and the pictures of a frame."""
+"""Draw pages as a level 1 Teletext receiver shows them."""
 from __future__ import annotations
 
 import codecs
@@ -8,12 +8,10 @@ import operator
 import re
 from typing import Any, Callable, Iterable, Iterator, NamedTuple, TypeVar
 
-from ..common.markup import Markup, NO_MARKUP, Value, joined, markup
-from ..common.times import time_of
-from ..formats.teletext import NEWSFLASH, SUBTITLE, has_bit, letters, option_name
-from ..stream.receiver import (
-    BLANK_PAGE, HIT, Held, OLD, Rows, State, control_bits, national_option, printed_rows)
-from .transmission import Seen
+from ..common.command_line import counted
+from ..common.markup import Markup, NO_MARKUP, joined, markup
+from ..formats.teletext import NEWSFLASH, SUBTITLE, has_bit, letters
+from ..stream.receiver import BLANK_PAGE, HIT, OLD, Rows, State, national_option
 
 
 # A page as Teletext level 1 draws it (EN 300 706, 12.2), as SVG with its text in it.
@@ -162,22 +160,11 @@ def frames_of(different: Iterable[Place], tall: set[int]) -> Markup:
                   for (column, width, end), first in boxes.items())
 
 
-def frame(column: int, width: int, first: int, end: int, more: int = 0) -> Markup:
-    """A frame around cells of the rows from `first` to the one before `end`."""
-    place = markup('x="{}" y="{}" width="{}" height="{}"', column * WIDTH - more,
-                   (first - 1) * HEIGHT - more, width * WIDTH + 2 * more,
-                   (end - first) * HEIGHT + 2 * more)
+def frame(column: int, width: int, first: int, end: int) -> Markup:
+    """Draw a frame around cells of the rows from `first` to the one before `end`."""
+    place = markup('x="{}" y="{}" width="{}" height="{}"', column * WIDTH, (first - 1) * HEIGHT,
+                   width * WIDTH, (end - first) * HEIGHT)
     return markup('<rect class="d1" {}/><rect class="d2" {}/>', place, place)
-
-
-def pointer(row: int, column: int, tall: set[int], cut: Cut) -> Markup:
-    """A wider frame around the cell that the refusal names, and points to it on each edge."""
-    end = row + 1 + (row in tall)
-    x, y = column * WIDTH + WIDTH // 2, (row + end - 2) * HEIGHT / 2
-    top, bottom = (cut[0] - 1) * HEIGHT, cut[1] * HEIGHT
-    points = (f"M{x} {top + 9}l-6 -9h12zM{x} {bottom - 9}l-6 9h12z"
-              f"M14 {y:g}l-14 -7v14zM466 {y:g}l14 -7v14z")
-    return markup('{}<path class="point" d="{}"/>', frame(column, 1, row, end, 4), points)
 
 
 def is_boxed(header: bytes) -> bool:
@@ -185,10 +172,9 @@ def is_boxed(header: bytes) -> bool:
     return has_bit(header, NEWSFLASH) or has_bit(header, SUBTITLE)
 
 
-def cut_of(pages: Iterable[Rows], row: int | None = None) -> Cut:
-    """The first and the last row that a picture of some pages shows: those in use, and one more."""
+def cut_of(pages: Iterable[Rows]) -> Cut:
+    """Return the first and the last row to draw: those in use, and one more on each side."""
     used = [number for rows in pages for number, one in enumerate(rows, 1) if one != BLANK_ROW]
-    used += [row] if row else []
     if not used:
         return LOW_ROWS
     return max(1, min(used) - 1), min(24, max(used) + 1)
@@ -202,9 +188,8 @@ def opened(kind: str, cut: Cut) -> Markup:
                   height + 2, HIDDEN, top, height)
 
 
-def picture(rows: Rows, header: bytes, cut: Cut, different: Iterable[Place] = (),
-            place: Place | None = None) -> Markup:
-    """A page as SVG: some of its rows, cells that differ framed, and the place marked."""
+def picture(rows: Rows, header: bytes, cut: Cut, different: Iterable[Place] = ()) -> Markup:
+    """Draw some rows of a page as SVG, with a frame around each run of cells that differ."""
     parts = [opened("page", cut)]
     tall: set[int] = set()
     option, has_boxes = national_option(header), is_boxed(header)
@@ -214,8 +199,6 @@ def picture(rows: Rows, header: bytes, cut: Cut, different: Iterable[Place] = ()
             parts.append(drawn)
             tall |= {number} if is_tall else set()
     parts.append(frames_of(different, tall))
-    if place:
-        parts.append(pointer(*place, tall, cut))
     parts.append(markup("</svg>"))
     return joined(parts)
 
@@ -227,27 +210,6 @@ def empty_picture(words: str, cut: Cut) -> Markup:
                   middle, words)
 
 
-# Spacing attributes by their names; what is not among them is told by its code alone.
-ATTRIBUTES = {0x08: "flash", 0x09: "steady", 0x0A: "end box", 0x0B: "start box",
-              0x0C: "normal height", 0x0D: "double height", 0x18: "conceal",
-              0x1C: "black background", 0x1D: "new background",
-              **dict(enumerate(("black", "red", "green", "yellow", "blue", "magenta", "cyan",
-                                "white")))}
-
-
-def text_of_code(byte: int, option: int) -> Value:
-    """What a cell holds, in words: its letter, or the name of its spacing attribute."""
-    code = byte & 0x7F
-    if byte == OLD:
-        return "nothing that was sent"
-    if code == SPACE:
-        return "a space" if byte != HIT else "a space for a byte of even parity"
-    if code < SPACE:
-        name = ATTRIBUTES.get(code)
-        return f"code {code:02X}" + (f" ({name})" if name else "")
-    return markup("<code>{}</code>", letters(option)[code])
-
-
 def differences(due: Rows, held: Rows) -> list[Place]:
     """The cells, as row and column, whose codes differ."""
     if due == held:
@@ -257,118 +219,32 @@ def differences(due: Rows, held: Rows) -> list[Place]:
             for column in range(40) if (one[column] ^ other[column]) & 0x7F]
 
 
-# The pictures at a frame: the page that is due, the page that a receiver holds, and its screen.
-
-NOT_READ = "a receiver can't be followed up to there"
-# What is held beside what is due, with the words for the count of such subtitles.
-SAME, DIFFERENT, NOTHING, NOT_KNOWN = "same", "different", "nothing", "not known"
-KINDS = {SAME: "as due", DIFFERENT: "another page than the one that is due",
-         NOTHING: "no page yet",
-         NOT_KNOWN: "not known, since the PES file ends, or can't be followed, before"}
+# A pair of pictures: the expected page, and the one that a receiver decoded.
 
 
-class Figures:
-    """The pictures at a frame: due, held, and with complete pages asked for the screen.
-
-    `due` is what a receiver heard of the program's own schedule, `None` where there is no subtitle,
-    and `held` what is seen of the PES file. `header` is that of a page that nobody sent.
-    """
-
-    def __init__(self, due: Held | None, held: Seen, header: bytes, page: str,
-                 is_complete: bool) -> None:
-        self.due, self.held, self.header = due, held, header
-        self.page, self.is_complete = page, is_complete
-
-    def due_at(self, frame: int) -> tuple[Rows, bytes]:
-        """The page that is due, and its header: blank before the first sending of the schedule."""
-        state = self.due.state_at(frame) if self.due else None
-        return (state.rows, state.header) if state and state.header else (BLANK_PAGE, self.header)
-
-    def kind_at(self, frame: int) -> str:
-        """What is held at a frame, or is on the screen, beside what is due: one of KINDS."""
-        rows, state = self.due_at(frame)[0], self.held.state_at(frame)
-        if state is None or self.held.is_after(frame):
-            return NOT_KNOWN
-        if not state.is_heard or self.is_complete and state.screen is None:
-            return NOTHING
-        screen = state.screen[0] if self.is_complete and state.screen else state.rows
-        if differences(rows, state.rows) or differences(rows, screen):
-            return DIFFERENT
-        return SAME
-
-    def at(self, frame: int, place: Place | None = None) -> Markup:
-        """The figures at the end of a frame, with the cell that is refused marked."""
-        time, state = time_of(frame), self.held.state_at(frame)
-        due, header = self.due_at(frame)
-        seen = [due]
-        if state and state.is_heard:
-            seen.append(state.rows)
-        if self.is_complete and state and state.screen:
-            seen.append(state.screen[0])
-        cut = cut_of(seen, place[0] if place else None)
-        parts = [figure("due", f"Due at {time}", option_name(national_option(header)),
-                        picture(due, header, cut, (), place), printed_rows(due))]
-        held = f"A receiver at the end of {time}"
-        if state is None:
-            parts.append(figure("held", held, NOT_READ, empty_picture("not known", cut), []))
-        elif state.header is None:
-            words = f"no header of page {self.page} was heard yet"
-            parts.append(figure("held", held, words, empty_picture("nothing heard", cut),
-                                ["heard no"]))
-        else:
-            note = "still open for rows" if state.is_open else "not open"
-            parts.append(page_figure("held", held, note, due, (state.rows, state.header), cut,
-                                     place))
-        if self.is_complete:
-            parts.append(self.screen_figure(time, due, state, cut, place))
-        names = "pictures three" if self.is_complete else "pictures"
-        return markup('<div class="{}">{}</div>', names, joined(parts))
-
-    def screen_figure(self, time: str, due: Rows, state: State | None, cut: Cut,
-                      place: Place | None) -> Markup:
-        caption, note = f"On its screen at the end of {time}", "complete pages alone"
-        if state is None:
-            return figure("screen", caption, NOT_READ, empty_picture("not known", cut), [])
-        if state.screen is None:
-            lines = ["shown no" if state.is_heard else "heard no"]
-            return figure("screen", caption, note, empty_picture("nothing yet", cut), lines)
-        return page_figure("screen", caption, note, due, state.screen, cut, place)
+def pictured(time: str, expected: Rows, header: bytes, state: State | None) -> Markup:
+    """Draw the expected page and the decoded one at the end of a frame."""
+    decoded = state.rows if state and state.is_heard else None
+    cut = cut_of([expected, decoded] if decoded else [expected])
+    left = figure(f"Expected at {time}", "", picture(expected, header, cut))
+    if state is None or decoded is None or state.header is None:
+        why = "not known" if state is None else "nothing received yet"
+        return markup('<div class="pictures">{}{}</div>', left, figure(
+            f"Decoded at {time}", why, empty_picture(why, cut)))
+    different = differences(expected, decoded)
+    words = [f"{counted(len(different), 'cell')} differ{'s' * (len(different) == 1)}"
+             if different else "no cell differs"]
+    words += [] if is_boxed(state.header) else ["C5 and C6 are clear: the whole page is shown"]
+    marks = set(b"".join(decoded))
+    words += ["dotted: never sent"] * (OLD in marks) + ["dashed: even parity"] * (HIT in marks)
+    if state.screen and state.screen[0] != decoded:
+        words.append("the page is not complete: receivers that wait for the next header still "
+                     "show the page before")
+    return markup('<div class="pictures">{}{}</div>', left, figure(
+        f"Decoded at {time}", "; ".join(words), picture(decoded, state.header, cut, different)))
 
 
-def page_figure(kind: str, caption: str, note: str, due: Rows, page: tuple[Rows, bytes], cut: Cut,
-                place: Place | None) -> Markup:
-    """The figure of a page that a receiver has, with the cells framed that are not as due."""
-    rows, header = page
-    different = differences(due, rows)
-    count = len(different)
-    cells = markup("<b>{}</b>", "1 cell differs" if count == 1 else f"{count} cells differ")
-    words = joined([cells if count else "no cell differs", *marks_words(header, rows)], ", ")
-    return figure(kind, caption, words, picture(rows, header, cut, different, place),
-                  printed_rows(rows), f"{note}; {header_line(header)}")
-
-
-def marks_words(header: bytes, rows: Rows) -> list[str]:
-    """What the picture of a page shows beside its letters."""
-    words = [] if is_boxed(header) else ["no subtitle: all of the page is shown"]
-    marks = set(b"".join(rows))
-    if OLD in marks:
-        words.append("dotted: never sent")
-    if HIT in marks:
-        words.append("dashed: even parity")
-    return words
-
-
-def header_line(header: bytes) -> str:
-    """The control bits and the letters of the page's last header."""
-    return ", ".join([" ".join(control_bits(header)) or "no control bit",
-                      option_name(national_option(header))])
-
-
-def figure(kind: str, caption: str, words: Value, drawn: Markup, lines: list[str],
-           folded: str = "") -> Markup:
-    """A picture with its caption; folded away, its rows as `listen` prints them and some words."""
-    more = markup("<small>{}</small>", folded) if folded else NO_MARKUP
-    below = markup("<details><summary>codes as ASCII</summary>{}<pre>{}</pre></details>", more,
-                   "\n".join(lines)) if lines else NO_MARKUP
-    return markup('<figure class="{}"><figcaption>{}<br/><small>{}</small></figcaption>{}{}'
-                  "</figure>", kind, caption, words, drawn, below)
+def figure(caption: str, words: str, drawn: Markup) -> Markup:
+    """Return a picture with its caption."""
+    return markup("<figure><figcaption>{} <small>{}</small></figcaption>{}</figure>", caption,
+                  words, drawn)

@@ -11,6 +11,7 @@ import time
 import xml.etree.ElementTree as tree
 from typing import Any, Collection, Iterable, Iterator, NamedTuple, Sequence
 
+from ..clock.start import RECORDING
 from ..common.command_line import Stop, error_line, shown_lines
 from ..common.files import bounded_bytes, first_bytes, is_replaced, result_file
 from ..common.program import MadeWith
@@ -105,6 +106,8 @@ class Row(NamedTuple):
     seconds: float
     hint: str
     counts: str = ""
+    sentence: str = ""
+    is_estimated: bool = False  # its clock: a delay shared by all subtitles would not be seen
 
     @property
     def is_judged(self) -> bool:
@@ -206,7 +209,9 @@ def row_of_object(known: dict[str, Any], name: str) -> Row:
     return Row(name, title or name, known["verdict"], known["status"],
                known["reason"] or known["lead"], known["fault_count"], causes_in(known),
                [fault["line"] for fault in known["faults"][:LINES]], known["seconds"],
-               hint_in(known), Counts(**counts).words() if counts else "")
+               hint_in(known), Counts(**counts).words() if counts else "", known["sentence"],
+               any(part["clock"] and part["clock"]["source"] == RECORDING
+                   for part in known["parts"]))
 
 
 def hint_in(known: dict[str, Any]) -> str:

@@ -1,0 +1,158 @@
+"""The cue list, the timeline, refused subtitles, and the box of a verdict."""
+from __future__ import annotations
+
+from typing import Any
+
+from developing.stl import gsi_block
+from subtitles.common.times import Span
+from subtitles.formats.stl import NamedSubtitle, Subtitle, SubtitleFile
+from subtitles.judging.causes import Cause, LATE, NEVER, TEXT
+from subtitles.judging.cues import Cue, decoded_cue
+from subtitles.judging.status import (
+    ACCEPTED, LOST, NOT_JUDGED, REFUSED, WAIVED, WARNED)
+from subtitles.judging.transmissions import DuePages
+from subtitles.report.blocks import field, marked_text, marked_times, readable
+from subtitles.report.cue_list import marked_difference, signed
+from subtitles.report.page import SHAPES, with_options
+from subtitles.stream.receiver import BLANK_PAGE, Held, Rows
+from .bench import Case
+from .parts import fault_of, in_page
+
+
+def page(text: bytes) -> Rows:
+    """A page with a text in row 20."""
+    return (*BLANK_PAGE[:19], text.ljust(40), *BLANK_PAGE[20:])
+
+
+class Held20(Held):
+    """Pages by the frames from which on they are held, up to frame 1000."""
+
+    last, halt = 1000, None
+
+    def __init__(self, *changes: tuple[int, Rows]) -> None:
+        super().__init__()
+        for frame, rows in changes:
+            self.change(frame, rows)
+
+    def stretch(self, number: int) -> Span:
+        is_last = number + 1 == len(self.frames)
+        return Span(self.frames[number], self.last if is_last else self.frames[number + 1] - 1)
+
+    def is_seen(self, first: int, last: int) -> bool:
+        return True
+
+
+class Cues(Case):
+    """When a receiver held the page of a subtitle."""
+
+    ONE, TWO = page(b"one"), page(b"two")
+
+    def test_times(self) -> None:
+        """By what is held, and by the cause: the first and the last frame of a subtitle that is
+        expected from 100 to 200, behind which another one is expected from 200 to 300."""
+        one, blank, two = self.ONE, BLANK_PAGE, self.TWO
+        wrong = page(b"onf")
+        late, text, never = (Cause(0, name, frames, sent, None, "", 0) for name, frames, sent in (
+            (LATE, 7, one), (TEXT, None, wrong), (NEVER, None, None)))
+        for name, cause, changes, wanted in (
+                ("right", None, [(100, one), (200, two)], (100, 200)),
+                ("late", late, [(107, one), (207, two)], (107, 207)),
+                ("wrong text", text, [(101, wrong), (199, two)], (101, 199)),
+                ("never sent", never, [(0, blank), (200, two)], (None, None)),
+                ("damaged", None, [(100, one), (150, wrong), (200, two)], (100, 200)),
+                ("erased", None, [(100, one), (150, blank), (200, two)], (100, 150)),
+                ("by another one", None, [(100, one), (150, two)], (100, 150)),
+                ("up to the end", None, [(100, one)], (100, None))):
+            subtitles = [Subtitle(1, 1, 100, 200, 20, 2, b""), Subtitle(2, 2, 200, 300, 20, 2, b"")]
+            held: Any = Held20(*changes)
+            made = decoded_cue(Cue(subtitles[0], one, cause), 0, DuePages(subtitles, [one, two]),
+                               held, 0)
+            self.must(name, (made.begin, made.end) == wanted, (made.begin, made.end))
+            self.must(f"{name}: late", made.late_in == (
+                None if wanted[0] is None else wanted[0] - 100), made.late_in)
+
+    def test_same_page_twice(self) -> None:
+        """Two subtitles that adjoin and have the same page: the cue between them is as expected."""
+        subtitles = [Subtitle(1, 1, 100, 200, 20, 2, b""), Subtitle(2, 2, 200, 300, 20, 2, b"")]
+        held: Any = Held20((100, self.ONE), (300, BLANK_PAGE))
+        due = DuePages(subtitles, [self.ONE, self.ONE])
+        made = [decoded_cue(Cue(one, self.ONE, None), place, due, held, 0)
+                for place, one in enumerate(subtitles)]
+        self.must("times", [(one.begin, one.end) for one in made] == [(100, 200), (200, 300)], made)
+
+
+class Words(Case):
+    """Texts with marks, numbers with signs."""
+
+    def test_difference(self) -> None:
+        """The characters that differ are marked in both texts."""
+        for first, second, wanted in (
+                ("abc", "abd", ("ab[c]", "ab[d]")), ("abc", "abc", ("abc", "abc")),
+                ("a b", "axxb", ("a[ ]b", "a[xx]b")), ("abcd", "abd", ("ab[c]d", "abd")),
+                ("", "abc", ("", "[abc]")), ("aXbYc", "a1b2c", ("a[X]b[Y]c", "a[1]b[2]c")),
+                ("aa", "a", ("a[a]", "a")), ("<a>", "<b>", ("&lt;[a]&gt;", "&lt;[b]&gt;"))):
+            told = tuple(in_page(one).replace("<mark>", "[").replace("</mark>", "]")
+                         for one in marked_difference(first, second))
+            self.must(f"{first} {second}", told == wanted, told)
+
+    def test_signs(self) -> None:
+        self.must("signs", [signed(one) for one in (None, 0, 12, -3)] == ["", "0", "+12", "-3"])
+
+    def test_options(self) -> None:
+        """Options are not broken between two lines."""
+        for text, wanted in (("give --origin or --start", "give <b>--origin</b> or <b>--start</b>"),
+                             ("--every 25 <x>", "<b>--every 25</b> &lt;x&gt;"), ("a - b", "a - b")):
+            self.must(text, in_page(with_options(text)) == wanted, in_page(with_options(text)))
+
+    def test_shapes(self) -> None:
+        """Each verdict has a class and a shape of its own."""
+        words = (ACCEPTED, WAIVED, REFUSED, LOST, WARNED, NOT_JUDGED)
+        self.must("all", set(SHAPES) == set(words))
+        self.must("classes", len({kind for kind, _ in SHAPES.values()}) == len(words))
+        self.must("shapes", len({in_page(drawn) for _, drawn in SHAPES.values()}) == len(words))
+
+
+class BlocksOfFile(Case):
+    """A subtitle file that is refused: its subtitles."""
+
+    def test_fields(self) -> None:
+        """The field that a fault is about, as it stands in the file; of no other fault one."""
+        path = self.write("two.stl", gsi_block(b"", 1, 1) + bytes(range(16)) + b"\x8f" * 112)
+        made = SubtitleFile(path)
+        fields = {11: "DFC STL25.01", 12: "DFC STL25.01", 13: "DSC 1", 14: "CCT 00", 15: "EBN 03",
+                  16: "CS 04", 17: "CF 0F", 18: "JC 0E", 19: "VP 0D", 22: "SGN and SN 000102"}
+        for number in range(10, 60):
+            line = f"refused {number} X block {int(number > 14)}"
+            head, _, value = fields.get(number, "").rpartition(" ")
+            told = in_page(field(made, fault_of(line))).strip()
+            self.must(line, told == (f"{head} <mark>{value}</mark>" if head else ""), told)
+        self.must("no block", in_page(field(made, fault_of("refused 14 Cct"))) == "")
+
+    def test_marks(self) -> None:
+        """The byte or the line that a fault names, in a text and in tables."""
+        def marked(*lines: str) -> str:
+            return in_page(marked_text(b"a b\x8ac", [fault_of(line) for line in lines]))
+
+        for lines, words in (
+                ((), "a b<br/>c"), (("refused 50 X block 2 at 0",), "<mark>a</mark> b<br/>c"),
+                (("refused 51 X block 2 at 4",), "a b<br/><mark>c</mark>"),
+                (("refused 52 X block 2 at 1",), "a b<br/><mark>c</mark>"),
+                (("refused 53 X block 2 at 0", "refused 50 X block 2 at 2"),
+                 "<mark>a <mark>b</mark></mark><br/>c"), (("refused 21 X block 2",), "a b<br/>c")):
+            self.must(f"{lines}", marked(*lines) == words, marked(*lines))
+        letters = [in_page(readable(byte)) for byte in (0x20, 0x41, 0x7E, 0x7F, 0x1F)]
+        self.must("letters", letters == ["\u2423", "A", "~", "<i>7F</i>", "<i>1F</i>"])
+
+    def test_times(self) -> None:
+        """Those that a fault is about are marked."""
+        begin, end = "00:00:02:10", "00:00:02:20"
+        one = NamedSubtitle(3, 3, begin, end)
+        for line, wanted in (
+                ("refused 21 X block 6", (f"<mark>{begin}</mark>", f"<mark>{end}</mark>")),
+                ("refused 56 X block 6", (f"<mark>{begin}</mark>", end)),
+                ("refused 57 X block 6", (f"<mark>{begin}</mark>", end)),
+                ("refused 20 X block 6", (begin, end)), ("refused 50 X block 6", (begin, end))):
+            self.must(line, (*map(in_page, marked_times(one, [fault_of(line)])),) == wanted)
+        wrong = one._replace(begin="99:00:00:00")
+        told = [*map(in_page, marked_times(wrong, [fault_of("refused 20 X block 6")]))]
+        self.must("no time", told == ["<mark>99:00:00:00</mark>", end])

@@ -1,0 +1,364 @@
+"""The cue list: one row for each subtitle, what differs, and how many frames."""
+from __future__ import annotations
+
+import collections
+import functools
+import itertools
+from typing import Collection, Iterable, Iterator, NamedTuple, Sequence
+
+from ..common.command_line import counted
+from ..common.markup import BREAK, Markup, NO_MARKUP, Value, joined, markup
+from ..common.times import frame_of, joined_spans, time_of
+from ..formats.listing import BEGIN, FaultLine, WITH_CAUSE
+from ..formats.stl import NamedSubtitle, Subtitle, SubtitleFile, subtitles_read
+from ..formats.teletext import BY_WORD, letters_of
+from ..judging.causes import (
+    Cause, IN_PAUSE, LATE, NAMES, NOT_RECEIVED, UNKNOWN, Wording)
+from ..judging.cues import Cue, cues_of, recording_start, seconds_into
+from ..judging.pages import page_text
+from ..judging.part import Part
+from ..judging.sentence import OF_CAUSE, of_one, of_several, rank_of
+from ..judging.status import Severity
+from ..judging.subtitles import JudgedBeside
+from .blocks import fault_lines, marked_text, marked_times, refused_blocks, subtitle_text
+
+COLUMNS = ("No.", "Into recording", "Expected in", "Expected out", "Actual in", "Actual out",
+           "Late by (frames)", "Text", "Verdict")
+MOST_PRINTED = 200  # rows on paper
+MOST_BARS = 12  # differences of the histogram
+RIGHT, WAIVED, BAD, UNSEEN = "ok", "waived", "bad", "unseen"  # classes of rows
+
+
+class Kind(NamedTuple):
+    """A kind of fault: the class of its rows, its name, and whether a severity file waives it."""
+
+    key: str
+    name: str
+    is_waived: bool
+
+
+class CueRow(NamedTuple):
+    """A row of the list: its place and its class, its kinds, and what it says."""
+
+    position: int
+    grade: str
+    kinds: Sequence[str]
+    cells: Sequence[Value]
+    is_again: bool = False  # equal to the row before it, so that paper needs only one
+
+
+class CueList:
+    """The cues of a part, each with its kinds of fault."""
+
+    def __init__(self, part: Part, severity: Severity, beside: JudgedBeside | None) -> None:
+        self.part, self.severity, self.beside = part, severity, beside
+        self.option = BY_WORD[part.request.option].bits
+        self.start = recording_start(part)
+        self.causes = part.causes
+        self.wording = Wording(part.causes, part.request.option) if part.causes else None
+        self.cues = [*cues_of(part)]
+        caused = WITH_CAUSE if part.causes else set[int]()
+        self.marks = {number: joined_spans([spans]) for number, spans in part.answer.marks.items()
+                      if number not in caused | {BEGIN}}
+        self.rows = sorted([*self.judged_rows(), *self.refused_rows()],
+                           key=lambda row: row.position)
+        self.counts = collections.Counter(key for row in self.rows for key in row.kinds)
+        self.first_rows: dict[str, int] = {}
+        for row in self.rows:
+            for key in row.kinds:
+                self.first_rows.setdefault(key, row.position)
+
+    @functools.cached_property
+    def file(self) -> SubtitleFile:
+        return SubtitleFile(self.part.names.given, self.part.request.between)
+
+    # The rows.
+
+    def judged_rows(self) -> Iterator[CueRow]:
+        """Yield the rows of the subtitles that were judged."""
+        last: object = None
+        for cue in self.cues:
+            grade, kinds, words = self.verdict_of(cue)
+            again = cue.cause and (cue.cause.name, cue.cause.frames, tuple(kinds))
+            yield CueRow(cue.subtitle.index, grade, kinds, self.cells(cue, words),
+                      bool(again) and again == last)
+            last = again
+        if not self.cues and self.part.recording is None and not self.part.answer.numbers:
+            for one in subtitles_read(self.file.data):
+                text = joined(map(letters_of, one.text.split(b"\x8a")), BREAK)
+                yield CueRow(one.index, RIGHT, (), [
+                    number_cell(one.index, one.number), "", time_of(one.begin), time_of(one.end),
+                    "", "", "", text, "right"])
+
+    def verdict_of(self, cue: Cue) -> tuple[str, list[str], Value]:
+        """Return the class of a cue's row, its kinds, and its verdict with the reason."""
+        subtitle, cause = cue.subtitle, cue.cause
+        words: list[Value] = []
+        if cause and self.wording:
+            words.append(self.wording.said(cause, has_text=False))
+        numbers = [number for number, spans in self.marks.items()
+                   if any(True for _ in spans.between(subtitle.begin, subtitle.end))]
+        words += [markup('<a href="#n{}">{} {}</a>', number, number, self.name_of(number))
+                  for number in numbers]
+        kinds = [*([cause_key(cause)] if cause else []), *(f"n{number}" for number in numbers)]
+        if not kinds:
+            return self.without_fault(cue)
+        if all(kind.is_waived for kind in self.kinds if kind.key in kinds):
+            return WAIVED, kinds, markup("waived: {}", joined(words, "; "))
+        is_unseen = cause and cause.name in (NOT_RECEIVED, UNKNOWN) and not numbers
+        return UNSEEN if is_unseen else BAD, kinds, joined(words, "; ")
+
+    def without_fault(self, cue: Cue) -> tuple[str, list[str], Value]:
+        """Return the same of a cue without a fault: it is right if its part was accepted, or if
+        `check` calls all its frames trusted. Otherwise nobody knows."""
+        begin, end = cue.subtitle.begin, cue.subtitle.end
+        if not self.part.answer.count:
+            return RIGHT, [], "right"
+        trusted = sum(min(last + 1, end) - max(first, begin)
+                      for first, last in self.part.trusted.between(begin, end))
+        if trusted == end - begin:
+            return RIGHT, [], "right"
+        if cue.begin is None:
+            return UNSEEN, [], "not received"
+        words = f"{counted(end - begin - trusted, 'frame')} of it not trusted"
+        return UNSEEN, [], f"{words}: the out-cue is moved" if cue.late_out else words
+
+    def cells(self, cue: Cue, verdict: Value) -> list[Value]:
+        """Return the cells of a cue's row."""
+        one, late = cue.subtitle, [signed(cue.late_in), signed(cue.late_out)]
+        return [number_cell(one.index, one.number), self.into(one.begin), time_of(one.begin),
+                time_of(one.end), shown_time(cue.begin, cue.late_in),
+                shown_time(cue.end, cue.late_out),
+                late[0] if late[0] == late[1] else " / ".join(one or "-" for one in late),
+                self.text_cell(cue), verdict]
+
+    def text_cell(self, cue: Cue) -> Value:
+        """Return the expected text, and the decoded one if it differs, with marks."""
+        expected = page_text(cue.expected, self.option)
+        sent = cue.decoded or (cue.cause.sent if cue.cause else None)
+        decoded = page_text(sent, self.option) if sent else expected
+        if decoded == expected or cue.cause is None or cue.cause.name == IN_PAUSE:
+            return expected
+        return joined([*marked_difference(expected, decoded)], BREAK)
+
+    def refused_rows(self) -> Iterator[CueRow]:
+        """Yield the rows of subtitles that the subtitle file has wrong, or that depend on one."""
+        left = set(self.beside.left_out) if self.beside else set[int]()
+        for subtitle, faults in refused_blocks(self.part, self.file):
+            if subtitle and faults[0].block:
+                left.discard(subtitle.position)
+                text = marked_text(subtitle_text(self.file, faults[0].block), faults)
+                waived = all(not self.severity.is_error(one.number) for one in faults)
+                kinds = dict.fromkeys(f"n{one.number}" for one in faults)
+                yield self.file_row(subtitle, marked_times(subtitle, faults), text,
+                                    fault_lines(self.file, faults), WAIVED if waived else BAD,
+                                    [*kinds])
+        for position in sorted(left):
+            one = self.file.at_block(self.file.starts[position - 1])
+            if one:
+                yield self.file_row(one, (one.begin, one.end), "", "not judged: the next subtitle "
+                                    "is refused", UNSEEN, [])
+
+    def file_row(self, one: NamedSubtitle, times: tuple[Value, Value], text: Value,
+                 verdict: Value, grade: str, kinds: Sequence[str]) -> CueRow:
+        """Return the row of a subtitle of which the file alone is known."""
+        begin = frame_of(one.begin)
+        return CueRow(one.position, grade, kinds, [
+            number_cell(one.position, one.number), "" if begin is None else self.into(begin),
+            *times, "", "", "", text, verdict])
+
+    def into(self, frame: int) -> str:
+        """Return the time into the recording as H:MM:SS."""
+        seconds = seconds_into(self.part, self.start, frame)
+        return "" if seconds is None else \
+            f"{seconds // 3600}:{seconds // 60 % 60:02}:{seconds % 60:02}"
+
+    # The kinds of fault.
+
+    def name_of(self, number: int) -> str:
+        """Return the name of a number."""
+        return self.part.answer.firsts[number].name
+
+    @functools.cached_property
+    def kinds(self) -> list[Kind]:
+        """The kinds of fault of a part, the worst first."""
+        edges = WITH_CAUSE & self.part.answer.numbers
+        is_waived = bool(edges) and not any(map(self.severity.is_error, edges))
+        names = {cause.name for cause in self.causes.all()} if self.causes else set[str]()
+        ranked = [(OF_CAUSE[name], Kind(name_key(name), name, is_waived)) for name in names]
+        ranked += [(rank_of(number), Kind(f"n{number}", f"{number} {self.name_of(number)}",
+                                          not self.severity.is_error(number)))
+                   for number in self.part.answer.counts if not (names and number in WITH_CAUSE)]
+        return [kind for _, kind in sorted(ranked)]
+
+    def groups(self) -> Markup:
+        """Return a table of the causes, equal ones in one row, and a histogram."""
+        if not self.causes:
+            return NO_MARKUP
+        by_name: dict[str, list[Cause]] = {}
+        for cause in self.causes.all():
+            by_name.setdefault(cause.name, []).append(cause)
+        rows = []
+        for name in sorted(by_name, key=lambda name: (OF_CAUSE[name], NAMES.index(name))):
+            alike = by_name[name]
+            words = of_one(alike[0], self.causes, self.part.request.option) \
+                if len(alike) == 1 else of_several(alike, self.causes.programme.subtitles)
+            first = self.causes.programme.subtitles[alike[0].place]
+            rows.append(markup('<tr><td>{}{}</td><td><a href="#s{}">{}</a></td><td>{}</td></tr>',
+                               words[0].upper(), words[1:], first.index, len(alike),
+                               self.into(first.begin)))
+        return markup(
+            '<table class="groups"><caption>What is wrong with {}</caption><thead><tr><th '
+            'scope="col">Cause</th><th scope="col">Subtitles</th><th scope="col">First, into the '
+            "recording</th></tr></thead><tbody>{}</tbody></table>",
+            counted(len(self.causes.named), "subtitle"), joined(rows))
+
+    def histogram(self) -> Markup:
+        """Return how many cues are how many frames late, if one is."""
+        ins = collections.Counter(cue.late_in for cue in self.cues if cue.late_in is not None)
+        outs = collections.Counter(cue.late_out for cue in self.cues if cue.late_out is not None)
+        both = ins + outs
+        if set(both) <= {0}:
+            return NO_MARKUP
+        most = max(both.values())
+        common = sorted(value for value, _ in both.most_common(MOST_BARS))
+        rows = [markup('<tr><th scope="row">{}</th><td>{}</td><td>{}</td><td class="bars"><i '
+                       'style="width:{:.1f}%"></i></td></tr>', signed(value), ins[value],
+                       outs[value], 100 * both[value] / most) for value in common]
+        rest = len(both) - len(common)
+        rows += [markup('<tr><th scope="row">{}</th><td>{}</td><td>{}</td><td></td></tr>',
+                        counted(rest, "other value"), *(
+                            sum(some.values()) - sum(some[one] for one in common)
+                            for some in (ins, outs)))] if rest else []
+        return markup(
+            '<table class="spread"><caption>Frames late (negative: early)</caption><thead><tr><th '
+            'scope="col">Frames</th><th scope="col">In-cues</th><th scope="col">Out-cues</th>'
+            '<td></td></tr></thead><tbody>{}</tbody></table>', joined(rows))
+
+    # The list.
+
+    def listed(self) -> Markup:
+        """Return the list of all subtitles."""
+        number = self.part.number
+        heads = joined(markup('<th scope="col">{}</th>', name) for name in COLUMNS)
+        wrong = sum(row.grade != RIGHT for row in self.rows)
+        hidden = len(self.rows) - wrong, max(wrong - MOST_PRINTED, 0)
+        printed = 0
+        rows = []
+        for row in self.rows:
+            printed += row.grade != RIGHT and not row.is_again
+            classes = [row.grade, *row.kinds, *["again"] * row.is_again,
+                       *["more"] * (printed > MOST_PRINTED)]
+            cells = joined(markup("<td>{}</td>", cell) for cell in row.cells[1:])
+            rows.append(markup('<tr id="s{}" class="{}"><th scope="row">{}</th>{}</tr>',
+                               row.position, " ".join(classes), row.cells[0], cells))
+        choices = [("all", "all", len(self.rows)), (BAD, "not right", wrong)]
+        choices += [(kind.key, kind.name, self.counts[kind.key]) for kind in self.kinds
+                    if self.counts[kind.key]]
+        radios = joined(
+            markup('<label><input type="radio" name="cues{}" value="{}"{}/> {} ({:,})</label>',
+                   number, value, markup(' checked="checked"') * (value == "all"), name, count)
+            for value, name, count in choices)
+        return markup(
+            '<section class="cues"><h2 id="cues">Cue list</h2><fieldset class="filter"><legend>'
+            'Show subtitles</legend>{}</fieldset><p class="paper">On paper: {:,} right subtitles '
+            "are left out, of equal neighbours all but the first, and {:,} more rows.</p><table "
+            'class="list"><caption>{}</caption><thead><tr>{}</tr></thead><tbody>{}</tbody></table>'
+            "</section>",
+            radios if wrong else NO_MARKUP, *hidden, self.caption(), heads,
+            joined(rows, "\n"))
+
+    def caption(self) -> str:
+        """Return what the columns mean."""
+        grades = collections.Counter(row.grade for row in self.rows)
+        counts = ", ".join(f"{grades[grade]:,} {name}" for grade, name in (
+            (RIGHT, "right"), (BAD, "wrong"), (WAIVED, "waived"), (UNSEEN, "not known"))
+                           if grades[grade])
+        words = f"{counted(len(self.rows), 'subtitle')}: {counts}. Expected: TCI and TCO. " \
+            "Actual: the first frame at whose end a receiver has the page, and the first without."
+        return words + " Into recording: counted from its first PCR." * (self.start is not None)
+
+    def first_bad(self) -> Iterator[tuple[str, Subtitle, int]]:
+        """Yield each cause with its first subtitle and the first frame at which it is seen; of
+        what is late that is the expected one."""
+        if self.causes is None:
+            return
+        seen: set[str] = set()
+        for cause in self.causes.all():
+            one = self.causes.programme.subtitles[cause.place]
+            if cause.name not in seen and one.begin >= self.causes.held.first:
+                seen.add(cause.name)
+                first = self.causes.first_frames.get(cause.place, one.begin)
+                yield cause.name, one, one.begin if cause.name == LATE else first
+
+
+def number_cell(position: int, number: int) -> Value:
+    """Return the number of a subtitle, and its SN if that differs."""
+    return position if position == number else markup("{} <small>SN {}</small>", position, number)
+
+
+def signed(frames: int | None) -> str:
+    """Return a number of frames with its sign."""
+    return "" if frames is None else f"{frames:+}" if frames else "0"
+
+
+def shown_time(frame: int | None, late: int | None) -> Value:
+    """Return a time, marked if it is not the expected one."""
+    if frame is None:
+        return "not seen"
+    return markup("<b>{}</b>", time_of(frame)) if late else time_of(frame)
+
+
+def cause_key(cause: Cause) -> str:
+    return name_key(cause.name)
+
+
+def name_key(name: str) -> str:
+    """Return the class of the rows with a cause."""
+    return f"c{NAMES.index(name)}"
+
+
+def marked_difference(expected: str, decoded: str) -> tuple[Markup, Markup]:
+    """Return two texts with the characters marked in which they differ: place by place if they
+    are equally long, otherwise all between what they have in common at both ends."""
+    length = min(len(expected), len(decoded))
+    if len(expected) == len(decoded):
+        places = [at for at in range(length) if expected[at] != decoded[at]]
+        return marked_at(expected, places), marked_at(decoded, places)
+    first = next((at for at in range(length) if expected[at] != decoded[at]), length)
+    last = next((at for at in range(length - first)
+                 if expected[-1 - at] != decoded[-1 - at]), length - first)
+    return (marked_at(expected, range(first, len(expected) - last)),
+            marked_at(decoded, range(first, len(decoded) - last)))
+
+
+def marked_at(text: str, places: Collection[int]) -> Markup:
+    """Return a text with the characters at some places marked."""
+    runs = itertools.groupby(range(len(text)), set(places).__contains__)
+    pieces = ((is_marked, "".join(text[at] for at in run)) for is_marked, run in runs)
+    return joined(markup("<mark>{}</mark>", piece) if is_marked else piece
+                  for is_marked, piece in pieces)
+
+
+# The faults by their numbers, and the first places of each.
+
+MOST_PLACES = 20
+
+
+def places_of(part: Part) -> dict[int, list[tuple[FaultLine, str]]]:
+    """Return by number the first faults, each with the time until which it lasts."""
+    places: dict[int, list[tuple[FaultLine, str]]] = {}
+    for fault, end in part.answer.told():
+        some = places.setdefault(fault.number, [])
+        if len(some) < MOST_PLACES:
+            until = f", until {end.time}" if end.time else \
+                f", up to PES packet {end.pes}" if end.pes is not None else ""
+            some.append((fault, until))
+    return places
+
+
+def style_of(lists: Iterable[CueList]) -> Markup:
+    """Return the style of the filter: of each kind the rows of all others are hidden."""
+    keys = sorted({kind.key for one in lists for kind in one.kinds})
+    return joined(markup('.cues:has([value="{}"]:checked) tbody tr:not(.{}) {{ display: none; }}\n',
+                         key, key) for key in keys)

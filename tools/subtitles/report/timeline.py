@@ -1,0 +1,101 @@
+"""A timeline of a part: a lane for what was expected, what was received, and each kind of fault."""
+from __future__ import annotations
+
+from typing import Iterable, Iterator
+
+from ..common.command_line import counted
+from ..common.markup import Markup, NO_MARKUP, Value, joined, markup
+from ..common.times import FRAMES_A_SECOND, Span, time_of
+from ..judging.cues import Cue, blank_free
+from ..stream.receiver import Timeline
+from .cue_list import CueList, cause_key
+
+WIDTH = 1000  # units of a lane, which is as wide as the page
+LEAST = 2  # units of a mark
+MINUTE = 60 * FRAMES_A_SECOND
+STEPS = [seconds * FRAMES_A_SECOND for seconds in (1, 2, 5, 10, 30)] + [
+    minutes * MINUTE for minutes in (1, 2, 5, 10, 30, 60, 120, 240)]
+MOST_WORDS = 10  # times below the lanes
+
+
+class Lanes:
+    """The lanes of a part, from its first frame to its last."""
+
+    def __init__(self, cues: CueList, held: Timeline | None, lost: Iterable[Span]) -> None:
+        self.cues, self.held, self.lost = cues, held, list(lost)
+        subtitles = [cue.subtitle for cue in cues.cues]
+        self.begin = min(one.begin for one in subtitles)
+        self.end = max(one.end for one in subtitles)
+        if held and held.frames:
+            self.begin, self.end = min(self.begin, held.first), max(self.end, held.last + 1)
+
+    def x(self, frame: int) -> float:
+        """Return where a frame is on a lane."""
+        inside = min(max(frame, self.begin), self.end) - self.begin
+        return round(inside * WIDTH / (self.end - self.begin), 1)
+
+    def drawn(self) -> Markup:
+        """Return all lanes, with times below them."""
+        lanes = [self.lane("expected", "Expected", ((one.subtitle.begin, one.subtitle.end)
+                                                    for one in self.cues.cues))]
+        if self.held:
+            lanes.append(self.lane("received", "Decoded", (
+                (span.first, span.last + 1) for span in blank_free(self.held))))
+        lanes += self.fault_lanes()
+        if self.lost:
+            lanes.append(self.lane("fault", "not recorded", (
+                (span.first, span.last + 1) for span in self.lost)))
+        label = f"Timeline from {time_of(self.begin)} to {time_of(self.end)}"
+        return markup('<figure class="lanes"><figcaption>{}</figcaption>{}{}</figure>', label,
+                      joined(lanes), self.axis())
+
+    def fault_lanes(self) -> Iterator[Markup]:
+        """Yield a lane for each kind of fault."""
+        places = {kind.key: list[tuple[int, int]]() for kind in self.cues.kinds}
+        for cue in self.cues.cues:
+            if cue.cause:
+                places[cause_key(cue.cause)].append(around(cue))
+        for number, spans in self.cues.marks.items():
+            places[f"n{number}"] += [(span.first, span.last + 1) for span in spans]
+        for kind in self.cues.kinds:
+            if places[kind.key]:
+                first = self.cues.first_rows.get(kind.key)
+                words: Value = f"{kind.name} ({self.cues.counts[kind.key]})" if first else kind.name
+                if first:
+                    words = markup('<a href="#s{}">{}</a>', first, words)
+                yield self.lane("waive" if kind.is_waived else "fault", words, places[kind.key])
+
+    def lane(self, look: str, name: Value, spans: Iterable[tuple[int, int]]) -> Markup:
+        """Return one lane; marks that would touch are drawn as one."""
+        runs: list[list[float]] = []
+        for begin, end in sorted(spans):
+            left, right = self.x(begin), self.x(end)
+            right = max(right, left + LEAST)
+            if runs and left - runs[-1][1] < 0.5:
+                runs[-1][1] = max(runs[-1][1], right)
+            else:
+                runs.append([left, right])
+        path = "".join(f"M{left:g} 0H{right:.6g}V10H{left:g}z" for left, right in runs)
+        return markup('<div class="lane"><span>{}</span><svg aria-hidden="true" viewBox="0 0 {} '
+                      '10" preserveAspectRatio="none"><path class="{}" d="{}"/></svg></div>', name,
+                      WIDTH, look, path)
+
+    def axis(self) -> Markup:
+        """Return times, each a link to the first subtitle from then on."""
+        length = self.end - self.begin
+        step = next((one for one in STEPS if length <= MOST_WORDS * one), STEPS[-1])
+        begins = [cue.subtitle for cue in self.cues.cues]
+        words = []
+        for frame in range(-(-self.begin // step) * step, self.end - length // 30, step):
+            short = time_of(frame)[:5] if step >= MINUTE else time_of(frame)[3:8]
+            one = next((one for one in begins if one.begin >= frame), None)
+            words.append(markup('<a href="#s{}" style="left:{:.4g}%">{}</a>', one.index,
+                                self.x(frame) / 10, short) if one else NO_MARKUP)
+        return markup('<div class="axis"><div>{}</div></div>', joined(words))
+
+
+def around(cue: Cue) -> tuple[int, int]:
+    """Return the frames of a cue, expected and actual."""
+    one = cue.subtitle
+    return (min(one.begin, one.begin if cue.begin is None else cue.begin),
+            max(one.end, one.end if cue.end is None else cue.end))
