@@ -21,8 +21,8 @@ _subttx_value() {
         --receiver) _subttx_words 'blank keep drop anew' "$2" ;;
         --packet-size) _subttx_words '188 192 204' "$2" ;;
         --at | --breaks | --every | --flip | --from | --jobs | --late | --layout | --limit | \
-            --line | --lose | --on-alarm | --on-result | --origin | --pace | --page | \
-            --patience | --pes | --pid | --settled | --skip | --stall | --start | --to | --within)
+            --line | --lose | --origin | --pace | --page | --pes | --pid | --settled | --skip | \
+            --start | --to | --within)
             COMPREPLY=()
             ;;
 # end

@@ -21,7 +21,8 @@ BROWSERS = ("chromium", "chromium-browser", "google-chrome")
 # Text colours and the grounds on which they stand, as variables of the style.
 PAIRS = [(text, ground) for text in ("words", "soft", "link", "bad")
          for ground in ("ground", "shade")]
-PAIRS += [("words", "named"), ("bad", "named"), ("on-bar", "bar"), ("on-bar", "odd")]
+PAIRS += [("words", "tint"), ("bad", "tint"), ("words", "unsure"), ("words", "mark"),
+          *((text, "ground") for text in ("good", "amber", "lost"))]
 
 SCRIPT = r"""
 const told = [], wide = document.documentElement.clientWidth;

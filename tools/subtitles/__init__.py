@@ -10,7 +10,8 @@ recording  a recording as it is read, from a file or from a pipe: its PID, its w
 judging    a pair judged: what `check` says of its parts, and what follows of it
 results    results for machines: JSON, CSV, JUnit
 report     a verdict shown as a page
-cli        what a call does: a pair, many pairs, a folder, a channel; what tools/install does
+cli        what a call does: a pair, many pairs, a folder; what tools/install does
+air        programmes on air: what tools/air records and judges
 
 Where is                               See
 a call for one pair, step by step      cli/single.py, then `Pair.judge` of judging/pair.py

@@ -8,8 +8,8 @@ muxed      transport streams: what is sent beside video
 judged     pairs judged in process by the words of a call, and all that is said of them
 parts      values between the tools' packages, without files: answers, parts, requests
 results    JSON results, and what is wrong in one by the schema
-channels   channels as processes
-listings   channels in process, that hear lines of `survey`
+channels   programmes, made for tests, and what is sent of them
+air        a folder of segments and a schedule for tools/air
 scenario   pairs at random, by numbers: at_random calls qc with them
 strangers  folders at random that others have filled, and calls there
 at_random  all that is said of a call, as rows of dev/vectors/calls.tsv

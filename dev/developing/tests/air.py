@@ -8,7 +8,7 @@ import os
 from typing import Any, Callable, NamedTuple, Sequence
 
 from subtitles.air import main
-from subtitles.air.check import Answer
+from subtitles.air.check import Outcome
 from subtitles.air.judge import Judge
 from subtitles.air.segments import Piece, name_at
 from subtitles.request.lines import read_options
@@ -29,9 +29,9 @@ class Sent(NamedTuple):
     is_right: bool = True
 
 
-def told(name: str, verdict: str, status: int, reason: str) -> Answer:
+def told(name: str, verdict: str, status: int, reason: str) -> Outcome:
     """An answer of the program, all of the programme being there."""
-    return Answer({**unjudged(name, reason), "verdict": verdict, "status": status,
+    return Outcome({**unjudged(name, reason), "verdict": verdict, "status": status,
                    "inputs": {"recording": {}}}, reason, True)
 
 
@@ -41,11 +41,11 @@ class Model:
     def __init__(self, sent: dict[str, Sent], fails: Callable[[], bool] = lambda: False) -> None:
         self.sent, self.fails, self.work, self.calls = sent, fails, os.devnull, list[str]()
 
-    def check(self, _: Request, name: str, piece: Piece) -> Answer:
+    def check(self, _: Request, name: str, piece: Piece) -> Outcome:
         """What comes of it."""
         self.calls.append(name)
         if self.fails():
-            return Answer(None, "the machine failed")
+            return Outcome(None, "the machine failed")
         sent, begin, end = self.sent.get(name), piece.begin - DAY, piece.end - DAY
         if sent is None or sent.begin >= end or sent.end <= begin:
             return told(name, "not judged", 2, "no cue")

@@ -60,18 +60,16 @@ class Judged(NamedTuple):
         return [tuple(part[name] for name in names) for part in self.result["parts"]]
 
 
-def judged(case: Case, *words: str, by: str | None = None, heard: Heard | None = None,
-           is_cut: bool = False) -> Judged:
+def judged(case: Case, *words: str, by: str | None = None, heard: Heard | None = None) -> Judged:
     """A pair judged by the words of a command line, and by the program or another one. The commands
     that are printed name its files alone."""
-    found = judged_by(by or case.bench.program, *words, heard=heard, is_cut=is_cut)
+    found = judged_by(by or case.bench.program, *words, heard=heard)
     for line in found.verdict.commands:
         case.must(line, set(shown_files(line)) <= found.files, found.files)
     return found
 
 
-def judged_by(program: str, *words: str, heard: Heard | None = None,
-              is_cut: bool = False) -> Judged:
+def judged_by(program: str, *words: str, heard: Heard | None = None) -> Judged:
     """A pair judged by the words of a command line, by a program."""
     heard = heard or Heard()
     known = read_options(parser_of(""), ["-p", program, *words], {}, {})
@@ -84,7 +82,7 @@ def judged_by(program: str, *words: str, heard: Heard | None = None,
         files = Files(PairCall(program, known.out, known.is_kept, known.json, known.csv,
                                known.junit), verdict, typed, names)
         verdict.files = found(asked)
-        pair = Pair(verdict, typed, names, listener, True, asked.recording if is_cut else None)
+        pair = Pair(verdict, typed, names, listener, True)
         judge_pair(pair, files)
         end_pair(verdict, heard, files)
         result = json.loads("".join(object_of(verdict, MadeWith("1", "0" * 64, None))))

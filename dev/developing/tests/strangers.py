@@ -23,7 +23,7 @@ from typing import NamedTuple
 from subtitles.cli.batch import Forked, ended_of
 from subtitles.cli.single import is_own
 from subtitles.results.files import object_at
-from .bench import SECONDS, example, example_bytes
+from .bench import SECONDS, example_bytes
 from .parts import qc
 
 WATCHED = 3.0  # seconds for which a folder is watched
@@ -31,8 +31,7 @@ OLD = '{"format": 6, "verdict": "not judged", "status": 2, "name": "old", "reaso
 STEMS = ["film", "film.1", "film.2", "index", ".film", "film~2", "a\udce9", "a%E9", "a\\xe9",
          "a\x1b[31m", "two\nlines", "line 2", "-film", "=film", "x" * 240, "Film", "<script>",
          "50%"]
-KINDS = ["single", "single", "single", "folder", "folder", "list", "list", "collect", "watch",
-         "channel"]
+KINDS = ["single", "single", "single", "folder", "folder", "list", "list", "collect", "watch"]
 VERDICTS = re.compile(r"accepted|waived|refused|not accepted|\d+ faults|\d+ subtitles?, nothing")
 JUDGED = re.compile(r"(\d+) pairs?: (.*)")
 Entry = tuple[int, bytes]  # the kind of a file, and its bytes, or where a link leads to
@@ -70,7 +69,7 @@ class World:
         self.chance, self.top, self.program = random.Random(number), top, program
         self.kind = self.chance.choice(KINDS)
         self.out = self.chance.choice(["out", "out", "in", "."])
-        if self.kind in ("watch", "channel"):
+        if self.kind == "watch":
             self.out = "out"
         for folder in ("in", "out", "outside"):
             os.mkdir(self.path(folder))
@@ -155,8 +154,7 @@ class World:
         """A list, some lines of which are none."""
         lines = []
         for _ in range(self.chance.randrange(1, 5)):
-            words = self.names() if self.kind != "channel" else self.names()[:1]
-            line = " ".join(map(shlex.quote, words)).replace("\n", " ")
+            line = " ".join(map(shlex.quote, self.names())).replace("\n", " ")
             lines.append(self.chance.choice([line, line, line, f"{line} --severity severity", "# x",
                                              f"{line} --json in/film.stl", "'", "--help",
                                              f"{line} -p /bin/true", "a" * 70_000]))
@@ -180,10 +178,7 @@ class World:
                     "in" if self.kind == "folder" else "list"]
         if self.kind == "collect":
             return [*files, "--collect", self.out]
-        if self.kind == "watch":
-            return [*program, *out, "--settled", "0", "--jobs", "2", "--watch", "in"]
-        return [*program, *out, "--channel", "list", self.path("in/none.pes")
-                if not self.chance.randrange(4) else example("hello.pes")]
+        return [*program, *out, "--settled", "0", "--jobs", "2", "--watch", "in"]
 
     def call(self) -> Done:
         """Does what the words ask."""
@@ -209,7 +204,7 @@ class World:
     def may_wait(self) -> bool:
         """Whether it may wait until a signal ends it: for pairs, or for who writes to a pipe, or
         reads one, that it was given."""
-        return self.kind in ("watch", "channel") or any(
+        return self.kind == "watch" or any(
             os.path.exists(path) and stat.S_ISFIFO(os.stat(path).st_mode)
             for path in map(self.path, self.words))
 
@@ -254,11 +249,7 @@ class World:
 
     def is_output(self, name: str) -> bool:
         """Whether a file may be new: in the folder of outputs."""
-        return os.path.dirname(name) == ("" if self.out == "." else self.out) or self.is_kept(name)
-
-    def is_kept(self, name: str) -> bool:
-        """Whether a file is of what a channel keeps of its feed and of its list."""
-        return self.kind == "channel" and name.startswith("out.feed")
+        return os.path.dirname(name) == ("" if self.out == "." else self.out)
 
     def may_change(self, name: str, entry: Entry) -> bool:
         """Whether what was there may be gone or be another one: a result, or what has the name of
@@ -278,8 +269,6 @@ class World:
     def is_whole(self, name: str, entry: Entry) -> bool:
         """Whether a new file is a whole result."""
         ending, data = os.path.splitext(name)[1], entry[1]
-        if self.is_kept(name) or self.kind == "channel" and name == "out/channel.json":
-            return True
         if not stat.S_ISREG(entry[0]):
             return False
         if name.endswith("all.json"):
@@ -294,7 +283,7 @@ class World:
 
 def is_last(done: Done, kind: str) -> bool:
     """Whether the last line says the status."""
-    if kind in ("watch", "channel"):
+    if kind == "watch":
         return True  # each line is of a pair
     last = done.said[-1] if done.said else ""
     if pairs := JUDGED.fullmatch(last):

@@ -11,7 +11,7 @@ import time
 from unittest import mock
 
 from subtitles.air import check
-from subtitles.air.check import Answer, Checker
+from subtitles.air.check import Outcome, Checker
 from subtitles.air.schedule import schedule_at
 from subtitles.air.segments import between, name_at, pieces_in
 from subtitles.cli.single import locking
@@ -40,7 +40,7 @@ class Feeds(Air):
 class Checks(Feeds):
     """A piece of the feed that is judged by the program."""
 
-    def check(self, frames: list[bytes], program: str = "") -> Answer:
+    def checked(self, frames: list[bytes], program: str = "") -> Outcome:
         """What comes of some frames."""
         self.clear()
         self.put_segment(0, 60, b"".join(frames))
@@ -57,11 +57,11 @@ class Checks(Feeds):
         whole, half = self.feed(), (LEAD + LASTS // 2) * 25
         dies = self.program_but("check*", "kill -9 $$")
         for what, answer, verdict, is_over in (
-                ("right", self.check(whole), "accepted", True),
-                ("wrong", self.check(self.feed(4)), "refused", True),
-                ("half of it", self.check(whole[:half]), "refused", False),
-                ("before it", self.check(whole[:LEAD * 25 - 10]), "not judged", None),
-                ("the program dies", self.check(whole, dies), None, None)):
+                ("right", self.checked(whole), "accepted", True),
+                ("wrong", self.checked(self.feed(4)), "refused", True),
+                ("half of it", self.checked(whole[:half]), "refused", False),
+                ("before it", self.checked(whole[:LEAD * 25 - 10]), "not judged", None),
+                ("the program dies", self.checked(whole, dies), None, None)):
             found = answer.known and answer.known["verdict"]
             self.must(what, found == verdict, answer)
             self.must(f"{what}: is it over", is_over in (None, answer.is_over), answer)
@@ -71,19 +71,19 @@ class Checks(Feeds):
         """A subtitle file that is refused by itself is so whatever is sent."""
         frames = self.feed()
         subtitle_file(self, [(100, 100, b"Never")])
-        answer = self.check(frames[:50])
+        answer = self.checked(frames[:50])
         self.must("of the file", answer.is_of_file and not answer.is_accepted, answer)
 
     def test_slow(self) -> None:
         """What takes too long is ended, and told."""
         with mock.patch.object(check, "JUDGING_SECONDS", 0.1):
-            answer = self.check(self.feed(), self.program_but("check*", "sleep 60"))
+            answer = self.checked(self.feed(), self.program_but("check*", "sleep 60"))
         self.must("slow", answer.is_slow and answer.known is None, answer)
 
     def test_no_room(self) -> None:
         """Where there is no room nothing is copied."""
         with mock.patch.object(check, "SPARE", 1 << 60):
-            answer = self.check(self.feed())
+            answer = self.checked(self.feed())
         self.must("no room", answer.known is None and answer.reason.startswith("no room"), answer)
 
 

@@ -9,7 +9,7 @@ from typing import Any, BinaryIO, NamedTuple
 from unittest import mock
 
 from subtitles.air import judge as judging, state as states
-from subtitles.air.check import Answer
+from subtitles.air.check import Outcome
 from subtitles.air.segments import Segment, between, name_at
 from subtitles.common.files import result_file
 from .air import Air, DAY, MARGIN, Model, Sent
@@ -143,7 +143,7 @@ class Judged(Air):
         """What takes too long three times is not judged."""
         self.put_segments(0, 900)
         model = Model({})
-        model.check = lambda *_: Answer(None, "too slow", is_slow=True)  # type: ignore
+        model.check = lambda *_: Outcome(None, "too slow", is_slow=True)  # type: ignore
         self.run_to(model, 3000)
         self.assertEqual("too slow", self.result(NAME)["reason"])
 
@@ -287,7 +287,7 @@ class States(Air):
             ("a result is late", {"late": ["one"]}, ["late"]),
             ("a fault in the list", {"list_faults": ["line 3: what?"]}, ["list"])]
         for what, does, right in rows:
-            one = states.State()
+            one = states.Watched()
             one.now, one.began, one.last_byte, one.free = DAY, DAY - 9999, DAY - 9, [1 << 40] * 2
             vars(one).update(does)
             self.must(what, one.alarms() == right, one.alarms())
@@ -296,7 +296,7 @@ class States(Air):
     def test_looks(self) -> None:
         """What is there: segments, the last byte, the free bytes; also where no folder is."""
         self.put_segments(0, 50)
-        one = states.State()
+        one = states.Watched()
         one.look(self.path("s"), self.path("o"), DAY + 60, "/bin/true", [])
         self.assertEqual((5, DAY + 50, DAY), (one.segments, one.last_byte, one.oldest))
         one.look(self.path("nothing"), self.path("o"), DAY + 60, "/bin/true", [])
@@ -305,7 +305,7 @@ class States(Air):
     def test_pages(self) -> None:
         """Headers of the pages that are asked for are seen in the newest segments."""
         self.put_segment(0, 10, self.read_example("recording.ts"))
-        one = states.State()
+        one = states.Watched()
         one.look(self.path("s"), self.path("o"), DAY + 700, self.bench.program,
                  [(0, 0x88), (0, 0x89)])
         self.assertEqual({(0, 0x88): DAY + 10, (0, 0x89): 0.0}, one.headers)

@@ -14,7 +14,6 @@ from unittest import mock
 
 from subtitles.cli import batch, collection
 from subtitles.cli.batch import Calls, Watch, refuse_folders
-from subtitles.cli.channel.feed import Stall
 from subtitles.cli.single import claimed
 from subtitles.common.command_line import Lateness, Stop
 from subtitles.common.program import MadeWith, about_program
@@ -111,15 +110,6 @@ class EarlierCalls(Case):
                     os.utime(path, ns=(about.st_atime_ns, about.st_mtime_ns))
                 self.must(f"{name} {what}", not is_current(known, asked, PROGRAM))
 
-    def test_feed_that_stands_still_twice(self) -> None:
-        """Each time is told once, with how long it was."""
-        said: list[str] = []
-        stall = Stall(10, said.append)
-        for still in (1.0, 9.9, 10.0, 11.0, 12.4, 0.0, 0.1, 3.0, 10.0, 20.6, 0.3):
-            stall.take(still)
-        self.must("twice", said == [
-            "nothing has come for 10 seconds", "the feed goes on, after 12 seconds",
-            "nothing has come for 10 seconds", "the feed goes on, after 21 seconds"], said)
 
 
 class Objects(Case):
@@ -149,14 +139,14 @@ class Objects(Case):
                                   "name")
         self.must("all", found_row == Row(
             "name", "one.stl one.ts", "refused", 1, "refused 72 Content", 7,
-            {**causes, "5 X": 120}, [f"refused {number}" for number in range(100)], 1.5, "a hint"),
+            {**causes, "5 X": 120}, [f"refused {number}" for number in range(100)], 1.5, "a hint",
+            sentence=found_row.sentence, is_estimated=found_row.is_estimated),
             found_row)
         self.must("none", row_of_object(unjudged("name", "why"), "name") == Row(
             "name", "name", "not judged", 2, "why", 0, {}, [], 0.0, ""))
         none: dict[str, Any] = {"format": 6, "verdict": "not judged", "status": 2, "name": "a",
                                 "reason": "why"}
-        self.must("not judged", unjudged("a", "why") == none and
-                  unjudged("a", "why", True) == {**none, "open": True})
+        self.must("not judged", unjudged("a", "why") == none)
         self.must("reason", row_of_object(result("not judged"), "x").line == "why")
         self.must("the lead", row_of_object(result(line="refused 10 A", lead="refused 72 B"),
                                             "x").line == "refused 72 B")
@@ -200,13 +190,12 @@ class Objects(Case):
     def test_shape_of_no_pair(self) -> None:
         """What is no pair is not judged, whatever it says."""
         none = unjudged("one", "why")
-        others: list[dict[str, Any]] = [{}, {"open": True}, {"open": False}, {"line": "accepted"}]
+        others: list[dict[str, Any]] = [{}, {"line": "accepted"}]
         for word, status, reason, opened in itertools.product(
                 (*STATUSES, "other", None), (0, 1, 2, None), ("why", "", None), others):
             known = {**none, "verdict": word, "status": status, "reason": reason, **opened}
             self.write("one.json", json.dumps(known).encode())
-            is_one = (word, status, reason) == ("not judged", 2, "why") and \
-                opened in ({}, {"open": True})
+            is_one = (word, status, reason, opened) == ("not judged", 2, "why", {})
             found = object_at(self.path("one.json")) or {}
             if (found == known) != is_one or row_of_object(found, "one").status != 2:
                 self.must(f"{known}", False, found)

@@ -1,9 +1,7 @@
 """Calls of tools/qc that end early: status 2, one line, and an object that says so."""
 from __future__ import annotations
 
-import contextlib
 import csv
-import io
 import itertools
 import json
 import os
@@ -23,7 +21,6 @@ from subtitles.common.program import TOP
 from subtitles.formats.stl import stl_bytes
 from .bench import Case, example, tool_path
 from .judged import FEW
-from .parts import asked_for
 
 QC = tool_path("qc")
 HELLO = [example("hello.stl"), example("hello.pes")]
@@ -179,20 +176,6 @@ class Programs(Story):
         self.assertEqual(self.judge(program, "--strict").status, 0)
         self.assertEqual(self.judge(program, "--quiet").printed, self.judge(program).printed[-2:])
 
-    def test_of_a_channel(self) -> None:
-        """A clock that the caller has found is a fitted one; the feed is in a file that is given,
-        and what is written stands for a while in another folder, under the caller's name."""
-        os.mkdir(self.path("here"))
-        asked = asked_for(HELLO[0], "-", "--origin", "0", "--strict")
-        for is_fitted, verdict in ((False, "accepted"), (True, "warned")):
-            with mock.patch.object(single, "ignore_signals"), \
-                    contextlib.redirect_stdout(io.StringIO()), \
-                    contextlib.redirect_stderr(io.StringIO()):
-                found = single.judged(asked, single.PairCall(
-                    self.saying(ACCEPTED), self.path("out"), name="own", here=self.path("here"),
-                    is_claimed=True, is_fitted=is_fitted, given=HELLO[1]), QC)
-            self.assertEqual((found.word, sorted(os.listdir(self.path("here"))), os.path.exists(
-                self.path("out"))), (verdict, ["own.html", "own.json", "own.txt"], False))
 
 
 class Words(Story):

@@ -401,8 +401,8 @@ class Sites(Case):
                       told)
             self.must(f"{name}: the table", len(lines) == count + 2
                       and lines[-1].startswith(f"{count} pair"), lines)
-            self.must(f"{name}: the page", self.read(f"{out}/index.html").count(b">report<") ==
-                      count)
+            self.must(f"{name}: the page", self.read(f"{out}/index.html").count(
+                b'.html">') == count)
 
     def test_judges_hostile_names(self) -> None:
         """Names that a shell, a terminal, a page or a table would take for something else."""
@@ -465,7 +465,7 @@ class Sites(Case):
         """The units of the manual, with a path that exists here."""
         if not shutil.which("systemd-analyze"):
             self.skipTest("the units, since there is no systemd-analyze")
-        for name in ("watch", "recorder", "channel"):
+        for name in ("watch",):
             unit = f"subttx-{name}.service"
             with open(os.path.join(TOP, "docs", "manual", unit), encoding="utf-8") as file:
                 text = file.read()

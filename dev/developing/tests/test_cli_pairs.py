@@ -134,8 +134,8 @@ class Piped(Case):
                 found = judged(self, STORY, in_pipe(self, pes), "--origin", "0")
             self.must(f"{most}", found.word == word, found.said)
         self.must("what to type", found.told[-1].endswith(
-            f" has not ended after {most:,} bytes: what does not end is judged with --channel LIST")
-            and recording.MOST_PIPED == 32_000_000_000, found.told)
+            f" has not ended after {most:,} bytes: what does not end is recorded and judged by "
+            "tools/air") and recording.MOST_PIPED == 32_000_000_000, found.told)
 
     def test_no_room(self) -> None:
         """Where what comes can't be kept that is said, and nothing waits."""

@@ -27,6 +27,7 @@ from subtitles.results.files import found, put_object
 from .bench import Case, SECONDS, example, example_bytes
 from .parts import asked_for, qc
 from .results import result
+from .sent import in_pipe
 from .test_cli_ended import ACCEPTED, HELLO, Story
 
 
@@ -306,14 +307,14 @@ class Beside(Story):
         self.write("house", b"--every 99\n")
         done = self.judge(program, *words, "--profile", "house")
         self.must("profile", done.printed[0].endswith("house: --every 99"), done)
-        asked = asked_for(HELLO[0], "-", "--origin", "0")
         for is_kept in (False, True):
+            asked = asked_for(HELLO[0], in_pipe(self, example_bytes("hello.pes")), "--origin", "0")
             with mock.patch("subtitles.cli.single.hints_of", return_value=["a", "b", "a"]), \
                     mock.patch.object(single, "ignore_signals"), \
                     contextlib.redirect_stdout(io.StringIO()), \
                     contextlib.redirect_stderr(io.StringIO()):
                 verdict = single.judged(asked, PairCall(
-                    program, self.path("out"), is_kept, name="own", given=HELLO[1]), "tools/qc")
+                    program, self.path("out"), is_kept, name="own"), "tools/qc")
             [part] = self.object("out/own.json")["parts"]
             kept = part["judged"]["name"]
             self.must(f"{is_kept}", verdict.hints == ["a", "b"] and bool(kept) == is_kept == any(

@@ -7,7 +7,6 @@ import unittest
 from typing import Callable, Sequence
 
 from developing.multiplex import Multiplex, TENTH
-from subtitles.cli.channel.feed import FeedClock
 from subtitles.clock.alignment import (
     AGAIN, Agreed, Base, Drift, Early, Edge, FEW_TEXTS, RARE, Shown, UNSEEN_SHARE, back_at,
     bases_of, drift_of, edges_of, settled, usual_delay)
@@ -18,7 +17,7 @@ from subtitles.common.command_line import Lateness, late_word
 from subtitles.common.times import CLOCK, FRAMES_OF_A_DAY, Span, TICKS
 from subtitles.judging.part import is_in, reach, unseen
 from subtitles.judging.verdict import place_time
-from subtitles.stream.gaps import Place, SECOND
+from subtitles.stream.gaps import Place
 from subtitles.stream.packets import Change
 from .bench import Case
 from .judged import Judged, judged
@@ -384,28 +383,6 @@ class Frames(unittest.TestCase):
                                 (TICKS * FRAMES_OF_A_DAY, None)):
                 with self.subTest(shift=shift, ticks=ticks):
                     self.assertEqual(place_time(shifted(ticks, shift), shift), time)
-
-
-class Order(unittest.TestCase):
-    """Which of two PTS is the later one, and by how much."""
-
-    def test_feed_clock(self) -> None:
-        """It goes on where PTS begin again, and stands still where they go back or jump on, up to
-        the latest one again where they have gone back a little."""
-        minute = 60 * SECOND
-        for shift in SHIFTS:
-            clock, now = FeedClock(), 0
-            for pts, late, goes_on, behind in (
-                    (0, 0, 0, 0), (TICKS, TICKS, TICKS, 0), (0, -TICKS, 0, TICKS),
-                    (SECOND, SECOND, SECOND - TICKS, 0),
-                    (SECOND + 60 * minute, 60 * minute, 60 * minute, 0),
-                    (SECOND + 120 * minute + 1, 60 * minute + 1, 0, 0)):
-                now += goes_on
-                with self.subTest(shift=shift, pts=pts):
-                    self.assertEqual(clock.take(shifted(pts, shift)), late)
-                    self.assertEqual(clock.now, now)
-                    self.assertEqual(clock.pts_at(now), shifted(pts + behind, shift))
-                    self.assertEqual(clock.pts_at(now - 7), shifted(pts + behind - 7, shift))
 
 
 class Losses(unittest.TestCase):

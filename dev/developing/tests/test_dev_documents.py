@@ -238,7 +238,7 @@ class Parts(unittest.TestCase):
 FOLDERS = [("tools", "subtitles", True), ("dev", "developing", False)]
 PACKAGES = [*(os.path.join("tools", "subtitles", name)
               for name in ("common", "formats", "request", "stream", "clock", "recording",
-                           "judging", "results", "report", "cli", os.path.join("cli", "channel"))),
+                           "judging", "results", "report", "cli", "air")),
             os.path.join("dev", "developing"), os.path.join("dev", "developing", "every_place")]
 # A row of a README, or an item of its lists: the names in its first cell, or before its words.
 ROW = re.compile(r"^[|-] (`.*?`)(?: \||:? )", re.M)

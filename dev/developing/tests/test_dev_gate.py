@@ -281,7 +281,7 @@ class Found(Case):
                 ("stream/layout.py", "stream/layout.py"), ("stream.layout", "stream/layout.py"),
                 ("tools/subtitles/stream/layout.py", "stream/layout.py"),
                 ("subtitles.stream.layout", "stream/layout.py"), ("tools/qc", "qc"),
-                ("dev/dist", "dev/dist"), ("cli/channel/feed.py", "cli/channel/feed.py")):
+                ("dev/dist", "dev/dist"), ("air/judge.py", "air/judge.py")):
             self.must(name, table.module_of(name) == wanted, table.module_of(name))
 
     def test_table(self) -> None:

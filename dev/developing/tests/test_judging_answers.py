@@ -1,19 +1,14 @@
 """What `check` answers, and what was missed of it once."""
 from __future__ import annotations
 
-import dataclasses
 import itertools
 import os
 import re
 import subprocess
-from types import SimpleNamespace
-from typing import Any
 from unittest import mock
 
 from developing.pes import pes_packet
 from developing.stl import gsi_block
-from subtitles.cli.channel.feed import Losses
-from subtitles.cli.channel.schedule import Queue
 from subtitles.clock.alignment import back_at
 from subtitles.clock.start import Clock, Found, GIVEN
 from subtitles.common.command_line import Stop, Words
@@ -34,9 +29,8 @@ from subtitles.stream.receiver import Timeline, pauses_in, timeline_near
 from .bench import Case, example, example_bytes
 from .judged import judged
 from .muxed import TELETEXT_PID, in_stream
-from .parts import asked_for, defaults, in_page, packets_told, part_with, script
+from .parts import asked_for, in_page, packets_told, part_with, script
 from .sent import CLOSING, HEADER, PAGE, in_pipe, programme, row
-from .test_channel_feed import sent
 from .test_judging_verdicts import verdict_of
 
 
@@ -275,17 +269,6 @@ class Kept(Case):
 class Values(Case):
     """Functions that decide."""
 
-    def test_end_of_a_feed(self) -> None:
-        """By a PCR that is ahead of the Teletext a programme is not over before the PTS of that
-        would have come."""
-        for late, pcr, is_over in ((0, 80, True), (20, 80, False), (20, 96, True), (0, 49, False)):
-            packets = packets_told(self, b"".join(pes_packet(TICKS * at, [HEADER, CLOSING])
-                                                  for at in (0, 20, 40)))
-            packets.samples.append((0, -late * TICKS))
-            survey: Any = SimpleNamespace(clock_of=lambda _, pcr=pcr: (0, TICKS * pcr))
-            found = sent("--origin", "0").is_over(survey, packets, False)
-            self.must(f"{late} {pcr}", found == is_over)
-
     def test_pauses(self) -> None:
         """What comes before the first PES packet is no pause."""
         for before, frames, wanted in (
@@ -342,43 +325,3 @@ class Values(Case):
         for byte, wanted in ((ord("<"), "&lt;"), (ord("&"), "&amp;"), (ord(">"), "&gt;"),
                              (ord("A"), "A"), (0x0B, "<i>0B</i>")):
             self.must(f"{byte:02X}", in_page(readable(byte)) == wanted)
-
-
-class Channels(Case):
-    """What a channel does not forget."""
-
-    def test_lines_that_change(self) -> None:
-        """What is waited for by a line of the list that is another one then is waited for anew."""
-        stl = programme(self, [(10, 60)])
-        for more, is_other in (("", False), (" --within 3", True)):
-            path = self.write("list", f"{stl}\n".encode())
-            queue = Queue(path, defaults())
-            queue.fill(0)
-            before = queue.waiting[0].awaited
-            self.write("list", f"{stl}{more}\n".encode())
-            for _ in range(2):  # half a list is not taken at its word
-                queue.next_look = 0.0
-                queue.fill(0)
-            self.must(f"{more}", before and (queue.waiting[0].awaited is not before) == is_other)
-
-    def test_sent_before_a_programme(self) -> None:
-        """What is sent may be of it from two minutes before its first TCI on, or from as many
-        frames before it as the repeat bound."""
-        for every, wanted in ((25, 3000), (3000, 3000), (3001, 3001)):
-            one = sent("--every", str(every), "--origin", "0", midnight=9, first=10_000,
-                       last=20_000)
-            self.must(f"{every}", one.begin - one.since == TICKS * wanted)
-
-    def test_a_loss_that_is_told_once(self) -> None:
-        """What a counter and the PCR tell is told once, whichever comes first, also before the PES
-        packet that comes behind it."""
-        counter, clock = Place(10, None, 3), Place(10, 20, missing=9)
-        for is_heard in (False, True):
-            losses = Losses([])
-            losses.waiting.append(dataclasses.replace(counter))
-            if is_heard:
-                losses.hear(20)
-            losses.take_hole(clock)
-            losses.hear(20)
-            self.must(f"{is_heard}", losses.said == ["3 TS packets lost, before PTS 20"],
-                      losses.said)

@@ -1,7 +1,6 @@
 """Functions of qc that decide something, each with its table: no processes but the program's."""
 from __future__ import annotations
 
-import argparse
 import contextlib
 import io
 import itertools
@@ -13,7 +12,6 @@ from unittest import mock
 from developing.pes import pes_packet
 from developing.stl import gsi_block, tti_block
 from subtitles.cli.batch import Sighting, Watch
-from subtitles.cli.channel.spool import spool_of
 from subtitles.clock.origin import Origin
 from subtitles.clock.start import Clock, Found, RECORDING, START
 from subtitles.common.times import Between, Span, TICKS
@@ -124,15 +122,6 @@ class Folders(Case):
             [item] = of_folder(self.path("0"), options)
             self.must("files", ((item.asked is None) == (options is wrong), {*item.files} - {None})
                       == (True, {self.path("0/a.stl"), self.path("0/a.ts")}), item)
-
-    def test_folder_of_a_feed(self) -> None:
-        """It is beside that of -o, however this is typed."""
-        here = os.getcwd()
-        for out, wanted in (("out", "out.feed"), ("out/", "out.feed"), ("a/out/.", "a/out.feed"),
-                            *((dots, f"{here}.feed") for dots in (".", "./", "out/..")),
-                            ("..", f"{os.path.dirname(here)}.feed")):
-            words = argparse.Namespace(stl="feed.ts", out=out, spool=None)
-            self.must(out, spool_of(words) == wanted, spool_of(words))
 
     def test_watched(self) -> None:
         """A pair is judged when it has not changed for a while, and again when it has changed."""

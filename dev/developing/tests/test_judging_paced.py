@@ -16,7 +16,7 @@ from subtitles.common.times import TICKS
 from subtitles.judging import timing
 from subtitles.judging.part import PartFrames, PartRange
 from subtitles.judging.timing import (
-    PartSearch, UNCHECKED, cut_part, last_time, measured_pace, paced_part, parts_of, unseen_words)
+    PartSearch, UNCHECKED, cut_part, measured_pace, paced_part, parts_of, unseen_words)
 from subtitles.request.commands import Names
 from subtitles.request.request import Selection, Unclear
 from subtitles.stream.gaps import BY_EVERY, IRREGULAR, Pace, REGULAR, TOO_FEW
@@ -282,7 +282,7 @@ class Taken(unittest.TestCase):
     def test_shifts(self) -> None:
         """Each time from which subtitles are late is told, and that there is one."""
         programme = PartSearch(asked_for("a.stl", "a.pes"), Found(3, 9, Clock(7, GIVEN)), None)
-        recording: Any = SimpleNamespace(is_cut=False, stages=[])
+        recording: Any = SimpleNamespace(stages=[])
         several: list[list[str]] = [[], ["one"], ["one", "two"]]
         for shifts in several:
             listener = mock.Mock()
@@ -291,17 +291,3 @@ class Taken(unittest.TestCase):
                 found = parts_of(programme, recording, listener)
             self.assertEqual((found.is_shifted, listener.noted.call_args), (
                 bool(shifts), mock.call(*shifts)))
-
-    def test_near(self) -> None:
-        """Of a feed what comes 250 frames before and behind, or as many as the repeat bound, and as
-        late as pages may be; not from before the day, nor behind it."""
-        packets: Any = SimpleNamespace(bases=lambda: [range(0, 9), range(9, 20)])
-        for first, last, words, wanted in (
-                (5000, 6000, "--every 400 --within 3", (4597, 6403)),
-                (5000, 6000, "--every 100 --within 3", (4747, 6253)),
-                (100, 2_159_900, "--every 100", (0, 2_159_999))):
-            asked = asked_for("a.stl", "a.ts", *words.split())
-            with mock.patch.object(timing, "cut_of", return_value=Cut((9, 10), 20)) as cut:
-                found = last_time(packets, Found(first, last, Clock(7, GIVEN)), asked)
-            self.assertEqual((found, cut.call_args.args[1:]), (
-                (9, 10), (*wanted, 7, None, asked.within, (9, 19))), words)

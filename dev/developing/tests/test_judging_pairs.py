@@ -3,7 +3,6 @@ what is said; of each what the JSON result has.
 """
 from __future__ import annotations
 
-import itertools
 from typing import Any, Sequence
 from unittest import mock
 
@@ -176,8 +175,7 @@ class Steps(Case):
         listener.said.assert_has_calls([mock.call("one"), mock.call("two")])
 
     def test_at_the_end(self) -> None:
-        """That a recording grew is told once, and nothing twice; of a feed what the last part
-        lacks, where neither a break nor a delay tells why."""
+        """That a recording grew is told once, and nothing twice."""
         grew, other = Notice("grew", "grew", None), Notice("pause", "odd", None)
         rows: list[tuple[list[Notice], list[Notice], list[Notice]]] = [
             ([], [], []), ([other], [other], [other]), ([other], [other, grew], [other, grew]),
@@ -185,22 +183,12 @@ class Steps(Case):
         for known, strange, wanted in rows:
             one = self.pair(count=2)
             one.verdict.warnings = [*known]
-            recording = mock.Mock(is_cut=False, strange=lambda strange=strange: strange)
+            recording = mock.Mock(strange=lambda strange=strange: strange)
             gap: Any = "gap"
             with mock.patch.object(pair, "gaps_in", return_value=[gap]):
-                one.tell_losses(recording, False)
+                one.tell_losses(recording)
             self.must(f"{known} {strange}", one.verdict.warnings == wanted and
                       one.verdict.gaps == [gap], one.verdict.warnings)
-        of_feeds: list[Sequence[str]] = [(), ("--breaks", "1")]
-        for is_cut, words, is_shifted in itertools.product((True, False), of_feeds, (True, False)):
-            one, recording = self.pair(*words, count=3), mock.Mock(is_cut=is_cut, strange=list)
-            with mock.patch.object(pair, "gaps_in", return_value=[]), \
-                    mock.patch.object(pair, "unsent_in", lambda part: [f"{part.number}"]):
-                one.tell_losses(recording, is_shifted)
-            is_told = is_cut and not words and not is_shifted
-            listener: Any = one.listener
-            self.must(f"{is_cut} {words} {is_shifted}", listener.noted.mock_calls == [
-                mock.call("3")] * is_told, listener.noted.mock_calls)
 
 
 class Said(OfProgramme):
@@ -315,14 +303,6 @@ class Said(OfProgramme):
                       all(words in line for line in typed), found.said)
             self.must(f"{words}: to type", words[:5] == "--pes" or [
                 line.split()[-2:] for line in typed] == [["--pes", "I-J"]], found.said)
-        for words in ("--origin 0", ""):
-            found = judged(self, self.stl, self.write("cut.pes", joined(twice)), *words.split(),
-                           is_cut=True)
-            told = [line for line in found.told if line.endswith("of a feed the first run is "
-                                                                 "judged")]
-            self.must(f"cut out of a feed {words}", found.word == "accepted" and
-                      found.parts("origin", "pes")[0][0] == 0 and len(told) == (not words),
-                      found.said)
 
     def test_delays(self) -> None:
         """By how much all that is sent is late or early, by a clock that is given."""

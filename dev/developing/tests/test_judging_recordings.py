@@ -15,7 +15,7 @@ from .muxed import TELETEXT_PID, beside_video, in_stream, spaced, teletext_descr
 from .sent import (
     HEADER, ORIGIN, apart, in_pipe, joined, moved, packets, programme, random_subtitles, sendings,
     times)
-from .test_judging_pairs import ACCENT, EVERY, HELLO, STORY, broken
+from .test_judging_pairs import ACCENT, HELLO, STORY, broken
 
 
 class Recordings(Case):
@@ -110,8 +110,7 @@ class Recordings(Case):
             "not accepted, since warnings count (blocks, subtitles): "))
 
     def test_feeds_in_parts(self) -> None:
-        """A break of what comes through a pipe; what was cut out of a feed, of which only the first
-        part came."""
+        """A break of what comes through a pipe."""
         stl = programme(self, times(24))
         sent = sendings(self, stl)
         data = joined(apart(sent, 1000))
@@ -120,16 +119,6 @@ class Recordings(Case):
             f" check {stl} one.recording.pes " in one for one in found.lines("+ ")) and \
             found.parts("origin") == [
             (ORIGIN,), (ORIGIN + 1000 * TICKS,)], found.said)
-        pause = [(pts, sent[-1][1]) for pts in range(870 * TICKS, 4500 * TICKS, 25 * TICKS)]
-        fed = [one for one in sent if one[0] < 870 * TICKS] + pause
-        data = joined([(ORIGIN + pts, some) for pts, some in fed])
-        note = "from 00:00:36:00 on no subtitle was sent while the feed was read; if the " \
-            "programme has a break there, say --breaks 1"
-        path, words = self.write("one.pes", data), ("--origin", str(ORIGIN), *EVERY)
-        found = judged(self, stl, path, *words, is_cut=True)
-        self.must("nothing more", found.word == "refused" and note in found.told, found.said)
-        found = judged(self, stl, path, *words)
-        self.must("of a file", note not in found.told, found.told)
 
     def test_pids(self) -> None:
         """The PID with the page, the first or the second; a loss of it counts, and none of the
@@ -184,13 +173,13 @@ class Recordings(Case):
             ([STORY, both], "page 888 is sent on 2 PIDs of ", ["--pid 0x101", "--pid 0x102"]),
             ([STORY, in_pipe(self, in_stream((TELETEXT_PID, pes), (0x102, pes)))],
              "page 888 is sent on 2 PIDs of ", ["--pid 0x101", "--pid 0x102"]),
-            ([STORY, both, "--page", "801"], "no header of page 801", ["--page P"]),
+            ([STORY, both, "--page", "801"], "no header of page 801", ["--page 888"]),
             ([STORY, one, "--pid", "0x200"], "PID 0x200 has no whole PES packet",
              ["--pid 0x101"]),
             ([STORY, one, "--pid", "0x300"], "PID 0x300 carries nothing", ["--pid 0x101"]),
-            ([other, self.path("own.pes")], "fewer than half", ["--origin T", "--page P"]),
+            ([other, self.path("own.pes")], "fewer than half", ["--origin T"]),
             ([STORY, one, "--origin", "900000000"], "nothing of the page is in the recording",
-             ["--origin T", "--origin 900000000 --page P"]),
+             ["--origin T"]),
             ([STORY, STORY], "is a subtitle file", []), ([STORY, "none.ts"], "No such file", []),
             (["none.stl", one], "none.stl is no file, or is not there", []),
             (["--", "-none.stl", one], "-none.stl is no file, or is not there", []),
@@ -243,7 +232,7 @@ class Recordings(Case):
         self.must("alone", sorted(os.listdir(self.path("alone"))) == [
             "one.html", "one.json", "one.txt"])
         found = judged(self, ACCENT, self.write("one.ts", b"x"), "-o", self.path("out"))
-        self.must("said", found.word == "refused" and b"one.ts was not read" in
+        self.must("said", found.word == "refused" and b"one.ts: it was not read" in
                   self.read("out/one.html"), found.said)
 
     def test_subtitle_files(self) -> None:

@@ -24,7 +24,7 @@ from subtitles.judging.pages import (
     page_text, words_on)
 from subtitles.judging.subtitles import OptionAdvice
 from subtitles.judging.timing import (
-    PartSearch, cut_within, found_in, left_by_pictures, run_of, search_in)
+    PartSearch, cut_within, found_in, left_by_pictures, search_in)
 from subtitles.judging.transmissions import control_words
 from subtitles.recording.notices import (
     Notice, count_notices, length_words, of_character_sets, of_jumps, of_pauses, of_repeat,
@@ -36,7 +36,6 @@ from subtitles.request.request import Selection, Unclear
 from subtitles.stream import gaps
 from subtitles.stream.gaps import ClockJump, longest_gap, repeat_distance
 from subtitles.stream.packets import Packets
-from subtitles.stream.ranges import Cut
 from subtitles.stream.receiver import BLANK_PAGE
 from subtitles.stream.survey import Announced, Departure, PictureClock
 from .bench import Case
@@ -63,18 +62,6 @@ class Clocks(unittest.TestCase):
         told = Selection("origin", "5", "origin: 3 of 4", 3, 4)
         self.assertEqual(found_in(Origin(0, [OfPart(5, (1, 2), None, 3, 4, "3 of 4")]), whole),
                          [Found(3, 9, Clock(5, RECORDING, evidence=told), (1, 2))])
-
-    def test_run(self) -> None:
-        """The one in which all is that comes at the origin that was given, else the first."""
-        recording: Any = SimpleNamespace()
-        whole = Found(3, 9, Clock(7, GIVEN))
-        programme = PartSearch(asked_for("a.stl", "a.pes"), whole, None)
-        runs = [(0, 9), (20, 29), (40, 49)]
-        for own, wanted in ((None, 0), ((0, 9), 0), ((21, 25), 1), ((20, 29), 1), ((40, 41), 2),
-                            ((20, 30), 0), ((19, 25), 0), ((60, 70), 0)):
-            with mock.patch.object(timing, "cut_within", return_value=Cut(own, 50)):
-                self.assertEqual(run_of(programme, recording, whole.clock, runs), runs[wanted])
-        self.assertEqual(run_of(programme, recording, None, runs), runs[0])
 
     def test_search(self) -> None:
         """All that is asked is looked for, and cut out; of a part its own PES packets."""

@@ -34,14 +34,14 @@ def surveyed(*lines: str) -> Survey:
 
 
 def recorded(survey: Survey, *words: str, name: str = "one.ts", size: int | None = 9,
-             given: str | None = None, folder: str = "") -> Any:
+             folder: str = "") -> Any:
     """A recording of which this is told."""
     lines = list[str]()
     listener: Any = SimpleNamespace(lines=lines, said=lines.append,
                                     chosen=lambda one: lines.append(one.line))
     with mock.patch(SIZE, lambda name: size):
         made: Any = Recording(asked_for("a.stl", name, *words), mock.Mock(),
-                              Names("one", folder, None), listener, given, [(100, 150)])
+                              Names("one", folder, None), listener, [(100, 150)])
     made.survey, made.again = survey, lambda *more: " ".join(more)
     made.said, made.header_words = str, lambda packets: ""
     return made
@@ -72,7 +72,8 @@ class Chosen(Case):
             ([header(ONE), header(TWO, "-")], [], ONE), ([header(TWO), header(ONE, "-")], [], TWO),
             (both, [], ["--pid 0x101", "--pid 0x102"]),
             (both[::-1], [], ["--pid 0x101", "--pid 0x102"]),
-            ([header(ONE, "-")], [], []), ([header(ONE, "-"), f"sub {TWO} 801"], [], ["--page P"]),
+            ([header(ONE, "-")], [], []), ([header(ONE, "-"), f"sub {TWO} 801"], [],
+             ["--page 801"]),
             ([], [], []), ([header(ONE, "-"), *table(7, ONE)], [], NeverSent),
             (moves, [], ONE), (moves, ["--pes", "0-9"], ["--pid 0x101", "--pid 0x102"]),
             (others, ["--pid", f"{ONE}"], ONE), (both, ["--pid", f"{TWO}"], TWO),
@@ -97,21 +98,21 @@ class Chosen(Case):
             self.must(f"{count}", (packets.pid, packets.count) == (PES, count))
 
     def test_what_it_is(self) -> None:
-        """A file, what comes through a pipe, all that came of a feed; PES packets, or a stream."""
-        rows: list[tuple[str, int | None, str | None, int, bool, tuple[str, str | None]]] = [
-            ("one.ts", 9, None, 188, False, ("one.ts", "recording.pes")),
-            ("one.ts", 9, None, 204, False, ("one.ts", "recording.pes")),
-            ("one.ts", 9, None, 0, False, ("one.ts", None)),
-            ("one.ts", None, None, 192, True, ("one.recording.ts", "recording.ts")),
-            ("one.ts", None, None, 0, True, ("one.recording.pes", "recording.pes")),
-            ("-", 9, None, 188, True, ("one.recording.ts", "recording.ts")),
-            ("-", None, "kept", 0, True, ("one.recording.pes", "recording.pes"))]
-        for name, size, given, packet_size, is_piped, wanted in rows:
-            one = recorded(surveyed(f"size {packet_size}"), name=name, size=size, given=given)
+        """A file, what comes through a pipe; PES packets, or a stream."""
+        rows: list[tuple[str, int | None, int, bool, tuple[str, str | None]]] = [
+            ("one.ts", 9, 188, False, ("one.ts", "recording.pes")),
+            ("one.ts", 9, 204, False, ("one.ts", "recording.pes")),
+            ("one.ts", 9, 0, False, ("one.ts", None)),
+            ("one.ts", None, 192, True, ("one.recording.ts", "recording.ts")),
+            ("one.ts", None, 0, True, ("one.recording.pes", "recording.pes")),
+            ("-", 9, 188, True, ("one.recording.ts", "recording.ts")),
+            ("-", None, 0, True, ("one.recording.pes", "recording.pes"))]
+        for name, size, packet_size, is_piped, wanted in rows:
+            one = recorded(surveyed(f"size {packet_size}"), name=name, size=size)
             one.packets = Packets(ONE)
             self.must(f"{name} {size} {packet_size}", (
-                one.is_piped, one.path, one.is_cut, one.stream(), (one.shown, one.kept_ending)) == (
-                    is_piped, given or ("one.recording" if is_piped else name), given is not None,
+                one.is_piped, one.path, one.stream(), (one.shown, one.kept_ending)) == (
+                    is_piped, "one.recording" if is_piped else name,
                     (ONE, packet_size) if packet_size else None, wanted), vars(one))
             other = one.of(Stage(Packets(TWO), (0, 0)))
             self.must("of another PID", (one.packets.pid, other.packets.pid) == (ONE, TWO))
@@ -158,18 +159,17 @@ class Told(Case):
             self.assertSaid(one.listener.lines, [*wanted[0], *wanted[1]])
 
     def test_strange(self) -> None:
-        """Another size than before, and an end within a PES packet, which of a feed is none."""
-        for before, now, is_cut, refusal, damage, size, given in itertools.product(
-                (None, 8, 9), (None, 8, 9), (False, True), (0, 31), (None, "is damaged"), (0, 188),
-                (None, "kept")):
-            one = recorded(surveyed(f"size {size}"), size=before, given=given)
+        """Another size than before, and an end within a PES packet."""
+        for before, now, is_cut, refusal, damage, size in itertools.product(
+                (None, 8, 9), (None, 8, 9), (False, True), (0, 31), (None, "is damaged"), (0, 188)):
+            one = recorded(surveyed(f"size {size}"), size=before)
             one.packets = Packets(ONE, is_cut=is_cut, refusal=refusal, damage=damage)
             with mock.patch(SIZE, lambda name: now):
                 found = [notice.line.split(" ", 1)[1] for notice in one.strange()]
             sizes = ["grew" if now == 9 else "became shorter"] * ({before, now} == {8, 9})
             ends = ["ends within"] * (is_cut and not refusal and size > 0) + ["is damaged"] * bool(
                 damage)
-            self.assertSaid(found, sizes + ends * (given is None))
+            self.assertSaid(found, sizes + ends)
 
     def test_kept(self) -> None:
         """Each PID once, as it is extracted, up to a PES packet that is refused; where that fails

@@ -171,7 +171,7 @@ def text_of(item: tree.Element) -> str:
 
 
 def report_made(number: int, folder: str) -> tuple[Judged, str]:
-    """The pair of a number, judged, and its report; nothing if there is none."""
+    """The pair of a number, judged, and its report; nothing where there is none."""
     out = os.path.join(folder, "out")
     found = judged_by(BENCH.program, *Made(number, folder).words(), "-o", out)
     path = os.path.join(out, "one.html")
@@ -271,13 +271,14 @@ class Reports(unittest.TestCase):
     def read(self, number: int, folder: str) -> None:
         """A report of a number."""
         found, page = report_made(number, folder)
+        out = os.path.join(folder, "out")
         if not page:
             return
         self.stands(page)
         if found.verdict.word != "not judged" and found.verdict.parts:
             root = tree.fromstring(page)
             rows = cue_rows(root)
-            with open(os.path.join(folder, "out", "one.txt"), encoding="utf-8") as file:
+            with open(os.path.join(out, "one.txt"), encoding="utf-8") as file:
                 told = [fault for fault in map(fault_of_line, file.read().splitlines())
                         if fault and fault.is_fault]
             self.has_all(found, told, rows)

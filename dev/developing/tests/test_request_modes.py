@@ -18,17 +18,15 @@ from typing import Any, Sequence
 from unittest import mock
 
 from subtitles.cli import batch, collection, main, measure, single
-from subtitles.cli.channel import channel, recorder
-from subtitles.cli.channel.schedule import Queue
 from subtitles.cli.main import (
-    TAKEN_BY, file_in, jobs_word, line_word, minutes_word, mode_of, name_in, parser_of,
-    refuse_options, seconds_word)
+    TAKEN_BY, file_in, jobs_word, line_word, mode_of, name_in, parser_of, refuse_options,
+    seconds_word)
 from subtitles.common.command_line import Stop, ended
 from subtitles.common.program import TOP, read
 from subtitles.request.commands import CommandWords
 from subtitles.request.lines import request_of_line
 from subtitles.request.request import (
-    ALONE, BATCH, CHANNEL, CHANNEL_LINE, COLLECT, LINE, MEASURE, MODES, Mode, PAIR, RECORDER, WATCH)
+    ALONE, BATCH, COLLECT, LINE, MEASURE, MODES, Mode, PAIR, WATCH)
 from subtitles.results.files import FORMULA
 from .bench import Case, Done, example, is_python, script, tool_path
 from .parts import defaults
@@ -38,18 +36,16 @@ from .parts import defaults
 
 CALLS: dict[Mode, list[str]] = {
     PAIR: ["a.stl", "a.ts"], ALONE: ["a.stl"], BATCH: ["--batch", "in"], WATCH: ["--watch", "in"],
-    CHANNEL: ["--channel", "list", "-"], RECORDER: ["-", "--spool", "feed"],
     COLLECT: ["--collect", "in"], MEASURE: ["--measure", "a.stl", "a.ts"]}
 # A value of each option that has one.
 VALUES = {"--page": "801", "--every": "25", "--within": "1", "--option": "german", "--origin": "7",
           "--start": "tcp", "--breaks": "1", "--pes": "2-9", "--pid": "0x101", "--severity": "file",
-          "-o": "out", "--json": "x", "--csv": "x", "--junit": "x", "--stall": "5", "-p": "none",
-          "--line": "2", "--jobs": "2", "--limit": "9", "--settled": "1", "--patience": "9",
+          "-o": "out", "--json": "x", "--csv": "x", "--junit": "x", "-p": "none",
+          "--line": "2", "--jobs": "2", "--limit": "9", "--settled": "1",
           "--from": "00:00:01:00",
-          "--to": "00:00:02:00", "--layout": "fit", "--pace": "9", "--spool": "feed",
-          "--on-result": "true", "--on-alarm": "true", "--late": "0:9/0:9"}
+          "--to": "00:00:02:00", "--layout": "fit", "--pace": "9", "--late": "0:9/0:9"}
 MANUAL = os.path.join(TOP, "docs", "manual", "qc.md")
-ASKING = {"--batch", "--watch", "--channel", "--collect", "--measure", "--help", "-h", "--version"}
+ASKING = {"--batch", "--watch", "--collect", "--measure", "--help", "-h", "--version"}
 
 
 def words_of(name: str, folder: str) -> list[str]:
@@ -64,9 +60,6 @@ def refusal(mode: Mode, name: str, folder: str) -> str | None:
     try:
         if mode is LINE:
             request_of_line(["a.stl", "a.ts", *words_of(name, folder)], defaults())
-        elif mode is CHANNEL_LINE:
-            planned = Queue(os.path.join(folder, "list"), defaults())
-            planned.asked_of(["a.stl", *words_of(name, folder)])
         else:
             line = [*CALLS[mode], *words_of(name, folder)]
             refuse_options(parser_of(""), line, mode_of(parser_of("").parse_args(line)))
@@ -84,8 +77,7 @@ class Modes(Case):
         for name, taken_by in TAKEN_BY.items():
             for mode in MODES:
                 said = refusal(mode, name, self.folder)
-                is_taken = mode in taken_by or (mode, name) == (ALONE, "--spool")  # a recorder
-                is_right = said is None if is_taken else said is not None and name in said
+                is_right = said is None if mode in taken_by else said is not None and name in said
                 self.must(f"{name} and {mode.words}", is_right, said)
 
     def test_options_that_come_twice(self) -> None:
@@ -103,12 +95,12 @@ class Modes(Case):
                 ("--no-complete --complete", COLLECT, "--complete goes with"),
                 ("--jobs 2 --settled 3", BATCH,
                  "--settled goes with --watch, and not with --batch"),
-                ("--resume --patience 5 --breaks 1", CHANNEL, "--breaks goes with"),
+                ("--every 25 --breaks 1", COLLECT, "--every goes with"),
                 # Also where the value is the one that is taken without.
-                ("--pes=1-2", CHANNEL, "--pes goes with"),
-                ("--breaks 0", CHANNEL, "--breaks goes with"),
-                ("--breaks=0", CHANNEL, "--breaks goes with"),
-                ("--start tcp", CHANNEL, "--start goes with")):
+                ("--pes=1-2", ALONE, "--pes goes with"),
+                ("--breaks 0", ALONE, "--breaks goes with"),
+                ("--breaks=0", ALONE, "--breaks goes with"),
+                ("--start tcp", ALONE, "--start goes with")):
             with self.assertRaises(Stop) as refused:
                 refuse_options(parser_of(""), [*CALLS[mode], *words.split()], mode)
             self.must(words, str(refused.exception).startswith(said), refused.exception)
@@ -127,19 +119,13 @@ class Modes(Case):
             ([*CALLS[MEASURE], "--page", "801"], measure, "measure",
              {"measure": ["a.stl", "a.ts"], "stl": None}),
             (CALLS[WATCH], batch, "watch", {"settled": 5}),
-            ([*CALLS[WATCH], "--settled", "0"], batch, "watch", {"settled": 0}),
-            (CALLS[CHANNEL], channel, "judge_channel", {"patience": 60, "stall": 10}),
-            ([*CALLS[CHANNEL], "--patience", "1"], channel, "judge_channel", {"patience": 1}),
-            ([*CALLS[CHANNEL], "--spool", "x"], channel, "judge_channel", {"spool": "x"})]
+            ([*CALLS[WATCH], "--settled", "0"], batch, "watch", {"settled": 0})]
         for line, module, name, wanted in rows:
             with mock.patch.object(module, name, return_value=7) as called:
                 self.must(f"{line}", main.answer("", "tools/qc", line) == 7)
             words, *others = called.call_args.args
             self.must(f"{line}: words", {one: vars(words)[one] for one in wanted} == wanted and
                       others == ["tools/qc"] * (module is not collection), words)
-        with mock.patch.object(recorder, "record_alone", return_value=7) as called:
-            self.must("a recorder", main.answer("", "tools/qc", CALLS[RECORDER]) == 7 and
-                      called.call_args.args == ("-", "feed"), called.call_args)
         nothing: list[str] = []
         for line in (nothing, [*CALLS[PAIR], "--keep"]):
             with self.assertRaises(Stop):
@@ -155,16 +141,16 @@ class Modes(Case):
         for mode, line in CALLS.items():
             found = mode_of(parser_of("").parse_args(line))
             self.must(mode.words, found is mode, found)
-        for line in (["--batch", "a", "--collect", "b"], ["--watch", "a", "--channel", "b", "-"],
-                     ["--channel", "a"], ["--channel", "a", "b", "c"], ["--batch", "a", "b.stl"]):
+        for line in (["--batch", "a", "--collect", "b"], ["--watch", "a", "--batch", "b"],
+                     ["--batch", "a", "b.stl"]):
             with self.assertRaises(Stop):
                 mode_of(parser_of("").parse_args(line))
 
     def test_ends_a_call(self) -> None:
         """Nothing is done: one line, and status 2."""
         self.write("list", b"one.stl\n")
-        for words in (["--channel", "list", "-", "--pes", "1-2"], ["a.stl", "--pid", "5"],
-                      ["--collect", ".", "-o", "out"], ["--batch", "list", "--patience", "5"]):
+        for words in (["a.stl", "--pid", "5"], ["--collect", ".", "-o", "out"],
+                      ["--batch", "list", "--settled", "5"]):
             done = self.tool("qc", *words)
             self.must(" ".join(words), done.status == 2 and len(done.told) == 1
                       and words[2] in done.told[0] + words[2] and " goes with " in done.told[0],
@@ -228,8 +214,7 @@ class Words(unittest.TestCase):
         for taken, good, bad in (
                 (line_word, ("1", "9999999"), ("0", "10000000", "-1", "", "x", "\u00b2")),
                 (jobs_word, ("1", "9999"), ("0", "10000", "-1", "", "x", "\u00b2")),
-                (seconds_word, ("0", "99999"), ("100000", "-1", "", "1.5", "\u0663")),
-                (minutes_word, ("1", "1440"), ("0", "1441", "", "10000", "00001", "-1"))):
+                (seconds_word, ("0", "99999"), ("100000", "-1", "", "1.5", "\u0663"))):
             self.assertEqual([taken(word) for word in good], list(map(int, good)))
             for word in bad:
                 self.assertRaises(argparse.ArgumentTypeError, taken, word)

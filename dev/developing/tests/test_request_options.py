@@ -10,14 +10,13 @@ import sys
 import threading
 from typing import Any
 
-from subtitles.cli.channel.schedule import Queue
 from subtitles.common.command_line import Lateness, Stop, Words, late_text, late_word
 from subtitles.common.shapes import Flag, Text
 from subtitles.common.times import FRAMES_OF_A_DAY
 from subtitles.request.commands import CommandWords, again, profile_line
 from subtitles.request.lines import pairs_at, profile_at, request_of_line
 from subtitles.request.request import (
-    ALONE, CHANNEL_LINE, JUDGED, LINE, MEASURE, OPTIONS, Option, Request, add_options, keep_stl,
+    ALONE, JUDGED, LINE, MEASURE, OPTIONS, Option, Request, add_options, keep_stl,
     option_words as options_of, plain, request_with)
 from subtitles.results.schema import ASKED
 from .. import DEV
@@ -45,7 +44,6 @@ options.Request = dataclasses.make_dataclass("Request", [
 from developing import pages
 from developing.tests.parts import defaults
 from developing.tests.parts import call_words
-from subtitles.cli.channel.schedule import Queue
 from subtitles.cli.main import parser_of
 from subtitles.results.schema import ASKED
 from subtitles.cli.main import mode_of, refuse_options
@@ -71,7 +69,6 @@ pair, given = ["a.stl", "a.ts"], ["--new-one", "5", "--newer"]
 asked = request_of(parser_of("").parse_args([*pair, *given]))
 none = request_of(parser_of("").parse_args(pair))
 help = parser_of("").format_help()
-planned = Queue(folder + "/list", defaults())
 print(json.dumps({
     "help": help, "man page": pages.of_qc(help)["options"],
     "chapter": pages.of_chapter()["options"],
@@ -82,12 +79,8 @@ print(json.dumps({
     "schema": schema()["definitions"]["asked"]["properties"],
     "same": request_of(parser_of("").parse_args(call_words(asked))) == asked,
     "not with": [taken("a.stl", *given), taken(*pair, *given),
-                 taken("--collect", "x", "--new-one", "5"),
-                 taken("--channel", "x", "-", "--new-one", "5"),
-                 taken("--channel", "x", "-", "--newer")],
-    "line": ASKED.made(request_of_line([*pair, *given], defaults())),
-    "channel": [said(lambda: planned.asked_of(["a.stl", *words]))
-                for words in (given[:2], given[2:])]}))
+                 taken("--collect", "x", "--new-one", "5")],
+    "line": ASKED.made(request_of_line([*pair, *given], defaults()))}))
 """
 # An option with its words, and its member of a result.
 ROWS: list[tuple[str, str, Any]] = [
@@ -132,12 +125,9 @@ class Added(Case):
                   made["pages"], made)
         self.must("schema", made["schema"]["new_one"]["description"] == "What is new." and
                   made["schema"]["newer"] == {"type": "boolean"}, made["schema"])
-        alone, pair, collect, channel, newer = made["not with"]
-        self.must("modes", pair is None and channel is None and "--newer goes with" in alone and
-                  "--new-one goes with" in collect and "--newer goes with" in newer,
-                  made["not with"])
-        self.must("lines of a channel", made["channel"][0] is None and
-                  "--newer goes with" in made["channel"][1], made["channel"])
+        alone, pair, collect = made["not with"]
+        self.must("modes", pair is None and "--newer goes with" in alone and
+                  "--new-one goes with" in collect, made["not with"])
 
 
 class Rows(Case):
@@ -183,8 +173,7 @@ class Rows(Case):
             self.must(one.name, bool(one.means and one.without and one.modes) and
                       {*one.modes} <= {*JUDGED, MEASURE} and one.help == plain(one.help), one)
             self.must(f"{one.name}: member", (one.member is None) == one.name.startswith("--no-"))
-            has_line = {mode for mode in (LINE, CHANNEL_LINE) if mode in one.modes}
-            self.must(f"{one.name}: lines", bool(has_line), one.modes)
+            self.must(f"{one.name}: lines", LINE in one.modes, one.modes)
         self.must("of a file", [one.name for one in OPTIONS if ALONE in one.modes] == [
             "--option", "--severity", "--strict", "--from", "--to", "--layout", "--open",
             "--profile"])
@@ -397,20 +386,6 @@ class Beside(Case):
         self.must("none", none.asked is None and f"{self.path('in/none')}" in str(none.reason),
                   none.reason)
 
-    def test_lines_of_a_channel(self) -> None:
-        """The same; a PID is the feed's, so no profile of a line has one."""
-        house = self.write("house", b"--every 25\n")
-        self.write("pid", b"--pid 0x101\n")
-        path = self.write("list", b"")
-        planned = Queue(path, defaults("--every", "9"))
-        self.must("a line", planned.asked_of(["a.stl", "--profile", "house"]).every == 25)
-        self.must("the call", Queue(path, defaults("--profile", house)).asked_of(
-            ["a.stl"]).every == 25)
-        self.must("a PID of the call", Queue(path, defaults(
-            "--profile", self.path("pid"))).asked_of(["a.stl"]).pid == 0x101)
-        with self.assertRaises(Stop) as refused:
-            planned.asked_of(["a.stl", "--profile", "pid"])
-        self.must("a PID", "--pid goes with" in str(refused.exception), refused.exception)
 
 
 class Verdicts(Case):

@@ -28,7 +28,6 @@ from .. import DEV
 from ..pages import SCHEMA, laid_out
 from .bench import Case, example_bytes
 from .judged import judged
-from .listings import results_in
 from .parts import asked_for, defaults
 from .results import FAULT, result, row, schema as read_schema, second_reader, wrong_in
 
@@ -172,7 +171,7 @@ class ReadBack(Case):
     def test_table_and_schema_agree(self) -> None:
         """Of changed results both say the same; so does a second reader, where there is one."""
         chance, fitting = random.Random(SEED), 0
-        known = [self.known(), unjudged("one", "why", True)]
+        known = [self.known(), unjudged("one", "why")]
         for number in range(CHANGES):
             made = changed(known[number % 9 == 8], chance)
             wrong = [*wrong_in(made, read_schema())]
@@ -215,12 +214,6 @@ class ReadBack(Case):
         calls = Calls(typed, self.folder, self.path("out"), False)
         asked = asked_for(self.path("story.stl"), self.path("x.pes"))
         kept_rows(calls, [Item(name, asked, None) for name in names])
-        os.makedirs(self.path("kept"), exist_ok=True)
-        channel = results_in(self, self.path("kept"), self.path("out"))
-        for name in names:
-            record = channel.adopt(name, asked.stl)
-            self.must(f"channel: {name}", record is None or record.row and
-                      record.is_of(asked.stl) in (True, False), record)
         pairs: list[dict[str, Any]] = json.loads(self.read("x.json"))["pairs"]
         self.must("all pairs", len(pairs) == len(names) and status == 2, (len(pairs), names))
         self.must("all fit", all(misfit(one) is None for one in pairs))

@@ -4,8 +4,6 @@ from __future__ import annotations
 import os
 
 from developing.stl import gsi_block, subtitle_blocks, tti_block
-from subtitles.cli.channel.feed import Awaited
-from subtitles.cli.channel.schedule import Queue
 from subtitles.common.times import Between, FRAMES_OF_A_DAY, TICKS, time_of
 from subtitles.formats.stl import Subtitle, SubtitleFile, subtitles_read
 from subtitles.judging.pair import adjoining_at, pauses_near
@@ -14,7 +12,7 @@ from subtitles.judging.transmissions import subtitles_in
 from subtitles.stream.packets import Packets
 from .bench import Case
 from .judged import OfProgramme, judged, shown_files
-from .parts import answer, asked_for, defaults, part_with
+from .parts import answer, asked_for, part_with
 from .sent import CLOSING, HEADER, joined, late, programme, row, sendings, subtitle_file
 
 MINUTE = 1500  # frames
@@ -60,8 +58,8 @@ class Ranges(Case):
             ("00:01:02:00", "00:01:07:15", day)], found.said)
         self.must("places", [one["position"] for one in found.result["subtitles"]] == [4, 5, 6])
         page = self.read("out/one.html")
-        self.must("report", b"<title>subtitle 4: " in page and
-                  b"<title>subtitle 3: " not in page and b"--from 00:01:00:00" in page)
+        self.must("report", b'<tr id="s4"' in page and b'<tr id="s3"' not in page and
+                  b"--from 00:01:00:00" in page, page)
         self.must("files", sorted(os.listdir(self.path("out"))) == [
             "one.html", "one.json", "one.txt"])
 
@@ -118,17 +116,6 @@ class Ranges(Case):
         self.must("commands", len(commands) == 2 and
                   "--from 00:00:04:00 --to 00:00:30:10" in commands[0] and
                   "--from 00:00:32:00 --to 00:00:58:10" in commands[1], commands)
-
-    def test_of_a_channel(self) -> None:
-        """Two programmes of a day's file, a line each: each is waited for by its own times, with an
-        origin or without."""
-        day = self.day()
-        for words, span in ((EARLIER, (50, 190)), (LATER, (MINUTE + 50, MINUTE + 190)),
-                            ((), (50, MINUTE + 190))):
-            for clock in ((), ("--origin", "7")):
-                asked = Queue("list", defaults()).asked_of([day, *words, *clock])
-                awaited = Awaited(asked, 0, 1 << 40)
-                self.must(f"{words} {clock}", (awaited.first, awaited.last) == span)
 
     def test_commands(self) -> None:
         """The files that a command names; `judged` finds no others in any that is printed."""

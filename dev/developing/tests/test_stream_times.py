@@ -10,17 +10,14 @@ from types import SimpleNamespace
 from typing import Any, Sequence
 
 from subtitles.clock.alignment import MOST_BASES, Shown, bases_of
-from subtitles.clock.start import Clock, Found, RECORDING
 from subtitles.clock.stretches import LACKED, LEAST_BREAK, Stretch, by_breaks, find_row
 from subtitles.common.times import (
     CLOCK, FRAMES_OF_A_DAY, Spans, TICKS, joined_spans, ticks_between, ticks_within)
-from subtitles.judging.timing import last_time
 from subtitles.stream.gaps import (
     ClockJump, Place, SECOND, jumps_of, place_line, places_of, strange_of, what_of)
 from subtitles.stream.packets import Change, Clocked, Mark, Packets, Run, headers_in
 from subtitles.stream.ranges import cut_of, is_outside
 from subtitles.stream.survey import Survey
-from .parts import asked_for
 
 
 def packets_with(pts: Sequence[int | None], **more: Any) -> Packets:
@@ -413,16 +410,3 @@ class Times(unittest.TestCase):
         self.assertEqual(place_line(Place(None, 3600, 0), None),
                          "before PTS 3600, 00:00:00:01 on: a break in the stream")
         self.assertEqual(place_line(Place(None, None, 1), None), "1 TS packet lost")
-
-    def test_what_is_near_in_a_feed(self) -> None:
-        """Of the time bases the last in which PES packets come near the time of the subtitles."""
-        near = [110, 120, 600, 700, 400, 410]
-        for frames, words, wanted in (
-                ([0, 110, 120, 600] * 2, "--every 25", (4, 6)), ([600, 700], "--every 25", None),
-                ([0, 110, 120, 600, -9, -8], "--every 25", (0, 2)),
-                ([600, 700, 800, 900, 50, 60], "--every 25", (4, 5)),
-                (near, "--every 25", (0, 1)), (near, "--every 300", (4, 5)),
-                (near, "--every 25 --within 50", (4, 5))):
-            found = last_time(packets_with([TICKS * one for one in frames]), Found(110, 120, Clock(
-                0, RECORDING)), asked_for("a.stl", "a.pes", *words.split()))
-            self.assertEqual(found, wanted, (frames, words))

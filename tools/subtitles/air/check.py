@@ -26,7 +26,7 @@ NOT_OVER = 74  # of `check`: the last TCO comes after the last PES packet
 SPARE = 1 << 20  # bytes of the disk that are left to others
 
 
-class Answer(NamedTuple):
+class Outcome(NamedTuple):
     """What a programme comes to. `is_over`: all of it was in the piece, as far as that can be
     known. Where `known` is `None` the machine failed, and another time it may be judged."""
 
@@ -79,7 +79,7 @@ class Checker:
             if name.startswith(WORK):
                 shutil.rmtree(os.path.join(self.place, name), ignore_errors=True)
 
-    def check(self, request: Request, name: str, piece: Piece) -> Answer:
+    def check(self, request: Request, name: str, piece: Piece) -> Outcome:
         """Judges a programme."""
         self.clear()
         self.work = new_name(self.place, WORK)
@@ -100,20 +100,20 @@ class Checker:
         try:
             os.mkdir(self.work)
             if shutil.disk_usage(self.work).free < size + SPARE:
-                return Answer(None, f"no room in {self.work} for {size:,} bytes of the feed")
+                return Outcome(None, f"no room in {self.work} for {size:,} bytes of the feed")
             status, lines = called(lambda: ended(does, ()), JUDGING_SECONDS + size / SLOWEST)
         except TimeoutError as reason:
-            return Answer(None, str(reason), is_slow=True)
+            return Outcome(None, str(reason), is_slow=True)
         except (OSError, Stop) as reason:
-            return Answer(None, error_line(reason))
+            return Outcome(None, error_line(reason))
         finally:
             with contextlib.suppress(OSError):
                 os.unlink(recording)
         if status == MACHINE or status < 0:
-            return Answer(None, (lines or ["it did not end by itself"])[-1])
+            return Outcome(None, (lines or ["it did not end by itself"])[-1])
         known = left_by_call(os.path.join(self.work, name + ENDING), name,
                              1 if status == ENDS_EARLY else status, lines)
-        return Answer(known, known["reason"] or known["lead"], status != ENDS_EARLY)
+        return Outcome(known, known["reason"] or known["lead"], status != ENDS_EARLY)
 
 
 def called(does: Callable[[], int], longest: float) -> tuple[int, list[str]]:
@@ -131,6 +131,6 @@ def called(does: Callable[[], int], longest: float) -> tuple[int, list[str]]:
         raise
 
 
-def not_judged(name: str, reason: str) -> Answer:
+def not_judged(name: str, reason: str) -> Outcome:
     """A programme that has no verdict, for a reason that stays."""
-    return Answer(unjudged(name, reason), reason)
+    return Outcome(unjudged(name, reason), reason)

@@ -16,10 +16,10 @@ from ..common.command_line import Stop, error_line, say
 from ..common.files import BEGIN, result_file
 from ..request.commands import CommandWords
 from ..results.files import ENDING, object_text
-from .check import Answer, Checker, not_judged
+from .check import Outcome, Checker, not_judged
 from .schedule import Programme, Schedule, schedule_at, seconds_of
 from .segments import Piece, between, pieces_in
-from .state import State, write_state
+from .state import Watched, write_state
 
 SOON = 10.0  # seconds after its end at which a programme is tried first
 EARLY = 60.0  # seconds by which one may begin before its time, at most, behind a hole
@@ -64,7 +64,7 @@ class Judge:
                                words.is_kept)
         self.tries: dict[str, Tries] = {}
         self.schedule = Schedule()
-        self.state = State()
+        self.state = Watched()
 
     def look(self, now: float) -> bool:
         """Judges the first programme that is due, and writes how it stands; whether one was tried.
@@ -135,7 +135,7 @@ class Judge:
         return True
 
     def put_off(self, programme: Programme, window: Window, tries: Tries, now: float,
-                answer: Answer | None) -> None:
+                answer: Outcome | None) -> None:
         """Tries a programme later: one that may still be on air twice as long after its end as it
         is now, and in any case once its window has passed."""
         if answer is not None:
@@ -161,7 +161,7 @@ class Judge:
             self.publish(programme.name, not_judged(programme.name, reason))
 
     def judged(self, programme: Programme, window: Window, tries: Tries, now: float
-               ) -> Answer | None:
+               ) -> Outcome | None:
         """What a programme comes to; `None` where that is not known yet. It is accepted only out of
         a piece in which nothing is missing."""
         name = programme.name
@@ -169,7 +169,7 @@ class Judge:
             return not_judged(name, tries.reason)
         segments = between(self.segments, window.first, window.last)
         pieces = [*pieces_in(segments, self.words.pause)]
-        answers = list[Answer]()
+        answers = list[Outcome]()
         for piece in pieces:
             if piece.end - piece.begin < window.length - SLACK:
                 continue
@@ -188,7 +188,7 @@ class Judge:
 
     # ---- its result
 
-    def publish(self, name: str, answer: Answer) -> None:
+    def publish(self, name: str, answer: Outcome) -> None:
         """Gives a result its place: its other files first, then the JSON result; each is stored."""
         assert answer.known is not None
         work, main = self.checker.work, name + ENDING
@@ -239,7 +239,7 @@ def longer(window: Window, now: float) -> Window:
     return window._replace(last=last, has_passed=now >= last, is_longer=True)
 
 
-def last_word(name: str, holes: Sequence[str], answers: Sequence[Answer]) -> Answer:
+def last_word(name: str, holes: Sequence[str], answers: Sequence[Outcome]) -> Outcome:
     """What a programme comes to whose time has passed, where no piece has told it for sure."""
     if answers and not holes:
         return answers[0]  # of the only piece

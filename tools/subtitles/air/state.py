@@ -20,7 +20,7 @@ LOOK, LOOKED_AT = 60.0, 3  # seconds between two looks for pages, and segments t
 LEAST_FREE = 100_000_000  # bytes
 
 
-class State:
+class Watched:
     """How it stands. Nothing here decides anything."""
 
     def __init__(self) -> None:

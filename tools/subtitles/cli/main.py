@@ -12,14 +12,13 @@ from ..common.command_line import Stop, Words, error_line
 from ..common.files import IsInput, plain_name, whole_file
 from ..request.lines import goes_with, read_options
 from ..request.request import (
-    ALONE, BATCH, CHANNEL, COLLECT, MEASURE, Mode, OPTIONS, Option, PAIR, RECORDER, WATCH,
-    add_options)
+    ALONE, BATCH, COLLECT, MEASURE, Mode, OPTIONS, Option, PAIR, WATCH, add_options)
 from ..results import files
 
 
 # What tools/qc is called for, the options of the call itself, and which options go with which.
 
-CALLS = (PAIR, ALONE, BATCH, WATCH, CHANNEL)
+CALLS = (PAIR, ALONE, BATCH, WATCH)
 OUTPUT_MODES = (PAIR, ALONE, BATCH, COLLECT)
 
 
@@ -39,7 +38,6 @@ line_word = number_word("a line", 1, 9_999_999)
 jobs_word = number_word("pairs at a time", 1, 9_999)
 seconds_word = number_word("seconds", 0, 99_999)
 limit_word = number_word("seconds", 1, 99_999)
-minutes_word = number_word("minutes", 1, 1_440)  # a day at most
 
 ASKING = (
     Option("--batch", "FOLDER|LIST", "judge many pairs", (BATCH,), field="batch"),
@@ -47,13 +45,11 @@ ASKING = (
            field="collect"),
     Option("--watch", "IN", "judge the pairs that come into a folder", (WATCH,), field="watch"),
     Option("--measure", "STL RECORDING", "print a [profile](#a-profile) of recordings that are "
-           "right, of one pair or more; nothing is judged", (MEASURE,), field="measure", nargs="+"),
-    Option("--channel", "LIST", "judge the programmes of a list, one after another, out of a feed",
-           (CHANNEL,), field="channel"))
+           "right, of one pair or more; nothing is judged", (MEASURE,), field="measure", nargs="+"))
 OF_CALL = (
     Option("-o", "DIR", "the folder for report and list", CALLS, field="out"),
     Option("--keep", None, "keep in DIR the PES packets of the recording, NAME.recording.pes; of a "
-           "pipe all that came, NAME.recording.ts", (PAIR, BATCH, WATCH, CHANNEL), field="is_kept",
+           "pipe all that came, NAME.recording.ts", (PAIR, BATCH, WATCH), field="is_kept",
            default=False),
     Option("--json", "FILE", "the verdict as a JSON result", OUTPUT_MODES, field="json"),
     Option("--csv", "FILE", "a line for each fault", OUTPUT_MODES, field="csv"),
@@ -61,7 +57,7 @@ OF_CALL = (
     Option("-p", "PROGRAM", "the program that is asked", (*CALLS, MEASURE), "./subttx",
            field="program"),
     Option("--resume", None, "keep what an earlier call has judged in the same way",
-           (BATCH, CHANNEL), field="is_resumed", default=False),
+           (BATCH,), field="is_resumed", default=False),
     Option("--line", "N", "judge line N of LIST alone, as an engine's job does", (BATCH,),
            field="line", read=line_word),
     Option("--jobs", "N", "pairs at a time", (BATCH, WATCH), "as many as processors", field="jobs",
@@ -71,37 +67,21 @@ OF_CALL = (
            read=limit_word),
     Option("--settled", "S", "seconds after which a file that does not change is whole", (WATCH,),
            "5", field="settled", default=5, read=seconds_word),
-    Option("--patience", "M", "minutes within which a programme has to begin", (CHANNEL,), "60",
-           field="patience", default=60, read=minutes_word),
-    Option("--spool", "DIR", "the folder in which the feed is kept; without --channel the feed is "
-           "recorded there", (CHANNEL, RECORDER), "beside that of -o", field="spool"),
-    Option("--on-result", "COMMAND", "a program that is called with each JSON result and its "
-           "verdict", (CHANNEL,), field="on_result"),
-    Option("--on-alarm", "COMMAND", "a program that is called where something is wrong, and once "
-           "it is not: silence, loss, disk or recorder, begins or ends, and a line", (CHANNEL,),
-           field="on_alarm"),
     Option("--quiet", None, "print the verdict's sentence and the last line alone", (ALONE, PAIR),
-           field="is_quiet", default=False),
-    Option("--stall", "S", "seconds after which a feed that stands still is reported",
-           (CHANNEL,), "10", field="stall", default=10, read=seconds_word))
+           field="is_quiet", default=False))
 TAKEN_BY = {one.name: one.modes for one in (*OPTIONS, *OF_CALL)}
 
 
 def mode_of(words: argparse.Namespace) -> Mode:
     """What is asked for; `Stop` where that is two things."""
     asked = {BATCH: words.batch, COLLECT: words.collect, WATCH: words.watch,
-             MEASURE: words.measure, CHANNEL: words.channel}
+             MEASURE: words.measure}
     given = [mode for mode, value in asked.items() if value is not None]
     if len(given) > 1:
         raise Stop(f"{given[0].words} and {given[1].words} are two calls")
-    if CHANNEL in given:
-        if words.stl is None or words.recording is not None:
-            raise Stop("--channel LIST takes one feed: a file, a pipe, or -")
-    elif given and words.stl is not None:
+    if given and words.stl is not None:
         own = "behind it" if given[0] is MEASURE else f"from {asked[given[0]]}"
         raise Stop(f"{words.stl} stands beside {given[0].words}, which takes its pairs {own}")
-    if not given and words.spool is not None and words.stl is not None and words.recording is None:
-        return RECORDER
     return given[0] if given else ALONE if words.recording is None else PAIR
 
 
@@ -222,12 +202,6 @@ def answer(text: str, called: str, line: list[str]) -> int:
     if words.watch is not None:
         from . import batch
         return batch.watch(words, called)
-    if words.channel is not None:
-        from .channel import channel
-        return channel.judge_channel(words, called)
-    if words.spool is not None:
-        from .channel import recorder
-        return recorder.record_alone(words.stl, words.spool)
     if words.stl is None:
         raise Stop("give a subtitle file, and a recording; --help lists all options")
     return single.judge_call(words, called)

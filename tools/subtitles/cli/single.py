@@ -177,8 +177,7 @@ class PairCall(NamedTuple):
     """A call for a pair, beside what is asked of it: the program, and the files that are written.
     `name` is that of the pair, where it is not that of its subtitle file, and `here` the folder in
     which its files stand until somebody gives them their place. `is_claimed`: its files are the
-    caller's; `is_fitted`: its origin was found by the caller. `given` is a file with all that
-    came of a feed, which may be judged."""
+    caller's."""
 
     program: str | None
     out: str | None = None
@@ -189,8 +188,6 @@ class PairCall(NamedTuple):
     name: str | None = None
     here: str | None = None
     is_claimed: bool = False
-    is_fitted: bool = False
-    given: str | None = None
     is_quiet: bool = False
 
 
@@ -217,7 +214,7 @@ def judged(asked: Request, call: PairCall, called: str) -> Verdict:
         speech.say(profile_line(asked.profile))
     typed = CommandWords(called, call.program)
     listener = Listener(speech)
-    verdict = verdict_of(asked, listener, call.is_fitted)
+    verdict = verdict_of(asked, listener)
     verdict.is_kept = call.is_kept
     name = call.name or pair_name(asked.stl)
     refuse_outputs(call, asked, here, name)
@@ -230,17 +227,16 @@ def judged(asked: Request, call: PairCall, called: str) -> Verdict:
         names.give(asked.stl_path)
         files = Files(call, verdict, typed, names)
         verdict.files = found(asked)
-        pair = Pair(verdict, typed, names, listener, files.are_any(), call.given)
+        pair = Pair(verdict, typed, names, listener, files.are_any())
         judge_pair(pair, files)
         end_pair(verdict, speech, files)
     return verdict
 
 
-def verdict_of(asked: Request, listener: Listener, is_fitted: bool = False) -> Verdict:
+def verdict_of(asked: Request, listener: Listener) -> Verdict:
     """A verdict of which nothing is known yet; it has what the listener hears."""
     return Verdict(asked, Severity(asked.severity, asked.is_loss_allowed), now(),
-                   notes=listener.notes, commands=listener.commands, chosen=listener.selections,
-                   was_fitted=is_fitted)
+                   notes=listener.notes, commands=listener.commands, chosen=listener.selections)
 
 
 def refuse_outputs(call: PairCall, asked: Request, out: str | None, name: str) -> None:

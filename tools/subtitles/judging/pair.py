@@ -34,7 +34,7 @@ from .subtitles import beside_of, due_beside, is_judged_beside, title_words
 from .timing import (
     NO_CLOCK, PartClocks, PartSearch, cut_part, given_clock, left_by_pictures, paced_part, parts_of)
 from .transmissions import DuePages, due_pages_of, kept_in, subtitles_in
-from .verdict import MOVED, Verdict, frames_in, gaps_in, unsent_in
+from .verdict import MOVED, Verdict, frames_in, gaps_in
 
 
 # Why `check` refuses a part, and what else follows of its answer.
@@ -141,14 +141,13 @@ def pauses_near(subtitles: Sequence[Subtitle], at: int) -> list[int]:
 
 
 class Pair:
-    """A pair that is judged step by step; what is known so far stands in the verdict. `given` is a
-    file with all that came of a feed, which may be judged."""
+    """A pair that is judged step by step; what is known so far stands in the verdict."""
 
     def __init__(self, verdict: Verdict, typed: CommandWords, names: Names, listener: Listener,
-                 is_summed: bool, given: str | None = None) -> None:
+                 is_summed: bool) -> None:
         self.verdict, self.request = verdict, verdict.request
         self.typed, self.names, self.listener = typed, names, listener
-        self.is_summed, self.given = is_summed, given
+        self.is_summed = is_summed
         self.recording: Recording | None = None
         self.begun: Part | None = None  # that is being judged, or was last
 
@@ -288,13 +287,12 @@ class Pair:
         self.verdict.count = len(subtitles)
         if not subtitles:
             raise Unclear(f"{request.stl} has no subtitle")
-        clock = given_clock(request, self.verdict.was_fitted) or NO_CLOCK
+        clock = given_clock(request) or NO_CLOCK
         programme = PartSearch(request, Found(subtitles[0].begin, subtitles[-1].end, clock),
-                              request.pes, self.left_out, self.verdict.was_fitted,
-                              self.given is not None)
+                              request.pes, self.left_out)
         self.recording = recording = Recording(request, self.typed, self.names, self.listener,
-                                               self.given, [(subtitle.begin, subtitle.end)
-                                                            for subtitle in subtitles])
+                                               [(subtitle.begin, subtitle.end)
+                                                for subtitle in subtitles])
         recording.read(self.is_summed)
         self.verdict.recording = recording.file
         self.refuse_range(recording)
@@ -351,7 +349,7 @@ class Pair:
                                      self.request.within))
         for part in parts:
             self.judge_part(part, programme, subtitles, len(parts))
-        self.tell_losses(recording, clocks.is_shifted)
+        self.tell_losses(recording)
 
     def parts_in(self, recording: Recording, alignments: list[Found], programme: PartSearch,
                  subtitles: list[Subtitle]) -> list[PartFrames]:
@@ -426,14 +424,12 @@ class Pair:
         return due_pages_of(self.typed.program_path, self.names.given, subtitles, request.page,
                             request.option, request.between, request.words_of_pages())
 
-    def tell_losses(self, recording: Recording, is_shifted: bool) -> None:
+    def tell_losses(self, recording: Recording) -> None:
         """Takes where something of the recording is missing, and that it grew meanwhile."""
         verdict = self.verdict
         if not any(notice.kind == "grew" for notice in verdict.warnings):
             verdict.warnings += [notice for notice in recording.strange() if notice.kind == "grew"]
         verdict.gaps += gaps_in(recording, verdict.parts)
-        if recording.is_cut and not self.request.breaks and not is_shifted:
-            self.listener.noted(*unsent_in(verdict.parts[-1]))
 
     # What is strange, and breaks no rule.
 

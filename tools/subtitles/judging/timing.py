@@ -6,11 +6,10 @@ import dataclasses
 import os
 from typing import Iterable, Iterator, NamedTuple, Sequence
 
-from ..clock.origin import OfPart, Origin, Sought, find, runs_line
+from ..clock.origin import OfPart, Origin, Sought, find
 from ..clock.start import Clock, Found, GIVEN, NoFirst, RECORDING, START, TCP, began, refuse_outside
 from ..common.command_line import Stop, counted, error_line, pid_name
-from ..common.times import (
-    FRAMES_A_SECOND, FRAMES_OF_A_DAY, TICKS, pts_of, ticks_between, ticks_within, time_of)
+from ..common.times import FRAMES_A_SECOND, TICKS, pts_of, ticks_between, ticks_within, time_of
 from ..formats.listing import NamedFault, PICTURES_LEFT
 from ..recording.recording import Recording
 from ..request.commands import Listener
@@ -21,7 +20,6 @@ from ..stream.gaps import (
     unseen_from)
 from ..stream.packets import PACKET, PTSPair, Packets, Range, jumps_at, jumps_told
 from ..stream.ranges import Cut, cut_of
-from ..stream.receiver import LEAST
 from ..stream.survey import Departure, PictureClock, Survey, departures_of
 from .part import PartFrames, PartPace, PartRange
 
@@ -33,16 +31,12 @@ SAID = "origin: "  # before what is said of it
 class PartSearch(NamedTuple):
     """What is looked for in a recording: the first and the last frame of its subtitles, with the
     clock where one was given, and which of the file are left out, by their places; `inside` are the
-    PES packets that may be judged. `was_fitted`: the origin that is given was found in the
-    recording by who calls this tool; `is_cut`: all that is read is of about its time.
-    """
+    PES packets that may be judged."""
 
     request: Request
     whole: Found
     inside: Range | None
     left_out: frozenset[int] = frozenset()
-    was_fitted: bool = False
-    is_cut: bool = False
 
 
 class PartClocks(NamedTuple):
@@ -60,17 +54,8 @@ def parts_of(programme: PartSearch, recording: Recording, listener: Listener) ->
     """The parts with their clocks; the first one has the one that was given, or that the first
     picture tells."""
     request, whole = programme.request, programme.whole
-    given = given_clock(request, programme.was_fitted) or by_start(programme, recording, listener)
-    if programme.is_cut and given and not recording.stages:
-        programme = programme._replace(
-            inside=last_time(recording.packets, whole._replace(clock=given), request))
+    given = given_clock(request) or by_start(programme, recording, listener)
     origin = fitted_origin(programme, recording, given, listener)
-    if origin.runs and recording.is_cut:
-        run = run_of(programme, recording, given, origin.runs)
-        which = "first run" if run == origin.runs[0] else "run at the origin that was given"
-        listener.noted(f"{runs_line(len(origin.runs))}: of a feed the {which} is judged")
-        programme = programme._replace(inside=run)
-        origin = fitted_origin(programme, recording, given, listener)
     listener.noted(*origin.shifts)
     alignments = found_in(origin, whole)
     if not alignments and (given is None or request.breaks or origin.runs):
@@ -84,10 +69,9 @@ def parts_of(programme: PartSearch, recording: Recording, listener: Listener) ->
 
 # What is known before.
 
-def given_clock(request: Request, was_fitted: bool = False) -> Clock | None:
+def given_clock(request: Request) -> Clock | None:
     """The clock that was given, `None` where it is to be found."""
-    source = RECORDING if was_fitted else GIVEN
-    return None if request.origin is None else Clock(request.origin, source)
+    return None if request.origin is None else Clock(request.origin, GIVEN)
 
 
 def by_start(programme: PartSearch, recording: Recording, listener: Listener) -> Clock | None:
@@ -215,24 +199,6 @@ def cut_part(programme: PartSearch, part: PartFrames, listener: Listener) -> Ran
                       recording.again("--origin", "T"),
                       *recording.other_pages([recording.packets]))
     return cut.range
-
-
-def run_of(programme: PartSearch, recording: Recording, given: Clock | None,
-           runs: Sequence[Range]) -> Range:
-    """The run that is at the origin that was given; without one, or where none is, the first."""
-    own = cut_within(programme, recording, programme.whole._replace(clock=given),
-                     programme.request.within).range if given else None
-    return next((run for run in runs if own and run[0] <= own[0] and own[1] <= run[1]), runs[0])
-
-
-def last_time(packets: Packets, whole: Found, request: Request) -> Range | None:
-    """Of what was cut out of a feed the PES packets of about the time of the subtitles, the last
-    time that this comes."""
-    more = max(LEAST, request.every) + request.within
-    cuts = (cut_of(packets, max(whole.begin - more, 0),
-                   min(whole.end + more, FRAMES_OF_A_DAY - 1), whole.origin, None, request.within,
-                   (base.start, base.stop - 1)).range for base in reversed(packets.bases()))
-    return next(filter(None, cuts), None)
 
 
 # The pace by which a part is judged, where its PES packets are regular; else what is unseen.

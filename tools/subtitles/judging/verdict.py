@@ -144,8 +144,7 @@ class Unjudged(NamedTuple):
 class Verdict:
     """All there is to say of a pair; `notes` are what else was seen, a line each, `hints` what to
     know of the first letter and of the first header that are refused. `files` is what its files
-    were like when judging began, `seconds` how long it took. `was_fitted`: the origin that is given
-    was found in the recording, by who calls this tool.
+    were like when judging began, `seconds` how long it took.
 
     The texts that are made of it, and who takes each of them:
 
@@ -177,7 +176,6 @@ class Verdict:
     failed: list[str] = dataclasses.field(default_factory=list)  # why outputs are not written
     files: dict[str, object] = dataclasses.field(default_factory=dict)
     seconds: float = 0.0
-    was_fitted: bool = False
     count: int = 0  # of the subtitles
     beside: JudgedBeside | None = None  # where some subtitles are refused, and others are judged
     named: list[NamedFault] = dataclasses.field(default_factory=list)  # faults without a number
@@ -431,11 +429,3 @@ def place_time(pts: int | None, origin: int) -> str | None:
     frame = frame_in(pts, origin)
     return time_of(frame) if frame < FRAMES_OF_A_DAY else None
 
-
-def unsent_in(part: Part) -> list[str]:
-    """That the last subtitles of a feed did not come: it is not read long enough to tell a break.
-    """
-    frame = part.causes.unsent_from() if part.causes else None
-    return [] if frame is None else [
-        f"from {time_of(frame)} on no subtitle was sent while the feed was read; if the programme "
-        "has a break there, say --breaks 1"]

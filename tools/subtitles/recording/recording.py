@@ -12,7 +12,7 @@ from typing import Collection, Iterable, Iterator, Sequence
 
 from ..clock.start import NoFirst
 from ..common.command_line import PACKET_SIZES, Stop, counted, pid_name, shown, stream_words
-from ..common.files import STANDARD, SummedFile, Sums, file_of, first_bytes, naming, pieces_of
+from ..common.files import STANDARD, SummedFile, Sums, first_bytes, naming, pieces_of
 from ..common.times import ticks_between
 from ..formats.teletext import START
 from ..request.commands import CommandWords, KEPT, KEPT_STREAM, Listener, Names, Speech, again
@@ -40,7 +40,7 @@ def copy_piped(name: str, path: str, speech: Speech) -> SummedFile:
             count += len(data)
             if count > MOST_PIPED:
                 raise Stop(f"{source} has not ended after {MOST_PIPED:,} bytes: what does not end "
-                           "is judged with --channel LIST")
+                           "is recorded and judged by tools/air")
             digest.update(data)
             with naming(path):
                 file.write(data)
@@ -130,28 +130,24 @@ def silent_in(survey: Survey) -> list[Packets]:
 class Recording:
     """A recording that is read: `packets` are those of the PID with the page; `stages` are the PIDs
     where it moves to another one, and `packets` then stand for all of them. What is judged is a
-    range of the recording itself; what comes through a pipe is copied to a file, at `path`. Where
-    `is_cut`, all that came of a feed is in a file that is `given`, by who calls this tool."""
+    range of the recording itself; what comes through a pipe is copied to a file, at `path`."""
 
     def __init__(self, request: Request, typed: CommandWords, names: Names, listener: Listener,
-                 given: str | None = None, times: Sequence[tuple[int, int]] = ()) -> None:
+                 times: Sequence[tuple[int, int]] = ()) -> None:
         assert request.recording is not None
         self.request, self.typed, self.names, self.listener = request, typed, names, listener
-        self.name, self.given, self.is_cut = request.recording, given, given is not None
+        self.name = request.recording
         self.size = size_of(self.name)
         self.times = times  # of the subtitles, in frames
         self.is_piped = self.size is None or self.name == STANDARD
-        self.path = given or (names.whole_path if self.is_piped else
-                              names.as_program(self.name, "given"))
+        self.path = names.whole_path if self.is_piped else names.as_program(self.name, "given")
         self.survey, self.packets = Survey(), Packets(PES)
         self.stages: list[Stage] = []
         self.file: SummedFile | None = None
 
     def read(self, is_summed: bool) -> None:
         """Reads it to its end, and takes all that is told of it."""
-        if self.given is not None:
-            self.file = file_of(self.given, self.name)
-        elif self.is_piped:
+        if self.is_piped:
             self.file = copy_piped(self.name, self.path, self.listener.speech)
         files = Sums([self.name]) if is_summed and not self.is_piped else None
         self.survey = survey(self.typed.program_path, self.path, self.request.page,
@@ -322,10 +318,10 @@ class Recording:
                                   f"{self.size:,} bytes to {now:,}: judge it again when it is "
                                   "complete"))
         is_open = self.packets.is_cut and not self.packets.refusal
-        if self.is_stream and is_open and not self.is_cut:
+        if self.is_stream and is_open:
             notices.append(Notice("cut", f"{shown(self.name)} ends within a PES packet of the "
                                   "page's PID, which is left out"))
-        if self.packets.damage and not self.is_cut:
+        if self.packets.damage:
             notices.append(Notice("cut", f"{shown(self.name)}: {self.packets.damage}; it was "
                                   "read up to there"))
         return notices

@@ -12,7 +12,7 @@ from ..common.markup import BREAK, HEAD, Markup, NO_MARKUP, Value, joined, marku
 from ..common.program import about_program
 from ..common.times import ALL_DAY, Span, time_of
 from ..formats.listing import (
-    FaultLine, PARITY, CHANGED, CONTENT, WITH_CAUSE, marked_up, meanings, number_link)
+    FaultLine, PARITY, CHANGED, CONTENT, marked_up, meanings, number_link)
 from ..formats.stl import Subtitle, SubtitleFile, titles_in
 from ..formats.teletext import BY_WORD, page_name
 from ..judging.causes import names_line
@@ -209,8 +209,8 @@ class PartView:
             more = markup("<dl><dt>means</dt><dd>{}</dd><dt>do</dt><dd>{}</dd></dl>", *known) \
                 if known else NO_MARKUP
             told = joined((markup("<li>{}{}</li>", number_link(fault.line), until)
-                           for fault, until in places[number]))
-            left = count - len(places[number])
+                           for fault, until in places.get(number, ())))
+            left = count - len(places.get(number, ()))
             told += markup("<li>and {:,} more: <code>check --all</code> lists them</li>", left) \
                 if left else NO_MARKUP
             waived = "" if self.verdict.severity.is_error(number) else " (waived)"

@@ -11,7 +11,7 @@ from typing import Any, Callable, Iterable, Iterator, NamedTuple, TypeVar
 from ..common.command_line import counted
 from ..common.markup import Markup, NO_MARKUP, joined, markup
 from ..formats.teletext import NEWSFLASH, SUBTITLE, has_bit, letters
-from ..stream.receiver import BLANK_PAGE, HIT, OLD, Rows, State, national_option
+from ..stream.receiver import HIT, OLD, Rows, State, national_option
 
 
 # A page as Teletext level 1 draws it (EN 300 706, 12.2), as SVG with its text in it.

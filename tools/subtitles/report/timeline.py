@@ -3,7 +3,6 @@ from __future__ import annotations
 
 from typing import Iterable, Iterator
 
-from ..common.command_line import counted
 from ..common.markup import Markup, NO_MARKUP, Value, joined, markup
 from ..common.times import FRAMES_A_SECOND, Span, time_of
 from ..judging.cues import Cue, blank_free

@@ -72,12 +72,11 @@ KEPT, KEPT_STREAM = "recording.pes", "recording.ts"  # of a recording that is ke
 OF_PAIR = (*ENDINGS, KEPT, KEPT_STREAM, "json")
 LOCK = "lock"  # of the file that says that a pair is judged now
 INDEX = "index"  # of the page over all pairs of a folder
-CHANNEL = "channel"  # of the file that tells what a channel does
 ESCAPE = "%"
 # What can't stand in the name of a file as it is: what begins a hidden one, what is no letter, and
 # what another pair, its part or a line has there.
 ESCAPED = re.compile(rf"^\.|{ESCAPE}|{HIDDEN.pattern}|[.~](?=[0-9]+$)|(?<=^line) (?=[0-9]+$)"
-                     rf"|^i(?=ndex$)|^c(?=hannel$)")
+                     r"|^i(?=ndex$)")
 LONGEST, BEGINNING = 180, 120  # bytes of a name; the beginning of a longer one
 
 

@@ -40,19 +40,14 @@ PAIR = Mode("a pair", "a recording")
 ALONE = Mode("STL alone", "a subtitle file alone")
 BATCH = Mode("`--batch`", "--batch")
 WATCH = Mode("`--watch`", "--watch")
-CHANNEL = Mode("`--channel`", "--channel")
-RECORDER = Mode("`--spool` alone", "--spool alone")
 COLLECT = Mode("`--collect`", "--collect")
 MEASURE = Mode("`--measure`", "--measure")
 LINE = Mode("a line of a batch", "a line of a batch's list")
-CHANNEL_LINE = Mode("a line of a channel", "a line of a channel's list")
-MODES = (PAIR, ALONE, BATCH, WATCH, CHANNEL, RECORDER, COLLECT, MEASURE, LINE, CHANNEL_LINE)
+MODES = (PAIR, ALONE, BATCH, WATCH, COLLECT, MEASURE, LINE)
 
 PAIRS = (PAIR, BATCH, WATCH, LINE)
-TRANSMISSIONS = (*PAIRS, CHANNEL, CHANNEL_LINE)
-JUDGED = (*TRANSMISSIONS, ALONE)
-MEASURED_PAIRS, MEASURED_SENT, MEASURED = (  # the same, and what --measure takes
-    (*modes, MEASURE) for modes in (PAIRS, TRANSMISSIONS, JUDGED))
+JUDGED = (*PAIRS, ALONE)
+MEASURED_PAIRS, MEASURED = (*PAIRS, MEASURE), (*JUDGED, MEASURE)  # the same, and --measure
 
 NOT = object()  # an option that `check` does not take
 
@@ -165,10 +160,10 @@ def range_text(pes: tuple[int, int]) -> str:
 PROFILE = Record("profile", "", Member("name", Text()), Member("sha256", SUM))
 
 OPTIONS: tuple[Option, ...] = (
-    Option("--page", "P", "the page", MEASURED_SENT, "888", field="page", default=(0, 0x88),
+    Option("--page", "P", "the page", MEASURED_PAIRS, "888", field="page", default=(0, 0x88),
            read=page_word, write=lambda page: page_name(*page), of_check=(0, 0x88), in_profile=True,
            shape=Text(r"[1-8][0-9A-F]{2}"), in_result=lambda page: page_name(*page)),
-    Option("--every", "N", "the repeat bound", TRANSMISSIONS, "250 frames", field="every",
+    Option("--every", "N", "the repeat bound", PAIRS, "250 frames", field="every",
            default=250, read=every_word, of_check=250, in_profile=True,
            shape=Integer(1, MOST_EVERY)),
     Option("--option", "O", "the national option; `auto`: the one of the language that the "
@@ -176,21 +171,21 @@ OPTIONS: tuple[Option, ...] = (
            "`french`; 0A, 21 `spanish`; 06, 25 `czech`; any other `english`", MEASURED, "english",
            field="option", default="english", choices=(*WORDS, AUTO), of_check="english",
            in_profile=True, shape=OneOf(*WORDS)),
-    Option("--origin", "T", "the clock: the PTS of 00:00:00:00", MEASURED_SENT, "it is fitted",
+    Option("--origin", "T", "the clock: the PTS of 00:00:00:00", MEASURED_PAIRS, "it is fitted",
            field="origin", read=origin_word, shape=Maybe(PTS),
            said="null where it was to be found; the one that was used is in the part."),
     Option("--complete", None, "ask for [closing headers]"
-           "(transmissions.md#closing-headers---complete)", TRANSMISSIONS, "they are asked for",
+           "(transmissions.md#closing-headers---complete)", PAIRS, "they are asked for",
            field="is_complete", default=True, of_check=False, in_profile=True, shape=Flag()),
-    Option("--no-complete", None, "ask for none", TRANSMISSIONS, "they are asked for",
+    Option("--no-complete", None, "ask for none", PAIRS, "they are asked for",
            field="is_complete", default=True, sets=False, in_profile=True),
-    Option("--pid", "PID", "the PID of a transport stream", (*MEASURED_PAIRS, CHANNEL),
+    Option("--pid", "PID", "the PID of a transport stream", MEASURED_PAIRS,
            "the one that carries the page", field="pid", read=pid_word,
            write=lambda pid: f"0x{pid:X}", in_profile=True, shape=Maybe(PID)),
-    Option("--allow-lost", None, "lost TS packets are a warning (45, and 79)", TRANSMISSIONS,
+    Option("--allow-lost", None, "lost TS packets are a warning (45, and 79)", PAIRS,
            "they are refused", field="is_loss_allowed", default=False, in_profile=True,
            shape=Flag()),
-    Option("--no-allow-lost", None, "they are refused, whatever the profile says", TRANSMISSIONS,
+    Option("--no-allow-lost", None, "they are refused, whatever the profile says", PAIRS,
            "they are refused", field="is_loss_allowed", default=False, sets=False),
     Option("--severity", "FILE", "lines `NUMBER error`, `NUMBER warning` and `others warning` (for "
            "all numbers that it does not name); a warning does not count for the status", JUDGED,
@@ -207,12 +202,12 @@ OPTIONS: tuple[Option, ...] = (
            "(recording.md#the-clock-by-the-first-picture); `tcp`: that of the GSI block",
            MEASURED_PAIRS, "it is fitted", field="start", read=start_word, shape=Maybe(Text()),
            said="The time code of the first picture, or tcp."),
-    Option("--within", "N", "the frames within which a page has to be whole", MEASURED_SENT, "0",
+    Option("--within", "N", "the frames within which a page has to be whole", MEASURED_PAIRS, "0",
            field="within", default=0, read=within_word, of_check=0, in_profile=True,
            shape=Integer(0, MOST_WITHIN), said="The frames within which a page has to be whole."),
     Option("--late", "SHARES", "with `--within`: the shares of begins, and behind the slash of "
            "ends, that are 0, 1 .. frames late where all is right, as `0:31,1:40,2:29/0:100`: a "
-           "clock that is fitted is the likeliest by them", TRANSMISSIONS, "none", field="late",
+           "clock that is fitted is the likeliest by them", PAIRS, "none", field="late",
            read=late_word, write=late_text, in_profile=True, shape=Maybe(Text()),
            said="The shares of begins and of ends that are so many frames late.",
            in_result=lambda late: late and late_text(late)),
@@ -233,12 +228,12 @@ OPTIONS: tuple[Option, ...] = (
            field="is_open", default=False, of_check=False, of_pages=True, shape=Flag(),
            said="Whether open subtitles are taken too."),
     Option("--keeping", None, "headers that repeat the page may keep it, with C4 (erase page) "
-           "clear", TRANSMISSIONS, "they may not", field="may_keep", default=False, of_check=False,
+           "clear", PAIRS, "they may not", field="may_keep", default=False, of_check=False,
            in_profile=True, shape=Flag(), said="Whether headers that repeat the page may keep it."),
-    Option("--no-keeping", None, "they may not, whatever the profile says", TRANSMISSIONS,
+    Option("--no-keeping", None, "they may not, whatever the profile says", PAIRS,
            "they may not", field="may_keep", default=False, sets=False),
     Option("--pace", "K|none", "the frames from a PES packet to the next one at most, its [pace]"
-           "(#the-pace); `none`: ask for none", TRANSMISSIONS, "it is measured",
+           "(#the-pace); `none`: ask for none", PAIRS, "it is measured",
            field="pace_word", read=pace_or_none, of_check=None, in_profile=True,
            shape=Maybe(Text(r"(none|[1-9][0-9]{0,6})")),
            said="How many frames apart PES packets may be at most; none: not asked; null where it "

@@ -115,12 +115,11 @@ class Row(NamedTuple):
         return self.verdict != NOT_JUDGED
 
 
-def unjudged(name: str, reason: str, is_open: bool = False) -> dict[str, Any]:
-    """The object of what is no pair, or of a call that did not end by itself. One that `is_open` is
-    a programme of a channel that ended before its turn came."""
+def unjudged(name: str, reason: str) -> dict[str, Any]:
+    """The object of what is no pair, or of a call that did not end by itself."""
     known = {"format": FORMAT, "verdict": NOT_JUDGED, "status": STATUSES[NOT_JUDGED], "name": name,
              "reason": reason or "nobody said why"}
-    made: dict[str, Any] = NO_PAIR.made({**known, "open": True} if is_open else known)
+    made: dict[str, Any] = NO_PAIR.made(known)
     return made
 
 

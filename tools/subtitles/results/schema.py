@@ -394,9 +394,7 @@ NO_PAIR = Record(
     Member("verdict", OneOf(NOT_JUDGED)),
     Member("status", OneOf(STATUSES[NOT_JUDGED])),
     Member("name", Text()),
-    Member("reason", Text(least=1)),
-    Member("open", OneOf(True), "There, and true, where a channel ended before this programme had "
-           "come whole: --resume looks for it.", is_always=False))
+    Member("reason", Text(least=1)))
 
 BATCH = Record(
     "batch", "Those of many pairs; it is not read back.",
