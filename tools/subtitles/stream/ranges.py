@@ -11,7 +11,7 @@ from ..common.times import (
     FRAMES_OF_A_DAY, NO_FRAME, TICKS, frame_in, pts_of, ticks_between, time_of, wrapped)
 from ..formats.teletext import Page
 from .gaps import SECOND
-from .packets import BLANK, CLOSED, ERASE, HEADER, OPEN, Packets, Range, Run
+from .packets import BLANK, CLOSED, HEADER, OPEN, Packets, Range, Run
 from .survey import ProgramMap, Survey
 
 
@@ -191,18 +191,17 @@ def beginning_in(own: SentPackets, time: CutTime) -> tuple[int, int | None]:
 
 def begin_of(own: Sequence[SentPacket], begin: int, within: int) -> int | None:
     """The number with which a row begins whose last is the first from the first frame on: that of
-    the last sending before it after which the page is blank, else its own, if it has a header."""
+    the last sending before it after which the page is blank, erased or kept so, else its own, if it
+    has a header."""
     *before, now = own
     number: int | None = None
-    is_known, at = False, 0
+    at = 0
     while at < len(before):
         end = at + 1
         while within and end < len(before) and before[end].frame in (before[at].frame, None):
             end += 1
         sending = before[at:end]
-        is_known = is_known or any(ERASE in packet.does for packet in sending)
-        if is_known and any(HEADER in packet.does for packet in sending) \
-                and BLANK in sending[-1].does:
+        if any(HEADER in packet.does for packet in sending) and BLANK in sending[-1].does:
             number = sending[0].number
         at = end
     is_blank = not before or BLANK in next(
