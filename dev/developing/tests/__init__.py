@@ -12,7 +12,8 @@ channels   programmes, made for tests, and what is sent of them
 air        a folder of segments and a schedule for tools/air
 scenario   pairs at random, by numbers: at_random calls qc with them
 strangers  folders at random that others have filled, and calls there
-at_random  all that is said of a call, as rows of dev/vectors/calls.tsv
+at_random  all output of a random call, or of a named one; many_at_random of a folder of pairs
+snapshots  outputs that are stored in dev/snapshots/, and what differs from them
 runner     finds tests and runs them side by side
 table      which of them are of which module of the tools
 """

@@ -1,19 +1,12 @@
-"""Calls of qc at random, each made by a number, and all that is said then, on the terminal and in
-files.
+"""Make random calls of qc by their seeds, and named ones, and return all their output.
 
-`dev/vectors/calls.tsv` has what was said of each when somebody last looked at it: the words, the
-last line, and sums of all lines, of the JSON result, which has to be as the schema has it, and of
-the other files. A change that is meant changes them; from dev/,
-`python3 -m developing.tests.at_random ../dist/subttx 0 420` prints the table, `.. NUMBER` all that
-a call says, to compare, and without a number it prints the rows of calls that have a name: of a
-folder, a list, a profile, a PID that is refused, on pairs of the examples. A line `# NUMBER: ..`
-before a row says why it says something else than it once did; it stays where it is.
+The output of the calls that reach every branch is stored in dev/snapshots/ (see `snapshots`).
+From dev/, `python3 -m developing.tests.at_random ../dist/subttx NUMBER` prints all that one writes.
 """
 from __future__ import annotations
 
 import contextlib
 import functools
-import hashlib
 import importlib.machinery
 import importlib.util
 import io
@@ -39,8 +32,6 @@ from .results import schema, wrong_by_schema, wrong_choices, wrong_in
 from .scenario import Scenario
 from .wider import Wider
 
-VECTORS = os.path.join(TOP, "dev", "vectors", "calls.tsv")
-EACH = 20  # calls of which the results are collected
 WIDER = 240  # the first call that is of a wider kind
 VOLATILE = [(re.compile(r"\d{4}-\d\d-\d\d[T ]\d\d:\d\d:\d\d(\.\d+)?"), "DATE"),
             (re.compile('<dl class="made">.*?</dl>|PROGRAM</td><td.*?</tr>'), "MADE"),
@@ -125,17 +116,6 @@ def measured(recording: str, program: str) -> str:
     words = ["tools/qc", "--measure", "one.stl", recording, "-p", program]
     status, out, told = in_process(lambda line: main("", "tools/qc", line), words)
     return f"measured {status}\n{out}{told}"
-
-
-def of_several(results: Sequence[str], program: str) -> Said:
-    """The same of a call that makes one table and one page of JSON results."""
-    with in_folder():
-        os.mkdir("out")
-        for number, text in enumerate(results, 1):
-            with open(f"out/{number:02}.json", "w", encoding="utf-8") as file:
-                file.write(text)
-        return called(["--collect", "out", "--csv", "one.csv", "--junit", "one.xml", "--json",
-                       "one.json"], program, [])
 
 
 # Calls with a name, on pairs that stand in the folder `in`; `claimed` while another one writes the
@@ -226,66 +206,7 @@ def called(words: list[str], program: str, more: Sequence[str] = ("-p", "PROGRAM
                 files.get("one.json", ""))
 
 
-class Here:
-    """What steps call in the place of `subprocess`."""
-
-    run = staticmethod(tool_here)
-    PIPE, DEVNULL, Popen = subprocess.PIPE, subprocess.DEVNULL, subprocess.Popen
-
-
-def sum_of(text: str) -> str:
-    return hashlib.sha256(text.encode()).hexdigest()[:10]
-
-
-def row_of(name: str, said: Said) -> str:
-    """The row of a call."""
-    others = "".join(text for name, text in said.files.items() if name != "one.json")
-    assert "a mistake of this tool" not in "".join([*said.lines, others]), said
-    sums = map(sum_of, ("\n".join(said.lines), said.files.get("one.json", ""), others))
-    last = next((line for line in reversed(said.lines) if not line.startswith("qc: ")), "")
-    return "\t".join([name, " ".join(said.words), str(said.status), last, *sums])
-
-
-class Table(NamedTuple):
-    """The rows of the table, and the lines of notes before a row, by its name."""
-
-    rows: list[str]
-    notes: dict[str, list[str]]
-
-
-def table() -> Table:
-    """The table as it is."""
-    found = Table([], {})
-    with open(VECTORS, encoding="utf-8") as file:
-        for line in file.read().splitlines():
-            if line.startswith("#"):
-                found.notes.setdefault(line[2:].partition(":")[0], []).append(line)
-            else:
-                found.rows.append(line)
-    return found
-
-
-def rows_of(first: int, end: int, program: str) -> Iterator[str]:
-    """The rows of calls, and behind each EACH of them that of their results collected."""
-    results = []
-    for number in range(first, end):
-        said = said_of(number, program)
-        results.append(said.result)
-        yield row_of(str(number), said)
-        if number % EACH == EACH - 1:
-            yield row_of(f"to {number}", of_several(results, program))
-            results = []
-
-
 if __name__ == "__main__":
-    PROGRAM, *NUMBERS = sys.argv[1:]
-    PROGRAM, NOTES = os.path.realpath(PROGRAM), table().notes
-    if not NUMBERS:
-        for NAME in NAMED:
-            print(row_of(NAME, said_of_name(NAME, PROGRAM)), flush=True)
-    elif len(NUMBERS) == 1:
-        SAID = said_of(int(NUMBERS[0]), PROGRAM)
-        print("\n".join([*SAID.words, *SAID.lines, *SAID.files.values()]))
-    else:
-        for ROW in rows_of(int(NUMBERS[0]), int(NUMBERS[1]), PROGRAM):
-            print("\n".join([*NOTES.get(ROW.partition("\t")[0], []), ROW]), flush=True)
+    PROGRAM, NUMBER = sys.argv[1:]
+    SAID = said_of(int(NUMBER), os.path.realpath(PROGRAM))
+    print("\n".join([*SAID.words, *SAID.lines, *SAID.files.values()]))

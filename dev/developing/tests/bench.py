@@ -44,10 +44,11 @@ class Done(NamedTuple):
 
 class Bench:
     """What all tests share: the program that is tried, a folder for theirs, whether speed is
-    measured, and in `over` what the machine lacks."""
+    measured, whether stored outputs are written again, and in `over` what the machine lacks."""
 
     def __init__(self) -> None:
-        self.folder, self.is_timed, self.over = "", False, list[str]()
+        self.folder, self.is_timed, self.is_updated = "", False, False
+        self.over = list[str]()
         self.chosen: str | None = None
 
     @property
@@ -162,22 +163,6 @@ class Case(unittest.TestCase):
         done = self.call([self.bench.program, "schedule", stl, self.path(name), *options])
         assert done.status == 0, done
         return self.path(name)
-
-
-def give_rows(kind: type[Case], rows: Sequence[str], each: int,
-              found: Callable[[Any, int], str]) -> None:
-    """Gives a class of tests one for each so many rows of a table, each of which is what is found
-    of its number."""
-    def rows_from(first: int) -> Callable[[Case], None]:
-        def test(self: Case) -> None:
-            for number, row in enumerate(rows[first:first + each], first):
-                one = found(self, number)
-                self.must(row, row == one, one)
-
-        return test
-
-    for first in range(0, len(rows), each):
-        setattr(kind, f"test_from_{first:03}", rows_from(first))
 
 
 def tool_path(name: str) -> str:

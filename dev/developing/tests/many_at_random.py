@@ -1,11 +1,8 @@
-"""Calls for many pairs at random, one after another in a folder, each made by a number: files that
-are there, what becomes of them, of results and of what a house says between two calls, and all that
-is said and written.
+"""Make random calls for many pairs in one folder, each folder by its seed, one call after another:
+input files, results and site profiles change between two calls.
 
-`dev/vectors/many.tsv` has what came of each when somebody last looked at it: how each call ended,
-and a sum of all. A change that is meant changes them; from dev/, `python3 -m
-developing.tests.many_at_random ../dist/subttx 0 60` prints the table, `.. NUMBER` all that came of
-one, to compare.
+The output of some folders is stored in dev/snapshots/many.txt (see `snapshots`). From dev/,
+`python3 -m developing.tests.many_at_random ../dist/subttx NUMBER` prints all that its calls write.
 """
 from __future__ import annotations
 
@@ -18,10 +15,9 @@ import sys
 from typing import Callable, Iterator
 
 from subtitles.common.program import TOP
-from .at_random import called, in_folder, plain, sum_of
+from .at_random import Said, called, in_folder, plain
 from .bench import example
 
-VECTORS = os.path.join(TOP, "dev", "vectors", "many.tsv")
 NAMES = ("a", "b", "B", "c 1", "d.x", "e~2", "-f", "g.recording", "h\u00e4")
 PAIRS = [*[("hello.stl", "hello.pes")] * 4, *[("story.stl", "story.pes")] * 4,
          ("hello.stl", "recording.ts"), ("hello.stl", "recording.ts"),
@@ -43,8 +39,8 @@ class Folder:
     """The folder in which the process is, with pairs in `in`, a list, and what calls have left."""
 
     def __init__(self, number: int, program: str) -> None:
-        self.chance, self.program, self.log = random.Random(number), program, list[str]()
-        self.ended = list[str]()
+        self.chance, self.program = random.Random(number), program
+        self.before = dict[str, str]()  # the files, and their texts
         os.mkdir("in")
         for name in self.chance.sample(NAMES, self.chance.choice((1, 2, 3, 4))):
             self.put_pair(name)
@@ -127,8 +123,8 @@ class Folder:
 
     # ---- calls
 
-    def call(self) -> None:
-        """One more call; what it says, and what stands there then."""
+    def call(self) -> Said:
+        """Make one more call; return its output, and the files that are new or changed."""
         chance, out = self.chance, ["-o", "out"] * (self.chance.randrange(5) > 0)
         wanted = [word for option, name in (("--json", "one.json"), ("--csv", "one.csv"),
                                             ("--junit", "one.xml")) if chance.randrange(2)
@@ -149,23 +145,25 @@ class Folder:
         else:
             words = ["--collect", "out", *wanted]
         said = called(words, self.program, [] if words[0] == "--collect" else ["-p", self.program])
-        self.ended.append(f"{said.status} {words[0]}")
-        lines = (line.replace(TOP, "HERE") for line in said.lines)
-        self.log += [" ".join(words), str(said.status), *lines, *self.files()]
+        before, self.before = self.before, dict(self.files())
+        return said._replace(
+            lines=[line.replace(TOP, "HERE") for line in said.lines],
+            files={name: text for name, text in self.before.items() if before.get(name) != text})
 
-    def files(self) -> Iterator[str]:
-        """All that stands there: sums of what calls made."""
-        for folder in (".", "out", "in"):
+    def files(self) -> Iterator[tuple[str, str]]:
+        """Return all files with their texts; of input files their sizes, in one line."""
+        sizes = [f"{name} {os.path.getsize(os.path.join('in', name))}"
+                 for name in sorted(os.listdir("in"))]
+        yield "in", ", ".join(sizes)
+        for folder in (".", "out"):
             for name in sorted(os.listdir(folder)) if os.path.isdir(folder) else ():
                 path = os.path.join(folder, name)
                 if os.path.isfile(path):
                     with open(path, encoding="utf-8", errors="surrogateescape") as file:
-                        text = file.read()
-                    text = self.plainly(text) if folder != "in" else str(len(text))
-                    yield f"{path} {text if len(text) < 9 else sum_of(text)}"
+                        yield path, self.plainly(file.read())
 
     def plainly(self, text: str) -> str:
-        """A text without what is another one at each call."""
+        """Return a text without what differs from call to call."""
         try:
             text = plain(text, self.program)
         except (ValueError, TypeError, AttributeError):
@@ -173,35 +171,18 @@ class Folder:
         return text.replace(TOP, "HERE").encode("utf-8", "replace").decode()
 
 
-def told(number: int, program: str) -> tuple[list[str], list[str]]:
-    """How the calls of a number ended, and all that came of them."""
+def calls_in(number: int, program: str) -> list[Said]:
+    """Return the outputs of all calls in the folder of a seed."""
+    found = []
     with in_folder():
         folder = Folder(number, program)
         for _ in range(folder.chance.choice((2, 3, 4))):
-            folder.call()
+            found.append(folder.call())
             for _ in range(folder.chance.choice((0, 1, 1, 2))):
                 folder.change()
-        return folder.ended, folder.log
-
-
-def row_of(number: int, program: str) -> str:
-    """The row of a number."""
-    ended, log = told(number, program)
-    assert "a mistake of this tool" not in "".join(log), log
-    return "\t".join([str(number), ", ".join(ended), sum_of("\n".join(log))])
-
-
-def rows() -> list[str]:
-    """The rows of the table."""
-    with open(VECTORS, encoding="utf-8") as file:
-        return file.read().splitlines()
+    return found
 
 
 if __name__ == "__main__":
-    PROGRAM, *NUMBERS = sys.argv[1:]
-    PROGRAM = os.path.realpath(PROGRAM)
-    if len(NUMBERS) == 1:
-        print("\n".join(told(int(NUMBERS[0]), PROGRAM)[1]))
-    else:
-        for NUMBER in range(int(NUMBERS[0]), int(NUMBERS[1])):
-            print(row_of(NUMBER, PROGRAM), flush=True)
+    for SAID in calls_in(int(sys.argv[2]), os.path.realpath(sys.argv[1])):
+        print("\n".join([*SAID.words, *SAID.lines, *SAID.files.values()]))

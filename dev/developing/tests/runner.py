@@ -20,7 +20,7 @@ from .table import tests_of
 FOLDER = os.path.dirname(os.path.realpath(__file__))
 PATTERN = "test_*.py"
 # What takes long is begun first, so that none of it is left alone in the end.
-LONG = ("test_dev_layers.Hints", "test_at_random", "test_many_at_random", "test_cli_houses",
+LONG = ("test_dev_layers.Hints", "test_snapshots", "test_cli_houses",
         "test_clock_clocks.OfFfprobe", "test_dev_clones", "test_dev_gate.Gate",
         "test_stream_layouts", "test_cli_strangers")
 Error = Union[Tuple[Type[BaseException], BaseException, TracebackType], Tuple[None, None, None]]

@@ -13,7 +13,6 @@ import xml.etree.ElementTree as tree
 from typing import Any, NamedTuple
 from unittest import mock
 
-from subtitles.cli import single
 from subtitles.cli.main import main
 from subtitles.cli.single import SIGNALS
 from subtitles.common.command_line import run

@@ -25,7 +25,6 @@ from subtitles.judging.verdict import Gap
 from subtitles.results.files import (
     Row, TestCase, cell_words, column_rows, junit_file as junit_of, modified, part_columns, said,
     table_lines as csv_of, unjudged)
-from subtitles.results import schema
 from subtitles.results.schema import GAP, JUDGED_PART, PartOf
 from subtitles.stream.gaps import Place
 from .bench import Case
@@ -215,56 +214,6 @@ class Members(unittest.TestCase):
             self.assertEqual([words[name] for name in ("pid", "packet_size", "pes", "judged",
                                                        "clock")],
                              [0x101, 204, "3-9", {"name": name, "size": 5, "sha256": "sum"}, None])
-
-    def test_all_of_all_parts(self) -> None:
-        """Each list has what there is of each part, and of the verdict, in its order; each number
-        is that of all parts."""
-        def part(number: int) -> Any:
-            subtitles = [SimpleNamespace(position=at, number=at, begin="b", end="e")
-                         for at in range(1, number + 2)]
-            return SimpleNamespace(
-                number=number, trusted=[(at, at + number) for at in range(number)],
-                delays=[*range(number), None], causes=SimpleNamespace(
-                    all=lambda: [f"{number} {at}" for at in range(number)],
-                    named=dict(enumerate([SimpleNamespace(name="late")] * number))),
-                subtitle_file=lambda: SimpleNamespace(all=lambda: subtitles),
-                answer=SimpleNamespace(frames=10 ** number, transmissions=2 * 10 ** number))
-
-        given: dict[str, Any] = {"gaps": [SimpleNamespace(is_judged=False), SimpleNamespace(
-            is_judged=True)], "hints": ["72: a"], "warnings": ["w", "v"], "commands": ["c", "d"],
-            "chosen": ["x", "y", "z"], "faults": 77}
-        for is_strict in (False, True):
-            asked = SimpleNamespace(option="english", is_strict=is_strict)
-            verdict = SimpleNamespace(**given, parts=[*map(part, (1, 2, 3))], is_kept=True,
-                                      said=lambda: ["n", "m"], request=asked)
-            known: Any = SimpleNamespace(verdict=verdict)
-            with mock.patch.object(schema, "Wording", lambda causes, option: SimpleNamespace(
-                    values=lambda cause: {"cause": cause})):
-                found = {one.name: [*one.of(known)] for one in schema.LISTS
-                         if one.of and one.name != "faults"}
-            numbers = [1, 2, 2, 3, 3, 3]
-            self.assertEqual([row["part"] for row in found["trusted"]], numbers)
-            self.assertEqual([(row["from"], row["to"]) for row in found["trusted"]], [
-                (f"00:00:00:0{at}", f"00:00:00:0{at + number}") for number in (1, 2, 3)
-                for at in range(number)])
-            self.assertEqual(found["causes"], [
-                {"part": number, "cause": f"{number} {at}"} for number in (1, 2, 3)
-                for at in range(number)])
-            self.assertEqual([(row["part"], row["position"], row["whole_after"])
-                              for row in found["subtitles"]], [
-                (number, at + 1, at if at < number else None) for number in (1, 2, 3)
-                for at in range(number + 1)])
-            self.assertEqual([one.part.number for one in found["parts"]], [1, 2, 3])
-            for name, words in (("lost", given["gaps"]), ("notes", ["n", "m"]),
-                                *((name, given[name]) for name in (
-                                    "hints", "warnings", "commands", "chosen"))):
-                self.assertEqual(found[name], words)
-            made = {one.name: one.of(known) for one in schema.VERDICT.members if one.name in (
-                "frames", "transmissions", "fault_count", "cause_counts") and one.of}
-            self.assertEqual((made["frames"], made["transmissions"], made["fault_count"]),
-                             (1110, 2220, 77))
-            self.assertEqual({name: count for name, count in made["cause_counts"].items() if count},
-                             {"late": 6})
 
     def test_columns_of_parts(self) -> None:
         """What is judged, of the only part, or of that with a fault; of several a pair has none."""

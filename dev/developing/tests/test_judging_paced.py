@@ -2,28 +2,17 @@
 is of; and a note says where none is."""
 from __future__ import annotations
 
-import itertools
-import os
 import unittest
 from types import SimpleNamespace
 from typing import Any
 from unittest import mock
 
 from developing.pes import STUFFING_UNIT, pes_packet
-from subtitles.clock.origin import OfPart, Origin
-from subtitles.clock.start import Clock, Found, GIVEN
 from subtitles.common.times import TICKS
-from subtitles.judging import timing
-from subtitles.judging.part import PartFrames, PartRange
-from subtitles.judging.timing import (
-    PartSearch, UNCHECKED, cut_part, measured_pace, paced_part, parts_of, unseen_words)
-from subtitles.request.commands import Names
-from subtitles.request.request import Selection, Unclear
-from subtitles.stream.gaps import BY_EVERY, IRREGULAR, Pace, REGULAR, TOO_FEW
-from subtitles.stream.ranges import Cut
+from subtitles.judging.timing import UNCHECKED, unseen_words
+from subtitles.stream.gaps import IRREGULAR, Pace
 from .judged import OfProgramme
 from .muxed import Packet, Shape, multiplexed, of_teletext, with_loss
-from .parts import asked_for
 from .sent import CLOSING, HEADER, Sent, programme, row, sendings
 from .test_stream_pace import BEGIN, TIMES, filled
 
@@ -188,87 +177,7 @@ class Hidden(OfProgramme):
 
 
 class Taken(unittest.TestCase):
-    """What is taken of a recording, by which clock, at which pace; and what is said of each."""
-
-    def test_cut(self) -> None:
-        """What is taken is chosen, or nothing is judged; where reading ended before that is said,
-        unless all that may be taken had come."""
-        programme = PartSearch(asked_for("a.stl", "a.pes"), Found(3, 9, Clock(7, GIVEN)), None)
-        for own, damage, is_over in itertools.product(((2, 5), None), ("PES packet 6 is odd", None),
-                                                      (False, True)):
-            recording: Any = SimpleNamespace(packets=SimpleNamespace(damage=damage), shown="a.pes",
-                                             other_pages=lambda several: ["--page P"],
-                                             again=lambda *words: " ".join(words))
-            part = PartFrames(3, programme.request, Names("a", "", None), programme.whole,
-                              recording)
-            cut, listener, reason = Cut(own, 50, 3, 9, is_over=is_over), mock.Mock(), ""
-            with mock.patch.object(timing, "cut_within", return_value=cut):
-                try:
-                    self.assertEqual(cut_part(programme, part, listener), own)
-                except Unclear as unclear:
-                    reason = unclear.reason
-            line = f"cut: {cut.words()}"
-            self.assertEqual([one.args for one in listener.chosen.call_args_list], [
-                (Selection("pes", "2-5", line, 4, 50, 3),)] * (own is not None))
-            self.assertEqual([one.args[0] for one in listener.said.call_args_list], [
-                *[line] * (own is None), *[f"cut: a.pes: {damage}; it was read up to there"] * (
-                    damage is not None and not is_over)], (own, damage, is_over))
-            self.assertEqual(reason[:23], "nothing of the page is " * (own is None))
-
-    def test_pace(self) -> None:
-        """One that is regular is asked for, unless another one is, or none; what nothing tells then
-        is noted once, or said by what was chosen."""
-        kinds = {"regular": Pace(REGULAR, 1, 3, 0, 9), "closer": Pace(REGULAR, 1, 3, 2, 9),
-                 "few": Pace(TOO_FEW), "every": Pace(BY_EVERY)}
-        silent = "there is no PCR of the programme of PID 0x101: a hole that its counter does " \
-            "not show, as one of 16 TS packets, can't be seen"
-        notes = {"closer": f"{UNCHECKED} up to 0.08 s of this PID alone is missing, at 2 places "
-                 "where its PES packets come closer",
-                 "few": f"{UNCHECKED} some of this PID alone is missing: its PES packets are too "
-                 "few to measure a pace"}
-        for (name, pace), has_clock, word in itertools.product(kinds.items(), (True, False),
-                                                               (None, "none", "7")):
-            asked = asked_for("a.stl", "a.ts", *["--pace", word or ""][:2 * (word is not None)])
-            recording: Any = SimpleNamespace(
-                is_stream=True, packets=SimpleNamespace(pid=0x101), survey=SimpleNamespace(
-                    clock_of=lambda _, known=has_clock: known or None))
-            frames = PartFrames(4, asked, Names("a", "", None), Found(3, 9, Clock(7, GIVEN)),
-                                recording)
-            listener = mock.Mock()
-            with mock.patch.object(timing, "measured_pace", return_value=(pace, 2)), \
-                    mock.patch.object(timing, "late_jumps", return_value=([(1, 2)], 3)):
-                found = paced_part(PartRange(frames, (0, 9)), [], listener)
-            own = silent if not has_clock else notes.get(name, "")
-            said = silent * (not has_clock) if word == "none" else "" if word else own * (
-                name not in ("every", "regular"))
-            jumps, *told = [one for one in listener.noted.call_args.args if one]
-            is_asked = word is None and pace.frames is not None
-            self.assertEqual((told, found.jumps), ([said] * bool(said), [(1, 2)]), (name, word))
-            self.assertTrue(" at 3 places " in jumps)
-            self.assertEqual(found.request.pace_word, "2" if is_asked else word)
-            self.assertEqual([(one.args[0].value, one.args[0].part, one.kwargs)
-                              for one in listener.chosen.call_args_list], [
-                ("2", 4, {})] * is_asked or [(None, 4, {"is_said": False})] * (
-                    word is None and bool(said)))
-
-    def test_measured(self) -> None:
-        """By the frames of the PES packets that are judged, and the size of a file of these."""
-        asked = asked_for("a.stl", "a.ts", *"--every 40 --within 3".split())
-        for is_stream in (True, False):
-            recording: Any = SimpleNamespace(is_stream=is_stream, packets="all", path=__file__)
-            part = PartRange(PartFrames(4, asked, Names("a", "", None), Found(
-                3, 9, Clock(7, GIVEN)), recording), (2, 9))
-            with mock.patch.multiple(timing, **{name: mock.Mock(return_value=name) for name in (
-                    "frame_rows", "each_of", "pace_of", "unseen_from", "pauses_of")}):
-                self.assertEqual(measured_pace(part, [(1, 2)]), ("pace_of", "unseen_from"))
-                calls: Any = timing
-                size = None if is_stream else os.path.getsize(__file__)
-                calls.frame_rows.assert_called_once_with("all", (2, 9), 7, 3)
-                calls.each_of.assert_called_once_with("all", (2, 9), size)
-                calls.pauses_of.assert_called_once_with([(1, 2)])
-                calls.pace_of.assert_called_once_with("frame_rows", "each_of", 40, "pauses_of",
-                                                      is_stream)
-                calls.unseen_from.assert_called_once_with("frame_rows", "each_of")
+    """What a note says that no pace was measured of."""
 
     def test_unseen(self) -> None:
         """From how long on a hole may be unseen, to tenths of a second."""
@@ -278,16 +187,3 @@ class Taken(unittest.TestCase):
                               (25, "1.0 s or more")):
             self.assertIn(f"{UNCHECKED} {words} of this PID", unseen_words(
                 Pace(IRREGULAR), frames, recording))
-
-    def test_shifts(self) -> None:
-        """Each time from which subtitles are late is told, and that there is one."""
-        programme = PartSearch(asked_for("a.stl", "a.pes"), Found(3, 9, Clock(7, GIVEN)), None)
-        recording: Any = SimpleNamespace(stages=[])
-        several: list[list[str]] = [[], ["one"], ["one", "two"]]
-        for shifts in several:
-            listener = mock.Mock()
-            with mock.patch.object(timing, "fitted_origin", return_value=Origin(
-                    0, [OfPart(5)], shifts=shifts)):
-                found = parts_of(programme, recording, listener)
-            self.assertEqual((found.is_shifted, listener.noted.call_args), (
-                bool(shifts), mock.call(*shifts)))

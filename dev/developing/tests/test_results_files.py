@@ -8,7 +8,6 @@ import io
 import json
 import os
 import random
-import sys
 from typing import Any, Iterator, Sequence
 from unittest import mock
 
@@ -24,7 +23,6 @@ from subtitles.request.lines import Item
 from subtitles.results import files
 from subtitles.results.files import object_at, object_of, unjudged
 from subtitles.results.schema import FAULT as ROWS_OF_FAULT, FORMAT, LISTS, VERDICT, misfit, schema
-from .. import DEV
 from ..pages import SCHEMA, laid_out
 from .bench import Case, example_bytes
 from .judged import judged
@@ -36,7 +34,6 @@ from .results import FAULT, result, row, schema as read_schema, second_reader, w
 # in a file that is read back is a result, or a pair that was not judged.
 
 SEED, CHANGES = 20261128, 900
-RANDOM_CALLS = 5_000, 5_016  # numbers of calls that no table has
 STRANGE: list[Any] = [
     None, True, False, -1, 0, 1, 80, 5.5, 1 << 53, 1 << 62, "", "x", "refused 72 X", "\x1b[31m",
     "\ud800", "\udce9", "<script>alert(1)</script>", "=1+1", "99:99:99:99", "x" * 70_000, "\n", [],
@@ -154,15 +151,6 @@ class Written(Case):
             with mock.patch.dict(vars(found.verdict), {name: value}), \
                     self.assertRaises(ValueError):
                 list(object_of(found.verdict, program))
-
-    def test_random_calls(self) -> None:
-        """Results of calls that no table has."""
-        done = self.call([sys.executable, "-m", "developing.tests.at_random", self.bench.program,
-                          *map(str, RANDOM_CALLS)], env={
-                              **os.environ, "PYTHONPATH": os.pathsep.join(
-                              [DEV, *os.environ.get("PYTHONPATH", "").split(":")])})
-        self.must("all fit", done.status == 0 and len(done.out.splitlines()) ==
-                  RANDOM_CALLS[1] - RANDOM_CALLS[0], done.told)
 
 
 class ReadBack(Case):

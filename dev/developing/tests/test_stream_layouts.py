@@ -12,7 +12,7 @@ from subtitles.formats.layout import (
     simplicity)
 from subtitles.formats.listing import fault_of_line
 from subtitles.formats.teletext import BY_WORD, ENGLISH, Page
-from subtitles.stream.layout import Choice, Sent, choices_of, draws, is_found, missed
+from subtitles.stream.layout import Choice, Sent, choices_of, is_found, missed
 from .. import DEV
 from ..every_place.on_air import Packet, rows_in, span_of
 from ..every_place.reading import header_of, pieces_of, sending_in

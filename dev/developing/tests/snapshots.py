@@ -1,0 +1,219 @@
+"""Store the whole output of chosen calls of qc as text, and compare it line by line.
+
+dev/snapshots/GROUP.txt has the command, the status and the printed lines of each call, and of each
+file that the call wrote what the printed lines do not say. A seed or a name makes the call (see
+`at_random`, `many_at_random` and `test_report_at_random`). The chosen calls reach every branch of
+the tools that 900 such calls reach. `dev/check-tools --update test_snapshots` writes the files
+again; `git diff` then shows what a change means for the user.
+"""
+from __future__ import annotations
+
+import difflib
+import hashlib
+import html
+import json
+import os
+import re
+import tempfile
+from typing import Any, Callable, Iterable, Iterator, NamedTuple
+
+from subtitles.common.program import TOP
+from . import at_random, many_at_random, test_report_at_random as reports
+from .bench import BENCH
+
+FOLDER = os.path.join(TOP, "dev", "snapshots")
+HEAD, TAIL = 16, 4  # lines kept of a longer list
+OF_PAGE = 60  # lines kept of a page
+OF_FOLDER = 6  # lines kept of each file that a call for many pairs writes
+MOST = 12  # different changes that a failure shows
+WIDTH = 300  # characters kept of a line
+OMITTED = re.compile(r"date$|seconds$|^found\.|^inputs\.|^commands\b|^left_out\.|^format$")
+
+
+def sha(text: str) -> str:
+    return hashlib.sha256(text.encode("utf-8", "surrogateescape")).hexdigest()[:8]
+
+
+def shortened(lines: Iterable[str], head: int = HEAD) -> list[str]:
+    """Keep the first and last lines of many, and the count and hash of those between."""
+    lines = [part if len(part) <= WIDTH else f"{part[:WIDTH]}.. {sha(part)}"
+             for line in lines for part in line.splitlines()]
+    between = lines[head:-TAIL]
+    if len(between) < 2:
+        return lines
+    return [*lines[:head], f".. {len(between)} lines, {sha(chr(10).join(between))}",
+            *lines[-TAIL:]]
+
+
+def members(value: Any, path: str = "") -> Iterator[str]:
+    """Return the members of a JSON object as `path = value`, without those that are empty."""
+    if isinstance(value, dict):
+        for name, member in value.items():
+            yield from members(member, f"{path}.{name}".lstrip("."))
+    elif isinstance(value, list) and any(isinstance(item, (dict, list)) for item in value):
+        for number, item in enumerate(value):
+            flat = [line.partition(".")[2] for line in members(item, "x")]
+            yield f"{path}[{number}]: {'; '.join(flat)}"
+    elif value not in (None, [], 0, False, "") and not OMITTED.search(path):
+        yield f"{path} = {json.dumps(value, ensure_ascii=False)}"
+
+
+def json_text(text: str, printed: str, head: int) -> list[str]:
+    """Return what a JSON result has that was not printed, and the hash of the whole result."""
+    found = json.loads(text.replace(" SECONDS,", ' "seconds": 0,'))  # as `plain` left it
+    lines = [line for line in members(found) if "=" not in line
+             or line.partition(" = ")[2].strip('"') not in printed]
+    return [*shortened(lines, head), f"whole: {sha(text)}"]
+
+
+def page_text(text: str, head: int = OF_PAGE) -> list[str]:
+    """Return the words of a page, one line for each element, and the hash of its markup."""
+    text_only = re.sub(r'<style.*?</style>|<[^<>]*?(?: aria-label="([^"]*)")?[^<>]*>',
+                       lambda tag: f"\n[{tag[1]}]\n" if tag[1] else "\n", text, flags=re.DOTALL)
+    lines = [" ".join(html.unescape(line).split()) for line in text_only.splitlines()
+             if line.strip()]
+    return [*shortened(lines, head), f"markup: {sha(text)}"]
+
+
+def file_text(name: str, text: str, printed: str, head: int) -> list[str]:
+    """Return the text that stands for a file."""
+    if name.endswith(".json") and text.startswith("{"):
+        return json_text(text, printed, head)
+    if name.endswith(".html") and text.startswith("<"):
+        return page_text(text, OF_PAGE if head == HEAD else head)
+    return shortened(text.splitlines(), head)
+
+
+def call_text(said: at_random.Said, head: int = HEAD) -> list[str]:
+    """Return the text of one call of qc."""
+    printed = "\n".join(said.lines)
+    lines = [f"$ qc {' '.join(said.words)}", f"status {said.status}", *shortened(said.lines)]
+    before: dict[str, str] = {}
+    for name, text in said.files.items():
+        if text and text not in before:
+            before[text] = name
+            lines += [f"--- {name}", *file_text(name, text, printed, head)]
+        elif text:
+            lines.append(f"--- {name} is {before[text]}")
+    return lines
+
+
+def folder_text(number: int) -> list[str]:
+    """Return the texts of the calls of a folder; of files only those that a call changed."""
+    return [line for said in many_at_random.calls_in(number, BENCH.program)
+            for line in call_text(said, OF_FOLDER)]
+
+
+def report_text(number: int) -> list[str]:
+    """Return the verdict of a random pair, and the text of its report."""
+    with tempfile.TemporaryDirectory() as folder:
+        found, page = reports.report_made(number, folder)
+    page = at_random.plain(page, BENCH.program).replace(folder, "FOLDER")
+    return [found.verdict.word, *page_text(page)]
+
+
+def text_of(name: str) -> list[str]:
+    """Make a call by its name, as `call 17`, `named a list`, `report 3`, and return its text."""
+    kind, _, rest = name.partition(" ")
+    if kind == "call":
+        return call_text(at_random.said_of(int(rest), BENCH.program))
+    if kind == "named":
+        return call_text(at_random.said_of_name(rest, BENCH.program))
+    return folder_text(int(rest)) if kind == "many" else report_text(int(rest))
+
+
+def path_of(group: str) -> str:
+    return os.path.join(FOLDER, f"{group}.txt")
+
+
+def stored(group: str) -> dict[str, list[str]]:
+    """Return the stored texts of a group by the names of their calls, in their order."""
+    found: dict[str, list[str]] = {}
+    with open(path_of(group), encoding="utf-8") as file:
+        for line in file.read().split("\n")[:-1]:
+            if line.startswith("=== "):
+                lines = found[line[4:]] = []
+            else:
+                lines.append(line)
+    return found
+
+
+def store(group: str, texts: dict[str, list[str]]) -> None:
+    with open(path_of(group), "w", encoding="utf-8") as file:
+        for name, lines in texts.items():
+            file.write("\n".join([f"=== {name}", *lines, ""]))
+
+
+class Change(NamedTuple):
+    """The words that differ in a line, as they were and as they are."""
+
+    before: str
+    after: str
+
+
+def change_of(before: str, after: str) -> Change:
+    """Return the words in which two lines differ, from the first to the last."""
+    old, new = before.split(" "), after.split(" ")
+    first = len(os.path.commonprefix([old, new]))
+    last = len(os.path.commonprefix([old[first:][::-1], new[first:][::-1]]))
+    return Change(" ".join(old[first:len(old) - last]), " ".join(new[first:len(new) - last]))
+
+
+def changes_in(before: list[str], after: list[str]) -> Iterator[tuple[Change, str, str]]:
+    """Return each change, with the line as it was and as it is: "" if there is none."""
+    matcher = difflib.SequenceMatcher(None, before, after, autojunk=False)
+    for kind, first, end, start, stop in matcher.get_opcodes():
+        if kind == "replace" and end - first == stop - start:
+            for old, new in zip(before[first:end], after[start:stop]):
+                yield change_of(old, new), old, new
+        elif kind != "equal":
+            for line in before[first:end]:
+                yield Change(line, ""), line, ""
+            for line in after[start:stop]:
+                yield Change("", line), "", line
+
+
+def is_hash(change: Change) -> bool:
+    """Return whether only a hash changed: of a file, or of lines that are left out."""
+    return all(re.fullmatch(r"[0-9a-f]{8}", word) for word in change)
+
+
+def cropped(line: str, change: str) -> str:
+    """Return a long line from some characters before what changed."""
+    at = max(0, line.find(change) - 50)
+    return ".." * bool(at) + line[at:at + 150] + ".." * (len(line) > at + 150)
+
+
+def summary(changed: dict[str, list[tuple[Change, str, str]]]) -> list[str]:
+    """Return each different change once, with the first call that has it and how many have it."""
+    calls: dict[Change, list[str]] = {}
+    lines: dict[Change, tuple[str, str]] = {}
+    for name, changes in changed.items():
+        kept = [each for each in changes if not is_hash(each[0])] or [
+            (Change("", ""), "", "only hashes, of files or of lines that are left out")]
+        for change, old, new in kept:
+            calls.setdefault(change, []).append(name)
+            lines.setdefault(change, (old, new))
+    found: list[str] = []
+    for change, names in sorted(calls.items(), key=lambda item: -len(set(item[1])))[:MOST]:
+        old, new = lines[change]
+        found.append(f"  in {len(set(names))} calls, first in {names[0]}:")
+        found += [f"    - {cropped(old, change.before)}"] * bool(old)
+        found += [f"    + {cropped(new, change.after)}"] * bool(new)
+    return [*found, *[f"  and {len(calls) - MOST} more changes"] * (len(calls) > MOST)]
+
+
+def compare(group: str, make: Callable[[str], list[str]], is_updated: bool) -> str:
+    """Compare all calls of a group with what is stored; return what a failure prints, or ""."""
+    before = stored(group)
+    after = {name: make(name) for name in before}
+    if is_updated:
+        store(group, after)
+        return ""
+    changes = {name: [*changes_in(before[name], after[name])] for name in before
+               if before[name] != after[name]}
+    if not changes:
+        return ""
+    return "\n".join([f"{len(changes)} of {len(before)} calls of dev/snapshots/{group}.txt "
+                      "changed; dev/check-tools --update test_snapshots writes them again",
+                      *summary(changes)])
