@@ -23,11 +23,13 @@ from typing import NamedTuple
 from subtitles.cli.batch import Forked, ended_of
 from subtitles.cli.single import is_own
 from subtitles.results.files import object_at
+from subtitles.results.schema import FORMAT
 from .bench import SECONDS, example_bytes
 from .parts import qc
 
 WATCHED = 3.0  # seconds for which a folder is watched
-OLD = '{"format": 6, "verdict": "not judged", "status": 2, "name": "old", "reason": "old"}\n'
+OLD = f'{{"format": {FORMAT}, "verdict": "not judged", "status": 2, "name": "old", ' \
+    '"reason": "old"}\n'
 STEMS = ["film", "film.1", "film.2", "index", ".film", "film~2", "a\udce9", "a%E9", "a\\xe9",
          "a\x1b[31m", "two\nlines", "line 2", "-film", "=film", "x" * 240, "Film", "<script>",
          "50%"]
@@ -237,7 +239,8 @@ class World:
                 return [f"{count} pairs of {len(lines)} lines"]
         kept = self.words[self.words.index("--json") + 1] if "--json" in self.words else ""
         entry = after.get(os.path.relpath(kept, ".")) if kept else None
-        if entry is None or not entry[1].startswith(b'{\n "format": 6,\n "status"'):
+        if entry is None or not entry[1].startswith(
+                b'{\n "format": %d,\n "status"' % FORMAT):
             return []
         pairs = json.loads(entry[1])["pairs"]
         return [] if len(pairs) == count else [f"{count} pairs, {len(pairs)} results"]

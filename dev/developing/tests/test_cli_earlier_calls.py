@@ -144,7 +144,7 @@ class Objects(Case):
             found_row)
         self.must("none", row_of_object(unjudged("name", "why"), "name") == Row(
             "name", "name", "not judged", 2, "why", 0, {}, [], 0.0, ""))
-        none: dict[str, Any] = {"format": 6, "verdict": "not judged", "status": 2, "name": "a",
+        none: dict[str, Any] = {"format": FORMAT, "verdict": "not judged", "status": 2, "name": "a",
                                 "reason": "why"}
         self.must("not judged", unjudged("a", "why") == none)
         self.must("reason", row_of_object(result("not judged"), "x").line == "why")
@@ -173,7 +173,7 @@ class Objects(Case):
         for change, where in changes:
             self.write("one.json", json.dumps({**result(), **change}).encode())
             told = f"is none that qc writes, by its {where}: judge it again" if where else \
-                "is of format 3: judge it again"
+                "has format 3, and this version reads 7: judge it again"
             self.must(f"{change}", object_at(path) == unjudged("one", f"its JSON result {told}"),
                       object_at(path))
         goods: list[dict[str, Any]] = [{}, {"faults": [FAULT, FAULT]}, {"seconds": 5},

@@ -299,7 +299,7 @@ class Collected(Case):
         self.end(json=self.path("all"), csv=self.path("lines"), junit=self.path("cases"))
         have = json.loads(self.read("all"))
         self.must("as it is written", self.read("all").startswith(
-            b'{\n "format": 6,\n "status": 2,\n "date": "'))
+            b'{\n "format": %d,\n "status": 2,\n "date": "' % FORMAT))
         self.must("objects", [one["verdict"] for one in have["pairs"]] ==
                   ["accepted", "refused", "not judged", "waived"] and have["status"] == 2, have)
         self.must("lines", len(self.read("lines").splitlines()) == 6)

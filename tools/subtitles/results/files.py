@@ -158,7 +158,8 @@ def object_at(path: str) -> dict[str, Any] | None:
         return None
     number = known.get("format")
     if type(number) is int and number != FORMAT:
-        return unjudged(name, f"its JSON result is of format {number}: judge it again")
+        return unjudged(name, f"its JSON result has format {number}, and this version reads "
+                        f"{FORMAT}: judge it again")
     wrong = misfit(known)
     return known if wrong is None else \
         unjudged(name, f"its JSON result is none that qc writes, by its {wrong}: judge it again")

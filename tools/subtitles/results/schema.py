@@ -250,7 +250,7 @@ COUNTS = Record("counts", "", Member("judged", COUNT), Member("refused", COUNT))
 # What is written is made by it, what is read back has to fit it as a whole, and `dev/make-pages`
 # makes docs/verdict.schema.json of it: a new member is a row here, or in `members`.
 
-FORMAT = 6
+FORMAT = 7
 MOST_LISTED = 20_000  # items of a list
 MOST_SUBTITLES = 100_000  # a subtitle file has 99,999 blocks at most
 MOST_SECONDS = 10 ** 9
