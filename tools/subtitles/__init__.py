@@ -32,9 +32,11 @@ import sys
 def end_early(kind, reason, _):  # type: ignore[no-untyped-def]  # old Pythons take no hints
     """Ends a tool that can't be loaded with status 2: Python's own, 1, would be a verdict."""
     line = "%s: %s: %s\n" % (os.path.basename(sys.argv[0]), kind.__name__, reason)
-    sys.stderr.write(" ".join(line.split()) + "\n")
-    sys.stderr.flush()
-    os._exit(2)
+    try:
+        sys.stderr.write(" ".join(line.split()) + "\n")
+        sys.stderr.flush()
+    finally:  # it may be closed, or on a full disk
+        os._exit(2)
 
 
 if not hasattr(sys, "ps1"):

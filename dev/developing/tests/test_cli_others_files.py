@@ -1,7 +1,9 @@
-"""What strangers leave in folders, lists and results: see `strangers`; and signals at the start."""
+"""What strangers leave in folders, lists and results: see `strangers`; what a call may lack; and
+signals at the start."""
 from __future__ import annotations
 
 import html
+import itertools
 import json
 import os
 import random
@@ -18,7 +20,8 @@ from subtitles.cli.collection import index_page
 from subtitles.common.markup import POLICY
 from subtitles.results.files import Row
 from .. import DEV
-from .bench import Case, example, example_bytes, tool_path
+from .bench import Case, Done, example, example_bytes, tool_path
+from .sent import in_pipe
 
 SHARES, EACH = 3, 20  # of the gate; with --speed there are 500 calls
 ALL = 500
@@ -93,6 +96,94 @@ class Inputs(Case):
         self.must("of the others", sorted(os.listdir(self.path("out"))) == sorted([
             *before, "index.html", *(f"{name}.{one}" for name in ("a", "a~2")
                                      for one in ("html", "json", "txt"))]))
+
+
+class Lines(Case):
+    """What a line of a list names ends no call for all, and shows nothing of the file."""
+
+    def judged(self, list_name: str) -> Done:
+        """Judge the pairs of a list."""
+        return self.call([tool_path("qc"), "--batch", list_name, "-p", self.bench.program],
+                         b"--page 888\n")
+
+    def test_files_that_are_named(self) -> None:
+        """The line is not judged, with the reason; the next one is."""
+        self.write("secret", b"root:*:20228:0:99999:7:::\n")
+        self.write("marked", b"\xef\xbb\xbf--page 888\n")
+        self.write("long", b"#" * 65_537)
+        pair = f"{example('hello.stl')} {example('hello.pes')}"
+        pipe = in_pipe(self, b"--page 888\n")
+        rows = {
+            f"--profile {pipe}": f"{pipe} is a pipe: give a file",
+            "--profile /dev/stdin": "/dev/stdin is a pipe: give a file",
+            f"--severity {pipe}": f"{pipe} is a pipe: give a file",
+            "--profile secret": "secret, line 1: its first word does not stand in a profile, ",
+            "--profile marked": "marked begins with a byte order mark (BOM): save it as UTF-8",
+            "--severity marked": "marked begins with a byte order mark (BOM): save it as UTF-8",
+            "--profile long": "long has more than 65,536 bytes",
+            "--severity long": "long has more than 65,536 bytes",
+            "--severity 'a\0b'": "a word has a NUL character",
+            f"{'--within 2 ' * 128}": "it has more than 256 words"}
+        for words, reason in rows.items():
+            self.write("list", f"{pair} {words}\n{pair}\n".encode())
+            done = self.judged("list")
+            table = done.out.decode().splitlines()
+            self.check(f"{words[:40]}: status", done.status, 2)
+            self.must(f"{words[:40]}: the line", reason in table[1] and "root" not in table[1],
+                      table)
+            self.must(f"{words[:40]}: the next", "accepted" in table[2], table)
+
+    def test_byte_order_marks(self) -> None:
+        """A list that begins with one is refused: it would be part of the first word."""
+        pair = f"{example('hello.stl')} {example('hello.pes')}\n"
+        for name in ("utf-8-sig", "utf-16-le", "utf-16-be"):
+            self.write("list", "\ufeff".encode(name.removesuffix("-sig")) + pair.encode())
+            self.check(name, self.judged("list"), (2, b"", [
+                "qc: list begins with a byte order mark (BOM): save it as UTF-8 without one"]))
+
+    def test_devices(self) -> None:
+        """None is a recording, and none is waited for."""
+        stl = example("hello.stl")
+        for words, device in (
+                ([stl, "/dev/zero"], "/dev/zero"), ([stl, "/dev/tty"], "/dev/tty"),
+                ([stl, "-"], "-"), (["--measure", stl, "/dev/zero"], "/dev/zero")):
+            done = self.call(["sh", "-c", 'exec "$0" "$@" </dev/zero', tool_path("qc"),
+                              *words, "-p", self.bench.program])
+            self.must(f"{words}", done.status == 2 and not done.out and re.match(
+                f"qc: {device} is a (device|socket)", done.told[-1]), done)
+        self.write("list", f"{stl} /dev/zero\n".encode())
+        self.must("in a list", b"/dev/zero is a device" in self.judged("list").out)
+
+
+class Little(Case):
+    """Calls that lack something that each call has."""
+
+    def test_standard_error(self) -> None:
+        """No status depends on standard error: the last line and the status say one thing."""
+        pair = [example("story.stl"), example("story.pes")]
+        wrong = [pair[0], example("five-faults.pes")]
+        rows = {"a pair": (pair, 0), "one with results": ([*pair, "-o", "out"], 0),
+                "a subtitle file": (pair[:1], 0), "one that is refused": (wrong, 1),
+                "no file": (["none.stl"], 2), "a pair that is not": ([*pair, "--page", "150"], 2)}
+        for (name, (words, status)), ending in itertools.product(
+                rows.items(), ["2>&-", *["2>/dev/full"] * os.path.exists("/dev/full")]):
+            known = self.call(["sh", "-c", 'exec "$0" "$@"', tool_path("qc"), *words, "-p",
+                               self.bench.program])
+            done = self.call(["sh", "-c", f'exec "$0" "$@" {ending}', tool_path("qc"), *words,
+                              "-p", self.bench.program])
+            self.check(f"{name} {ending}", done, known._replace(status=status, told=[]))
+
+    def test_memory(self) -> None:
+        """With little of it a pair is accepted, or a message says why not."""
+        pair = [example("story.stl"), example("story.pes"), "-o", "out"]
+        for size in range(20_000, 64_000, 4_000):
+            done = self.call(["sh", "-c", f'ulimit -v {size}; exec "$0" "$@"', sys.executable,
+                              tool_path("qc"), *pair, "-p", self.bench.program])
+            lines = done.out.splitlines()
+            is_accepted = bool(lines) and lines[-1].startswith(b"accepted")
+            self.check(f"{size} kB: status", done.status, 0 if is_accepted else 2)
+            self.must(f"{size} kB: a message", is_accepted or done.told and not any(
+                "mistake" in line or "Traceback" in line for line in done.told), done)
 
 
 class Pages(Case):

@@ -22,12 +22,13 @@ from unittest import mock
 from subtitles.common import command_line
 from subtitles.common.command_line import Stop
 from subtitles.common.files import (
-    Input, Inputs, ROOM, SummedFile, Sums, bounded_bytes, first_bytes, is_replaced, is_utf_8,
-    naming, plain_name, result_file, temporary_folder, whole_file)
+    BackgroundSum, Input, Inputs, ROOM, SummedFile, bounded_bytes, first_bytes, is_replaced,
+    is_utf_8, naming, plain_name, result_file, temporary_folder, whole_file)
 from subtitles.common.markup import joined, markup
 from subtitles.common.program import built_program, program_at, sources
 from subtitles.formats import listing
-from subtitles.request.lines import MOST_BYTES, MOST_OF_LINE, lines_in, list_at, split
+from subtitles.request.lines import (
+    MOST_BYTES, MOST_LINES, MOST_OF_LINE, MOST_WORDS, MOST_WORDS_OF_LINE, lines_in, list_at, split)
 from .bench import Case
 from .test_dev_layers import TOOLS, modules
 from .test_formats_files import refused
@@ -125,15 +126,13 @@ class Words(Case):
             self.assertEqual(plain_name(name), wanted)
 
     def test_what_is_not_there(self) -> None:
-        """A version that no file has, an output that is closed, an input that is gone."""
+        """A version that no file has, an output that is closed."""
         with mock.patch.object(command_line, "HOME", self.folder):
             self.assertEqual(command_line.version(), "of an unknown version")
         with mock.patch.object(sys, "stdout", None), mock.patch.object(command_line, "silence"), \
                 contextlib.redirect_stderr(io.StringIO()) as told:
             self.assertEqual(command_line.ended(lambda words: 0, []), 2)
         self.assertIn(": standard output is closed\n", told.getvalue())
-        with self.assertRaises(FileNotFoundError):
-            Sums([self.path("none")]).all()
         self.assertEqual([is_utf_8(name) for name in ("", "a", "\u00e9", "\udce9")],
                          [True, True, True, False])
 
@@ -202,10 +201,32 @@ class Words(Case):
         self.assertEqual([(one.number, one.words[-1][:9], bool(one.fault)) for one in lines], [
             (1, "a", False), (2, "b" * 9, True), (3, "d e", False), (4, "'", True)])
         path = self.write("list", (b"#" * 63_999 + b"\n") * (MOST_BYTES // 64_000))
-        self.assertEqual(lines_in(list_at(path)), [])
+        self.assertEqual([*lines_in(list_at(path))], [])
         with open(path, "ab") as file:
             file.write(b"#")
         self.assertIn("more than 16,000,000 bytes", refused(lambda: list_at(path)))
+
+    def test_bounds_of_lists(self) -> None:
+        """Lines and words are counted, since a short word takes much more memory than its bytes."""
+        many = "a " * MOST_WORDS_OF_LINE
+        whole = MOST_WORDS // MOST_WORDS_OF_LINE
+        rows = {
+            "the most lines": ("a\n" * MOST_LINES, ""),
+            "comments and empty lines": ("#\n\n" * MOST_LINES, ""),
+            "one line more": ("a\n" * MOST_LINES + "a", f"line {MOST_LINES + 1}"),
+            "quotes that do not end": ('"\n' * 2 * MOST_LINES, f"line {MOST_LINES + 1}"),
+            "the most words": (f"{many}\n" * whole, ""),
+            "more words": (f"{many}\n" * (whole + 1), f"line {whole + 1}")}
+        for name, (text, place) in rows.items():
+            told = refused(lambda: [*lines_in(text)])
+            self.check(name, told, place and f"a list has at most 100,000 lines with words, and "
+                       f"1,000,000 words: this one has more in {place}")
+        for name, (text, fault) in {
+                "the most words of a line": (many, ""),
+                "one more": (f"{many}a", "it has more than 256 words"),
+                "a NUL character": ("a b\0c", "a word has a NUL character"),
+                "one in a comment": ("a #\0", "")}.items():
+            self.check(name, [line.fault for line in lines_in(text)], [fault])
 
     def test_markup(self) -> None:
         """Text is escaped, also in a place within a tag, and what XML can't hold, or what hides or
@@ -305,17 +326,16 @@ class Words(Case):
             os.unlink(self.path("link"))
 
     def test_sums(self) -> None:
-        """Of each file all its bytes, once for each time that it is named; any error is told."""
-        names = []
+        """A sum is of all bytes, also without memory for a thread; what can't be read is told."""
         for size in (0, 1, ROOM - 1, ROOM, ROOM + 1, 2 * ROOM + 5):
-            names.append(self.write(f"{size}", bytes(range(251)) * (size // 251) + b"x" * (
-                size % 251)))
-        names += names[:2]
-        wanted = [SummedFile(name, os.path.getsize(name), hashlib.sha256(
-            self.read(name)).hexdigest()) for name in names]
-        self.must("all", Sums(names).all() == wanted)
-        for wrong in (self.folder, self.path("none"), f"{names[0]}/x"):
-            self.assertRaises(OSError, Sums([names[0], wrong, names[1]]).all)
+            name = self.write(f"{size}", bytes(range(251)) * (size // 251) + b"x" * (size % 251))
+            wanted = SummedFile(name, size, hashlib.sha256(self.read(name)).hexdigest())
+            self.check(f"{size} bytes", BackgroundSum(name).result(), wanted)
+            with mock.patch("threading.Thread.start", side_effect=RuntimeError("no thread")):
+                self.check(f"{size} bytes, no thread", BackgroundSum(name).result(), wanted)
+        os.mkfifo(self.path("pipe"))
+        for wrong in (self.folder, self.path("none"), self.path("0/x"), self.path("pipe")):
+            self.assertRaises((Stop, OSError), BackgroundSum(wrong).result)
 
     def test_programs(self) -> None:
         """What can be called is one, and nothing else."""

@@ -270,11 +270,12 @@ class Files(Case):
         not_there = f"does not stand in a profile, which may have {MAY}"
         for text, number, said in (
                 ("--every 25\n\n--breaks 1", 3, f"--breaks {not_there}"),
-                *((f"{name}=1", 1, f"{name}=1 {not_there}") for name in (
-                    "--from", "--to", "--origin", "--start", "--pes", "--profile", "--json",
-                    "--new", "keeping")),
+                *((f"{name}=1", 1, f"{name} {not_there}") for name in (
+                    "--from", "--to", "--origin", "--start", "--pes", "--profile")),
                 *((name, 1, f"{name} {not_there}") for name in (
-                    "--no-keeping", "--no-allow-lost", "--strict", "--open", "one.stl")),
+                    "--no-keeping", "--no-allow-lost", "--strict", "--open")),
+                *((text, 1, f"its first word {not_there}") for text in (
+                    "--json=1", "--new=1", "keeping=1", "one.stl", "root:*:20228:0")),
                 ("--every 0", 1, "argument --every: 0 is no repeat bound: 1 to 2160000 frames"),
                 ("#\n--within", 2, "argument --within: expected one argument"),
                 ("--keeping --every 25", 1, "unrecognized arguments: --every 25"),

@@ -66,7 +66,7 @@ def main(text: str, words: list[str]) -> int:
     if mode != "judge":
         Words(text).parse_known_args(words)  # --help, --version
         raise Stop("give record or judge first")
-    known = read_options(judge_words(text), line, {}, {})
+    known = read_options(judge_words(text), line, {}, {}, is_typed=True)
     known.out = plain_name(known.out)
     if not os.path.isdir(known.segments):
         raise Stop(f"{known.segments} is no folder")

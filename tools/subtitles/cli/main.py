@@ -186,7 +186,7 @@ def name_in(line: Sequence[str]) -> str:
 def answer(text: str, called: str, line: list[str]) -> int:
     """Does what the words ask; answers the status."""
     refuse_options(parser_of(text), line, mode_of(parser_of(text).parse_args(line)))
-    words = read_options(parser_of(text), line, {}, {})
+    words = read_options(parser_of(text), line, {}, {}, is_typed=True)
     if words.is_kept and words.out is None:
         raise Stop("--keep goes with -o DIR, where it keeps what was judged")
     words.out = words.out and plain_name(words.out)

@@ -286,9 +286,8 @@ def end_pair(verdict: Verdict, speech: Speech, files: Files) -> None:
     except Exception as reason:
         verdict.failed.append(error_line(reason))
         files.write_again()
-        with contextlib.suppress(OSError):
-            tell(verdict.failed[-1])
-        silence()
+        tell(verdict.failed[-1])
+        silence(speech.out)
 
 
 def heed_signals(handler: Callable[..., object] = signal.default_int_handler) -> None:

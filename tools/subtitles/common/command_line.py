@@ -300,10 +300,15 @@ def say(line: str) -> None:
 
 
 def tell(line: str) -> None:
-    """A line on standard error, after what was printed before it."""
+    """Print a line on standard error, after what was printed before it. No status depends on
+    standard error: it may be closed, or on a full disk."""
     with contextlib.suppress(OSError, AttributeError):  # it is closed
         sys.stdout.flush()  # `run` tells where that fails
-    print(f"{os.path.basename(sys.argv[0])}: {shown(line)}", file=sys.stderr)
+    try:
+        sys.stderr.write(f"{os.path.basename(sys.argv[0])}: {shown(line)}\n")
+        sys.stderr.flush()
+    except (OSError, AttributeError):
+        silence(sys.stderr)
 
 
 def run(main: Callable[[list[str]], int]) -> NoReturn:
@@ -321,10 +326,10 @@ def ended(main: Callable[[list[str]], int], words: Sequence[str]) -> int:
         sys.stdout.flush()
     except (Exception, KeyboardInterrupt) as reason:
         status = 2
-        with contextlib.suppress(OSError, AttributeError, KeyboardInterrupt):
-            tell(error_line(reason))
         with contextlib.suppress(KeyboardInterrupt):  # a second one is too many
-            silence()
+            tell(error_line(reason))
+        with contextlib.suppress(KeyboardInterrupt):
+            silence(sys.stdout)
     return status
 
 
@@ -363,7 +368,8 @@ def error_place(reason: BaseException) -> str:
         if trace else "no line"
 
 
-def silence(out: TextIO | None = None) -> None:
-    """Python writes to standard output once more when it ends; nobody takes that any more."""
-    with contextlib.suppress(OSError, AttributeError):
-        os.dup2(os.open(os.devnull, os.O_WRONLY), (out or sys.stdout).fileno())
+def silence(out: TextIO | None) -> None:
+    """Write no more to a stream that failed: Python writes to it once more when it ends."""
+    with contextlib.suppress(OSError):
+        if out is not None:  # else it was closed from the start
+            os.dup2(os.open(os.devnull, os.O_WRONLY), out.fileno())

@@ -12,7 +12,7 @@ import stat
 import sys
 import tempfile
 import threading
-from typing import BinaryIO, Iterable, Iterator, NamedTuple, TypeVar
+from typing import BinaryIO, Iterator, NamedTuple, TypeVar
 
 from .command_line import Stop
 
@@ -330,33 +330,39 @@ class SummedFile(NamedTuple):
     sha256: str
 
 
-class Sums:
-    """The files of some names, summed up beside what else is done."""
+class BackgroundSum:
+    """A file that is summed up while something else is done."""
 
-    def __init__(self, names: Iterable[str]) -> None:
-        self.names, self.found = names, list[SummedFile]()
-        self.reason: OSError | None = None
+    def __init__(self, name: str) -> None:
+        self.name, self.found = name, list[SummedFile]()
+        self.reason: Exception | None = None
         self.thread = threading.Thread(target=self.work, daemon=True)
-        self.thread.start()
+        with contextlib.suppress(RuntimeError):  # there is no memory for another thread
+            self.thread.start()
 
     def work(self) -> None:
+        """Sum up the file."""
         try:
-            self.found += [file_of(name, name) for name in self.names]
-        except OSError as reason:
+            self.found.append(file_of(self.name, self.name))
+        except (Stop, OSError) as reason:
             self.reason = reason
 
-    def all(self) -> list[SummedFile]:
-        """All of them, once they are summed up."""
-        self.thread.join()
+    def result(self) -> SummedFile:
+        """Return the file and its sum, once it is summed up."""
+        if self.thread.ident is None:  # it was not started
+            self.work()
+        else:
+            self.thread.join()
         if self.reason:
             raise self.reason
-        return self.found
+        return self.found[0]
 
 
 def file_of(path: str, name: str) -> SummedFile:
-    """A file that is read for its sum alone."""
-    digest, room = hashlib.sha256(), memoryview(bytearray(ROOM))
-    with open(path, "rb", buffering=0) as file:
-        while count := file.readinto(room):
+    """Sum up a file, under the name that was typed."""
+    digest, room, size = hashlib.sha256(), memoryview(bytearray(ROOM)), 0
+    with File(path) as file:
+        while count := file.file.readinto(room):  # type: ignore[attr-defined]
             digest.update(room[:count])
-        return SummedFile(name, os.fstat(file.fileno()).st_size, digest.hexdigest())
+            size += count
+    return SummedFile(name, size, digest.hexdigest())

@@ -4,8 +4,9 @@ from __future__ import annotations
 from typing import Collection, Iterable, NamedTuple, Sequence
 
 from ..common.command_line import Stop
+from ..common.files import bounded_bytes
 from ..formats.listing import ENDS_READING, FAULT_NAMES, LOST_PACKETS, SILENT
-from ..request.lines import list_at
+from ..request.lines import MOST_OF_PROFILE, text_in
 
 
 # Which faults count for the exit status.
@@ -27,7 +28,8 @@ class Severity:
         self.others = ERROR
         self.is_loss_allowed = is_loss_allowed
         if path is not None:
-            for at, line in enumerate(list_at(path).split("\n"), 1):
+            text = text_in(path, bounded_bytes(path, MOST_OF_PROFILE))
+            for at, line in enumerate(text.split("\n"), 1):
                 self.take(path, at, line.partition("#")[0].split())
 
     def take(self, path: str, at: int, words: list[str]) -> None:

@@ -12,7 +12,8 @@ from typing import Collection, Iterable, Iterator, Sequence
 
 from ..clock.start import NoFirst
 from ..common.command_line import PACKET_SIZES, Stop, counted, pid_name, shown, stream_words
-from ..common.files import STANDARD, SummedFile, Sums, first_bytes, naming, pieces_of
+from ..common.files import (
+    BackgroundSum, STANDARD, SummedFile, first_bytes, naming, pieces_of)
 from ..common.times import ticks_between
 from ..formats.teletext import START
 from ..request.commands import CommandWords, KEPT, KEPT_STREAM, Listener, Names, Speech, again
@@ -149,10 +150,10 @@ class Recording:
         """Reads it to its end, and takes all that is told of it."""
         if self.is_piped:
             self.file = copy_piped(self.name, self.path, self.listener.speech)
-        files = Sums([self.name]) if is_summed and not self.is_piped else None
+        summed = BackgroundSum(self.name) if is_summed and not self.is_piped else None
         self.survey = survey(self.typed.program_path, self.path, self.request.page,
                              self.request.pid, look=self.show)
-        self.file = files.all()[0] if files else self.file
+        self.file = summed.result() if summed else self.file
         refuse_stream(self.survey, self.name)
         self.packets = self.chosen()
         self.say_read()

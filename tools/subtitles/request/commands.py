@@ -275,10 +275,7 @@ class Speech:
         """A line on standard error, under the name of the tool, after what was said before it."""
         with self.lock:
             self.progress.clear()
-            try:
-                tell(line)
-            except BrokenPipeError:
-                silence(sys.stderr)
+            tell(line)
 
     def show(self, line: str) -> None:
         """How far it is, on a terminal."""

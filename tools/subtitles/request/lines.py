@@ -2,9 +2,11 @@
 from __future__ import annotations
 
 import argparse
+import codecs
 import collections
 import functools
 import hashlib
+import io
 import os
 import re
 from typing import Any, Iterable, Iterator, Mapping, NamedTuple, Sequence
@@ -18,7 +20,10 @@ from .request import (
 
 # Lists that people write: their lines, each split into words as a shell splits it.
 
-MOST_BYTES, MOST_OF_LINE = 16_000_000, 65_536
+# Python takes some 600 bytes for a line that is no pair, and 150 for each of its words.
+MOST_BYTES, MOST_LINES, MOST_WORDS = 16_000_000, 100_000, 1_000_000  # of a list
+MOST_OF_LINE, MOST_WORDS_OF_LINE = 65_536, 256  # characters, and words
+BYTE_ORDER_MARKS = codecs.BOM_UTF8, codecs.BOM_UTF16_LE, codecs.BOM_UTF16_BE
 # What a word is made of, a blank or the comment behind the words; else a quote that does not end.
 PIECE_OF_LIST = re.compile(r"""(?P<blank>[ \t\r\n]+) | (?P<comment>\#.*)
                        | (?P<plain>[^ \t\r\n\\'"\#]+)
@@ -37,8 +42,16 @@ class Line(NamedTuple):
 
 
 def list_at(path: str, may_be_pipe: bool = False) -> str:
-    """The text of a list."""
-    return bounded_bytes(path, MOST_BYTES, may_be_pipe).decode("utf-8", "surrogateescape")
+    """Return the text of a list."""
+    return text_in(path, bounded_bytes(path, MOST_BYTES, may_be_pipe))
+
+
+def text_in(name: str, data: bytes) -> str:
+    """Return the text in the bytes of a file; `Stop` if a byte order mark would be part of its
+    first word."""
+    if data.startswith(BYTE_ORDER_MARKS):
+        raise Stop(f"{name} begins with a byte order mark (BOM): save it as UTF-8 without one")
+    return data.decode("utf-8", "surrogateescape")
 
 
 def folder_of(path: str) -> str:
@@ -46,21 +59,32 @@ def folder_of(path: str) -> str:
     return os.path.dirname(path) if os.path.isfile(path) else ""
 
 
-def lines_in(text: str) -> list[Line]:
-    """The lines of a list that have words."""
-    found = []
-    for number, line in enumerate(text.split("\n"), 1):
-        try:
-            if words := split(line):
-                found.append(Line(number, tuple(words)))
-        except ValueError as reason:
-            found.append(Line(number, (line[:80],), str(reason)))
-    return found
+def lines_in(text: str) -> Iterator[Line]:
+    """Yield the lines of a list that have words; `Stop` if the list has too many of either."""
+    line_count = word_count = 0
+    for number, text_line in enumerate(io.StringIO(text, newline="\n"), 1):
+        line = line_of(number, text_line.removesuffix("\n"))
+        line_count += bool(line.words)
+        word_count += len(line.words)
+        if line_count > MOST_LINES or word_count > MOST_WORDS:
+            raise Stop(f"a list has at most {MOST_LINES:,} lines with words, and {MOST_WORDS:,} "
+                       f"words: this one has more in line {number}")
+        if line.words:
+            yield line
+
+
+def line_of(number: int, text: str) -> Line:
+    """Return a line of a list; one without words is empty, or a comment."""
+    try:
+        return Line(number, tuple(split(text)))
+    except ValueError as reason:
+        return Line(number, (text[:80],), str(reason))
 
 
 def split(line: str) -> list[str]:
-    """The words of a line; `ValueError` where it is too long, or a quote does not end. It takes as
-    long as the line is: `shlex`, which splits so too, takes the square of that."""
+    """Return the words of a line; `ValueError` if it is too long, a quote does not end, or a word
+    can't be a name. The time is linear in the length: `shlex`, which splits in the same way, takes
+    the square of that."""
     if len(line) > MOST_OF_LINE:
         raise ValueError(f"it has more than {MOST_OF_LINE:,} characters")
     words: list[list[str]] = [[]]  # each in pieces; the last one may be none
@@ -76,37 +100,45 @@ def split(line: str) -> list[str]:
         else:
             words[-1].append(piece[kind] if kind != "double" else
                              ESCAPED.sub(r"\1", piece[kind]))
-    return ["".join(pieces) for pieces in words if pieces]
+    found = ["".join(pieces) for pieces in words if pieces]
+    if len(found) > MOST_WORDS_OF_LINE:
+        raise ValueError(f"it has more than {MOST_WORDS_OF_LINE} words")
+    if any("\0" in word for word in found):
+        raise ValueError("a word has a NUL character")
+    return found
 
 
 # A profile: the file in which a house says once how it sends.
 
-MOST_OF_PROFILE = 1_000_000  # bytes
+MOST_OF_PROFILE = 65_536  # bytes, of a severity file too: each pair reads them
 PATHS = {"severity"}  # of the fields those that name a file
 
 
 def setting_in(words: Sequence[str]) -> Setting:
-    """What the words of a line of a profile say; `Stop` where that may not stand there."""
+    """Return what a line of a profile sets; `Stop` if that can't be set there. Only the name of an
+    option is repeated: the file may be no profile, and not for the eyes of who reads the message.
+    """
     name = words[0].partition("=")[0]
-    option = next((one for one in OPTIONS if one.name == name and one.in_profile), None)
-    if option is None:
+    option = next((one for one in OPTIONS if one.name == name), None)
+    if option is None or not option.in_profile:
         names = ", ".join(one.name for one in OPTIONS if one.in_profile)
-        raise Stop(f"{words[0]} does not stand in a profile, which may have {names}")
+        raise Stop(f"{option.name if option else 'its first word'} does not stand in a profile, "
+                   f"which may have {names}")
     parser = Words("")
     add_options(parser, [option])
     return Setting(name, option.field, getattr(parser.parse_args(words), option.field))
 
 
-def profile_at(path: str) -> Profile:
-    """The profile in a file. `Stop` names the first line that says nothing, or what another one
-    says."""
+def profile_at(path: str, may_be_pipe: bool = False) -> Profile:
+    """Return the profile in a file. `Stop` names the first line that sets nothing, or what another
+    one sets."""
     name = plain_name(path)
     try:
-        data = bounded_bytes(name, MOST_OF_PROFILE, may_be_pipe=True)
+        data = bounded_bytes(name, MOST_OF_PROFILE, may_be_pipe)
     except OSError as reason:
         raise Stop(error_line(reason)) from None  # the line of a list that names it is no pair
     settings, lines = dict[str, Setting](), dict[str, int]()
-    for line in lines_in(data.decode("utf-8", "surrogateescape")):
+    for line in lines_in(text_in(name, data)):
         try:
             if line.fault:
                 raise Stop(line.fault)
@@ -132,13 +164,15 @@ def in_folder(setting: Setting, folder: str) -> Setting:
 
 
 def read_options(parser: Words, line: Sequence[str], known: Mapping[str, Any],
-                 bare: Mapping[str, Any], folder: str = "") -> argparse.Namespace:
+                 bare: Mapping[str, Any], folder: str = "", is_typed: bool = False) \
+        -> argparse.Namespace:
     """What a line says, and where it says nothing what is known. Where it names a profile, by a
     path from a folder, that comes before what is known, which is `bare` then: what the call says
-    without its own profile. So is `bare` of what is answered."""
+    without its own profile. So is `bare` of what is answered. Only a profile that was typed may be
+    a pipe: a list could name one to which nobody writes."""
     words = parser.parse_args([*line], argparse.Namespace(**known))
     if isinstance(words.profile, str):
-        profile = profile_at(os.path.join(folder, words.profile))
+        profile = profile_at(os.path.join(folder, words.profile), is_typed)
         said = {name: setting.value for name, setting in profile.settings.items()}
         alone = parser.parse_args([*line], argparse.Namespace(**bare))
         alone.profile = None
@@ -318,7 +352,7 @@ def at_line(path: str, number: int, defaults: argparse.Namespace) -> tuple[Item,
     name an input. Those before it tell its name; of no other one the files are looked at."""
     if os.path.isdir(path):
         raise Stop(f"{path} is no list: --line goes with a LIST")
-    lines = lines_in(list_at(path, may_be_pipe=True))
+    lines = [*lines_in(list_at(path, may_be_pipe=True))]
     before = [line for line in lines if line.number <= number]
     if not before or before[-1].number < number:
         raise Stop(f"{path}, line {number}: there is no pair")
