@@ -10,7 +10,7 @@ import subprocess
 import sys
 import unittest
 import xml.etree.ElementTree as tree
-from typing import Any, NamedTuple
+from typing import Any, NamedTuple, Sequence
 from unittest import mock
 
 from subtitles.cli.main import main
@@ -31,10 +31,34 @@ case "$*" in
     show*) printf '%s\n' '00001 10:00:00:00 10:00:02:00 vp 22 jc 2 text 0d0b0b48690a0a' \
         '1 subtitles' ;;
     survey* | schedule*) exec '{program}' "$@" ;;
-    *' /dev/null') printf '%s\n' 'refused 60 Empty' '1 faults'; exit 1 ;;
+    *' /dev/null') {alone} ;;
     *) {said} ;;
 esac
 """
+EMPTY = ["refused 60 Empty", "1 faults"]
+# Answers of a program to `check`, most of which the proved one never gives, and those that lead on:
+# of a subtitle file alone, and of a recording, each by the status with which it ends.
+ANSWERS: dict[str, tuple[list[str], str | None, str | None]] = {
+    "accepted": ([ACCEPTED], None, "exit 0"), "no PES packet": (EMPTY, "exit 1", "exit 1"),
+    "a fault of the subtitle file": (["refused 50 Character block 1 at 0", "1 faults"], "exit 1",
+                                     "exit 1"),
+    "a fault of the recording": ([CONTROL, "1 faults"], None, "exit 1"),
+    "both": ([EMPTY[0], CONTROL, "2 faults"], None, "exit 1"),
+    "a fault that is not counted": ([CONTROL], None, None),
+    "faults that are counted wrongly": ([EMPTY[0], "2 faults"], None, None),
+    "a count alone": (["1 faults"], None, None), "no fault": (["0 faults"], None, None),
+    "a fault before accepted": ([EMPTY[0], ACCEPTED], None, None),
+    "accepted without counts": (["accepted"], None, None),
+    "a text before accepted": (["something else", ACCEPTED], None, None),
+    "an empty line behind it": ([ACCEPTED, ""], None, None),
+    "no number": (["refused x y", "1 faults"], None, None),
+    "a number of packet": (["refused 3 BadAddress", "1 faults"], None, None),
+    "a number of schedule": (["refused 82 NoSubtitle", "1 faults"], None, None),
+    "trusted frames": (["trusted frames 10:00:00:00 10:00:02:00"], None, None),
+    "usage": (["usage 0 Words"], None, None), "a fault of the machine": (["fault 90 Open"], None,
+                                                                        None),
+    "nothing": ([], None, None)}
+ENDS = ("exit 0", "exit 1", "exit 2", "kill -9 $$")
 
 
 class Ended(NamedTuple):
@@ -55,12 +79,14 @@ class Story(Case):
     def object(self, name: str = "one.json") -> Any:
         return json.loads(self.read(name))
 
-    def saying(self, *lines: str, then: str = "exit 0") -> str:
-        """A program that says these lines of a recording."""
-        quoted = " ".join(f"'{line}'" for line in lines)
-        said = f"printf '%s\\n' {quoted}; {then}" if lines else then
-        return self.write_program("program", PROGRAM.replace("{said}", said).replace("{program}",
-                                                                               self.bench.program))
+    def saying(self, *lines: str, then: str = "exit 0", alone: Sequence[str] = EMPTY,
+               then_alone: str = "exit 1") -> str:
+        """A program that says these lines of a recording, and others of a subtitle file alone."""
+        text = PROGRAM.replace("{program}", self.bench.program)
+        for place, some, end in (("{said}", lines, then), ("{alone}", alone, then_alone)):
+            quoted = " ".join(f"'{line}'" for line in some)
+            text = text.replace(place, f"printf '%s\\n' {quoted}; {end}" if some else end)
+        return self.write_program("program", text)
 
     def qc(self, *words: str) -> Ended:
         """Calls qc; what it prints goes into a file."""
@@ -93,23 +119,29 @@ class Programs(Story):
     """What a program says, and how it ends."""
 
     def test_only_an_answer_is_a_verdict(self) -> None:
-        rows: list[tuple[list[str], str, int]] = [
-            ([ACCEPTED], "exit 0", 0), ([CONTROL, "1 faults"], "exit 1", 1),
-            ([], "exit 0", 2), ([], "exit 1", 2), ([ACCEPTED], "exit 1", 2),
-            ([ACCEPTED], "exit 2", 2), ([ACCEPTED], "kill -9 $$", 2),
-            ([CONTROL, "1 faults"], "kill -9 $$", 2), ([CONTROL], "exit 1", 2),
-            ([CONTROL, "1 faults"], "exit 0", 2), (["refused x y", "1 faults"], "exit 1", 2),
-            (["something else", ACCEPTED], "exit 0", 2), ([ACCEPTED, ""], "exit 0", 2)]
-        for lines, then, status in rows:
-            with self.subTest(lines=lines, then=then):
-                done = self.judge(self.saying(*lines, then=then), "--json", "one.json")
-                self.assertEqual(done.status, status, done)
-                known = self.object()
-                self.assertEqual((known["status"], known["line"] is None), (status, status == 2))
-                if status == 2:
-                    self.assertEqual(known["verdict"], "not judged")
-                    self.assertTrue(known["reason"].startswith("check was not answered: "), done)
-                    self.assertEqual(done.told, [f"qc: {known['reason']}"])
+        """What `check` never says, or not with that status, is not judged: of a recording, of a
+        subtitle file alone, and of one beside a recording."""
+        for (name, (lines, of_file, of_pair)), end in itertools.product(ANSWERS.items(), ENDS):
+            alone = self.saying(alone=lines, then_alone=end, then="exit 9")
+            status = 2 if end != of_file else 0 if lines == EMPTY else 1
+            self.is_judged(f"{name}, {end}, alone", status, self.qc(
+                HELLO[0], "-p", alone, "--json", "one.json"))
+            if end != of_file:
+                self.is_judged(f"{name}, {end}, beside", 2, self.judge(alone, "--json", "one.json"))
+            status = 2 if end != of_pair else 0 if end == "exit 0" else 1
+            self.is_judged(f"{name}, {end}", status, self.judge(
+                self.saying(*lines, then=end), "--json", "one.json"))
+
+    def is_judged(self, name: str, status: int, done: Ended) -> None:
+        """Checks the status of a call, and its result; why it is not judged."""
+        known = self.object()
+        with self.subTest(name):
+            self.assertEqual((done.status, known["status"], known["line"] is None),
+                             (status, status, status == 2), done)
+            if status == 2:
+                self.assertEqual(known["verdict"], "not judged")
+                self.assertTrue(known["reason"].startswith("check was not answered: "), done)
+                self.assertEqual(done.told, [f"qc: {known['reason']}"])
 
     def test_only_answers_lead_to_one(self) -> None:
         """Of the subtitle file, and of a recording: a call that says nothing, or is killed, or
@@ -138,14 +170,6 @@ class Programs(Story):
         taken = self.tool("ts2pes", example("recording.ts"), "0x101", "-p", program)
         self.assertEqual((taken.status, taken.told), (2, [
             "ts2pes: extract was not answered: written 7 pes 0 gaps, status -9"]))
-
-    def test_no_packet_is_accepted(self) -> None:
-        """A program that accepts the subtitle file without PES packets is not believed."""
-        self.saying(ACCEPTED)
-        text = self.text("program").replace(
-            "printf '%s\\n' 'refused 60 Empty' '1 faults'; exit 1", f"echo '{ACCEPTED}'")
-        done = self.judge(self.write("program", text.encode()))
-        self.assertEqual((done.status, len(done.told)), (2, 1), done)
 
     def test_waived(self) -> None:
         """A file that names all faults warnings: status 0, and never accepted."""

@@ -327,7 +327,7 @@ class Pictures(unittest.TestCase):
         lines = [*programme_with((VIDEO, MPEG_2)), f"video {VIDEO} 0", f"picture {VIDEO} {TICKS}",
                  f"picture {VIDEO} 0", f"group {VIDEO} 0 0 open"]
         self.assertEqual(began(asked, surveyed(lines), packets).clock.away, -1)
-        self.assertEqual(off_words(180), "PTS are up to 2.0 ms off the frame")
+        self.assertEqual(off_words(180), "PTS are up to 180 ticks (2.00 ms) off the frame")
         for source, evidence in itertools.product((RECORDING, GIVEN, START, TCP), (
                 None, Selection(ORIGIN_CHOICE, "8", "words"))):
             chosen = (evidence or Selection(ORIGIN_CHOICE, "7", FITTED))._replace(part=2)

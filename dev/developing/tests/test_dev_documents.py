@@ -11,6 +11,7 @@ from typing import Iterator
 
 from subtitles.common.command_line import Stop
 from subtitles.common.program import TOP, read
+from subtitles.judging.status import Severity
 from .. import pages
 from ..definitions import Library
 from ..looks import browser
@@ -338,6 +339,44 @@ HELD = [
 # An impl of Drop, at any indent and over several lines, or another name for it. Comments are none.
 DROP = re.compile(r"\bimpl\b[^{};]*\bDrop\s+for\b|\bDrop\s+as\b")
 COMMENT = re.compile(r"//[^\n]*|/\*.*?\*/", re.DOTALL)
+
+
+class Examples(Case):
+    """Files that the manual shows to be copied."""
+
+    def test_units_restart_and_write_where_they_may(self) -> None:
+        """Each service starts again, and each folder that it writes to is one that it may."""
+        manual = os.path.join(TOP, "docs", "manual")
+        watch = read(os.path.join(manual, "subttx-watch.service")) or ""
+        blocks = [text for _, text in BLOCK.findall(read(os.path.join(manual, "air.md")) or "")]
+        units = [watch, *(part for text in blocks if "ExecStart=" in text
+                          for part in text.split("[Service]")[1:])]
+        self.check("units", len(units), 3)
+        for unit in units:
+            lines = dict(re.findall(r"^(\w+)=(.*)$", unit.replace("\\\n", ""), re.M))
+            self.check(f"{lines['ExecStart']}: restarts", lines.get("Restart"), "always")
+        lines = dict(re.findall(r"^(\w+)=(.*)$", watch, re.M))
+        written = re.findall(r"-o (\S+)", lines["ExecStart"])
+        self.check("folders", written, lines["ReadWritePaths"].split())
+        self.check("needed", all(folder.startswith(f"{needed}/") for folder in written for needed in
+                                 re.findall(r"^RequiresMountsFor=(.*)$", watch, re.M)), True)
+        self.check("a signal ends what judges", lines.get("KillMode"), "mixed")
+        for name in ("subttx-watch.service", "judge.sh"):
+            self.check(f"{name}: languages", "--option auto" in (
+                read(os.path.join(manual, name)) or ""), True)
+
+    def test_severity_file(self) -> None:
+        """Each line of the manual's is a rule, and what it does not name is an error."""
+        manual = read(os.path.join(TOP, "docs", "manual", "qc.md")) or ""
+        text = next(text for _, text in BLOCK.findall(manual.partition("**A severity file**")[2]))
+        found = Severity(self.write("severity", text.encode()))
+        rules = [line.partition("#")[0].split() for line in text.splitlines()]
+        named = {" ".join(words): severity for *words, severity in rules}
+        others = named.pop("others")
+        self.check("named", {name: found.of(int(name) if name.isdecimal() else name)
+                             for name in named}, named)
+        self.check("others", (others, found.of(72), found.of("never sent")), ("error",) * 3)
+        self.check("some are warnings", set(named.values()), {"warning"})
 
 
 def text_of(name: str) -> str:

@@ -124,6 +124,12 @@ class Engines(Case):
                  for number in range(1, 8)]
         self.must("statuses", [done.status for done in ended] == [0, 0, 0, 0, 1, 1, 1], ended)
         self.is_judged("results")
+        shutil.rmtree(self.path("out"))
+        for number in ("", "1 2", "1 --line 2"):
+            done = self.call(["bash", script], env={**self.env, "SLURM_ARRAY_TASK_ID": number})
+            self.check(f"index {number!r}", (done.status, os.path.exists(self.path("out"))),
+                       (1, False))
+        os.mkdir(self.path("out"))
         if not shutil.which("sbatch") or self.call(["sinfo"]).status:
             self.skipTest("an array of Slurm, since no node of it is here")
         shutil.rmtree(self.path("out"))

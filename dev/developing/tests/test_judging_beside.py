@@ -177,7 +177,7 @@ class Beside(Case):
                 for at, (pts, some) in enumerate(two)]
         for bad, sent, said in (((7,), two, "all have the right text"),
                                 ((2, 7), two, "all have the right text"),
-                                ((2, 7), kept, " see --keeping in the profile; in all 2 faults.")):
+                                ((2, 7), kept, " headers; in all 2 faults.")):
             found = judged(self, self.file(*bad), self.write("two.pes", joined(sent)), "--breaks",
                            "1", "--every", "100")
             self.must(f"{bad} {said}", found.word == "refused" and said in found.verdict.sentence

@@ -257,7 +257,7 @@ class Within(OfProgramme):
             found = self.judge(some, "--origin", str(ORIGIN))
             self.must(f"{name}: refused", found.word == "refused", found.said)
             self.must(f"{name}: hint", name != "jitter" or found.result["hints"] == [
-                "61: PTS are up to 5.0 ms off the frame"], found.said)
+                "61: PTS are up to 448 ticks (4.98 ms) off the frame"], found.said)
             for words in (["--page", "888"], ["--origin", str(ORIGIN)]):
                 found = self.judge(some, "--within", str(least), *words)
                 spread = found.result["whole_after"]

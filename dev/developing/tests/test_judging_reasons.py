@@ -52,7 +52,7 @@ class Reasons(OfProgramme):
     def test_erasing(self) -> None:
         """C4 is clear in all headers: that is told, and nothing of PES packets of one frame."""
         found = self.judge(all_changed(self.sent, 3, 8, 0), *WORDS)
-        words = "C4 (erase page) is clear in 49 of 49 headers: see --keeping in the profile"
+        words = "C4 (erase page) is clear in 49 of 49 headers"
         self.must("said", found.word == "refused" and found.verdict.sentence ==
                   'Refused: at 00:00:04:00 subtitle 1, "Number 1", may stand over old text on some '
                   f"sets: {words}; in all 49 faults." and
@@ -443,7 +443,7 @@ class Pairs(OfProgramme):
         found = self.judged("")
         keeping = sum(one != other for (_, one), (_, other) in zip(
             as_houses(self.sent), self.sent))
-        words = f"{CLEAR} in {keeping} of {len(self.sent)} headers: see --keeping in the profile"
+        words = f"{CLEAR} in {keeping} of {len(self.sent)} headers"
         self.must("refused", found.word == "refused" and found.result["hints"] == [f"67: {words}"]
                   and words in found.verdict.sentence and found.result["asked"]["keeping"] is False
                   and all(one["means"] == REPEATS for one in found.result["faults"]), found.said)

@@ -283,7 +283,7 @@ class Worst(Case):
                 self.must(f"{number}", rank <= Rank.SOME, rank)
             elif one.name.partition("</a>")[2].startswith("next") and number != 61:
                 self.must(f"{number}", rank == Rank.LATER, rank)
-        names = sorted(NAMES, key=lambda name: rank_of(72, name))
+        names = sorted(NAMES, key=lambda name: OF_CAUSE[name])
         self.must("order of causes", names[0] == "never sent" and names[-4:] == [
             "late", "early", "wrong colour or attribute", "not received"], names)
 

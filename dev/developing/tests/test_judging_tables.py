@@ -209,8 +209,10 @@ class Grids(Case):
                 ([0, 0], 0), ([1, 0], 1), ([0, -1], 1), ([1799, 0], 1799), ([1800, 5], 1800),
                 ([1801], 1799), ([-1799, 3], 1799), ([], 0), ([7, -9, 8], 9)]
             for offs, most in of_offs:
-                several = [(origin + TICKS * (5 + at) + off) % CLOCK for at, off in enumerate(offs)]
-                self.assertEqual(most_off(several, origin), most, offs)
+                for hours in (0, 1, 13, 14, 23):  # 2^32 ticks are 13 h 15 min
+                    several = [(origin + TICKS * (90_000 * hours + 5 + at) + off) % CLOCK
+                               for at, off in enumerate(offs)]
+                    self.assertEqual(most_off(several, origin), most, (offs, hours))
 
     def test_start_frames(self) -> None:
         """As it is given, and as the GSI block has it; what is none there."""

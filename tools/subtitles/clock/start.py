@@ -265,11 +265,13 @@ MOST_PTS = 100_000  # PTS
 
 
 def most_off(several: Sequence[int], origin: int) -> int:
-    """By how many ticks some PTS are off their nearest frames at most."""
-    return max((abs(ticks_between(0, pts - origin + TICKS // 2) % TICKS - TICKS // 2)
+    """Return by how many ticks some PTS are off their nearest frames at most. A PTS may be a day
+    after the origin, over half of the clock."""
+    return max((abs(wrapped(pts - origin + TICKS // 2) % TICKS - TICKS // 2)
                 for pts in several[:MOST_PTS]), default=0)
 
 
 def off_words(most: int) -> str:
-    """What a person needs to know."""
-    return f"PTS are up to {most / MILLISECOND:.1f} ms off the frame" if most else ""
+    """Return how far PTS are off, in ticks and in time; nothing if they are not."""
+    return f"PTS are up to {counted(most, 'tick')} ({most / MILLISECOND:.2f} ms) off the frame" \
+        if most else ""

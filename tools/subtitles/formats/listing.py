@@ -197,9 +197,9 @@ def meanings() -> dict[int, Meaning]:
         for line in file:
             cells = [cell.strip() for cell in line.strip().strip("|").split("|")]
             if len(cells) >= 4 and cells[0].isdecimal():
-                last = cells[-1].replace("the same", last) if cells[-1].startswith("the same") \
-                    else cells[-1]
-                by_number[int(cells[0])] = Meaning(cells[1], cells[-2], last)
+                name, means, do = cells[1:4]  # behind them stand options that accept it
+                last = do.replace("the same", last) if do.startswith("the same") else do
+                by_number[int(cells[0])] = Meaning(name, means, last)
     return by_number
 
 

@@ -49,6 +49,11 @@ class Cause(NamedTuple):
     words: str
     known: int
 
+    @property
+    def is_unseen(self) -> bool:
+        """Whether nobody knows what was sent, since PES packets can't be read."""
+        return self.words == UNSEEN
+
 
 class Faulty:
     """The frames of a subtitle at which another page is held than the one that is due: the first

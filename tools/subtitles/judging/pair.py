@@ -11,7 +11,7 @@ from ..common.command_line import Stop, counted
 from ..common.files import file_of
 from ..common.times import ALL_DAY, Between, FRAMES_OF_A_DAY, pts_of, time_of
 from ..formats.layout import PLAIN, layout_of
-from ..formats.listing import CONTENT, CONTROL, EMPTY, WITH_CAUSE
+from ..formats.listing import CONTENT, CONTROL, EMPTY, STL_FAULTS, WITH_CAUSE
 from ..formats.stl import Subtitle, SubtitleFile, subtitles_read
 from ..formats.teletext import BY_WORD
 from ..recording import notices
@@ -228,7 +228,7 @@ class Pair:
     def check_alone(self) -> Answer:
         """What is wrong with the subtitle file; at least there is no PES packet."""
         answer = check_alone(self.request, self.typed.program_path, self.names)
-        if answer.verdict != REFUSED:
+        if answer.verdict != REFUSED or not answer.numbers <= STL_FAULTS | {EMPTY}:
             raise Unsaid(f"{UNSAID}: {answer.last}, where there is no PES packet")
         return answer
 

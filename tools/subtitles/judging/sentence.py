@@ -68,15 +68,21 @@ def worst_name(faults: Sequence[NamedFault], than: Rank | None) -> NamedFault | 
     return worst if worst and (than is None or OF_NAME[worst.name] <= than) else None
 
 
-def rank_of(number: int, cause: str | None = None) -> Rank:
-    """How bad a fault is, by its number, or by the cause of the subtitle whose fault it is."""
-    return OF_CAUSE[cause] if cause is not None else OF_NUMBER.get(number, Rank.LATER)
+def rank_of(number: int) -> Rank:
+    """How bad a fault is, by its number."""
+    return OF_NUMBER.get(number, Rank.LATER)
+
+
+def rank_of_cause(cause: Cause) -> Rank:
+    """Return how bad a cause is. If PES packets can't be read (33 to 40, 61, 62), their faults come
+    first."""
+    return Rank.UNSEEN if cause.is_unseen else OF_CAUSE[cause.name]
 
 
 def worst_cause(causes: Iterable[Cause]) -> Cause | None:
     """The first one of those that are the worst."""
     several = [*causes]
-    return min(several, key=lambda cause: (OF_CAUSE[cause.name], cause.place)) if several else None
+    return min(several, key=lambda cause: (rank_of_cause(cause), cause.place)) if several else None
 
 
 class Lead(NamedTuple):
@@ -98,7 +104,7 @@ def lead_of(answer: Answer, causes: Causes | None, left_out: Collection[int] = (
     cause = worst_cause(causes.all()) if causes else None
     fault = line_of(answer, causes, cause) if causes and cause else None
     if cause and fault and fault.number not in left_out:
-        leads.append(Lead(OF_CAUSE[cause.name], -1, fault, True))
+        leads.append(Lead(rank_of_cause(cause), -1, fault, True))
     return min(leads, default=None)
 
 

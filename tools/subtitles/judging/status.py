@@ -16,6 +16,7 @@ OTHERS = "others"  # the word for all numbers and names that are not named
 # The numbers that a command of the program refuses by: packets and files, texts, transmissions.
 REFUSALS = {3, 4, *range(10, 26), *range(30, 41), 44, LOST_PACKETS, *range(50, 58), *range(60, 75),
             *range(76, 80), 82}
+OF_CHECK = REFUSALS - {3, 4, 82}  # of these, what `check` refuses by
 
 
 class Severity:
@@ -130,7 +131,8 @@ def word_of(said: Said) -> str:
     """The verdict on a part: only what the program says in so many words, with that status."""
     if said.status == 0 and said.is_accepted and not said.faults and not said.numbers:
         return ACCEPTED
-    if said.status == 1 and said.numbers and said.faults == said.counted:
+    if said.status == 1 and said.numbers and said.faults == said.counted and \
+            OF_CHECK.issuperset(said.numbers):
         return REFUSED
     return NOT_JUDGED
 

@@ -137,8 +137,7 @@ class Kept(NamedTuple):
 
     def words(self) -> str:
         """It in words."""
-        return f"{CLEAR} in {self.keeping} of {counted(self.headers, 'header')}: see --keeping " \
-            "in the profile"
+        return f"{CLEAR} in {self.keeping} of {counted(self.headers, 'header')}"
 
 
 def kept_in(headers: Mapping[bytes, int], option: str) -> Kept | None:

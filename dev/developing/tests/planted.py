@@ -1,0 +1,219 @@
+"""Programmes as inserters send them, by a number: late by chance, repeating, with one planted fault
+or none; and by which subtitle and which words a sentence names that fault."""
+from __future__ import annotations
+
+import random
+import re
+from typing import Callable, NamedTuple, Optional, Sequence
+
+from developing.pes import address_of, odd, packet
+from subtitles.common.times import TICKS, time_of
+from subtitles.formats.stl import NEW_LINE
+from .bench import Case
+from .sent import CLOSING, HEADER, PAGE, Sent, sendings, subtitle_file
+from .test_judging_reasons import KEEPING_HEADER
+
+FIRST = 900_000  # the frame of the first TCI, at least
+QUIET = 80  # frames before the first and behind the last subtitle, with repeats of a blank page
+WORDS = "boats harbour light mother never often quiet river stairs storm turns under window".split()
+Page = Optional[Sequence[bytes]]  # rows, `None` of a blank page
+Times = Sequence[tuple[int, int]]
+
+EARLY, LATE, MISSING, EXCHANGED = "early", "late", "missing", "exchanged"
+CHARACTER, ROW, COLOUR = "wrong character", "wrong row", "wrong colour"
+STAYS, ERASED = "not erased", "erased too soon"
+# What a sentence says of each, behind the subtitle and its text.
+SAID = {
+    EARLY: r"is \d+ frames? early", LATE: r"is \d+ frames? late", MISSING: "was never sent",
+    CHARACTER: "has a wrong text", ROW: "stands in a wrong place",
+    COLOUR: "has a wrong colour or attribute", STAYS: "is not erased",
+    ERASED: "is erased while it is due"}
+
+
+class Inserter(NamedTuple):
+    """How a site sends: by how many frames its in-cues and its out-cues are late, by chance, the
+    frames from a repeat to the next, whether repeats keep the page, how many PES packets a frame
+    has, and in which frames none comes that need not."""
+
+    name: str
+    begins: Sequence[int] = (0,)
+    ends: Sequence[int] = (0,)
+    every: int = 25
+    keeps: bool = False
+    each: int = 1
+    is_left_out: Callable[[random.Random], bool] = lambda chance: False
+
+    @property
+    def within(self) -> int:
+        """The frames by which pages may be late."""
+        return max(*self.begins, *self.ends, int(self.each > 1))
+
+    def options(self) -> list[str]:
+        """The options that judge it."""
+        return ["--every", f"{self.every + self.within}", *["--keeping"] * self.keeps,
+                *["--within", f"{self.within}"] * (self.within > 0)]
+
+
+class Fault(NamedTuple):
+    """What is wrong with a subtitle by its place: by how many frames, or with which other one."""
+
+    kind: str
+    place: int
+    frames: int = 0
+    other: int = 0
+
+
+class Programme:
+    """Subtitles, and what is on air of them."""
+
+    def __init__(self, case: Case, number: int, inserter: Inserter, count: int = 0) -> None:
+        self.case, self.inserter, self.number = case, inserter, number
+        self.chance = random.Random(f"{number} {inserter.name}")
+        self.times = self.some_times(count or self.chance.randrange(10, 16))
+        self.texts = [self.some_text(at) for at in range(len(self.times))]
+        self.stl = subtitle_file(case, [(begin, end, text) for (begin, end), text in zip(
+            self.times, self.texts)], f"{number}.stl", row=20)
+        known = dict(sendings(case, self.stl, every=1500))
+        self.pages = [known[begin * TICKS][1:-1] for begin, _ in self.times]
+        self.fault: Fault | None = None
+
+    def some_times(self, count: int) -> list[tuple[int, int]]:
+        """From when to when each is due; some adjoin."""
+        frame, times = FIRST + self.chance.randrange(5000), list[tuple[int, int]]()
+        for _ in range(count):
+            end = frame + self.chance.randrange(30, 90)
+            times.append((frame, end))
+            frame = end + self.chance.choice((0, 0, 12, 30, 70, 130))
+        return times
+
+    def some_text(self, at: int) -> bytes:
+        """One or two lines of words, most often with a number that no other one has."""
+        lines = [" ".join(self.chance.sample(WORDS, self.chance.randrange(1, 4)))
+                 for _ in range(self.chance.choice((1, 1, 2)))]
+        lines[0] = f"{at} {lines[0]}" if self.chance.randrange(10) else lines[0]
+        return (NEW_LINE * 2).join(line.encode() for line in lines)
+
+    # What goes wrong.
+
+    def plant(self, kind: str) -> bool:
+        """Plants a fault of a kind beyond what is allowed; whether there is room for it."""
+        places = [*range(len(self.times))]
+        self.chance.shuffle(places)
+        self.fault = next(filter(None, (self.fault_at(kind, place) for place in places)), None)
+        return self.fault is not None
+
+    def fault_at(self, kind: str, place: int) -> Fault | None:
+        """A fault of one subtitle, if there is room for it."""
+        least, (begin, end) = self.inserter.within + 1, self.times[place]
+        before = self.times[place - 1][0] if place else begin - QUIET
+        after = self.times[place + 1][0] if place + 1 < len(self.times) else end + QUIET
+        most = {EARLY: begin - before - 2 - self.inserter.within, LATE: end - begin - 2 - least,
+                STAYS: after - end, ERASED: end - begin - 2 - least}
+        if kind == EXCHANGED:
+            other = self.chance.choice([at for at in range(len(self.times)) if at != place])
+            return Fault(kind, place, 0, other) \
+                if self.pages[place] != self.pages[other] else None
+        if kind not in most:
+            return Fault(kind, place)
+        first = 1 if kind == EARLY else least
+        return Fault(kind, place, self.chance.randrange(first, min(most[kind], 25) + 1)) \
+            if most[kind] >= first else None
+
+    def shown_pages(self) -> list[Sequence[bytes]]:
+        """The page that is sent of each subtitle."""
+        pages, fault = list[Sequence[bytes]](self.pages), self.fault
+        if fault and fault.kind == EXCHANGED:
+            pages[fault.place], pages[fault.other] = pages[fault.other], pages[fault.place]
+        if fault and fault.kind in (CHARACTER, ROW, COLOUR):
+            pages[fault.place] = CHANGES[fault.kind](pages[fault.place])
+        return pages
+
+    def changes(self) -> dict[int, Page]:
+        """What is on air from when on: of two at one frame the later one."""
+        found, fault, inserter = dict[int, Page](), self.fault, self.inserter
+        pages = self.shown_pages()
+        begins = [begin + self.chance.choice(inserter.begins) for begin, _ in self.times]
+        ends = [end + self.chance.choice(inserter.ends) for _, end in self.times]
+        if fault and fault.kind in (EARLY, LATE):
+            begins[fault.place] = self.times[fault.place][0] + fault.frames * (
+                1 if fault.kind == LATE else -1)
+        if fault and fault.kind in (STAYS, ERASED):
+            ends[fault.place] = self.times[fault.place][1] + fault.frames * (
+                1 if fault.kind == STAYS else -1)
+        for place, ((_, end), page) in enumerate(zip(self.times, pages)):
+            is_sent = not fault or (fault.kind, fault.place) != (MISSING, place)
+            following = self.times[place + 1][0] if place + 1 < len(self.times) else None
+            limit = begins[place + 1] if following is not None else ends[place] + 1
+            if fault == (MISSING, place + 1, 0, 0):
+                limit, following = ends[place] + 1, None
+            if is_sent:
+                found[begins[place]] = page
+            is_erased = end != following or bool(
+                fault and fault.kind in (STAYS, ERASED) and fault.place == place)
+            if is_erased and is_sent and ends[place] < limit:
+                found[ends[place]] = None
+        return found
+
+    def sent(self) -> Sent:
+        """The page transmissions with their repeats, and the PES packets between."""
+        changes, inserter, chance = self.changes(), self.inserter, self.chance
+        begin, end = self.times[0][0] - QUIET, max(max(changes), self.times[-1][1]) + QUIET
+        sent, page, repeated = Sent(), None, begin
+        for frame in range(begin, end):
+            is_change = frame in changes
+            page = changes.get(frame, page)
+            packets = list[bytes]()
+            if is_change or frame == repeated:
+                keeps = inserter.keeps and not is_change
+                packets = [KEEPING_HEADER if keeps else HEADER, *(page or ()), CLOSING]
+                repeated = frame + inserter.every
+            if packets or not inserter.is_left_out(chance):
+                sent += [(frame * TICKS + TICKS // inserter.each * at, packets * (not at))
+                         for at in range(inserter.each)]
+        return sent
+
+    # What a sentence should say of it.
+
+    def is_named(self, sentence: str) -> bool:
+        """Whether a sentence names the subtitle and the kind of the fault first."""
+        fault = self.fault
+        assert fault
+        place, other = min(fault.place, fault.other), max(fault.place, fault.other)
+        if fault.kind == EXCHANGED:
+            return f"2 of {len(self.times)} subtitles have other subtitles' texts (first at " \
+                f"{self.time(place)}, last at {self.time(other)})" in sentence
+        return bool(re.match(rf'Refused: at {self.time(fault.place)} subtitle {fault.place + 1}, '
+                             rf'".*", {SAID[fault.kind]}\b', sentence))
+
+    def time(self, place: int) -> str:
+        """The TCI of a subtitle."""
+        return time_of(self.times[place][0])
+
+
+def with_character(page: Sequence[bytes]) -> list[bytes]:
+    """A page with another letter."""
+    first = page[0]
+    at = max(at for at in range(2, 42) if chr(first[at] & 0x7F).isalnum())
+    return [first[:at] + bytes([odd(0x58)]) + first[at + 1:], *page[1:]]
+
+
+def with_row(page: Sequence[bytes]) -> list[bytes]:
+    """A page two rows higher."""
+    made = []
+    for one in page:
+        address = address_of(one)
+        assert address
+        made.append(packet(PAGE[0], address[1] - 2, (), [code & 0x7F for code in one[2:]]))
+    return made
+
+
+def with_colour(page: Sequence[bytes]) -> list[bytes]:
+    """A page whose first row is yellow: of the space before its box."""
+    first = page[0]
+    at = first.index(odd(0x0B)) - 1
+    return [first[:at] + bytes([odd(0x03)]) + first[at + 1:], *page[1:]]
+
+
+CHANGES: dict[str, Callable[[Sequence[bytes]], list[bytes]]] = {
+    CHARACTER: with_character, ROW: with_row, COLOUR: with_colour}
+KINDS = (*SAID, EXCHANGED)
