@@ -12,13 +12,12 @@ from subtitles.clock.origin import (
     Origin, Sought, break_lines, is_sent, measure, part_lines, shift_lines, take_parts,
     time_of_pts)
 from subtitles.clock.start import (
-    Clock, FITTED, First, Found, GIVEN, NoFirst, RECORDING, START, TCP, began, first_picture,
-    left_out, off_words)
+    Clock, FITTED, First, GIVEN, NoFirst, RECORDING, START, TCP, began, first_picture, left_out,
+    off_words)
 from subtitles.clock.stretches import Stretch
 from subtitles.common.times import CLOCK, FRAMES_OF_A_DAY, TICKS
 from subtitles.request.request import ORIGIN_CHOICE, Selection, Unclear
 from subtitles.stream.packets import Change, Mark, Packets, Run
-from subtitles.stream.ranges import Stage
 from subtitles.stream.receiver import control_text, national_option, printed_rows
 from subtitles.stream.survey import Survey
 from .judged import OfProgramme
@@ -336,8 +335,6 @@ class Pictures(unittest.TestCase):
         for other, away in ((None, 0), (0, -3), (5 * TICKS + 9, 2), (5 * TICKS - 9, 2),
                             (CLOCK - TICKS, -4)):
             self.assertEqual(First(VIDEO, MPEG_2, 3 * TICKS, 0, other).away, away)
-        for stage, pid in ((Stage(Packets(5), (0, 1)), 5), (None, None)):
-            self.assertEqual(Found(0, 9, Clock(0, GIVEN), stage=stage, goes=7).pid, pid)
 
     def test_groups(self) -> None:
         """Of a closed group the smallest; of one that is open or unknown the one with the flag;

@@ -10,8 +10,7 @@ from developing.pes import pts_in
 from subtitles.common.times import CLOCK, TICKS, time_of
 from .bench import Case, example_bytes
 from .judged import judged
-from .muxed import (
-    NEW, OLD, Packet, Shape, TELETEXT_PID, in_frames, in_turn, multiplexed, with_pictures)
+from .muxed import OLD, Packet, Shape, TELETEXT_PID, in_frames, in_turn, multiplexed, with_pictures
 from .sent import (
     EACH, LASTS, ORIGIN, apart, joined, one_late, packets, programme, sendings, times)
 from .test_clock_clocks import EARLIER, FIRST_PTS, STARTED, STORY
@@ -125,11 +124,9 @@ class Wraps(Case):
                 frames=[ORIGIN // TICKS + more for more in (500, 1200, 2000, 2050)])
 
     def test_late(self) -> None:
-        """A subtitle is late, or all are by a clock that is given; the page moves to another PID,
-        and something is missing there."""
+        """A subtitle is late, or all are by a clock that is given."""
         self.schedule(self.stl, "one.pes", "--every", "25")
         pes = packets(self.read("one.pes"))
         moved = [joined([one]) for one in one_late(3, 5)(sendings(self, self.stl))]
         for name, word, some in (("late", "refused", moved), ("as it is due", "accepted", pes)):
             self.must_be_same(name, word, in_turn(some, [(0, OLD)]))
-            self.must_be_same(f"{name}, moves", word, in_turn(some, [(0, OLD), (14, NEW)]))

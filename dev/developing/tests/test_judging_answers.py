@@ -10,7 +10,6 @@ from unittest import mock
 from developing.pes import pes_packet
 from developing.stl import gsi_block
 from subtitles.clock.alignment import back_at
-from subtitles.clock.start import Clock, Found, GIVEN
 from subtitles.common.command_line import Stop, Words
 from subtitles.common.times import CLOCK, FRAMES_OF_A_DAY, NO_FRAME, Span, TICKS
 from subtitles.formats.listing import fault_of_line
@@ -18,13 +17,10 @@ from subtitles.formats.stl import SubtitleFile
 from subtitles.judging.check import Answer, check
 from subtitles.judging.pair import Pair
 from subtitles.judging.subtitles import AT_MIDNIGHT, falls_at_midnight, midnight_words
-from subtitles.judging.verdict import is_in_move
 from subtitles.report.blocks import readable
 from subtitles.request.lines import request_of_line
 from subtitles.request.request import Unclear, add_options
-from subtitles.stream.gaps import Place
-from subtitles.stream.packets import Change, Packets, Run
-from subtitles.stream.ranges import Stage
+from subtitles.stream.packets import Change
 from subtitles.stream.receiver import Timeline, pauses_in, timeline_near
 from .bench import Case, example, example_bytes
 from .judged import judged
@@ -276,17 +272,6 @@ class Values(Case):
                 (0, [3], []), (10, [900, 990], [
                     Span(11, 899), Span(901, 989)]), (NO_FRAME, [900, 990], [Span(901, 989)])):
             self.must(f"{before} {frames}", [*pauses_in(before, frames)] == wanted)
-
-    def test_where_a_page_moves(self) -> None:
-        """What is missing behind the last PES packet on the PID that it leaves, without a mark."""
-        stage = Stage(Packets(5, [Run(0, 3, 0, TICKS, "h", "")]), (0, 1))
-        for goes, before, mark, is_there in ((6, TICKS, None, True), (6, 2 * TICKS, None, False),
-                                             (6, 0, None, False), (None, TICKS, None, False),
-                                             (6, TICKS, 1, False), (6, None, None, False)):
-            one = part_with(0, 100, 0, alignment=Found(0, 100, Clock(0, GIVEN), stage=stage,
-                                                       goes=goes))
-            self.must(f"{goes} {before} {mark}", is_there == is_in_move(
-                Place(before, 3 * TICKS, mark=mark), one))
 
     def test_held_before(self) -> None:
         """Of PES packets from one in the middle on, which says nothing new: what is held is what

@@ -22,7 +22,7 @@ from subtitles.stream.receiver import BLANK_PAGE, Rows, Timeline
 from .. import DEV
 from .judged import Judged, OfProgramme
 from .muxed import Shape, multiplexed, of_teletext
-from .sent import CLOSING, HEADER, PAGE, Sent, programme, row
+from .sent import CLOSING, HEADER, PAGE, Sent, row
 
 
 # Causes of what nobody is to blame for but who sent it: a text of others in a pause, a header

@@ -18,11 +18,10 @@ from subtitles.request.request import CHOICES, option_line, request_of
 from subtitles.stream.gaps import PAUSED, Pace, REGULAR, Repeats
 from .bench import Case, example, tool_path
 from .judged import Judged, OfProgramme, judged
-from .muxed import NEW, OLD, Shape, in_turn, multiplexed, stream
+from .muxed import OLD, Shape, in_turn, multiplexed, stream
 from .parts import asked_for
 from .results import wrong_choices
-from .sent import (
-    ORIGIN, apart, in_pipe, joined, packets, programme, scheduled, sendings, subtitle_file, times)
+from .sent import ORIGIN, apart, in_pipe, joined, packets, programme, sendings, subtitle_file, times
 from .test_judging_reasons import KEEPING_HEADER
 
 
@@ -86,19 +85,6 @@ class Chosen(Case):
             self.must("clocks", [(one[1], one[4]) for one in told(found) if one[0] == "origin"]
                       == clocks and [one[4] for one in told(found) if one[0] == "pes"] == [1, 2]
                       and not [*wrong_choices(found.result, found.said)], found.said)
-
-    def test_moves(self) -> None:
-        """Both PIDs are chosen, by what each of them has."""
-        stl = programme(self, times(10))
-        pes = scheduled(self, stl, "--every", "25")
-        found = judged(self, stl, self.write("one.ts", in_turn(pes, [(0, OLD), (20, NEW)])),
-                       "--origin", "0", "--every", "25")
-        said = [one for one in told(found) if one[0] == "pid"]
-        self.must("both", said == [
-            ("pid", f"0x{pid:X}", count, count, None, f"PID 0x{pid:X}: page 888 has a header in "
-             f"{count} of {count} PES packets, and the PMT moves it")
-            for pid, count in ((OLD, 20), (NEW, len(pes) - 20))], said)
-        self.must("sound", not [*wrong_choices(found.result, found.said)], found.said)
 
     def test_pace(self) -> None:
         """By at how many places a loss takes longer; where none is asked the note says why."""

@@ -7,7 +7,6 @@ import itertools
 import os
 from dataclasses import replace
 from typing import Callable
-from unittest import mock
 
 from developing.pes import pes_packet
 from developing.stl import gsi_block, tti_block
@@ -16,7 +15,6 @@ from subtitles.clock.origin import Origin
 from subtitles.clock.start import Clock, Found, RECORDING, START
 from subtitles.common.times import Between, Span, TICKS
 from subtitles.formats.stl import Subtitle, SubtitleFile
-from subtitles.judging import part
 from subtitles.judging.part import parted, refuse_others
 from subtitles.judging.timing import unclear_origin, with_delay
 from subtitles.judging.transmissions import DuePages
@@ -410,7 +408,7 @@ class Parting(Case):
                 ("one in two, one missing", nine, [(0, 10), (9, 12), (18, 20)], other),
                 ("another order", nine, three[::-1], other)):
             found = [self.FOUND._replace(begin=begin, end=end) for begin, end in parts]
-            made = parted(found, self.FOUND, subtitles, [], None, 0)
+            made = parted(found, self.FOUND)
             self.must(f"{name}: frames", [(one[:4], one.between) for one in made] == [
                 (one[:4], Between(*one[:2])) for one in found])
             reason = ""
@@ -421,10 +419,5 @@ class Parting(Case):
             self.must(name, reason.startswith(wanted) and bool(reason) == bool(wanted), reason)
         whole = Found(2, 90, Clock(5, RECORDING))
         for one in (self.FOUND, self.FOUND._replace(begin=5, end=7)):
-            self.must("a single one", parted([one], whole, nine, [], (1, 8), 0) == [
+            self.must("a single one", parted([one], whole) == [
                 whole._replace(clock=one.clock, packets=(3, 5))])
-        for packets, inside in ((None, (1, 8)), ((3, 5), (3, 5))):  # on several PID
-            with mock.patch.object(part, "found_on", lambda found, *_: [found]):
-                made = parted([self.FOUND._replace(packets=packets)] * 2, whole, nine,
-                              [mock.Mock()], (1, 8), 0)
-            self.must(f"{packets}", [one.packets for one in made] == [inside] * 2, made)

@@ -12,7 +12,6 @@ from typing import Any
 from unittest import mock
 
 from developing.pes import packet, pes_packet
-from subtitles.clock.start import Clock, Found, GIVEN
 from subtitles.common.program import proved_line
 from subtitles.common.times import CLOCK, Span, TICKS
 from subtitles.formats.listing import fault_of_line
@@ -183,17 +182,13 @@ class Words(Case):
         self.must("headers", fault and len(fault_place(fault, held.packets, held).headers) == 1)
 
     def test_ends(self) -> None:
-        """Where the page comes from, and goes to; of what goes on as no Teletext, why that is."""
+        """Why the PID goes on as no Teletext, if the last PES packet before that is judged."""
         packets = Packets(0x101, [Run(0, 5, 0, TICKS, "h", "")], refusal=31)
         why = "PID 0x101 has other than PES packets of private_stream_1 from PES packet 5 on: " \
             "refused 31 Start pes 5"
-        for number, came, goes, last, words in (
-                (63, 5, None, 4, "page 888 was on PID 0x5 before"), (63, None, 6, 4, ""),
-                (74, 5, 6, 3, "page 888 moves to PID 0x6 then"), (74, 5, None, 3, ""),
-                (74, None, None, 4, why), (74, None, None, 3, ""), (63, None, None, 4, "")):
-            part = part_with(0, 9, 0, packets=packets, pes=(0, last), alignment=Found(
-                0, 9, Clock(0, GIVEN), came=came, goes=goes))
-            self.assertEqual(end_words(number, part, "888"), words, (number, came, goes, last))
+        for last, words in ((4, why), (3, "")):
+            part = part_with(0, 9, 0, packets=packets, pes=(0, last))
+            self.assertEqual(end_words(part), words, last)
 
     def test_gaps(self) -> None:
         """The longest gap, the last among them, and behind the last header, where all that was sent

@@ -11,7 +11,8 @@ from developing.pes import pes_packet, pts_in
 from subtitles.common.times import TICKS
 from .bench import Case, example_bytes
 from .judged import judged
-from .muxed import TELETEXT_PID, beside_video, in_stream, spaced, teletext_descriptor
+from .muxed import (
+    NEW, OLD, TELETEXT_PID, beside_video, in_stream, in_turn, spaced, teletext_descriptor)
 from .sent import (
     HEADER, ORIGIN, apart, in_pipe, joined, moved, packets, programme, random_subtitles, sendings,
     times)
@@ -173,6 +174,8 @@ class Recordings(Case):
             ([STORY, both], "page 888 is sent on 2 PIDs of ", ["--pid 0x101", "--pid 0x102"]),
             ([STORY, in_pipe(self, in_stream((TELETEXT_PID, pes), (0x102, pes)))],
              "page 888 is sent on 2 PIDs of ", ["--pid 0x101", "--pid 0x102"]),
+            ([STORY, self.write("moved.ts", in_turn(packets(pes), [(0, OLD), (2, NEW)]))],
+             "page 888 is sent on 2 PIDs of ", ["--pid 0x101", "--pid 0x111"]),
             ([STORY, both, "--page", "801"], "no header of page 801", ["--page 888"]),
             ([STORY, one, "--pid", "0x200"], "PID 0x200 has no whole PES packet",
              ["--pid 0x101"]),

@@ -27,7 +27,6 @@ from subtitles.request.commands import Names
 from subtitles.results.schema import Writing, trusted_of
 from subtitles.stream.gaps import Place
 from subtitles.stream.packets import Packets, Run
-from subtitles.stream.ranges import Stage
 from .bench import Case
 from .parts import answer, asked_for, packets_told, part_with
 from .sent import CLOSING, HEADER, row
@@ -167,7 +166,7 @@ class Verdicts(Case):
 
     def test_announced_jumps(self) -> None:
         """Those of each part, whichever has some."""
-        recording: Any = SimpleNamespace(stages=[], places=lambda jumps: [
+        recording: Any = SimpleNamespace(places=lambda jumps: [
             Place(before, after, is_announced=True) for before, after in jumps])
         for own in ((0,), (1,), (2,), (0, 2), (0, 1, 2), ()):
             parts = [part_with(100 * at, 100 * at + 99, 0, recording=recording, jumps=[
@@ -176,27 +175,6 @@ class Verdicts(Case):
             found = [(gap.after, gap.is_judged) for gap in gaps_in(recording, parts)]
             self.must(f"{own}", found == [(time_of(100 * at + 50), True) for at in own] and [
                 len(part.places()) for part in parts] == [at in own for at in range(3)], found)
-
-    def test_moves(self) -> None:
-        """What is missing on two PIDs: in the part of each, and where the page goes from the one to
-        the other, which is told once; of what is before the first PES packet there by a mark alone,
-        on the first PID by any; and of what is in no part nothing."""
-        stage = Stage(Packets(5, [Run(0, 100, 0, TICKS, "h", "")]), (0, 99))
-        known: list[tuple[Found, list[tuple[int | None, int | None]]]] = [
-            (Found(10, 99, Clock(0, GIVEN), stage=stage, goes=6), [
-                (None, 12), (2, 5), (50, 60), (99, None)]),
-            (Found(120, 200, Clock(0, GIVEN), stage=stage, came=5), [
-                (None, 125), (130, 140), (300, 310)])]
-        of_mark: list[tuple[str | None, str | None]] = [(None, time_of(125))]
-        for mark in (None, 3):
-            parts = [part_with(0, 9, 0, alignment=alignment, places=[
-                place_of(*ends, mark=None if ends[0] else mark) for ends in several])
-                for alignment, several in known]
-            recording: Any = SimpleNamespace(stages=[stage])
-            found = [(gap.after, gap.before) for gap in gaps_in(recording, parts) if gap.is_judged]
-            self.must(f"{mark}", found == [
-                (None, time_of(12)), (time_of(50), time_of(60)), (time_of(99), time_of(120)),
-                *of_mark * (mark is not None), (time_of(130), time_of(140))], found)
 
     def test_clocks_of_losses(self) -> None:
         """A loss has the times of its part; one that is in none those of the first."""

@@ -21,7 +21,6 @@ from .bench import Case
 from .judged import Judged, OfProgramme, judged
 from .muxed import Carried, NEW, OLD, Programme, VIDEO_PID, in_turn, shown
 from .parts import asked_for
-from .sent import programme
 
 PAGE = (0, 0x88)
 ONE, TWO, THREE = 257, 258, 259

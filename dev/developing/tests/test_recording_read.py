@@ -16,7 +16,6 @@ from subtitles.request.commands import Names
 from subtitles.request.request import Unclear
 from subtitles.stream.gaps import SECOND
 from subtitles.stream.packets import Mark, PES, Packets, Run
-from subtitles.stream.ranges import Stage
 from subtitles.stream.survey import Survey
 from .bench import Case
 from .parts import asked_for
@@ -62,8 +61,8 @@ class Chosen(Case):
     """Which PID."""
 
     def test_which(self) -> None:
-        """The only one with a header of the page, whatever it shows; the one that is asked for; one
-        after another where the PMT moves it, but not of a range. Else what a person may type."""
+        """The only one with a header of the page, whatever it shows, or the one of --pid. Else what
+        the operator may type, also if the PMT moves the page from one to the other."""
         both = [header(ONE), header(TWO, "he")]
         moves = [*table(7, ONE), header(ONE), *table(7, TWO), header(TWO, pts=60 * SECOND)]
         others = [header(ONE), f"sub {TWO} 888", f"sub {THREE} 801"]
@@ -75,7 +74,7 @@ class Chosen(Case):
             ([header(ONE, "-")], [], []), ([header(ONE, "-"), f"sub {TWO} 801"], [],
              ["--page 801"]),
             ([], [], []), ([header(ONE, "-"), *table(7, ONE)], [], NeverSent),
-            (moves, [], ONE), (moves, ["--pes", "0-9"], ["--pid 0x101", "--pid 0x102"]),
+            (moves, [], ["--pid 0x101", "--pid 0x102"]),
             (others, ["--pid", f"{ONE}"], ONE), (both, ["--pid", f"{TWO}"], TWO),
             ([header(ONE), header(TWO, "-")], ["--pid", f"{TWO}"], TWO),
             (others, ["--pid", f"{THREE}"], [f"--pid 0x{TWO:X}"]),
@@ -87,7 +86,7 @@ class Chosen(Case):
             try:
                 packets = recording.chosen()
                 found = packets.pid
-                self.must(f"{lines}: all", packets.count == (2 if lines is moves else 1))
+                self.must(f"{lines}: all", packets.count == 1)
             except NeverSent:
                 found = NeverSent
             except Unclear as reason:
@@ -114,8 +113,6 @@ class Chosen(Case):
                 one.is_piped, one.path, one.stream(), (one.shown, one.kept_ending)) == (
                     is_piped, "one.recording" if is_piped else name,
                     (ONE, packet_size) if packet_size else None, wanted), vars(one))
-            other = one.of(Stage(Packets(TWO), (0, 0)))
-            self.must("of another PID", (one.packets.pid, other.packets.pid) == (ONE, TWO))
         jumped = recorded(Survey())
         self.must("jumps", [one.is_announced for one in jumped.places([(5, 9)])] == [True])
 
@@ -172,20 +169,18 @@ class Told(Case):
             self.assertSaid(found, sizes + ends)
 
     def test_kept(self) -> None:
-        """Each PID once, as it is extracted, up to a PES packet that is refused; where that fails
-        nothing is given for whole."""
+        """The PID as it is extracted, up to a PES packet that is refused; where that fails nothing
+        is given for whole."""
         path = self.write("program", b'#!/bin/sh\nfor file; do :; done\necho "$3" >"$file"\n'
                                      b'[ "$3" != 0x103 ] || exit 2\n[ "$3" != 0x104 ]\n')
         os.chmod(path, 0o755)
-        rows: list[tuple[Sequence[int], bytes | None]] = [
-            ((), b"0x101\n"), ((ONE, TWO, ONE), b"0x101\n0x102\n"), ((ONE, THREE), None),
-            ((0x104, ONE), b"0x104\n0x101\n")]
-        for pids, wanted in rows:
+        rows: list[tuple[int, bytes | None]] = [(ONE, b"0x101\n"), (THREE, None),
+                                                (0x104, b"0x104\n")]
+        for pid, wanted in rows:
             one, found = recorded(surveyed("size 188"), folder=self.folder), None
-            one.typed.program_path, one.packets = path, Packets(ONE)
-            one.stages = [Stage(Packets(pid), (0, 0)) for pid in pids]
+            one.typed.program_path, one.packets = path, Packets(pid)
             try:
                 found = b"".join(one.kept())
             except subprocess.CalledProcessError:
                 pass
-            self.must(f"{pids}", found == wanted, found)
+            self.must(f"{pid:#x}", found == wanted, found)

@@ -16,12 +16,9 @@ from subtitles.stream.gaps import (
     Lull, NEAR, Pauses, Place, SECOND, TOLD, USUAL_EVERY, first_lines, idle_of, is_within,
     marks_told, repeats_in)
 from subtitles.stream.packets import Clocked, Mark, Packets, Run, Texts
-from subtitles.stream.ranges import (
-    MOST_OVERLAP, MOST_PAUSE, Stage, goes_on, named_in_turn, stage_of, way_of)
 from subtitles.stream.receiver import (
     BLANK_PAGE, HIT, HeardRun, Meeting, OLD, OLD_PAGE, Order, Timeline, cleared, heard_of,
     timeline_near)
-from subtitles.stream.survey import Announced, ProgramMap
 from .parts import asked_for
 
 ORIGINS = 0, 7, CLOCK - 100 * SECOND - 5, CLOCK - 20 * SECOND, CLOCK - 5
@@ -36,73 +33,6 @@ def sent(times: Sequence[float | None], origin: int = 0, does: str = "he") -> Pa
     """PES packets at some seconds; `None` for one without a PTS."""
     return Packets(257, [Run(number, 1, at(one, origin), 0, does, "")
                          for number, one in enumerate(times)])
-
-
-class Moves(unittest.TestCase):
-    """A page that moves to another PID."""
-
-    def test_goes_on(self) -> None:
-        """From the last PES packet on the one to the first header on the other: ten seconds before
-        it at most, and an hour behind it."""
-        tick = 1 / SECOND
-        least, most = -MOST_OVERLAP / SECOND, MOST_PAUSE / SECOND
-        for origin, (away, wanted) in itertools.product(ORIGINS, (
-                (least - tick, False), (least, True), (0, True), (most, True),
-                (most + tick, False))):
-            one = Stage(sent([0, 100, None], origin), (0, 2))
-            other = sent([50, 100 + away], origin)
-            other.runs[0] = other.runs[0]._replace(does="c")
-            self.assertEqual(goes_on(one, Stage(other, (0, 1))), wanted, (origin, away))
-        for empty in (sent([None]), sent([5], does="c")):
-            self.assertFalse(goes_on(Stage(sent([0]), (0, 0)), Stage(empty, (0, 0))))
-        self.assertFalse(goes_on(Stage(sent([None]), (0, 0)), Stage(sent([0]), (0, 0))))
-
-    def test_what_a_stage_has(self) -> None:
-        """From one PCR on, and up to a second after another one, by which PTS are ahead of that at
-        most; what has no PTS may be of it."""
-        times = [0, 1, 2, 3, 4, 5]
-        for origin, ahead in itertools.product(ORIGINS, ((), (0, 1), (0.5,))):
-            packets = sent(times, origin)
-            packets.samples = [(0, round(one * SECOND)) for one in ahead]
-            more = max([0, *ahead])
-            for begin, end in itertools.product((None, 0, 1, 1.5, 6), (None, 0, 1.5, 3)):
-                wanted = [number for number, one in enumerate(times)
-                          if (begin is None or one >= begin)
-                          and (end is None or one <= end + more + 1)]
-                found = stage_of(packets, at(begin, origin), at(end, origin)).inside
-                self.assertEqual(found, (wanted[0], wanted[-1]) if wanted else (0, -1),
-                                 (origin, ahead, begin, end))
-        self.assertEqual(stage_of(sent([None, 1, 2, None]), at(1), at(0)).inside, (0, 3))
-
-
-    def test_named_in_turn(self) -> None:
-        """The PID that each PMT announces the page on, else the only one that it names, of those
-        that carry it; nothing behind one that is not clear. The way from one of them goes by the
-        PMT of its programme alone."""
-        other = Announced((1, 0x50), "eng", 2)
-        own = Announced((0, 0x88), "eng", 2)
-        rows: list[tuple[list[tuple[int, set[int], set[int]]], list[tuple[int, int]], list[int]]]
-        rows = [
-            ([], [], [1]), ([(7, {1}, set())], [(1, 0)], [1]), ([(7, {1, 2}, {2})], [(2, 0)], [1]),
-            ([(7, {1}, set()), (7, {1}, set()), (7, {3}, {3})], [(1, 0)], [1, 3]),
-            ([(7, {1, 2}, {1}), (7, {1, 2}, {2}), (7, {1}, set())], [(1, 0), (2, 1), (1, 2)], [1]),
-            ([(7, {1}, set()), (7, {1, 2}, set()), (7, {2}, set())], [(1, 0)], [1]),
-            ([(7, {1}, {1}), (8, {1, 2}, {1, 2}), (7, {2}, {2})], [(1, 0)], [1, 2]),
-            ([(7, {1}, {1}), (8, {2}, {2}), (7, {3}, {2, 3})], [(1, 0), (2, 1)], [1])]
-        for maps, wanted, way in rows:
-            records = [ProgramMap(number, 9, dict.fromkeys(kinds, 6), {
-                pid: [other, own] if pid in pages else [other] for pid in kinds | pages}, at)
-                for at, (number, kinds, pages) in enumerate(maps)]
-            self.assertEqual([*named_in_turn(records, (0, 0x88), {1, 2})], wanted, maps)
-            self.assertEqual(way_of(records, (0, 0x88), 1), way, maps)
-
-    def test_headers_of_a_stage(self) -> None:
-        """Their frames, also within some frames, and of no other PES packet."""
-        runs = [Run(0, 2, 0, TICKS, "he", ""), Run(2, 1, 2 * TICKS, 0, "-", ""),
-                Run(3, 9, 4 * TICKS - EARLY, TICKS, "h", "")]
-        for within, wanted in ((0, [1, 3, 4]), (1, [1, 4, 5])):
-            found = [*Stage(Packets(5, runs), (1, 4)).frames(0, within)]
-            self.assertEqual(found, wanted)
 
 
 class Silences(unittest.TestCase):

@@ -29,7 +29,7 @@ from .bench import Case
 from .judged import judged
 from .muxed import Packet, Shape, TELETEXT_PID, in_frames, multiplexed, stream, without
 from .parts import asked_for, call_words
-from .sent import packets, programme, scheduled
+from .sent import programme, scheduled
 
 
 # Where something is missing, and how late PTS are.

@@ -451,7 +451,7 @@ def pid_of(pair: Pair) -> tuple[str | None, list[str]]:
     packets, and of several PIDs."""
     recording, name = pair.located.recording, pair.request.page_name
     lines = [one.line for one in pair.listener.selections if one.what == PID_CHOICE]
-    if not recording.is_stream or recording.stages:
+    if not recording.is_stream:
         return None, lines
     pid = recording.packets.pid
     for programme in recording.survey.programmes:

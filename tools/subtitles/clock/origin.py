@@ -6,7 +6,7 @@ from typing import Collection, Iterator, NamedTuple, Sequence
 
 from ..common.command_line import Lateness, Stop, counted, range_words
 from ..common.times import (
-    ALL_DAY, Between, FRAMES_A_SECOND, FRAMES_OF_A_DAY, TICKS, frame_in, pts_of, ticks_between,
+    ALL_DAY, Between, FRAMES_A_SECOND, FRAMES_OF_A_DAY, TICKS, frame_in, ticks_between,
     ticks_within, time_of)
 from ..formats.stl import letters_on_page, readable, stl_bytes, subtitle_times
 from ..formats.teletext import Page, page_name

@@ -12,7 +12,6 @@ from ..common.times import (
 from ..formats.stl import GSI
 from ..request.request import ORIGIN_CHOICE, Request, Selection, Unclear
 from ..stream.packets import Packets, Range
-from ..stream.ranges import Stage
 from ..stream.survey import Survey
 
 
@@ -67,26 +66,17 @@ class Clock(NamedTuple):
 
 class Found(NamedTuple):
     """What is judged by one clock: its frames, its PES packets where PTS go back, and the frames in
-    which its subtitles come. Where the page moves to another PID it is what one of these carries,
-    `stage`; `came` and `goes` are the PIDs from which the page comes, and to which it goes."""
+    which its subtitles come."""
 
     begin: int
     end: int
     clock: Clock
     packets: Range | None = None
     between: Between = ALL_DAY
-    stage: Stage | None = None
-    came: int | None = None
-    goes: int | None = None
 
     @property
     def origin(self) -> int:
         return self.clock.origin
-
-    @property
-    def pid(self) -> int | None:
-        """The PID, where the page moves to another one."""
-        return self.stage and self.stage.pid
 
 
 # The clock of a recording by the time code of its first picture, `--start`.

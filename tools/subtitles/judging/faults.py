@@ -5,7 +5,7 @@ import itertools
 from typing import Iterator, NamedTuple, Sequence
 
 from ..clock.start import most_off, off_words
-from ..common.command_line import counted, pid_name
+from ..common.command_line import counted
 from ..common.shapes import Members
 from ..common.times import frame_at, frame_of, time_of
 from ..formats.listing import (
@@ -88,7 +88,7 @@ def code_at(rows: Rows | None, row: int, column: int) -> int | None:
 HINTED = {EMPTY_TIME, CHARACTER, OUT_OF_ORDER, OFF_FRAME, CONTROL, GAP, PARITY, SILENT}
 NAMED = {DISPLAY, CONTENT}  # for which what helps is named, or what differs
 OF_HEADERS = {32, 35}  # of PES packets: their length, and that of their headers
-OF_ENDS = {BEGIN, END}  # where the page moves to another PID, or that has no more Teletext
+OF_ENDS = {BEGIN, END}  # where the recording begins late or ends early
 HINTS = HINTED | NAMED | OF_HEADERS | OF_ENDS
 DSC = slice(11, 12)  # the field in the GSI block
 
@@ -120,7 +120,7 @@ def hint_words(fault: FaultLine, part: Part, verdict: Verdict) -> str:
     if fault.number in OF_HEADERS:
         return part.explanation.of_header
     if fault.number in OF_ENDS:
-        return end_words(fault.number, part, request.page_name) or unrecorded_words(fault, part)
+        return (end_words(part) if fault.number == END else "") or unrecorded_words(fault, part)
     if fault.number == CONTENT:
         return part.explanation.otherwise
     if fault.number in (EMPTY_TIME, OUT_OF_ORDER):
@@ -181,17 +181,10 @@ def letter_words(fault: FaultLine, part: Part) -> str:
     return f"{what} of {whose_words(fault.frame, part)} comes with even parity"
 
 
-def end_words(number: int, part: Part, page: str) -> str:
-    """That the page comes from another PID, or goes to one, or that its PID goes on with what is
-    no Teletext, where that is why a subtitle is not whole."""
-    came, goes = (part.alignment.came, part.alignment.goes) if part.alignment else (None, None)
-    if number == BEGIN and came is not None:
-        return f"page {page} was on {pid_name(came)} before"
-    if number == END and goes is not None:
-        return f"page {page} moves to {pid_name(goes)} then"
+def end_words(part: Part) -> str:
+    """Return why the PID has no more Teletext behind the last PES packet that is judged, if so."""
     is_last = part.pes is not None and part.pes[1] == part.packets.count - 1
-    return (why_refused(part.packets) or "") if number == END and is_last and \
-        part.packets.refusal else ""
+    return (why_refused(part.packets) or "") if is_last and part.packets.refusal else ""
 
 
 def unrecorded_words(fault: FaultLine, part: Part) -> str:

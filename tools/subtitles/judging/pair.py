@@ -26,8 +26,8 @@ from .check import Answer, check, check_alone, say_alone
 from .faults import OF_HEADERS, hint_words, lead_words
 from .pages import hidden_rows, may_hide, otherwise
 from .part import (
-    Explanation, Part, PartFrames, PartPace, PartRange, answered_part, moves_told, part_causes,
-    parted, refuse_others, tell_causes)
+    Explanation, Part, PartFrames, PartPace, PartRange, answered_part, part_causes, parted,
+    refuse_others, tell_causes)
 from .sentence import Lead
 from .status import REFUSED, UNSAID
 from .subtitles import beside_of, due_beside, is_judged_beside, title_words
@@ -337,16 +337,11 @@ class Pair:
             self.verdict.count = len(subtitles) + len(self.verdict.beside.left_out)
             for line in self.verdict.beside.lines():
                 self.listener.said(line)
-        if not recording.stages:
-            self.warn(recording, clocks.alignments[0].origin, programme.whole)
+        self.warn(recording, clocks.alignments[0].origin, programme.whole)
         parts = self.parts_in(recording, clocks.alignments, programme, subtitles)
         for part in parts:
             if selection := part.alignment.clock.chosen(part.number):
                 self.listener.chosen(selection, is_said=False)
-        for part in parts if recording.stages else []:
-            self.warn(part.recording, part.alignment.origin, part.alignment)
-        self.verdict.warn(moves_told([part.alignment for part in parts], self.request.page_name,
-                                     self.request.within))
         for part in parts:
             self.judge_part(part, programme, subtitles, len(parts))
         self.tell_losses(recording)
@@ -355,15 +350,13 @@ class Pair:
                  subtitles: list[Subtitle]) -> list[PartFrames]:
         """What is judged, one after another."""
         request = self.request
-        alignments = parted(alignments, programme.whole, subtitles, recording.stages,
-                            programme.inside, request.within)
+        alignments = parted(alignments, programme.whole)
         if len(alignments) > 1:
             refuse_others(alignments, subtitles, request.stl)
         is_whole = len(alignments) == 1
         return [PartFrames(
             number, request if is_whole else request.of_part(*part.between),
-            self.names if is_whole else self.names.of_part(number), part,
-            recording.of(part.stage) if part.stage else recording, self.left_out)
+            self.names if is_whole else self.names.of_part(number), part, recording, self.left_out)
             for number, part in enumerate(alignments, 1)]
 
     def judge_part(self, frames: PartFrames, programme: PartSearch, subtitles: list[Subtitle],

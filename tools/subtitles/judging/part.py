@@ -8,20 +8,18 @@ import functools
 from typing import Callable, Collection, Iterator, NamedTuple, Sequence
 
 from ..clock.start import Clock, Found
-from ..common.command_line import counted, pid_name
+from ..common.command_line import counted
 from ..common.files import SummedFile
 from ..common.times import (
     Between, FRAMES_OF_A_DAY, Span, Spans, TICKS, frame_in, pts_of, ticks_within, time_of)
 from ..formats.listing import EMPTY, FaultLine, PASSED_OVER, STL_FAULTS, UNDECIDED
 from ..formats.stl import Subtitle, SubtitleFile
 from ..formats.teletext import BY_BITS, RESERVED
-from ..recording.notices import Notice
 from ..recording.recording import Recording
 from ..request.commands import Listener, MOST_LINES, Names
 from ..request.request import Request, Unclear
 from ..stream.gaps import Place
 from ..stream.packets import PES, PTSPair, Packets, Range
-from ..stream.ranges import Stage, move_words, part_inside, up_to
 from ..stream.receiver import Timeline, national_option, timeline_near
 from .causes import Causes, Wording
 from .check import Answer
@@ -91,8 +89,8 @@ def nothing_due() -> DuePages:
 
 @dataclasses.dataclass(frozen=True)
 class Part:
-    """What is judged by itself: all of a pair, or the subtitles of one clock, or of one PID; with
-    what `check` answered, and what explains that.
+    """What is judged by itself: all of a pair, or the subtitles of one clock; with what `check`
+    answered, and what explains that.
 
     `alignment` are its frames with their clock; of a subtitle file alone there are none. `pes` are
     the numbers of the PES packets that are judged, and `judged` is what is judged of a feed.
@@ -273,97 +271,22 @@ def is_in(place: Place, part: Part) -> bool:
     return not is_before and not is_after
 
 
-# A page that moves to another PID: what is judged on each of them, and what is said of the move.
-#
-# A subtitle that is due when the page moves is judged on both PIDs: on neither is it whole, and the
-# program says so, as 74 and 63. Of the frames between the last PES packet on the one and the first
-# header on the other nothing is said, nor of what the other one carries before a subtitle is over
-# that is judged on the first.
-
-PID = "pid"  # the word for machines
+# Which subtitles are judged in which part.
 
 
-def found_on(alignment: Found, stages: Sequence[Stage], subtitles: Sequence[Subtitle],
-             within: int) -> list[Found]:
-    """What each PID carries of what is judged by a clock, where subtitles come on it."""
-    own = [subtitle for subtitle in subtitles if alignment.begin <= subtitle.begin < alignment.end]
-    parts: list[Found] = []
-    before = -1  # the last frame of the stage before
-    for place, stage in enumerate(stages):
-        stage = stage._replace(inside=part_inside(stages, place, alignment.packets))
-        if place + 1 < len(stages):
-            stage = up_to(stage, stages[place + 1])
-        # One that is over on the PID before needs not be seen on this one.
-        over = max([subtitle.end for subtitle in own if subtitle.end <= before], default=0)
-        frames = stage.frames(alignment.origin, within)
-        first = next((frame for frame in frames if frame >= over), None)
-        last = stage.last()
-        if first is None or last is None:
-            continue
-        last = frame_in(last, alignment.origin, within)
-        is_last = place == len(stages) - 1
-        begin = min([subtitle.begin for subtitle in own
-                     if subtitle.begin <= before < subtitle.end] + [before + 1])
-        between = Between(begin, alignment.end if is_last else min(last + 1, alignment.end))
-        if any(between.has(subtitle.begin) for subtitle in own):
-            parts.append(Found(first, last, alignment.clock, stage.inside, between, stage))
-        before = last
-    return [linked(parts, place, alignment) for place in range(len(parts))]
-
-
-def linked(parts: Sequence[Found], place: int, whole: Found) -> Found:
-    """One with those beside it. The first begins as all of them do, and the last ends so."""
-    alignment, is_first, is_last = parts[place], place == 0, place == len(parts) - 1
-    return alignment._replace(
-        begin=whole.begin if is_first else alignment.begin,
-        end=whole.end if is_last else alignment.end,
-        between=Between(whole.begin if is_first else alignment.between.begin,
-                        whole.end if is_last else alignment.between.end),
-        came=None if is_first else parts[place - 1].pid,
-        goes=None if is_last else parts[place + 1].pid)
-
-
-def moves_told(parts: Sequence[Found], page: str, within: int) -> Iterator[Notice]:
-    """What is said of each move between PIDs of which something is judged."""
-    for alignment, other in zip(parts, parts[1:]):
-        if alignment.pid is None or alignment.goes is None or alignment.goes != other.pid:
-            continue  # a break stands between them
-        last, first = alignment.end, other.begin
-        where = f"between {time_of(last)} and {time_of(first)}: what was sent between is not " \
-            "trusted" if last < first else f"at {time_of(first)}, where both carry it"
-        begun = next(other.stage.frames(other.origin, within), first) if other.stage else first
-        if begun < first:
-            where += f"; what {pid_name(alignment.goes)} carries from {time_of(begun)} up to " \
-                "then is not judged"
-        yield Notice(PID, f"{move_words(page, alignment.pid, alignment.goes)} {where}",
-                     time_of(max(last, first)))
-
-
-# Which subtitles are judged in which part: each in one, or in two, where the page moves to another
-# PID while it is due.
-
-
-def parted(alignments: Sequence[Found], whole: Found, subtitles: Sequence[Subtitle],
-           stages: Sequence[Stage], inside: Range | None, within: int) -> list[Found]:
-    """What is judged, one after another, by the parts that were found: a single one is the whole
-    file, several have the subtitles that come in their frames; of each what is on which PID."""
+def parted(alignments: Sequence[Found], whole: Found) -> list[Found]:
+    """Return what is judged, part by part: a single part is the whole file, and each of several has
+    the subtitles that come in its frames."""
     if len(alignments) == 1:
-        alignments = [whole._replace(clock=alignments[0].clock, packets=alignments[0].packets)]
-    else:
-        alignments = [alignment._replace(between=Between(alignment.begin, alignment.end))
-                      for alignment in alignments]
-    if not stages:
-        return [*alignments]
-    return [alignment for alignment in alignments for alignment in found_on(
-        alignment._replace(packets=alignment.packets or inside), stages, subtitles, within)]
+        return [whole._replace(clock=alignments[0].clock, packets=alignments[0].packets)]
+    return [alignment._replace(between=Between(alignment.begin, alignment.end))
+            for alignment in alignments]
 
 
 def refuse_others(parts: Sequence[Found], subtitles: Sequence[Subtitle], stl: str) -> None:
     """`Unclear` where a subtitle of the file `stl` is in none of several parts, or they have others
     than it has, or in another order."""
     own = [subtitle for part in parts for subtitle in subtitles if part.between.has(subtitle.begin)]
-    if any(part.stage for part in parts):
-        own = [*dict.fromkeys(own)]
     left = len(subtitles) - len(own)
     if left > 0:
         raise Unclear(f"{counted(left, 'subtitle')} of {stl} would be in no part, and nobody would "

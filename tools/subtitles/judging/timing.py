@@ -164,9 +164,7 @@ def unclear_origin(origin: Origin, again: Iterable[str]) -> Unclear:
 def clock_options(recording: Recording, origin: Origin) -> Iterator[str]:
     """What a person may type where the origin is not clear."""
     again = recording.again
-    if origin.runs and recording.stages:  # they are numbered on no PID
-        yield from (again("--pid", f"0x{stage.pid:X}") for stage in recording.stages)
-    elif origin.runs:
+    if origin.runs:
         yield again("--pes", "I-J")
     elif origin.breaks is None:
         yield from () if origin.breaks is not None else (

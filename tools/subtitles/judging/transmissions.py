@@ -14,7 +14,7 @@ from ..formats.listing import CHANGED
 from ..formats.stl import Subtitle, SubtitleList, stl_bytes, subtitles_read, subtitles_shown
 from ..formats.teletext import (
     BY_BITS, BY_WORD, ERASE, INHIBIT, NEWSFLASH, Page, RESERVED, SUBTITLE, SUPPRESS, has_bit,
-    letters, page_name)
+    page_name)
 from ..request.request import Request, Unclear, Unsaid
 from ..stream.packets import CLOSED, HEADER, PES, Packets, Run, headers_in, subcode_of
 from ..stream.receiver import BLANK_PAGE, Held, LEAST, Rows, State, Timeline, national_option

@@ -3,16 +3,16 @@ from __future__ import annotations
 
 import collections
 import dataclasses
-from typing import Callable, Collection, Iterable, Iterator, NamedTuple, Sequence
+from typing import Callable, Collection, Iterable, NamedTuple, Sequence
 
 from ..clock.start import FITTED, FITTED_LATER
 from ..common.command_line import range_words
 from ..common.files import SummedFile
-from ..common.times import FRAMES_OF_A_DAY, frame_in, pts_of, time_of
+from ..common.times import FRAMES_OF_A_DAY, frame_in, time_of
 from ..formats.listing import NamedFault, STL_FAULTS, UNDECIDED
 from ..formats.stl import Subtitle
-from ..recording.notices import Notice
 from ..recording.recording import Recording
+from ..recording.notices import Notice
 from ..request.request import Request, Selection
 from ..stream.gaps import Place, what_of
 from ..stream.receiver import Rows, Timeline
@@ -386,24 +386,9 @@ def gap_of(place: Place, origin: int, is_judged: bool) -> Gap:
 
 
 def gaps_in(recording: Recording, parts: Sequence[Part]) -> list[Gap]:
-    """Where something is missing; on a PID to which the page moved, or from which, what is of none
-    of its parts is left out."""
-    if not recording.stages:
-        jumps = [jump for part in parts for jump in part.jumps]
-        return gaps_of(recording.places(jumps), parts)
-    return [gap_of(place, part.origin or 0, True) for part, other in zip(parts, [*parts[1:], None])
-            for place in places_on(part, other) if is_in(place, part) or is_in_move(place, part)]
-
-
-def places_on(part: Part, other: Part | None) -> Iterator[Place]:
-    """Where something is missing on a PID; what is where the page goes to the one of another part
-    is told here, and not there."""
-    for place in part.places():
-        if other and is_in_move(place, part):
-            _, alignment = other.recorded
-            yield dataclasses.replace(place, after=pts_of(alignment.begin, alignment.origin))
-        elif place.mark is not None or place.before is not None or part.recorded[1].came is None:
-            yield place
+    """Return where something of a recording is missing, announced jumps of all parts included."""
+    jumps = [jump for part in parts for jump in part.jumps]
+    return gaps_of(recording.places(jumps), parts)
 
 
 def gaps_of(places: Sequence[Place], parts: Sequence[Part]) -> list[Gap]:
@@ -413,13 +398,6 @@ def gaps_of(places: Sequence[Place], parts: Sequence[Part]) -> list[Gap]:
         own = [part for part in parts if is_in(place, part)]
         gaps.append(gap_of(place, (own or parts)[0].origin or 0, bool(own)))
     return gaps
-
-
-def is_in_move(place: Place, part: Part) -> bool:
-    """Whether something is missing where the page goes to another PID."""
-    alignment = part.alignment
-    return bool(alignment and alignment.stage and alignment.goes is not None and place.mark is None
-                and place.before == alignment.stage.last())
 
 
 def place_time(pts: int | None, origin: int) -> str | None:

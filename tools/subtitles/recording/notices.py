@@ -16,11 +16,9 @@ from ..formats.stl import SubtitleFile
 from ..formats.teletext import BY_WORD, OTHER_REGIONS, Page, as_sent, of_track, page_name
 from ..request.request import LC, Request, Unclear
 from ..stream.gaps import SAID, SECOND, edges_of, jumps_of, repeat_distance, strange_of, why_refused
-from ..stream.packets import PES, Packets
-from ..stream.ranges import announced_in
+from ..stream.packets import Packets
 from ..stream.receiver import FEW, PAUSE
-from ..stream.survey import (
-    ANY, Announced, KINDS, ProgramMap, SUBTITLE_KINDS, Survey, names_of, survey)
+from ..stream.survey import ANY, Announced, KINDS, ProgramMap, SUBTITLE_KINDS, Survey, names_of
 
 
 # What is strange of a recording and breaks no rule of `check`: said, and the status stays.
@@ -215,6 +213,12 @@ class Announcement(NamedTuple):
         """Whether it holds between two PTS, clearly."""
         return (self.begin is None or ticks_between(self.begin, end) > NEAR) and (
             self.end is None or ticks_between(begin, self.end) > NEAR)
+
+
+def announced_in(program_map: ProgramMap, page: Page) -> set[int]:
+    """Return the PIDs on which a PMT announces a page."""
+    return {pid for pid, pages in program_map.pages.items()
+            if any(known.page == page for known in pages)}
 
 
 def announcements_of(records: Sequence[ProgramMap], page: Page) -> Iterator[Announcement]:

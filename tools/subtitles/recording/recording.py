@@ -2,7 +2,6 @@
 from __future__ import annotations
 
 import collections
-import copy
 import functools
 import hashlib
 import os
@@ -20,7 +19,6 @@ from ..request.commands import CommandWords, KEPT, KEPT_STREAM, Listener, Names,
 from ..request.request import PID_CHOICE, Request, Selection, Unclear
 from ..stream.gaps import Place, marks_told, places_of, reach_of, why_refused
 from ..stream.packets import HEADER, PES, PTSPair, Packets
-from ..stream.ranges import Stage, joined_stages, stages_of
 from ..stream.survey import Survey, survey
 from .notices import Notice, announcements_of, refuse_unsent, silent_beside
 
@@ -129,8 +127,7 @@ def silent_in(survey: Survey) -> list[Packets]:
 
 
 class Recording:
-    """A recording that is read: `packets` are those of the PID with the page; `stages` are the PIDs
-    where it moves to another one, and `packets` then stand for all of them. What is judged is a
+    """A recording that is read: `packets` are those of the PID with the page. What is judged is a
     range of the recording itself; what comes through a pipe is copied to a file, at `path`."""
 
     def __init__(self, request: Request, typed: CommandWords, names: Names, listener: Listener,
@@ -143,7 +140,6 @@ class Recording:
         self.is_piped = self.size is None or self.name == STANDARD
         self.path = names.whole_path if self.is_piped else names.as_program(self.name, "given")
         self.survey, self.packets = Survey(), Packets(PES)
-        self.stages: list[Stage] = []
         self.file: SummedFile | None = None
 
     def read(self, is_summed: bool) -> None:
@@ -186,12 +182,6 @@ class Recording:
             refuse_unsent(self.request, self.survey, self.times)
             why = "; ".join([f"{self.name} has no header of page {page}", *self.why_nothing()])
             raise Unclear(self.said(why), *self.other_pages(by_pid.values()))
-        if self.request.pes is None:
-            self.stages = stages_of(self.survey, self.request.page)
-        if self.stages:
-            for stage in self.stages:
-                self.say_chosen(stage.packets, "the PMT moves it")
-            return joined_stages(self.stages)
         raise Unclear(self.said(f"page {page} is sent on {len(pids)} PIDs of {self.name}"),
                       *(self.again("--pid", f"0x{one.pid:X}") for one in pids))
 
@@ -260,12 +250,6 @@ class Recording:
         stream = self.stream()
         return stream_words(*stream) if stream else []
 
-    def of(self, stage: Stage) -> Recording:
-        """The same of one PID, where the page moves to another one."""
-        recording = copy.copy(self)
-        recording.packets = stage.packets
-        return recording
-
     @property
     def shown(self) -> str:
         """The file that is judged, as it is typed."""
@@ -282,18 +266,17 @@ class Recording:
         return KEPT if self.is_piped or self.is_stream else None
 
     def kept(self) -> Iterator[bytes]:
-        """What is kept of it; the PES packets of several PIDs one PID after another."""
+        """What is kept of it."""
         if self.is_piped:
             yield from pieces_of(self.path)
             return
         own = self.names.temporary("kept.pes")
-        for pid in dict.fromkeys(stage.pid for stage in self.stages) or [self.packets.pid]:
-            done = subprocess.run([self.typed.program_path, "extract",
-                                   *stream_words(pid, self.survey.size or 0), "--", self.path, own],
-                                  stdin=subprocess.DEVNULL, stdout=subprocess.DEVNULL, check=False)
-            if done.returncode != 1:  # what stands before a PES packet that is refused is kept
-                done.check_returncode()
-            yield from pieces_of(own)
+        done = subprocess.run([self.typed.program_path, "extract", *self.words(), "--", self.path,
+                               own], stdin=subprocess.DEVNULL, stdout=subprocess.DEVNULL,
+                              check=False)
+        if done.returncode != 1:  # what stands before a PES packet that is refused is kept
+            done.check_returncode()
+        yield from pieces_of(own)
 
     def places(self, jumps: Iterable[PTSPair] = ()) -> list[Place]:
         """Where something is missing, also where a jump that is announced hides it."""

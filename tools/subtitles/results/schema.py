@@ -194,7 +194,7 @@ WARNING = Record(
     "warning", "",
     Member("kind", OneOf(
         "pts_behind", "pts_early", "pts_changed", "page", "type", "language", "option",
-        "character_set", "repeat", "clock_jump", "pause", "pid", "blocks", "subtitles", "grew",
+        "character_set", "repeat", "clock_jump", "pause", "blocks", "subtitles", "grew",
         "cut", "hidden"),
            "PTS of the Teletext against the PCR; a clock that jumps; what the PMT announces "
            "(page, type, language, option: letters of another national option than the page was "

@@ -5,7 +5,6 @@ import itertools
 from collections import Counter
 from typing import Iterable, Iterator, NamedTuple, Sequence, TypeVar
 
-from ..common.command_line import counted
 from ..formats.layout import (
     CODES, COLOURS, COLUMNS, DOUBLE, DRAWN_CODES, Layout, MOST_AFTER, MOST_BEFORE, MOST_SHIFT,
     PLAIN, Refused, START_BOX, WHITE, column_of, drawn, inner, layout_text, leading, letter_cells,

@@ -1,18 +1,13 @@
-"""Which PES packets are of some frames, and of a page that moves to another PID."""
+"""Find which PES packets are of some frames."""
 from __future__ import annotations
 
 import array
-import dataclasses
 import itertools
 from typing import Iterator, NamedTuple, Sequence
 
-from ..common.command_line import counted, pid_name
-from ..common.times import (
-    FRAMES_OF_A_DAY, NO_FRAME, TICKS, frame_in, pts_of, ticks_between, time_of, wrapped)
-from ..formats.teletext import Page
-from .gaps import SECOND
+from ..common.command_line import counted
+from ..common.times import FRAMES_OF_A_DAY, NO_FRAME, TICKS, frame_in, pts_of, time_of, wrapped
 from .packets import BLANK, CLOSED, HEADER, OPEN, Packets, Range, Run
-from .survey import ProgramMap, Survey
 
 
 # Which PES packets of a recording are of some frames: the numbers of the first and the last.
@@ -249,151 +244,3 @@ def is_page_over(own: SentPackets, place: int, first: int) -> bool:
     """Whether the page is blank behind the one at a place, and has ended where it did before."""
     return BLANK in own.does[place] and not (OPEN in own.does[place] and any(
         CLOSED in own.does[at] for at in range(place + 1) if own.numbers[at] >= first))
-
-
-# A page that moves to another PID, as the PMT says: which PES packets of which PID are of it when.
-
-MOST_OVERLAP, MOST_PAUSE = 10 * SECOND, 3600 * SECOND  # ticks between two of them
-MOST_STAGES = 64  # of a page that moves: each costs a look at all that came
-
-
-class Stage(NamedTuple):
-    """A PID for as long as the PMT names it for the page, with the numbers of the first and the
-    last of its PES packets that may have come in that time."""
-
-    packets: Packets
-    inside: Range
-
-    @property
-    def pid(self) -> int:
-        return self.packets.pid
-
-    def frames(self, origin: int, within: int) -> Iterator[int]:
-        """The frames of its headers of the page."""
-        return (frame_in(pts, origin, within) for pts in self.packets.pts(self.inside, HEADER))
-
-    def last(self) -> int | None:
-        """The PTS of its last PES packet."""
-        return next((run.last for run in reversed([*self.packets.inside(*self.inside)])
-                     if run.pts is not None), None)
-
-
-def up_to(stage: Stage, other: Stage) -> Stage:
-    """A stage without what its PID goes on with once the page has come on that of the next one: a
-    header of the page is still of it."""
-    first = next(other.packets.pts(other.inside, HEADER), None)
-    if first is None:
-        return stage
-    begin, end = stage.inside
-    for run in reversed([*stage.packets.inside(begin, end)]):
-        for number in reversed(range(run.first, run.end)):
-            pts = run.pts_of(number)
-            if HEADER in run.does or pts is not None and ticks_between(pts, first) > 0:
-                return stage._replace(inside=(begin, number))
-    return stage._replace(inside=(begin, begin - 1))
-
-
-def stages_of(survey: Survey, page: Page) -> list[Stage]:
-    """The PIDs that carry a page one after another; none where it stays on one, where a PID carries
-    it that the PMT of the others does not name, where there are too many, or where the time does
-    not go on from one to the next. The times of a PMT are those of the PCR before it, which is told
-    once a second: so stages may overlap by what came in that time."""
-    carriers = {pid for pid, packets in survey.by_pid.items() if packets.has_page}
-    by_number: dict[int, list[ProgramMap]] = {}
-    for record in survey.programmes:
-        by_number.setdefault(record.number, []).append(record)
-    for records in by_number.values():
-        named = [*named_in_turn(records, page, carriers)]
-        if 1 < len(named) <= MOST_STAGES and {pid for pid, _ in named} == carriers:
-            begins = [at for _, at in named]
-            stages = [stage_of(survey.by_pid[pid], begin if place else None, end)
-                      for place, ((pid, begin), end) in enumerate(zip(named, [*begins[1:], None]))]
-            return stages if all(map(goes_on, stages, stages[1:])) else []
-    return []
-
-
-def goes_on(stage: Stage, other: Stage) -> bool:
-    """Whether the time goes on from a stage to the next one."""
-    last, first = stage.last(), next(other.packets.pts(other.inside, HEADER), None)
-    return last is not None and first is not None and \
-        -MOST_OVERLAP <= ticks_between(last, first) <= MOST_PAUSE
-
-
-def named_in_turn(records: Sequence[ProgramMap], page: Page, carriers: set[int]) \
-        -> Iterator[tuple[int, int | None]]:
-    """The PID that each PMT of a programme names for a page, where that is another one than before,
-    with the PCR before that PMT. One that names several is not clear: nothing comes after it."""
-    before: int | None = None
-    for program_map in records:
-        pids = (announced_in(program_map, page) or program_map.kinds.keys()) & carriers
-        if len(pids) > 1:
-            return
-        for pid in pids - {before}:
-            before = pid
-            yield pid, program_map.after
-
-
-def way_of(records: Sequence[ProgramMap], page: Page, pid: int) -> list[int]:
-    """The PIDs that carry a page one after another, from one of them on: where a later PMT of its
-    programme names it no more, and announces the page on another one alone."""
-    way, number = [pid], None
-    for program_map in records:
-        if number is None and pid in program_map.kinds:
-            number = program_map.number
-        if program_map.number != number or way[-1] in program_map.kinds:
-            continue
-        announced = announced_in(program_map, page)
-        if len(announced) == 1:
-            way += announced
-    return way
-
-
-def announced_in(program_map: ProgramMap, page: Page) -> set[int]:
-    """The PIDs on which a PMT announces a page."""
-    return {pid for pid, pages in program_map.pages.items()
-            if any(known.page == page for known in pages)}
-
-
-def move_words(page: str, before: int, pid: int) -> str:
-    """What the PMT says where a page moves from one PID to another."""
-    return f"the PMT moves page {page} from {pid_name(before)} to {pid_name(pid)}"
-
-
-def stage_of(packets: Packets, begin: int | None, end: int | None) -> Stage:
-    """What may have come from one PCR on, and up to a second after another one; PTS are ahead of
-    the PCR."""
-    ahead = max([0, *(ticks for _, ticks in packets.samples)]) + SECOND
-    numbers = [number for number, pts, _ in packets if pts is None or (
-        (begin is None or ticks_between(begin, pts) >= 0)
-        and (end is None or ticks_between(pts, wrapped(end + ahead)) >= 0))]
-    return Stage(packets, (numbers[0], numbers[-1]) if numbers else (0, -1))
-
-
-def joined_stages(stages: Sequence[Stage]) -> Packets:
-    """What is sent of the page on all PIDs, one after another, as if it were on one: by numbers of
-    their own."""
-    first = stages[0].packets
-    whole = dataclasses.replace(first, runs=[], held=[], strays=[], changes=[], marks=[], seams=[])
-    for stage in stages:
-        low, high = stage.inside
-        more, packets = whole.count - low, stage.packets
-        whole.runs += [run._replace(first=run.first + more) for run in packets.inside(low, high)]
-        whole.held += [(number + more, texts) for number, texts in packets.held
-                       if low <= number <= high]
-        whole.strays += [(number + more, texts) for number, texts in packets.strays
-                         if low <= number <= high]
-        whole.changes += [change._replace(number=change.number + more) for change in packets.changes
-                          if low <= change.number <= high]
-        whole.marks += [mark._replace(number=mark.number + more) for mark in packets.marks
-                        if low <= mark.number <= high]
-        whole.begun = packets.begun
-    return whole
-
-
-def part_inside(stages: Sequence[Stage], place: int, inside: Range | None) -> Range:
-    """Those PES packets of a stage that are of some by their numbers in all that is joined."""
-    low, high = stages[place].inside
-    if inside is None:
-        return low, high
-    before = sum(stage.inside[1] - stage.inside[0] + 1 for stage in stages[:place])
-    return max(low, inside[0] - before + low), min(high, inside[1] - before + low)
