@@ -258,7 +258,7 @@ class Made:
         sent = " ".join(f"{frame}:{text}" for frame, text in self.sent)
         about = f"{self.within} {held.first} {held.last} {lost} {reach} {known}"
         return "\t".join([self.subtitles, sent, about,
-                          "; ".join(said), f"{delays[0]} {delays[1]} {causes.unsent_from()}"])
+                          "; ".join(said), f"{delays[0]} {delays[1]}"])
 
 
 class Table(unittest.TestCase):

@@ -10,7 +10,7 @@ from types import SimpleNamespace
 from typing import Any, Callable
 
 from developing.pes import packet
-from subtitles.common.times import CLOCK, time_of
+from subtitles.common.times import CLOCK, TICKS, time_of
 from subtitles.formats.layout import PLAIN, Refused, cell_lines, prepared
 from subtitles.formats.listing import NOT_SHOWN, NamedFault, fault_of_line, meanings
 from subtitles.formats.stl import Subtitle
@@ -25,7 +25,7 @@ from subtitles.recording.notices import Notice
 from subtitles.stream.receiver import BLANK_PAGE
 from .bench import Case
 from .judged import OfProgramme, judged
-from .sent import CLOSING, HEADER, Sent, joined, programme, row, sendings
+from .sent import CLOSING, HEADER, Sent, joined, one_late, programme, row, sendings
 from .test_formats_letters import ANY_SUBCODE, CHARACTER, LEVEL_1, Receiver, TEXT_AT
 from .test_judging_faults import cause, causes_of
 
@@ -174,6 +174,51 @@ class First(OfProgramme):
         self.must("page", place in self.read("many/index.html").decode())
         self.must("junit", f'message="refused {place}"' in self.read("many.xml").decode(),
                   self.read("many.xml").decode()[:900])
+
+
+class Ends(OfProgramme):
+    """What is said of the ends of a recording of ten subtitles."""
+
+    def test_cut_off(self) -> None:
+        """How many subtitles were cut off, which are judged without them, and the sentence."""
+        whole = (100, 1060)
+        rows: list[tuple[str, int, tuple[int, int], list[str], str]] = [
+            ("all are late, none is cut off", 2, whole, [], "all 10 subtitles are 2 frames late"),
+            ("all are early, none is cut off", -2, whole, [],
+             "all 10 subtitles are 2 frames early"),
+            ("the first one is cut off", 0, (110, 1060), [
+                "63: 1 of 10 subtitles was not recorded completely; --from 00:00:08:00 judges "
+                "the others"], "the recording begins, and the first TCI is before it"),
+            ("all are late, the first one is cut off", 2, (110, 1060), [
+                "63: 1 of 10 subtitles was not recorded completely; --from 00:00:08:00 judges "
+                "the others"], "all 10 subtitles are 2 frames late"),
+            ("the last one is cut off", 0, (100, 1050), [
+                "74: 1 of 10 subtitles was not recorded completely; --to 00:00:38:11 judges the "
+                "others"], "the recording ends, and the last TCO is after it")]
+        for name, frames, (first, last), hints, sentence in rows:
+            sent = [(pts, some) for pts, some in self.sent
+                    if first * TICKS <= pts <= last * TICKS]
+            found = self.judge(sent, "--origin", str(-frames * TICKS % CLOCK))
+            ends = [hint for hint in found.result["hints"] if hint.startswith(("63", "74"))]
+            self.must(name, ends == hints, ends)
+            self.must(name, sentence in found.verdict.sentence, found.verdict.sentence)
+
+    def test_waived(self) -> None:
+        """A fault that is waived leads neither the sentence nor the last line."""
+        sent = one_late(3, 2)(self.sent)
+        pts, (header, text, *more) = sent[0]
+        sent[0] = pts, [header, text[:-1] + bytes([text[-1] ^ 0x80]), *more]
+        for waived, sentence, last in (
+                ("", "at 00:00:12:00 subtitle 3, \"Number 3\", is 2 frames late; also 68 Parity",
+                 "refused 68 Parity"),
+                ("68", "at 00:00:12:00 subtitle 3, \"Number 3\", is 2 frames late; waived: 68 "
+                 "Parity", "refused 72 Content"),
+                ("72", "of subtitle 1, \"Number 1\", comes with even parity; waived: 72 Content.",
+                 "refused 68 Parity"), ("others", "Waived", "waived: refused 68 Parity")):
+            severity = self.write("mild", f"{waived} warning\n".encode() if waived else b"")
+            found = self.judge(sent, "--severity", severity)
+            self.must(waived, sentence in found.verdict.sentence, found.verdict.sentence)
+            self.must(waived, found.said[-1].startswith(last), found.said[-1])
 
 
 class Places(OfProgramme):

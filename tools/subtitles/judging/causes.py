@@ -309,7 +309,6 @@ class Namer(Sendings):
 
 # The causes of a list of `check --all`.
 
-FEW = 3  # subtitles, which have the edges of a part
 BEFORE = f"its page transmission is before what was cut, so {BEGIN} is reported"
 
 
@@ -342,6 +341,8 @@ class Causes:
         for place in sorted(self.open):
             self.named[place] = self.named_by(place)
         self.open = {}
+        if begin and begin.frame is not None:
+            self.name_first(begin.frame)
 
     def add(self, first: int, last: int) -> None:
         """Takes frames at which another page is held than is due."""
@@ -377,6 +378,22 @@ class Causes:
             self.of_edge[BEGIN] = self.add_to(0, Span(came, begin - 1))
         self.compare(BEGIN, begin, frame - 1)
 
+    def name_first(self, frame: int) -> None:
+        """Name the first subtitle late if the recording begins with its page, and that begins or
+        ends as late as the next one begins: by itself it could have been cut off."""
+        page, following = self.programme.pages[0], self.named.get(1)
+        if following is None or following.name != LATE or BEGIN in self.of_edge \
+                or self.held.first != frame or self.held.page_at(frame) != page:
+            return
+        first, second = self.programme.subtitles[:2]
+        until = self.held.stretch(self.held.number_at(frame)).last
+        late = following.frames or 0
+        if late == frame - first.begin:
+            self.of_edge[BEGIN] = 0
+        elif late != until + 1 - first.end or first.end == second.begin:
+            return
+        self.named[0] = Cause(0, LATE, late, page, None, "", max(frame, first.begin + late))
+
     def look_after(self, frame: int) -> None:
         """Looks at what was sent after a frame, the last that is judged, up to the last TCO, where
         the recording has it."""
@@ -395,6 +412,10 @@ class Causes:
     def named_by(self, place: int) -> Cause:
         """The cause of a subtitle."""
         cause = self.namer.cause(place, self.open[place])
+        begin = self.programme.begins[place]
+        if cause.name == LATE and begin + (cause.frames or 0) == self.held.first \
+                and begin < self.reached().first:
+            cause = self.namer.later(place, self.open[place])  # it may have come before that
         is_before = cause.name == EARLY and self.of_edge.get(BEGIN) == place
         return cause._replace(words=BEFORE) if is_before else cause
 
@@ -405,16 +426,13 @@ class Causes:
         edge = self.of_edge.get(number)
         return None if edge is None else self.named.get(edge)
 
-    def unsent_from(self) -> int | None:
-        """The TCI from which on no subtitle was sent, where these are a few."""
-        subtitles = self.programme.subtitles
-        place = len(subtitles)
-        while place and self.is_never_sent(place - 1):
-            place -= 1
-        return subtitles[place].begin if len(subtitles) - place >= FEW else None
-
-    def is_never_sent(self, place: int) -> bool:
-        return place in self.named and self.named[place].name == NEVER
+    def is_over_early(self, place: int) -> bool:
+        """Return whether a subtitle came early, and another page replaced it."""
+        cause = self.named.get(place)
+        if cause is None or cause.name != EARLY:
+            return False
+        came = self.programme.begins[place] - (cause.frames or 0)
+        return self.held.number_at(came) + 1 < len(self.held.frames)
 
     def all(self) -> list[Cause]:
         """All that are known, in the order of the subtitles."""

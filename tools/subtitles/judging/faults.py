@@ -196,12 +196,15 @@ def unrecorded_words(fault: FaultLine, part: Part) -> str:
         left = [one for one in subtitles if one.begin < frame]
         option = [f"--from {time_of(one.begin)}" for one in subtitles if one.begin >= frame][:1]
     else:
-        left = [one for one in subtitles if one.end > frame]
+        left = [one for place, one in enumerate(subtitles)
+                if one.end > frame and not (part.causes and part.causes.is_over_early(place))]
         option = [f"--to {time_of(one.end + 1)}" for one, other in zip(subtitles, subtitles[1:])
                   if one.end <= frame and one.end < other.begin][-1:]
+    if not left:
+        return ""
     words = f"{len(left):,} of {counted(len(subtitles), 'subtitle')} " \
         f"{'was' if len(left) == 1 else 'were'} not recorded completely"
-    return f"{words}; {option[0]} judges the others" if option and left else words
+    return f"{words}; {option[0]} judges the others" if option else words
 
 
 def open_words(subtitles: SubtitleFile) -> str:

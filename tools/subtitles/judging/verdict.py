@@ -9,7 +9,7 @@ from ..clock.start import FITTED, FITTED_LATER
 from ..common.command_line import range_words
 from ..common.files import SummedFile
 from ..common.times import FRAMES_OF_A_DAY, frame_in, time_of
-from ..formats.listing import NamedFault, STL_FAULTS, UNDECIDED
+from ..formats.listing import FaultLine, NamedFault, STL_FAULTS, UNDECIDED
 from ..formats.stl import Subtitle
 from ..recording.recording import Recording
 from ..recording.notices import Notice
@@ -306,15 +306,19 @@ class Verdict:
 
     @property
     def line(self) -> str | None:
-        """The line of `check` of the first part that is refused; else of the only one, or of all.
-        Before it stands what became of it."""
-        return self.line_of(next((part.answer.line for part in self.parts if part.is_refused),
-                                 None))
+        """The last line on standard output: the first fault that counts, else the first one that
+        is waived, as `check` prints it; without a fault the line of the only part, or of all."""
+        faults: list[FaultLine | NamedFault] = [
+            fault for part in self.parts for fault in part.answer.firsts.values()]
+        faults += self.named
+        errors = [fault for fault in faults if self.severity.is_error(
+            fault.name if isinstance(fault, NamedFault) else fault.number)]
+        return self.line_of(next((fault.line for fault in errors or faults), None))
 
     @property
     def lead(self) -> str | None:
-        """The same with the worst fault, where there is one: reports, and tables of many pairs,
-        begin with it."""
+        """The same with the worst fault that counts: reports, and tables of many pairs, begin
+        with it."""
         if self.first_named:
             return self.line_of(self.first_named.line)
         return self.line_of(self.leading.lead if self.leading else None)
@@ -347,8 +351,6 @@ class Verdict:
         word = self.word
         if word == NOT_JUDGED:
             return None
-        if refused is None and self.named:
-            refused = self.named[0].line
         if word == REFUSED:
             return refused
         line = self.accepted_line() if refused is None else f"{WAIVED}: {refused}"

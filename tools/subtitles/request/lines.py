@@ -192,14 +192,6 @@ def goes_with(name: str, modes: Sequence[Mode], mode: Mode) -> str:
     return f"{name} goes with {known}, and not with {mode.words}"
 
 
-def refuse_settings(profile: Profile, mode: Mode) -> None:
-    """`Stop` with the first option of a profile that does not go with a line that names it."""
-    for setting in profile.settings.values():
-        option = next(one for one in OPTIONS if one.name == setting.name)
-        if mode not in option.modes:
-            raise Stop(f"{profile.name}: {goes_with(option.name, option.modes, mode)}")
-
-
 @functools.lru_cache(maxsize=None)
 def line_parser() -> Words:
     """What a line of a list is read by; it takes longer to make than to use."""

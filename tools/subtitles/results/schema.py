@@ -356,8 +356,8 @@ VERDICT = Record(
     Member("status", STATUS, of=lambda known: known.verdict.status),
     Member("line", Maybe(Text()), "The last line on standard output; null where it was not judged.",
            lambda known: known.verdict.line),
-    Member("lead", Maybe(Text()), "The same with the fault that a viewer sees first (63, 72, 74, "
-           "77 or 78), where there is one: reports, and tables of many pairs, begin with it.",
+    Member("lead", Maybe(Text()), "The same with the worst fault that is not waived: reports, and "
+           "tables of many pairs, begin with it.",
            lambda known: known.verdict.lead),
     Member("sentence", Text(), "The verdict in one sentence for a person.",
            lambda known: known.verdict.sentence),
