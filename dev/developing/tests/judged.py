@@ -13,6 +13,7 @@ from subtitles.cli.measure import Unprinted
 from subtitles.cli.single import Files, PairCall, claimed, end_pair, judge_pair, verdict_of
 from subtitles.common.program import MadeWith
 from subtitles.judging.pair import Pair
+from subtitles.judging.status import decide
 from subtitles.judging.verdict import Verdict
 from subtitles.request.commands import CommandWords, Listener, Names
 from subtitles.request.lines import read_options
@@ -44,7 +45,15 @@ class Judged(NamedTuple):
 
     @property
     def word(self) -> str:
-        return self.verdict.word
+        """The verdict as it would be with a clock, since most tests are about something else."""
+        return decide(self.verdict.seen()._replace(has_clock=True)).word
+
+    def is_timed(self) -> bool:
+        """Whether nothing says `accepted`, or has status 0, unless a clock was given."""
+        request, said = self.verdict.request, (
+            self.verdict.word, self.result["verdict"], self.said[-1].split(" ")[0])
+        return request.has_clock or not {"accepted", "waived", "waived:"} & {*said} and (
+            request.is_relative_allowed or 0 not in (self.verdict.status, self.result["status"]))
 
     @property
     def told(self) -> list[str]:
@@ -64,6 +73,7 @@ def judged(case: Case, *words: str, by: str | None = None, heard: Heard | None =
     """A pair judged by the words of a command line, and by the program or another one. The commands
     that are printed name its files alone."""
     found = judged_by(by or case.bench.program, *words, heard=heard)
+    case.must("a clock", found.is_timed(), found.said)
     for line in found.verdict.commands:
         case.must(line, set(shown_files(line)) <= found.files, found.files)
     return found

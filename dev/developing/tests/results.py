@@ -29,9 +29,9 @@ ENDS: dict[type, tuple[str, str]] = {
     int: ("minimum", "maximum"), float: ("minimum", "maximum")}
 SOME = 20  # of a list are all read by the other reader, then one of 50
 ASKED = {"stl": "one.stl", "recording": "one.ts", "page": "888", "every": 250, "option": "english",
-         "origin": None, "complete": True, "pid": None, "allow_lost": False, "severity": None,
-         "breaks": 0, "pes": None, "start": None, "within": 0, "strict": False, "from": None,
-         "to": None, "layout": None, "open": False, "keeping": False, "pace": None,
+         "origin": 0, "complete": True, "pid": None, "allow_lost": False, "severity": None,
+         "breaks": 0, "pes": None, "start": None, "relative": False, "within": 0, "strict": False,
+         "from": None, "to": None, "layout": None, "open": False, "keeping": False, "pace": None,
          "late": None, "profile": None}
 FAULT = {**dict.fromkeys((
     "block", "subtitle", "byte", "character", "text_at", "pes", "pes_pts", "pes_time", "packet",

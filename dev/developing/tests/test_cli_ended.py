@@ -188,15 +188,32 @@ class Programs(Story):
         other = self.write("no", b"73 warning\n")
         self.assertEqual(self.judge(program, "--severity", other).status, 1)
 
-    def test_strict(self) -> None:
-        """A clock that was fitted counts where warnings do; one that was given does not."""
-        program = self.saying(ACCEPTED)
-        fitted = self.qc(*HELLO, "-p", program, "--strict", "--json", "one.json")
-        line = f"not accepted, since warnings count (fitted): {ACCEPTED}"
-        self.assertEqual((fitted.status, fitted.printed[-1]), (1, line), fitted)
-        self.assertEqual((self.object()["verdict"], self.object()["asked"]["strict"]),
-                         ("warned", True))
+    def test_relative(self) -> None:
+        """Without a clock no line and no file says `accepted`, but what `check` itself said;
+        --relative makes the status 0, and the word stays."""
+        self.write("profile", b"--relative\n")
+        program, line = self.saying(ACCEPTED), "relative 51 frames 2 transmissions"
+        for words, status in (((), 3), (("--relative",), 0), (("--profile", "profile"), 0),
+                              (("--strict",), 3), (("--strict", "--relative"), 0)):
+            done = self.qc(*HELLO, "-p", program, *words, "--quiet", "--json", "one.json", "--csv",
+                           "one.csv", "--junit", "one.xml", "-o", "out")
+            known, last = self.object(), line + "; the profile has --relative" * (
+                "--profile" in words)
+            self.assertEqual((done.status, len(done.printed), done.printed[-1]), (status, 2, last))
+            self.assertEqual([known[name] for name in ("verdict", "status", "line", "lead")], [
+                "relative", status, last, last])
+            self.assertEqual(known["sentence"], done.printed[0])
+            self.assertIn("No clock was given, so its delay was not checked", done.printed[0])
+            rows = list(csv.DictReader(self.text("one.csv").splitlines()))
+            self.assertEqual([(row["verdict"], row["status"]) for row in rows], [
+                ("relative", str(status))])
+            case = tree.fromstring(self.read("one.xml"))[0][0]
+            self.assertEqual([one.tag for one in case], ["failure" if status else "system-out"])
+            self.assertIn(known["sentence"], case[0].text or "")
+            self.assertNotIn("ccepted", self.text("one.csv") + self.text("one.xml"))
+            self.assertIn(f"<title>{last} ", self.text("out/hello.html"))
         self.assertEqual(self.judge(program, "--strict").status, 0)
+        self.assertEqual(self.judge(program, "--relative").printed, self.judge(program).printed)
         self.assertEqual(self.judge(program, "--quiet").printed, self.judge(program).printed[-2:])
 
 

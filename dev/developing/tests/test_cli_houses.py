@@ -45,7 +45,7 @@ def runs_the_whole_way(case: Case, prefix: str) -> None:
     done = run("subttx", "check", stl, pes, "--pes", "0-4")
     case.must("check", done.out == b"accepted 226 frames 5 transmissions\n", done)
     done = run("subttx-qc", stl, "story.ts", "-o", "report")
-    case.must("qc", done.out.endswith(b"accepted 226 frames 5 transmissions\n") and
+    case.must("qc", done.out.endswith(b"\nrelative 226 frames 5 transmissions\n") and
               os.path.join(prefix, "bin", "subttx").encode() in done.out and
               os.path.exists(case.path("report/story.html")), done)
     done = run("subttx-ts2pes", "--help")
@@ -337,7 +337,7 @@ def judges_what_comes(case: Case, process: subprocess.Popen[bytes]) -> None:
         if comes_slowly(case, f"in/{name}") < SETTLED:
             break
         too_slow.add(name)
-    whole = [f"{name}  accepted"]
+    whole = [f"{name}  relative: no clock was given"]
     case.must("not before it is whole", lines() in ([], whole), lines())
     case.must("when it is whole", until(lambda: lines() == whole), lines())
     case.must("a file without a partner, once", until(
@@ -348,7 +348,8 @@ def judges_what_comes(case: Case, process: subprocess.Popen[bytes]) -> None:
     case.must("at once", until(lambda: any(line.startswith("now  refused: 67 Control ")
                                            for line in lines())), lines())
     put(case, "in/now.pes", "hello.pes")
-    case.must("again", until(lambda: "now  accepted" in lines()), lines())
+    case.must("again", until(
+        lambda: "now  relative: no clock was given" in lines()), lines())
     process.send_signal(signal.SIGTERM)
     case.must("it ends", process.wait(SECONDS) == 2)
     case.must("no more than that", len(lines()) == 3 and b"Traceback" not in case.read("log"),
@@ -377,7 +378,7 @@ class Sites(Case):
             judged = count_judged(self) - before
             self.must(f"{again} are judged", judged == again, (judged, kept, before))
             self.must("all are told", done.status == 1 and
-                      done.out.decode().splitlines()[-1] == "4 pairs: 3 accepted, 1 refused", done)
+                      done.out.decode().splitlines()[-1] == "4 pairs: 3 relative, 1 refused", done)
 
     def test_tells_what_is_judged_when_it_is_stopped(self) -> None:
         """By a signal a batch ends with what it has: the table, the files, and how many there were.
@@ -414,8 +415,8 @@ class Sites(Case):
                     file.write(example_bytes(data))
         done = qc(self, "--batch", "in", "-o", "out", "--csv", "all.csv", "--junit", "all.xml")
         lines = done.out.decode().splitlines()
-        self.must("all are accepted", done.status == 0 and
-                  lines[-1] == f"{len(HOSTILE)} pairs: {len(HOSTILE)} accepted", done)
+        self.must("all are right", done.status == 3 and
+                  lines[-1] == f"{len(HOSTILE)} pairs: {len(HOSTILE)} relative", done)
         self.must("a line each", len(lines) == len(HOSTILE) + 2, lines)
         self.must("nothing that a terminal obeys", not re.search(
             "[\x00-\x09\x0b-\x1f\x7f\x9b\u202e]", done.out.decode()), done.out)
@@ -449,7 +450,7 @@ class Sites(Case):
         slow = self.program_but("*check*", f"touch '{self.path('begun')}'; exec sleep {SECONDS}")
         # The line of a pair comes behind its result, when nothing of it can be stopped any more.
         for program, wanted, words_in in ((slow, "begun", b""),
-                                          (self.bench.program, "said", b"accepted")):
+                                          (self.bench.program, "said", b"relative")):
             words = [tool_path("qc"), "--watch", "in", "-o", "out", "-p", program]
             with open(self.path("said"), "wb") as said, \
                     subprocess.Popen(words, cwd=self.folder, stdout=said) as process:
@@ -459,7 +460,7 @@ class Sites(Case):
                 self.must(f"{wanted}: it ends", process.wait(SECONDS) == 2)
             self.must(f"{wanted}: its result", os.path.exists(self.path("out/one.json")) ==
                       (program != slow), os.listdir(self.path("out")))
-        self.must("accepted", json.loads(self.read("out/one.json"))["verdict"] == "accepted")
+        self.must("judged", json.loads(self.read("out/one.json"))["verdict"] == "relative")
 
     def test_has_units(self) -> None:
         """The units of the manual, with a path that exists here."""

@@ -21,7 +21,7 @@ from subtitles.cli.single import PairCall
 from subtitles.common import files
 from subtitles.common.command_line import Stop
 from subtitles.common.program import about_program
-from subtitles.judging.status import STATUSES, WAIVED
+from subtitles.judging.status import RELATIVE, STATUSES, WAIVED
 from subtitles.request.commands import CommandWords
 from subtitles.request.lines import Item, at_line, inputs_of, no_file, pairs_at
 from subtitles.request.request import Request
@@ -181,7 +181,8 @@ class Batches(Case):
     def test_status(self) -> None:
         """The worst of all, in the order of the list; 2 where a signal left some."""
         for judged, status in (("accepted, accepted, waived", 0), ("lost, accepted, accepted", 1),
-                               ("accepted, accepted, refused", 1),
+                               ("accepted, relative, waived", 3),
+                               ("accepted, relative, refused", 1),
                                ("refused, not judged, accepted", 2)):
             for jobs, wanted in ((None, os.cpu_count()), (3, 3)):
                 found_status, lines, told = self.batch(judged, jobs=jobs, json=self.path("all"))
@@ -490,11 +491,11 @@ class Judged(Case):
     def test_progress(self) -> None:
         """How many of which verdict, each counted by its status, and how long the others will take,
         by those of this call."""
-        rows = {word: row(word, word) for word in STATUSES if word != WAIVED}
+        rows = {word: row(word, word) for word in STATUSES if word not in (WAIVED, RELATIVE)}
         self.must("none of this call", progress_line(rows, 9, 5, 0.0) ==
                   "5 of 9 pairs: 1 accepted, 3 refused, 1 not judged")
-        rows[WAIVED] = row(WAIVED, WAIVED)
+        rows |= {word: row(word, word) for word in (WAIVED, RELATIVE)}
         with mock.patch.object(time, "monotonic", return_value=110.0):
             said = progress_line(rows, 9, 4, 100.0)
-        self.must("left", said == "6 of 9 pairs: 1 accepted, 1 waived, 3 refused, 1 not judged; "
-                  "15 seconds left", said)
+        self.must("left", said == "7 of 9 pairs: 1 accepted, 1 waived, 1 relative, 3 refused, 1 "
+                  "not judged; 7 seconds left", said)

@@ -16,7 +16,7 @@ from subtitles.cli import batch, collection, single
 from subtitles.cli.single import (
     Files, InUse, KEPT_SECONDS, Output, PairCall, claimed, clear, end_pair, judge_pair, now,
     pair_title, refuse_outputs, say_verdict)
-from subtitles.clock.start import Clock, FITTED, Found, GIVEN, RECORDING
+from subtitles.clock.start import Clock, FITTED, FITTED_LATER, Found, GIVEN, RECORDING
 from subtitles.common.command_line import Stop, Unanswered
 from subtitles.common.markup import HEAD
 from subtitles.judging.check import Answer
@@ -48,8 +48,8 @@ class Ends(Case):
     """What is said of a verdict."""
 
     def verdict(self, parts: Sequence[Part], *words: str, **more: Any) -> Verdict:
-        made = Verdict(asked_for("one.stl", "one.pes", *words), Severity(None, "--allow-lost" in
-                                                                         words), "now", count=3)
+        made = Verdict(asked_for("one.stl", "one.pes", "--origin", "0", *words), Severity(
+            None, "--allow-lost" in words), "now", count=3)
         made.parts = list(parts)
         for name, value in more.items():
             setattr(made, name, value)
@@ -69,13 +69,18 @@ class Ends(Case):
             "Accepted: all 3 subtitles have the right text from the first frame to the last.",
             "accepted 10 frames 2 transmissions"] and
             "strange" in said[1] and said[1].startswith("! "), said)
-        fitted = part_with(0, 9, 0, source=RECORDING)
-        said = self.said(self.verdict([fitted, part_with(10, 19, 0, number=2)]))
+        said = self.said(self.verdict([part_with(0, 9, 0), part_with(
+            10, 19, 0, number=2, source=RECORDING)]))
         self.must("parts", said[:2] == [
             "part 1, from 00:00:00:00 to 00:00:00:09: accepted 10 frames 2 transmissions",
             "part 2, from 00:00:00:10 to 00:00:00:19: accepted 10 frames 2 transmissions"], said)
-        self.must("fitted", FITTED in said and said[-1] ==
+        self.must("estimated", FITTED_LATER in said and said[-1] ==
                   "accepted 20 frames 4 transmissions in 2 parts", said)
+        for lines, last, is_said in (([], "relative 10 frames 2 transmissions", False),
+                                     (REFUSED, REFUSED[0], True)):
+            said = self.said(self.verdict([part_with(0, 9, 0, lines and answer(
+                lines, path=self.path("list")), source=RECORDING)]))
+            self.must("without a clock", said[-1] == last and (FITTED in said) == is_said, said)
         causes: list[Any] = ["first", None, "third"]
         with mock.patch.object(single, "count_line", lambda some: f"{some}"):
             said = self.said(self.verdict([part_with(0, 9, 0, explanation=Explanation(

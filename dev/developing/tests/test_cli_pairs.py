@@ -22,9 +22,7 @@ from .sent import in_pipe
 # tools/qc on a pair: from a recording to a verdict.
 
 STORY, RECORDING = example("story.stl"), example("recording.ts")
-ACCEPTED = "accepted 226 frames 5 transmissions"
-FITTED = "the clock was fitted to the recording: a delay that all subtitles share is not seen; " \
-    "give --origin or --start"
+ACCEPTED, RELATIVE = (f"{word} 226 frames 5 transmissions" for word in ("accepted", "relative"))
 TS = 188  # bytes of a packet
 
 
@@ -52,7 +50,7 @@ class Pairs(Case):
         done = qc(self, STORY, RECORDING, "-o", "out")
         lines = lines_of(done)
         commands = [line[2:] for line in lines if line.startswith("+ ")]
-        self.must("accepted", (done.status, lines[-1], done.told) == (0, ACCEPTED, [
+        self.must("relative", (done.status, lines[-1], done.told) == (3, RELATIVE, [
             "qc: not checked: whether some of this PID alone is missing: its PES packets are too "
             "few to measure a pace"]), done)
         self.must("one command, on the two files", [one.split()[1:] for one in commands] == [[
@@ -72,10 +70,11 @@ class Pairs(Case):
                                   ("a stream in a pipe", ["-"], example_bytes("recording.ts")),
                                   ("/dev/stdin", ["/dev/stdin"], pes)):
             done = qc(self, STORY, *words, data=data)
-            self.must(name, done.status == 0 and lines_of(done)[-1] == ACCEPTED, done)
+            self.must(name, done.status == 3 and lines_of(done)[-1] == RELATIVE, done)
         with open(RECORDING, "rb") as file:
             again = subprocess.run([os.path.join(TOP, "tools", "qc"), STORY, "-", "-p",
-                                    self.bench.program, "--json", "one.json"], stdin=file,
+                                    self.bench.program, "--relative", "--json", "one.json"],
+                                   stdin=file,
                                    stdout=subprocess.PIPE, cwd=self.folder, check=False)
         self.must("a file as standard input", again.returncode == 0, again)
         part = json.loads(self.read("one.json"))["parts"][0]
@@ -97,7 +96,7 @@ class Batches(Case):
 
     def test_object_on_standard_output(self) -> None:
         done = qc(self, STORY, RECORDING, "--json", "-")
-        self.must("alone", json.loads(done.out)["line"] == done.told[-1] == ACCEPTED, done)
+        self.must("alone", json.loads(done.out)["line"] == done.told[-1] == RELATIVE, done)
 
 
 # tools/qc on recordings that come through a pipe; signals, a reader that leaves, no room.

@@ -15,7 +15,7 @@ from subtitles.common.command_line import Stop
 from .bench import Case, Done, example, example_bytes, tool_path
 from .muxed import beside_video, teletext_descriptor
 from .sent import in_two_parts
-from .test_cli_pairs import ACCEPTED, RECORDING, STORY, lines_of, qc
+from .test_cli_pairs import RECORDING, RELATIVE, STORY, lines_of, qc
 
 
 # tools/qc with names of files that are hostile, with folders that can't be written to, and with
@@ -45,7 +45,7 @@ def is_told(case: Case, what: str, folder: str) -> None:
         return case.read(os.path.join(folder, name))
 
     verdict = json.loads(read("one.json"))
-    case.must(f"{what}: the object", verdict["verdict"] == "accepted", verdict["asked"])
+    case.must(f"{what}: the object", verdict["verdict"] == "relative", verdict["asked"])
     rows = list(csv.reader(read("one.csv").decode().splitlines()))
     case.must(f"{what}: the lines", len(rows) == 2 and not controls(read("one.csv"))
               and not any(cell.startswith(("=", "-", "+", "@")) for cell in rows[1]), rows)
@@ -81,13 +81,13 @@ class Hostile(Case):
                     file.write(data)
             done = in_folder(self, folder, "--csv", "one.csv", "--json", "one.json", "--junit",
                              "one.xml", "-o", "out", "--", f"{name}.stl", f"{name}.ts")
-            self.must(what, done.status == 0 and lines_of(done)[-1] == ACCEPTED, done)
+            self.must(what, done.status == 3 and lines_of(done)[-1] == RELATIVE, done)
             shown = done.out + "".join(done.told).encode("utf-8", "replace")
             self.must(f"{what}: is shown escaped", not controls(shown), shown)
             is_told(self, what, folder)
             commands_are_right(self, what, folder, lines_of(done))
             done = in_folder(self, ".", "--batch", folder, "-o", "all")
-            self.must(f"{what}: in a folder", done.status == 0 and " accepted " in lines_of(done)[1]
+            self.must(f"{what}: in a folder", done.status == 3 and " relative " in lines_of(done)[1]
                       and not controls(done.out), done)
 
     def test_writes_into_a_folder_of_any_name(self) -> None:
@@ -114,10 +114,10 @@ class Hostile(Case):
                 is_program = what == "not UTF-8" and "check" in command
                 self.must(f"{what}: {command}", again.status in (0, 1) or is_program, again)
             done = qc(self, self.path("in/two.stl"), two, "--breaks", "1", *words)
-            self.must(f"{what}: two parts", done.status == 0 and "two.2.txt" in os.listdir(out),
+            self.must(f"{what}: two parts", done.status == 3 and "two.2.txt" in os.listdir(out),
                       done)
             done = qc(self, "--batch", "in", "--breaks", "1", *words)
-            self.must(f"{what}: a batch", done.status == 0 and not controls(done.out)
+            self.must(f"{what}: a batch", done.status == 3 and not controls(done.out)
                       and "index.html" in os.listdir(out), done)
 
     def test_shows_a_language_escaped(self) -> None:
@@ -167,9 +167,9 @@ class Hostile(Case):
         for stamp in (b"\0\0\1\xbd", b"\0\0\1\xe0", b"G\0\0\0"):
             long = stamp + b"TIME".join(data[at:at + 188] for at in range(0, len(data), 188))
             done = qc(self, STORY, self.write("long.ts", long))
-            self.must(stamp.hex(), done.status == 0 and lines_of(done)[-1] == ACCEPTED, done)
+            self.must(stamp.hex(), done.status == 3 and lines_of(done)[-1] == RELATIVE, done)
             done = qc(self, STORY, "-", data=long)
-            self.must(f"{stamp.hex()}, a pipe", done.status == 0, done)
+            self.must(f"{stamp.hex()}, a pipe", done.status == 3, done)
             done = qc(self, self.path("long.ts"), STORY)
             self.must(f"{stamp.hex()}, the wrong way round", done.status == 2 and
                       "is a recording" in done.told[0], done)

@@ -12,7 +12,7 @@ from .bench import Case, example, example_bytes
 from .judged import Judged, OfProgramme, judged
 from .muxed import HEVC, H_264, MPEG_2, SLICES, mpeg_2_picture, with_pictures
 from .sent import Sent, in_pipe, in_two_parts, joined, late, moved, programme, sendings
-from .test_cli_pairs import FITTED, TS, lines_of, qc
+from .test_cli_pairs import TS, lines_of, qc
 
 FIRST, EACH, LASTS = 900_000, 125, 60  # frames: of the first subtitle, from one to the next, of one
 WORDS = ["--every", "25", "--no-complete"]
@@ -32,22 +32,22 @@ class Clocks(OfProgramme):
     due, words = evenly(20), WORDS
 
     def test_fitted(self) -> None:
-        """All is late: accepted where nothing else knows the time, which is said; with an origin it
-        is refused, and said how late all is."""
+        """All is late: `relative` without a clock; with an origin it is refused, and said how late
+        all is."""
         clock = "clock", "delay_frames"
         for by, words in ((250, "250 frames late"), (2, "2 frames late"), (-1, "1 frame early"),
                           (0, "")):
             sent = late(by)(self.sent)
             found = self.judge(sent)
-            self.must(f"{by}", found.word == "accepted" and FITTED in found.said and
+            self.must(f"{by}", (found.verdict.word, found.verdict.status) == ("relative", 3) and
                       found.parts("origin", "clock") == [(by * TICKS % CLOCK, {
                           "origin": by * TICKS % CLOCK, "source": "recording",
                           "delay_frames": None})], found.said)
             found = self.judge(sent, "--origin", "0")
             told = [line for line in found.told if line.startswith("all subtitles")]
             self.must(f"{by}: given", (found.word == "refused") == bool(by) and
-                      told == [f"all subtitles are {words}"][:bool(by)] and FITTED not in found.said
-                      and found.result["parts"][0][clock[0]][clock[1]] == by, found.said)
+                      told == [f"all subtitles are {words}"][:bool(by)] and
+                      found.result["parts"][0][clock[0]][clock[1]] == by, found.said)
 
     def test_late_from_one_on(self) -> None:
         """All is judged with the clock of the first part, and it is said from when on it is late;
@@ -123,7 +123,7 @@ class Clocks(OfProgramme):
                   "-o", "out")
         lines = lines_of(done)
         calls = [line[2:] for line in lines if line.startswith("+ ") and " check " in line]
-        self.must("two parts", done.status == 0 and len(calls) == 2, done)
+        self.must("two parts", done.status == 3 and len(calls) == 2, done)
         for line in calls:
             again = self.call(["sh", "-c", line])
             said = again.out.decode().splitlines()

@@ -127,10 +127,10 @@ class Chosen(Case):
         results = [json.loads(self.read(f"out/{name}.json")) for name in ("story", "story~2")]
         options = [[one["value"] for one in known["chosen"] if one["what"] == "option"]
                    for known in results]
-        self.must("the first", done.status == 0 and options == [["english"], []], (done, options))
+        self.must("the first", done.status == 3 and options == [["english"], []], (done, options))
         done = self.call([tool_path("qc"), "--batch", "list", "-o", "out", "-p", self.bench.program,
                           "--option", "auto", "--resume"])
-        self.must("kept", done.status == 0 and results == [
+        self.must("kept", done.status == 3 and results == [
             json.loads(self.read(f"out/{name}.json")) for name in ("story", "story~2")], done)
 
     def test_manual(self) -> None:

@@ -303,7 +303,7 @@ def judge(case: Case, seed: int) -> tuple[Programme, Judged]:
 def is_sound(one: Programme, told: Judged) -> bool:
     """Whether nothing wrong is accepted, but with a note that says what is not checked, and what is
     right and whole is."""
-    if told.verdict.status:
+    if told.word not in ("accepted", "waived"):
         return bool(one.lost) or not one.is_right()
     return one.is_right() or any(UNSEEN in note for note in told.result["notes"])
 

@@ -7,7 +7,7 @@ from unittest import mock
 
 from developing.pes import MARK, pes_packet
 from subtitles.clock.origin import Sought
-from subtitles.clock.start import FITTED, FITTED_LATER, GIVEN, RECORDING
+from subtitles.clock.start import FITTED_LATER, GIVEN, RECORDING
 from subtitles.common.command_line import counted
 from subtitles.common.times import CLOCK, EARLY, TICKS, pts_of, time_of
 from subtitles.formats.listing import NOT_SHOWN, NamedFault, PICTURES_LEFT
@@ -73,12 +73,14 @@ class Parts(OfProgramme):
                 (one["source"], one["delay_frames"]) for one, in found.parts("clock")] == [
                 (GIVEN, 0) if words and not at else (RECORDING, None) for at in range(count)])
             said = [line for line in found.said if not line.endswith(FEW)]
-            self.must(f"{shifts}: said", [*said[-4 - count:-2], said[-1]] == [
+            word, later = ("accepted", [FITTED_LATER]) if words else ("relative", list[str]())
+            at = -3 - count - len(later)
+            self.must(f"{shifts}: said", [*said[at:-2], said[-1]] == [
                 *(f"part {at + 1}, from {time_of(edges[at][0])} to {time_of(ends[at])}: accepted "
                   f"{ends[at] - begins[at] + 1} frames "
                   f"{self.at[ends[at]] - self.at[begins[at]] + 1} transmissions"
-                  for at in range(count)), WARNING, FITTED_LATER if words else FITTED,
-                f"accepted {sum(ends) - sum(begins[:count]) + count} frames {len(self.sent)} "
+                  for at in range(count)), WARNING, *later,
+                f"{word} {sum(ends) - sum(begins[:count]) + count} frames {len(self.sent)} "
                 f"transmissions in {count} parts"],
                 found.said)
             ranges = [pes for pes, in found.parts("pes")]

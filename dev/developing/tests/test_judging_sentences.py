@@ -18,8 +18,10 @@ from subtitles.formats.teletext import ENGLISH, OPTIONS
 from subtitles.judging.causes import IN_PAUSE, NAMES
 from subtitles.judging.pages import (
     HIDDEN as HIDDEN_KIND, Sight, hidden_rows, hidden_words, letters_in, may_hide, sight_of)
-from subtitles.judging.sentence import Count, Facts, SAID, WORDS, of_causes, sentence_of
-from subtitles.judging.status import ACCEPTED, LOST, NOT_JUDGED, REFUSALS, REFUSED, WAIVED, WARNED
+from subtitles.judging.sentence import (
+    ADD_CLOCK, Count, Facts, SAID, WORDS, of_causes, sentence_of)
+from subtitles.judging.status import (
+    ACCEPTED, LOST, NOT_JUDGED, REFUSALS, REFUSED, RELATIVE, WAIVED, WARNED)
 from subtitles.judging.transmissions import control_words
 from subtitles.recording.notices import Notice
 from subtitles.stream.receiver import BLANK_PAGE
@@ -32,6 +34,7 @@ from .test_judging_faults import cause, causes_of
 
 # What is said of a verdict in words: its sentence, and its first header that is refused (67).
 
+ADD = f"was not checked: {ADD_CLOCK}"
 OF_PACKETS = {3, 4}  # refusals of `normal`, which `check` does not have
 VERB = re.compile(r"\b(is|are|has|have|was|were|does|ends|comes|begin|differs|fall|shows|stands?|"
                   r"cannot)\b")
@@ -73,8 +76,21 @@ class Sentences(unittest.TestCase):
                  "warnings, which count (page); all faults that were seen are named warnings."),
                 (Facts(WAIVED, 2, first=fault, faults=1, hint="no header"), "Waived, since these "
                  "faults are named warnings: from 10:00:00:00 on no header."),
-                (Facts(WARNED, 2, warnings=["page", "page", "fitted"]), "Not accepted: there are "
-                 "warnings, which count (page, fitted); what was received is right."),
+                (Facts(WARNED, 2, warnings=["page", "page", "pause"]), "Not accepted: there are "
+                 "warnings, which count (page, pause); what was received is right."),
+                (Facts(RELATIVE, 40), "All 40 subtitles match relative to each other. No clock was "
+                 "given, so a delay that they all share was not checked: add --start TIME (the "
+                 "time code of the recording's first picture, on the subtitle file's own clock, or "
+                 "`tcp`) or --origin PTS."),
+                (Facts(RELATIVE, 2, within=1), "All 2 subtitles match relative to each other "
+                 f"within 1 frame. No clock was given, so a delay that they all share {ADD}."),
+                (Facts(RELATIVE, 6, parts=2), "All 6 subtitles match relative to the others of "
+                 f"their part. No clock was given, so a delay that all of a part share {ADD}."),
+                (Facts(RELATIVE, 1), "The subtitle has the right text and length. No clock was "
+                 f"given, so its delay {ADD}."),
+                (Facts(RELATIVE, 2, first=fault, faults=1, hint="no header"), "Waived, since these "
+                 "faults are named warnings: from 10:00:00:00 on no header. No clock was given, so "
+                 f"a delay that all subtitles share {ADD}."),
                 (Facts(REFUSED, 2, first=fault_of_line("refused 45 Lost pes 7"), faults=3, lost=[
                     "a", "b"], counts=[Count(45, "Lost", 2), Count(73, "Gap", 1)]), "Refused: a, "
                  "and in 1 more place; that part was not recorded; also 73 Gap."),

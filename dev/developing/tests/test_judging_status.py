@@ -17,13 +17,13 @@ from subtitles.judging.check import Answer
 from subtitles.judging.sentence import (
     OF_CAUSE, OF_NAME, OF_NUMBER, Rank, lead_of, rank_of, worst_cause, worst_name)
 from subtitles.judging.status import (
-    ACCEPTED, Decision, Grounds, LOST, NOT_JUDGED, REFUSALS, REFUSED, STATUSES, Said, Severity,
-    UNREAD, UNSAID, WAIVED, WARNED, decide, is_of_call, of_all, word_of)
+    ACCEPTED, Decision, Grounds, LOST, NOT_JUDGED, REFUSALS, REFUSED, RELATIVE, STATUSES, Said,
+    Severity, UNREAD, UNSAID, WAIVED, WARNED, decide, is_of_call, of_all, word_of)
 from .bench import Case
 from .parts import answer, part_with
 
 
-# Status 0, 1 or 2: the whole table of what decides it; nothing but a verdict gives 0 or 1.
+# Status 0 to 3: the whole table of what decides it; nothing but a verdict gives 0, 1 or 3.
 
 ERROR, WARNING, NUMBER = 72, 67, 38  # of faults: the file below names the second a warning
 ENDS_READING, LOST_PACKETS, SILENT = (30, 31, 32, 44), 45, 79
@@ -54,6 +54,11 @@ WRONG = {
 LOSSES: Sequence[Sequence[bool]] = (
     (), (False,), (True,), (True, False, False), (False, True), (False, False, True), (True, True))
 OUTPUTS: Sequence[Sequence[str]] = ((), ("one.json: full",), ("one.csv: full", "one.xml: full"))
+# With a clock, without one, and with --relative, which changes nothing if there is a clock.
+CLOCKS: Sequence[dict[str, bool]] = (
+    {"has_clock": True}, {"has_clock": False},
+    {"has_clock": False, "is_relative_allowed": True},
+    {"has_clock": True, "is_relative_allowed": True})
 
 
 def severity_of(*lines: str, is_loss_allowed: bool = False) -> Severity:
@@ -62,6 +67,13 @@ def severity_of(*lines: str, is_loss_allowed: bool = False) -> Severity:
         file.write("".join(f"{line}\n" for line in lines))
         file.flush()
         return Severity(file.name, is_loss_allowed)
+
+
+def by_clock(word: str, clock: dict[str, bool]) -> tuple[str, int]:
+    """Return the word and the status of what has a verdict with a clock."""
+    if clock["has_clock"] or word not in (ACCEPTED, WAIVED):
+        return word, STATUSES[word]
+    return RELATIVE, 0 if "is_relative_allowed" in clock else 3
 
 
 NAMED = severity_of(f"{WARNING} warning")
@@ -85,14 +97,15 @@ class Decided(unittest.TestCase):
     """The verdict on one to three parts."""
 
     def test_parts(self) -> None:
-        """Each kind of part at each place: nothing hides behind another one."""
+        """Each kind of part at each place, with a clock and without: nothing hides behind another
+        one."""
         kinds = RIGHT | WRONG
-        for count in (1, 2, 3):
+        for count, clock in itertools.product((1, 2, 3), CLOCKS):
             for names in itertools.product(kinds, repeat=count):
-                wanted = self.word_by_names(names)
-                found = decide(Grounds([kinds[name] for name in names], NAMED))
-                if (found.word, found.status) != (wanted, STATUSES[wanted]):
-                    self.fail(f"{names}: {found}, and not {wanted}")
+                wanted = by_clock(self.word_by_names(names), clock)
+                found = decide(Grounds([kinds[name] for name in names], NAMED, **clock))
+                if (found.word, found.status) != wanted:
+                    self.fail(f"{names} {clock}: {found}, and not {wanted}")
 
     @staticmethod
     def word_by_names(names: Sequence[str]) -> str:
@@ -106,15 +119,15 @@ class Decided(unittest.TestCase):
         return WAIVED if "waived" in names else ACCEPTED
 
     def test_losses_and_warnings(self) -> None:
-        """A loss at each place, each warning, each word that allows or forbids: of what is
-        accepted, waived, refused, and not judged."""
-        for name, losses, is_allowed, warnings, is_strict in itertools.product(
+        """A loss at each place, each warning, each word that allows or forbids, each clock: of what
+        is accepted, waived, refused, and not judged."""
+        for name, losses, is_allowed, warnings, is_strict, clock in itertools.product(
                 ("accepted", "waived", "refused", "silent"), LOSSES, (False, True),
-                ((), ("page",), ("repeat", "fitted")), (False, True)):
+                ((), ("page",), ("repeat", "page")), (False, True), CLOCKS):
             parts = [RIGHT["accepted"], (RIGHT | WRONG)[name], RIGHT["accepted"]]
             for severity in ALLOWING if is_allowed else [NAMED]:
-                self.decides(name, Grounds(parts, severity, losses, warnings, is_strict),
-                             is_allowed)
+                self.decides(name, Grounds(parts, severity, losses, warnings, is_strict, **clock),
+                             is_allowed, clock)
 
     def test_faults_without_a_number(self) -> None:
         """Each name, an error or a warning by the file, beside each kind of part and without any:
@@ -129,15 +142,18 @@ class Decided(unittest.TestCase):
                     word = REFUSED
                 elif word == ACCEPTED:
                     word = WAIVED
-                found = decide(Grounds([kinds[part] for part in parts], severity, names=[name]))
-                self.assertEqual(found.word, word, (name, is_error, parts))
+                for clock in CLOCKS:
+                    found = decide(Grounds([kinds[part] for part in parts], severity, names=[name],
+                                           **clock))
+                    self.assertEqual((found.word, found.status), by_clock(word, clock),
+                                     (name, is_error, parts, clock))
         for reasons, failed in ((["why"], ()), ((), ["full"])):
             self.assertEqual(decide(Grounds([], NAMED, reasons=reasons, failed=failed,
                                             names=[NEVER_SENT])).word, NOT_JUDGED)
         self.assertEqual(decide(Grounds([], warned, names=[NEVER_SENT])),
                          Decision(NOT_JUDGED, UNREAD))
 
-    def decides(self, name: str, seen: Grounds, is_allowed: bool) -> None:
+    def decides(self, name: str, seen: Grounds, is_allowed: bool, clock: dict[str, bool]) -> None:
         """One of these: --allow-lost, and a severity file that names 45 a warning, are one rule."""
         found, losses, warnings = decide(seen), seen.losses, seen.warnings
         if name in ("refused", "silent"):
@@ -149,14 +165,15 @@ class Decided(unittest.TestCase):
         else:
             wanted = ACCEPTED if name == "accepted" else WAIVED
         with self.subTest(name, losses=losses, allowed=is_allowed, warnings=warnings,
-                          strict=seen.is_strict):
-            self.assertEqual((found.word, found.status), (wanted, STATUSES[wanted]))
+                          strict=seen.is_strict, clock=clock):
+            self.assertEqual((found.word, found.status), by_clock(wanted, clock))
 
     def test_what_failed(self) -> None:
         """A reason, or an output that failed, is not judged, whatever was said."""
         for name, said in (RIGHT | WRONG).items():
             for failed, reasons in itertools.product(OUTPUTS, ((), ("stopped",))):
-                found = decide(Grounds([said, said], NAMED, reasons=reasons, failed=failed))
+                found = decide(Grounds([said, said], NAMED, reasons=reasons, failed=failed,
+                                       has_clock=True))
                 is_clean = not failed and not reasons
                 with self.subTest(name, failed=failed, reasons=reasons):
                     self.assertEqual(found.word, self.word_by_names([name]) if is_clean
@@ -171,31 +188,32 @@ class Decided(unittest.TestCase):
             ([accepted, accepted, unread], UNREAD)]
         for parts, wanted in rows:
             self.assertEqual(decide(Grounds(parts, NAMED)), Decision(NOT_JUDGED, wanted))
-        self.assertEqual(decide(Grounds([accepted], NAMED)), Decision(ACCEPTED))
+        self.assertEqual(decide(Grounds([accepted], NAMED, has_clock=True)), Decision(ACCEPTED))
 
 
 class Several(unittest.TestCase):
     """The status of several verdicts, and of the call that made one."""
 
     def test_of_all(self) -> None:
-        rows: list[tuple[list[str], bool, int]] = [
-            ([ACCEPTED], False, 0), ([ACCEPTED, WAIVED], False, 0), ([WAIVED], False, 0),
-            ([ACCEPTED, REFUSED], False, 1), ([REFUSED, ACCEPTED], False, 1),
-            ([LOST], False, 1), ([ACCEPTED, WARNED], False, 1),
-            ([NOT_JUDGED], False, 2), ([REFUSED, NOT_JUDGED, ACCEPTED], False, 2),
-            ([NOT_JUDGED, REFUSED], False, 2), ([], False, 2), (["fine"], False, 2),
-            ([ACCEPTED], True, 2), ([], True, 2)]
-        for words, is_stopped, status in rows:
-            with self.subTest(words=words, stopped=is_stopped):
-                self.assertEqual(of_all(words, is_stopped), status)
+        """The first of 2, 1, 3, 0 that occurs; 2 of none, of others, and if pairs are missing."""
+        rows: list[tuple[list[int], bool, int]] = [
+            ([0], False, 0), ([0, 0], False, 0), ([0, 1], False, 1), ([1, 0], False, 1),
+            ([1], False, 1), ([3], False, 3), ([0, 3], False, 3), ([3, 0], False, 3),
+            ([0, 3, 0], False, 3), ([3, 1], False, 1), ([1, 3], False, 1), ([0, 3, 1], False, 1),
+            ([2], False, 2), ([1, 2, 0], False, 2), ([2, 1], False, 2), ([3, 2], False, 2),
+            ([2, 3], False, 2), ([], False, 2), ([4], False, 2), ([0, -9], False, 2),
+            ([0], True, 2), ([3], True, 2), ([], True, 2)]
+        for statuses, is_stopped, status in rows:
+            with self.subTest(statuses=statuses, stopped=is_stopped):
+                self.assertEqual(of_all(statuses, is_stopped), status)
 
     def test_of_a_call(self) -> None:
-        """An object counts where its call ended with its status, which is that of its word."""
-        for word, status, ended in itertools.product([*STATUSES, "fine"], (0, 1, 2),
-                                                     (0, 1, 2, -9, -15)):
+        """A JSON result counts if its call ended with its status, one that its word can have."""
+        for word, status, ended in itertools.product([*STATUSES, "fine"], range(5),
+                                                     (0, 1, 2, 3, -9, -15)):
+            is_possible = status == STATUSES.get(word) or (word, status) == (RELATIVE, 0)
             with self.subTest(word, status=status, ended=ended):
-                self.assertEqual(is_of_call(word, status, ended),
-                                 STATUSES.get(word, 2) == status and status == ended)
+                self.assertEqual(is_of_call(word, status, ended), is_possible and status == ended)
 
 
 class Severities(unittest.TestCase):

@@ -24,6 +24,7 @@ from subtitles.judging.verdict import (
     Gap, MOVED, Spread, Unjudged, Verdict, counts_of_numbers, gap_of, gaps_in, gaps_of, spread_of)
 from subtitles.recording.notices import Notice
 from subtitles.request.commands import Names
+from subtitles.request.request import Request
 from subtitles.results.schema import Writing, trusted_of
 from subtitles.stream.gaps import Place
 from subtitles.stream.packets import Packets, Run
@@ -36,8 +37,13 @@ OTHER = ("refused 38 UnitLength pes 7", "refused 70 Repeat frame 00:00:09:00", "
 
 
 def verdict_of(parts: Sequence[Part], severity: Severity | None = None) -> Verdict:
-    """A verdict on some parts."""
-    return Verdict(asked_for("one.stl", "one.pes"), severity or Severity(None), "now", list(parts))
+    """A verdict on some parts, by a clock that was given."""
+    return Verdict(of_pair(), severity or Severity(None), "now", list(parts))
+
+
+def of_pair(*words: str) -> Request:
+    """The request for a pair with a clock."""
+    return asked_for("one.stl", "one.pes", "--origin", "0", *words)
 
 
 def place_of(before: int | None, after: int | None, shift: int = 0, **more: Any) -> Place:
@@ -57,14 +63,20 @@ class Verdicts(Case):
 
     def test_lines(self) -> None:
         """What became of it, the line that says so, and the one that is said first: by its parts,
-        by faults without a number, by what is lost and strange, and by the profile."""
+        by faults without a number, by what is lost and strange, by the clock and the profile."""
         left, never = NamedFault(PICTURES_LEFT, "away", "00:00:01:00"), NamedFault(NEVER_SENT, "")
         lost = [Gap(None, None, "", Place(1, 2, missing=9), True)]
         strange = [Notice(kind, kind, None) for kind in ("pause", "page", "pause")]
         mild = self.write("mild", b"72 warning\nnever sent warning\n")
         self.write("house", b"--allow-lost\n--severity %s\n" % mild.encode())
-        of_house = {"request": asked_for("one.stl", "one.pes", "--profile", self.path("house"))}
-        strict = {"request": asked_for("one.stl", "one.pes", "--strict"), "warnings": strange}
+        of_house = {"request": of_pair("--profile", self.path("house"))}
+        strict = {"request": of_pair("--strict"), "warnings": strange}
+        self.write("relative", b"--relative\n")
+        untimed = {"request": asked_for("one.stl", "one.pes")}
+        in_profile = {"request": asked_for("one.stl", "one.pes", "--profile",
+                                           self.path("relative"))}
+        is_unused = {"request": of_pair("--profile", self.path("relative"))}
+        relative = "relative 10 frames 2 transmissions"
         good, content, first = "accepted 10 frames 2 transmissions", REFUSED[0], OTHER[0]
         has = "; the profile has --allow-lost and --severity"
         warned, of_loss = "not accepted, since warnings count (pause, page)", \
@@ -85,12 +97,21 @@ class Verdicts(Case):
             ("ra", {"gaps": lost, "is_mild": True}, "lost", f"{of_loss}: waived: {content}", None),
             ("a", strict, "warned", f"{warned}: {good}", None),
             ("r", {**strict, "is_mild": True}, "warned", f"{warned}: waived: {content}", None),
-            ("f", {**strict, "warnings": []}, "warned", f"not accepted, since warnings count "
-             f"(fitted): {good}", None), ("f", {}, "accepted", good, good),
-            ("f", strict, "warned", "not accepted, since warnings count (pause, page, fitted): "
-             f"{good}", None),
+            ("af", {}, "accepted", "accepted 20 frames 4 transmissions in 2 parts", None),
             ("af", {**strict, "warnings": []}, "warned", "not accepted, since warnings count "
-             "(fitted): accepted 20 frames 4 transmissions in 2 parts", None)]
+             "(estimated): accepted 20 frames 4 transmissions in 2 parts", None),
+            ("f", untimed, "relative", relative, relative),
+            ("f", {}, "relative", relative, relative),
+            ("ff", untimed, "relative", "relative 20 frames 4 transmissions in 2 parts", None),
+            ("f", in_profile, "relative", f"{relative}; the profile has --relative", None),
+            ("a", is_unused, "accepted", good, good),
+            ("f", {"request": asked_for("one.stl", "one.pes", "--strict")}, "relative", relative,
+             relative),
+            ("f", {**untimed, "gaps": lost}, "lost", f"{of_loss}: {relative}", None),
+            ("f", {"request": asked_for("one.stl", "one.pes", "--strict"), "warnings": strange},
+             "warned", f"{warned}: {relative}", None),
+            ("r", {**untimed, "is_mild": True}, "relative", f"relative, waived: {content}", None),
+            ("fo", untimed, "refused", first, None)]
         for names, known, word, line, lead in rows:
             is_mild = known.get("is_mild", False)
             verdict = dataclasses.replace(verdict_of(

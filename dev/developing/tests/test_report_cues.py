@@ -9,7 +9,7 @@ from subtitles.formats.stl import NamedSubtitle, Subtitle, SubtitleFile
 from subtitles.judging.causes import Cause, LATE, NEVER, TEXT
 from subtitles.judging.cues import Cue, decoded_cue
 from subtitles.judging.status import (
-    ACCEPTED, LOST, NOT_JUDGED, REFUSED, WAIVED, WARNED)
+    ACCEPTED, LOST, NOT_JUDGED, REFUSED, RELATIVE, WAIVED, WARNED)
 from subtitles.judging.transmissions import DuePages
 from subtitles.report.blocks import field, marked_text, marked_times, readable
 from subtitles.report.cue_list import marked_difference, signed
@@ -106,7 +106,7 @@ class Words(Case):
 
     def test_shapes(self) -> None:
         """Each verdict has a class and a shape of its own."""
-        words = (ACCEPTED, WAIVED, REFUSED, LOST, WARNED, NOT_JUDGED)
+        words = (ACCEPTED, WAIVED, RELATIVE, REFUSED, LOST, WARNED, NOT_JUDGED)
         self.must("all", set(SHAPES) == set(words))
         self.must("classes", len({kind for kind, _ in SHAPES.values()}) == len(words))
         self.must("shapes", len({in_page(drawn) for _, drawn in SHAPES.values()}) == len(words))

@@ -90,7 +90,7 @@ ROWS: list[tuple[str, str, Any]] = [
     ("--from", "00:00:01:00", "00:00:01:00"), ("--to", "00:00:02:00", "00:00:02:00"),
     ("--layout", "fit,up", "fit,up"), ("--pace", "none", "none"), ("--no-complete", "", False),
     ("--allow-lost", "", True), ("--strict", "", True), ("--open", "", True),
-    ("--keeping", "", True), ("--late", "0:31,5:69/0:100", "0:31,5:69/0:100")]
+    ("--keeping", "", True), ("--relative", "", True), ("--late", "0:31,5:69/0:100", "0:31,5:69/0:100")]
 BACK = {"--complete", "--no-allow-lost", "--no-keeping"}  # what they say holds without them too
 
 
@@ -211,8 +211,8 @@ class Rows(Case):
 # Profiles: what a file of options says, what is typed beside it, and where it is found.
 
 STORY, RECORDING = example("story.stl"), example("recording.ts")
-MAY = ("--page, --every, --option, --complete, --no-complete, --pid, --allow-lost, --severity, "
-       "--within, --late, --layout, --keeping, --pace")
+MAY = "--page, --every, --option, --origin, --complete, --no-complete, --pid, --allow-lost, " \
+    "--severity, --start, --relative, --within, --late, --layout, --keeping, --pace"
 
 
 class Files(Case):
@@ -231,7 +231,9 @@ class Files(Case):
                 "severity": self.path("one"), "is_loss_allowed": True}),
             ("--severity /one", {"severity": "/one"}), ("#" * 5000 + "\n--every 25", {"every": 25}),
             ("--within 2\n--late 0:31,2:69/0:1", {
-                "within": 2, "late": Lateness({0: 31, 2: 69}, {0: 1})})]
+                "within": 2, "late": Lateness({0: 31, 2: 69}, {0: 1})}),
+            ("--start tcp\n--relative", {"start": "tcp", "is_relative_allowed": True}),
+            ("--origin 5", {"origin": 5})]
         for text, wanted in rows:
             profile = profile_at(self.write("house", text.encode()))
             found = {field: setting.value for field, setting in profile.settings.items()}
@@ -271,7 +273,7 @@ class Files(Case):
         for text, number, said in (
                 ("--every 25\n\n--breaks 1", 3, f"--breaks {not_there}"),
                 *((f"{name}=1", 1, f"{name} {not_there}") for name in (
-                    "--from", "--to", "--origin", "--start", "--pes", "--profile")),
+                    "--from", "--to", "--pes", "--profile")),
                 *((name, 1, f"{name} {not_there}") for name in (
                     "--no-keeping", "--no-allow-lost", "--strict", "--open")),
                 *((text, 1, f"its first word {not_there}") for text in (
@@ -354,10 +356,18 @@ class Beside(Case):
             again = asked_for("a.stl", "a.ts", *call_words(asked)[:-3])
             self.must(f"{call} | {line}: again", again == asked, again)
 
-    def test_clock_of_a_line(self) -> None:
-        """A line that tells its clock takes none of the call, also beside a profile of its own."""
+    def test_clocks(self) -> None:
+        """A clock replaces another one: a line's that of the call, and a typed one that of a
+        profile, also if it is given by the other option."""
         self.write("other", b"--every 50\n")
-        rows: list[tuple[str, str, tuple[int | None, str | None]]] = [
+        tcp = self.write("tcp", b"--start tcp\n")
+        rows: list[tuple[str, str | None, tuple[int | None, str | None]]] = [
+            (f"--profile {tcp}", None, (None, "tcp")), (f"--profile {tcp}", "", (None, "tcp")),
+            (f"--profile {tcp} --origin 9", None, (9, None)),
+            (f"--profile {tcp}", "--origin 9", (9, None)),
+            (f"--profile {tcp}", "--profile other", (None, None)),
+            ("--origin 9", "--profile tcp", (None, "tcp")),
+            ("--origin 9", "--profile tcp --origin=7", (7, None)),
             ("--origin 9", "", (9, None)), ("--origin 9", "--profile other", (9, None)),
             ("--origin 9", "--start tcp", (None, "tcp")),
             ("--origin 9", "--profile other --start tcp", (None, "tcp")),
@@ -365,6 +375,10 @@ class Beside(Case):
         for call, line, wanted in rows:
             asked = self.asked(call, line)
             self.must(f"{call} | {line}", (asked.origin, asked.start) == wanted, asked)
+        two = self.write("two", b"--start tcp\n--origin 0\n")
+        for words in ("--start tcp --origin 0", f"--profile {two}"):
+            with self.assertRaisesRegex(Stop, "--start tells the origin: --origin is too many"):
+                self.asked(words, None)
 
     def test_shares_go_with_a_bound(self) -> None:
         for words in ("--late 0:1,1:1/0:1", "--late 0:1/0:1,3:1 --within 2"):
@@ -393,10 +407,11 @@ class Verdicts(Case):
     """What is said of a profile, and of what it lets pass."""
 
     def test_last_line(self) -> None:
-        """What lets faults pass has a word there, unless it is typed."""
+        """What makes a verdict of this pair more lenient has a word there, unless it is typed."""
         some = self.write("some", b"--every 250\n")
         waive = self.write("waive", b"--allow-lost\n--severity levels\n")
         levels = self.write("levels", b"73 warning\n")
+        relative = self.write("relative", b"--relative\n")
         accepted = "accepted 226 frames 5 transmissions"
         waived = "waived: refused 73 Gap frame 20:15:01:00"
         for words, last in (
@@ -407,9 +422,10 @@ class Verdicts(Case):
                 (["--profile", waive, "--severity", levels + "x", "--no-allow-lost"], accepted),
                 (["--profile", waive, "--every", "25"],
                  f"{waived}; the profile has --allow-lost and --severity"),
-                (["--severity", levels, "--every", "25"], waived)):
+                (["--severity", levels, "--every", "25"], waived),
+                (["--profile", relative], accepted)):
             self.write("levelsx", b"")
-            found = judged(self, STORY, RECORDING, *words)
+            found = judged(self, STORY, RECORDING, "--origin", "5000000000", *words)
             self.must(f"{words}", found.said[-1] == last == found.result["line"], found.said[-1])
 
     def test_said(self) -> None:

@@ -142,7 +142,7 @@ class Written(Case):
         found.verdict.unjudged = Unjudged("why")
         known = json.loads("".join(object_of(found.verdict, program)))
         self.must("not judged", known["verdict"] == "not judged" and misfit(known) is None)
-        with mock.patch("subtitles.results.files.TOGETHER", misfit=lambda _: ".line"), \
+        with mock.patch.object(VERDICT, "rules", [mock.Mock(misfit=lambda _: ".line")]), \
                 self.assertRaisesRegex(ValueError, "do not go together"):
             list(object_of(found.verdict, program))
         with mock.patch.object(Verdict, "status", 0), self.assertRaises(ValueError):

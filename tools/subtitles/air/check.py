@@ -12,7 +12,7 @@ from ..cli import single
 from ..cli.batch import Forked, ended_of, signals_held
 from ..common.command_line import Stop, ended, error_line, tell
 from ..common.files import new_name
-from ..judging.status import NOT_JUDGED, REFUSED
+from ..judging.status import ACCEPTED, NOT_JUDGED, REFUSED, RELATIVE, WAIVED
 from ..judging.verdict import Verdict, counts_of_numbers
 from ..request.request import Request
 from ..results.files import ENDING, left_by_call, unjudged
@@ -21,7 +21,7 @@ from .segments import Piece
 
 JUDGING_SECONDS, SLOWEST = 60.0, 2_000_000  # seconds, and one more for each so many bytes
 WORK = ".work-"  # begins the name of the folder in which is judged
-ENDS_EARLY, MACHINE = 4, 3  # how a process ends, beside the status of qc
+ENDS_EARLY, MACHINE = 4, 5  # how a process ends, beside the status of qc
 NOT_OVER = 74  # of `check`: the last TCO comes after the last PES packet
 SPARE = 1 << 20  # bytes of the disk that are left to others
 
@@ -37,7 +37,8 @@ class Outcome(NamedTuple):
 
     @property
     def is_accepted(self) -> bool:
-        return self.known is not None and self.known["status"] == 0
+        """Whether nothing was found wrong; a clock may not have been given."""
+        return self.known is not None and self.known["verdict"] in (ACCEPTED, WAIVED, RELATIVE)
 
     @property
     def is_of_file(self) -> bool:

@@ -13,7 +13,8 @@ from urllib.parse import quote
 from ..common.command_line import Stop, counted, error_line, say, shown, silence, tell
 from ..common.files import Inputs, NOTHING, OWN_OUTPUT, refuse_name, result_file, whole_file
 from ..common.markup import BREAK, HEAD, Markup, NO_MARKUP, Value, joined, markup
-from ..judging.status import ACCEPTED, LOST, NOT_JUDGED, REFUSED, WAIVED, WARNED, of_all
+from ..judging.status import (
+    ACCEPTED, LOST, NOT_JUDGED, REFUSED, RELATIVE, WAIVED, WARNED, of_all)
 from ..request.commands import index_in
 from ..results.files import (
     ENDING, Row, TestCase, in_order, junit_file, object_at, objects_in, row_of_object, table_lines,
@@ -45,7 +46,7 @@ caption { text-align: left; color: var(--soft); font-size: 13px; }
 td.verdict { font-weight: 600; white-space: nowrap; border-left: 4px solid; }
 .accepted .verdict { color: var(--good); } .refused .verdict { color: var(--bad); }
 .waived .verdict { color: var(--soft); } .lost .verdict { color: var(--lost); }
-.warned .verdict, .not-judged .verdict, .estimated { color: var(--amber); }
+.warned .verdict, .relative .verdict, .not-judged .verdict, .estimated { color: var(--amber); }
 .verdict .estimated { display: block; font-size: 13px; }
 small { color: var(--soft); }
 fieldset { border: 1px solid var(--line); display: flex; flex-wrap: wrap; gap: 4px 16px; }
@@ -57,10 +58,11 @@ fieldset { border: 1px solid var(--line); display: flex; flex-wrap: wrap; gap: 4
 @media print { fieldset { display: none; } .pairs thead th { position: static; } }
 """)
 SHAPES = {ACCEPTED: "\u2713", WAIVED: "\u2212", REFUSED: "\u2715", LOST: "\u29d6", WARNED: "!",
-          NOT_JUDGED: "?"}
+          NOT_JUDGED: "?", RELATIVE: "\u223c"}
 PAGE_HEADS = ("Verdict", "Pair", "What is wrong", "Faults", "Files")
 MOST_CAUSES = 6
 ESTIMATED = "clock estimated"
+NO_CLOCK = "no clock was given"
 
 
 def index_page(folder: str, rows: Sequence[Row], date: str) -> bytes:
@@ -102,12 +104,10 @@ def totals(rows: Sequence[Row]) -> Markup:
 
 
 def rank(row: Row) -> tuple[int, str]:
-    """What is broken comes first, then what nobody judged, then warnings, then what is accepted."""
-    if row.verdict == NOT_JUDGED:
-        return 1, row.name
-    if row.status:
-        return 0, row.name
-    return (3 if row.verdict == ACCEPTED else 2), row.name
+    """Return the key that sorts what is broken first, then what is not judged, then what is waived
+    or relative, then what is accepted."""
+    ranks = {NOT_JUDGED: 1, WAIVED: 2, RELATIVE: 2, ACCEPTED: 3}
+    return ranks.get(row.verdict, 0), row.name
 
 
 def pair_line(folder: str, row: Row) -> Markup:
@@ -174,7 +174,7 @@ def write_collection(words: argparse.Namespace, rows: Sequence[Row], places: Seq
     date, failed = now(), list[str]()
 
     def status() -> int:
-        return of_all((row.verdict for row in rows), is_stopped or bool(failed))
+        return of_all((row.status for row in rows), is_stopped or bool(failed))
 
     written: list[Callable[[], None]] = [
         lambda: write_index(folder, rows), lambda: put_file(words.csv, lambda: csv_lines(places)),
@@ -261,10 +261,12 @@ def table_of(rows: Sequence[Row], why: str = "") -> Iterator[str]:
 def progress_line(rows: dict[str, Row], count: int, kept: int, began: float) -> str:
     """How many pairs have a verdict, of which kind, and how long the others will take."""
     verdicts = [row.verdict for row in rows.values()]
-    accepted, waived, missed = map(verdicts.count, (ACCEPTED, WAIVED, NOT_JUDGED))
-    line = (f"{len(rows)} of {counted(count, 'pair')}: {accepted} accepted, "
-            f"{f'{waived} waived, ' if waived else ''}"
-            f"{len(rows) - accepted - waived - missed} refused, {missed} not judged")
+    good = [f"{verdicts.count(word)} {word}, " for word in (ACCEPTED, WAIVED, RELATIVE)
+            if word in verdicts or word == ACCEPTED]
+    missed = verdicts.count(NOT_JUDGED)
+    refused = sum(word not in (ACCEPTED, WAIVED, RELATIVE, NOT_JUDGED) for word in verdicts)
+    line = f"{len(rows)} of {counted(count, 'pair')}: {''.join(good)}{refused} refused, " \
+        f"{missed} not judged"
     done = len(rows) - kept
     if not done:
         return line
@@ -277,6 +279,8 @@ def worst_fault(row: Row) -> str:
     as one line has it."""
     if row.verdict == ACCEPTED or not row.line:
         return ""
+    if row.verdict == RELATIVE and not row.faults:
+        return NO_CLOCK
     line = row.line.splitlines()[0].removeprefix("refused ").partition("; ")[0]
     more = f"; {row.counts}" if row.counts else ""
     return (f"{line}: {row.hint}" if row.hint else line) + more
@@ -332,4 +336,4 @@ def testcases(rows: Sequence[Row], date: str) -> Iterator[bytes]:
     """A testcase for each pair."""
     yield junit_file([
         TestCase(row.title, row.verdict, row.status, row.line, row.lines, row.seconds,
-                        row.counts) for row in rows], date)
+                        row.counts, row.sentence) for row in rows], date)

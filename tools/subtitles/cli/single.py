@@ -22,7 +22,7 @@ from ..formats.listing import count_of, is_line
 from ..judging.causes import count_line
 from ..judging.faults import faults_of, hints_of
 from ..judging.pair import Pair
-from ..judging.status import ACCEPTED, NOT_JUDGED, Severity
+from ..judging.status import ACCEPTED, NOT_JUDGED, RELATIVE, Severity
 from ..judging.verdict import Unjudged, Verdict
 from ..recording.recording import Recording
 from ..request.commands import (
@@ -322,7 +322,7 @@ def say_verdict(verdict: Verdict, speech: Speech, page: str | None = None) -> No
     if verdict.line is not None:
         if verdict.request.within and verdict.delays:
             speech.say(verdict.delays.words())
-        if verdict.fitted:
+        if verdict.fitted and verdict.word != RELATIVE:
             speech.say(verdict.fitted)
         for line in verdict.hints:
             speech.say(line)
@@ -339,9 +339,9 @@ def say_verdict(verdict: Verdict, speech: Speech, page: str | None = None) -> No
 
 
 def look_words(verdict: Verdict, page: str | None) -> str:
-    """Where to look behind a verdict that accepts not all: its report, or else what the manual says
-    of the number that is said first."""
-    if verdict.word == ACCEPTED:
+    """Return where to look if something is refused: the report, or else what the manual says of the
+    number that is said first."""
+    if verdict.word == ACCEPTED or verdict.word == RELATIVE and not verdict.faults:
         return ""
     if page:
         return f" See {page}."
@@ -449,7 +449,7 @@ class Files:
         verdict = self.verdict
         case = results.TestCase(pair_title(verdict.request), verdict.word, verdict.status,
                                verdict.lead or verdict.why_not or "", self.lines(), verdict.seconds,
-                               verdict.counts.words() if verdict.counts else "")
+                               verdict.counts.words() if verdict.counts else "", verdict.sentence)
         yield results.junit_file([case], verdict.date)
 
     def lines(self) -> list[str]:

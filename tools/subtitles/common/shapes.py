@@ -229,11 +229,12 @@ class Record(Shape):
 
 
 class Rules(NamedTuple):
-    """Rows of what members of an object are together: it fits one row at least."""
+    """Rows of what members of an object are together: it fits one row at least. A member that is an
+    object may have rules of its own."""
 
-    rows: Sequence[dict[str, Shape]]
+    rows: Sequence[dict[str, Shape | Rules]]
 
-    def misfit(self, value: dict[str, object]) -> str | None:
+    def misfit(self, value: Any) -> str | None:
         """The first member of the first row, where no row fits."""
         is_one = any(all(shape.misfit(value[name]) is None for name, shape in row.items())
                      for row in self.rows)

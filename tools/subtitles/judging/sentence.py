@@ -18,7 +18,7 @@ from .causes import (
     NOT_RECEIVED, OTHER, PLACE, TEXT, UNKNOWN)
 from .check import Answer
 from .pages import page_text
-from .status import ACCEPTED, LOST, NOT_JUDGED, REFUSED, WAIVED, WARNED
+from .status import ACCEPTED, LOST, NOT_JUDGED, REFUSED, RELATIVE, WAIVED, WARNED
 
 
 # What is said first of what is refused: the worst that a viewer sees, and its first place.
@@ -209,6 +209,8 @@ SAID = {
 OF_ALL = {GAP, OFF_FRAME}  # of which what is known is said of all that is judged
 BY_HINT = {CONTROL, PARITY}  # for which what is known stands alone
 MOST_NUMBERS = 4  # that are named
+ADD_CLOCK = "add --start TIME (the time code of the recording's first picture, on the subtitle " \
+    "file's own clock, or `tcp`) or --origin PTS"
 
 
 class Count(NamedTuple):
@@ -243,6 +245,7 @@ class Facts(NamedTuple):
     within: int = 0
     named: str = ""
     waived: Sequence[Count] = ()  # if something else is refused
+    parts: int = 1  # each with its own clock
 
 
 def sentence_of(seen: Facts) -> str:
@@ -252,8 +255,10 @@ def sentence_of(seen: Facts) -> str:
     if seen.word == REFUSED:
         waived = f"; waived: {numbers_words(seen.waived)}" if seen.waived else ""
         return f"Refused: {what_is_wrong(seen)}{waived}."
+    if seen.word == RELATIVE:
+        return f"{relative_words(seen)} was not checked: {ADD_CLOCK}."
     if seen.word == WAIVED:
-        return f"Waived, since these faults are named warnings: {what_is_wrong(seen)}."
+        return f"{waived_words(seen)}."
     good = "all faults that were seen are named warnings" if seen.faults or seen.refused else \
         "what was received is right"
     if seen.word == LOST:
@@ -265,6 +270,27 @@ def sentence_of(seen: Facts) -> str:
         return f"Not accepted: there are warnings, which count ({kinds}); {good}."
     assert seen.word == ACCEPTED
     return f"Accepted: {what_is_good(seen)}."
+
+
+def waived_words(seen: Facts) -> str:
+    """Return what is wrong of a verdict that is refused by nothing but warnings."""
+    return f"Waived, since these faults are named warnings: {what_is_wrong(seen)}"
+
+
+def relative_words(seen: Facts) -> str:
+    """Return how the subtitles match by an estimated clock, and which delay it hides."""
+    within = f" within {counted(seen.within, 'frame')}" if seen.within else ""
+    if seen.faults or seen.refused:
+        found, delay = waived_words(seen), "a delay that all subtitles share"
+    elif seen.subtitles == 1:
+        found, delay = f"The subtitle has the right text and length{within}", "its delay"
+    elif seen.parts == 1:
+        found = f"All {seen.subtitles} subtitles match relative to each other{within}"
+        delay = "a delay that they all share"
+    else:
+        found = f"All {seen.subtitles} subtitles match relative to the others of their part{within}"
+        delay = "a delay that all of a part share"
+    return f"{found}. No clock was given, so {delay}"
 
 
 def what_is_good(seen: Facts) -> str:

@@ -68,11 +68,14 @@ class Severity:
 # The verdict in one word and its exit status: this is the one place that decides them.
 
 ACCEPTED, WAIVED = "accepted", "waived"  # waived: refused by nothing but warnings
+RELATIVE = "relative"  # else accepted or waived, but no clock was given
 REFUSED = "refused"
 LOST = "lost"  # all that was seen is accepted or waived, and TS packets are lost
 WARNED = "warned"  # accepted or waived, and there are warnings, which count by --strict
 NOT_JUDGED = "not judged"
-STATUSES = {ACCEPTED: 0, WAIVED: 0, REFUSED: 1, LOST: 1, WARNED: 1, NOT_JUDGED: 2}
+STATUSES = {ACCEPTED: 0, WAIVED: 0, REFUSED: 1, LOST: 1, WARNED: 1, NOT_JUDGED: 2, RELATIVE: 3}
+POSSIBLE = [*STATUSES.items(), (RELATIVE, 0)]  # the last one by --relative
+WORST_FIRST = (2, 1, 3, 0)
 
 UNSAID = "check was not answered"
 UNREAD = "nothing of the recording was read, and --severity leaves no fault an error"
@@ -103,6 +106,8 @@ class Grounds(NamedTuple):
     others: `severity` says whether that is an error, by its file and by --allow-lost. `warnings`
     are the kinds of what is strange and breaks no rule. `reasons` say why it was not judged, and
     `failed` which outputs could not be written. `names` are those of faults without a number.
+    `has_clock`: the clock of the recording was given, or there is no recording. Without it a delay
+    that all subtitles share is not seen, so the best verdict is `relative`.
     """
 
     parts: Sequence[Said]
@@ -113,6 +118,8 @@ class Grounds(NamedTuple):
     reasons: Sequence[str] = ()
     failed: Sequence[str] = ()
     names: Sequence[str] = ()
+    has_clock: bool = False
+    is_relative_allowed: bool = False  # by --relative
 
 
 class Decision(NamedTuple):
@@ -120,11 +127,12 @@ class Decision(NamedTuple):
 
     word: str
     reason: str | None = None
+    is_relative_allowed: bool = False
 
     @property
     def status(self) -> int:
         """The exit status."""
-        return STATUSES[self.word]
+        return 0 if self.word == RELATIVE and self.is_relative_allowed else STATUSES[self.word]
 
 
 def word_of(said: Said) -> str:
@@ -139,8 +147,9 @@ def word_of(said: Said) -> str:
 
 def decide(seen: Grounds) -> Decision:
     """The verdict on all parts. What nobody said or read, or could write, is not judged; then an
-    error counts before a loss, and a loss before a warning. A fault without a number counts too
-    where there is no part, as of a page that is never sent."""
+    error counts before a loss, a loss before a warning, and a warning before a clock that was not
+    given. A fault without a number counts too where there is no part, as of a page that is never
+    sent."""
     words = [word_of(part) for part in seen.parts]
     if seen.reasons or seen.failed:
         return Decision(NOT_JUDGED)
@@ -155,17 +164,21 @@ def decide(seen: Grounds) -> Decision:
         return Decision(LOST)
     if seen.warnings and seen.is_strict:
         return Decision(WARNED)
+    if not seen.has_clock:
+        return Decision(RELATIVE, is_relative_allowed=seen.is_relative_allowed)
     return Decision(WAIVED if REFUSED in words or seen.names else ACCEPTED)
 
 
 def is_of_call(word: str, status: int, ended: int) -> bool:
-    """Whether a call for a pair ended with the status that its object has, which is that of its
-    word."""
-    return STATUSES.get(word, 2) == status == ended
+    """Return whether a call for a pair ended with the status of its JSON result, one that its
+    verdict can have."""
+    return status == ended and (word, status) in POSSIBLE
 
 
-def of_all(words: Iterable[str], is_stopped: bool = False) -> int:
-    """The status of several verdicts: 2 where one is not judged, none is there, or others were to
-    be judged too; else 1 where one is not accepted."""
-    statuses = [STATUSES.get(word, 2) for word in words]
-    return 2 if is_stopped or not statuses else max(statuses)
+def of_all(statuses: Iterable[int], is_stopped: bool = False) -> int:
+    """Return the exit status of several verdicts: the worst one, or 2 if there is none, or some
+    pairs are missing."""
+    found = {*statuses}
+    if is_stopped or not found or not found <= {*WORST_FIRST}:
+        return 2
+    return min(found, key=WORST_FIRST.index)

@@ -18,7 +18,9 @@ from ..stream.gaps import Place, what_of
 from ..stream.receiver import Rows, Timeline
 from .part import Part, is_in
 from .sentence import Count, Facts, Lead, Rank, sentence_of, worst_name
-from .status import Decision, Grounds, LOST, NOT_JUDGED, REFUSED, Severity, WAIVED, WARNED, decide
+from .status import (
+    ACCEPTED, Decision, Grounds, LOST, NOT_JUDGED, REFUSED, RELATIVE, Severity, WAIVED, WARNED,
+    decide)
 from .subtitles import Counts, JudgedBeside
 from .transmissions import DuePages
 
@@ -109,7 +111,7 @@ def counts_of_numbers(parts: Sequence[Part], left_out: Collection[int] = ()) -> 
 
 # A verdict on a pair: its parts, what was lost, what it was made with.
 
-FITTED_KIND = "fitted"  # a warning where warnings count: the clock was fitted to the recording
+ESTIMATED = "estimated"  # a warning if warnings count: the clock after a break was estimated
 
 
 @dataclasses.dataclass
@@ -192,23 +194,30 @@ class Verdict:
 
     def said(self) -> list[str]:
         """What the report and the object say beside the verdict."""
-        return [*self.notes, *([self.fitted] if self.fitted else [])]
+        return [*self.notes, *([self.fitted] if self.fitted and self.word != RELATIVE else [])]
 
     @property
     def fitted(self) -> str | None:
-        """That the clock was found in the recording, or that of the parts after a break."""
-        are_fitted = [part.clock.is_fitted for part in self.parts if part.clock]
-        if not any(are_fitted):
+        """Return that the clock was estimated, or that of the parts after a break."""
+        if not any(part.clock and part.clock.is_fitted for part in self.parts):
             return None
-        return FITTED if are_fitted[0] else FITTED_LATER
+        return FITTED_LATER if self.has_clock else FITTED
+
+    @property
+    def has_clock(self) -> bool:
+        """Whether the clock of the recording was given, or there is no recording."""
+        clocks = [part.clock for part in self.parts if part.clock]
+        return self.request.has_clock and not (clocks and clocks[0].is_fitted)
 
     def seen(self) -> Grounds:
         """All that decides it."""
-        kinds = [*(warned.kind for warned in self.warnings), *[FITTED_KIND] * bool(self.fitted)]
+        is_later = bool(self.fitted) and self.has_clock
+        kinds = [*(warned.kind for warned in self.warnings), *[ESTIMATED] * is_later]
         return Grounds([part.said() for part in self.parts], self.severity,
-                    [gap.is_judged and gap.place.mark is None for gap in self.gaps], kinds,
-                    self.request.is_strict, [self.unjudged.reason] if self.unjudged else [],
-                    self.failed, [fault.name for fault in self.named])
+                       [gap.is_judged and gap.place.mark is None for gap in self.gaps], kinds,
+                       self.request.is_strict, [self.unjudged.reason] if self.unjudged else [],
+                       self.failed, [fault.name for fault in self.named], self.has_clock,
+                       self.request.is_relative_allowed)
 
     @property
     def decision(self) -> Decision:
@@ -254,7 +263,8 @@ class Verdict:
                 count for count in counts_of_numbers(self.parts) if count.number in waived],
             lost=[gap.line() for gap in self.gaps if gap.is_judged], warnings=self.seen().warnings,
             reason=self.why_not, named=self.first_named.words if self.first_named else "",
-            is_file=self.request.recording is None, within=self.request.within)
+            is_file=self.request.recording is None, within=self.request.within,
+            parts=len(self.parts))
         if refused and self.beside:
             said = self.sent_beside(said, self.beside)
         elif refused and not self.first_named:
@@ -353,7 +363,9 @@ class Verdict:
             return None
         if word == REFUSED:
             return refused
-        line = self.accepted_line() if refused is None else f"{WAIVED}: {refused}"
+        line = self.good_line() if refused is None else f"{WAIVED}: {refused}"
+        if word == RELATIVE and refused is not None:
+            line = f"{RELATIVE}, {line}"
         if self.request.waivers:
             line += f"; the profile has {' and '.join(self.request.waivers)}"
         if word == LOST:
@@ -363,14 +375,15 @@ class Verdict:
             return f"not accepted, since warnings count ({kinds}): {line}"
         return line
 
-    def accepted_line(self) -> str:
-        """The line of the only part, or the sums of all."""
+    def good_line(self) -> str:
+        """Return the line of the only part, or the sums of all; without a clock none of them says
+        `accepted`."""
         answers = [part.answer for part in self.parts]
-        if len(answers) == 1:
-            return answers[0].line
-        return (f"accepted {sum(answer.frames or 0 for answer in answers)} frames "
-                f"{sum(answer.transmissions or 0 for answer in answers)} transmissions in "
-                f"{len(answers)} parts")
+        line = answers[0].line if len(answers) == 1 else (
+            f"{ACCEPTED} {sum(answer.frames or 0 for answer in answers)} frames "
+            f"{sum(answer.transmissions or 0 for answer in answers)} transmissions in "
+            f"{len(answers)} parts")
+        return line if self.has_clock else f"{RELATIVE}{line.removeprefix(ACCEPTED)}"
 
     def lines(self) -> list[str]:
         """A line for each of several parts: from when to when it is, and what is said of it."""

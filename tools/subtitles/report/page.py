@@ -17,7 +17,7 @@ from ..formats.stl import Subtitle, SubtitleFile, titles_in
 from ..formats.teletext import BY_WORD, page_name
 from ..judging.causes import names_line
 from ..judging.part import Part, is_in, unseen
-from ..judging.status import ACCEPTED, LOST, NOT_JUDGED, REFUSED, WAIVED, WARNED
+from ..judging.status import ACCEPTED, LOST, NOT_JUDGED, REFUSED, RELATIVE, WAIVED, WARNED
 from ..judging.subtitles import midnight_words
 from ..judging.verdict import Verdict, spread_of
 from ..request.commands import CommandWords
@@ -40,6 +40,8 @@ SHAPES = {
     LOST: ("lost", markup('<path d="M24 6H5V56H22M38 6H57V56H36"/><path d="M32 5L25 24L36 34L28 '
                           '57"/>')),
     WARNED: ("warned", markup('<path d="M31 6L58 55H4z"/><path d="M31 23V40M31 44V50"/>')),
+    RELATIVE: ("relative", markup('<circle cx="31" cy="31" r="27"/><path d="M16 34Q24 22 31 31Q38 '
+                                  '40 46 28"/>')),
     NOT_JUDGED: ("unjudged", markup('<path d="M31 4L58 31L31 58L4 31z"/><path d="M23 25Q23 17 31 '
                                     '17Q39 17 39 24Q39 29 31 32V37M31 41V46"/>'))}
 MOST_LINES = 5  # places in the box; more are folded

@@ -9,7 +9,7 @@ import hashlib
 import io
 import os
 import re
-from typing import Any, Iterable, Iterator, Mapping, NamedTuple, Sequence
+from typing import Any, Collection, Iterable, Iterator, Mapping, NamedTuple, Sequence
 
 from ..common.command_line import Stop, Words, error_line
 from ..common.files import Inputs, bounded_bytes, kind_of, plain_name
@@ -170,19 +170,29 @@ def read_options(parser: Words, line: Sequence[str], known: Mapping[str, Any],
     path from a folder, that comes before what is known, which is `bare` then: what the call says
     without its own profile. So is `bare` of what is answered. Only a profile that was typed may be
     a pipe: a list could name one to which nobody writes."""
+    typed = {word.partition("=")[0] for word in line}
+    known, bare = without_other_clock(known, typed), without_other_clock(bare, typed)
     words = parser.parse_args([*line], argparse.Namespace(**known))
     if isinstance(words.profile, str):
         profile = profile_at(os.path.join(folder, words.profile), is_typed)
         said = {name: setting.value for name, setting in profile.settings.items()}
         alone = parser.parse_args([*line], argparse.Namespace(**bare))
         alone.profile = None
-        known = {**bare, **said}
+        names = {setting.name for setting in profile.settings.values()}
+        known = {**without_other_clock(bare, names), **without_other_clock(said, typed)}
         words = parser.parse_args([*line], argparse.Namespace(**known))
         words.profile, words.bare = profile, alone
-    is_late_typed = any(word.partition("=")[0] == "--late" for word in line)
-    if words.within != known.get("within", words.within) and not is_late_typed:
+    if words.within != known.get("within", words.within) and "--late" not in typed:
         words.late = None  # the shares are those of another bound
     return words
+
+
+def without_other_clock(known: Mapping[str, Any], given: Collection[str]) -> dict[str, Any]:
+    """Return what is known, without the `--origin` that a given `--start` replaces, and the other
+    way round."""
+    replaced = [other for one, other in (("origin", "start"), ("start", "origin"))
+                if f"--{one}" in given]
+    return {**known, **dict.fromkeys(replaced)}
 
 
 def goes_with(name: str, modes: Sequence[Mode], mode: Mode) -> str:
@@ -206,10 +216,6 @@ def request_of_line(line: Sequence[str], defaults: argparse.Namespace, folder: s
     """The pair of a line of a list in a folder, with the options that hold for all where it has
     none."""
     known, bare = pair_options(defaults), pair_options(getattr(defaults, "bare", defaults))
-    given = {word.partition("=")[0] for word in line}
-    for one, other in (("origin", "start"), ("start", "origin")):
-        if f"--{one}" in given:
-            known[other] = bare[other] = None  # a line that tells its origin takes none of the call
     asked = request_of(read_options(line_parser(), line, known, bare, folder))
     if asked.recording == "-":
         raise Stop("- is no recording of a list: give a file")

@@ -171,8 +171,8 @@ OPTIONS: tuple[Option, ...] = (
            "`french`; 0A, 21 `spanish`; 06, 25 `czech`; any other `english`", MEASURED, "english",
            field="option", default="english", choices=(*WORDS, AUTO), of_check="english",
            in_profile=True, shape=OneOf(*WORDS)),
-    Option("--origin", "T", "the clock: the PTS of 00:00:00:00", MEASURED_PAIRS, "it is fitted",
-           field="origin", read=origin_word, shape=Maybe(PTS),
+    Option("--origin", "T", "the clock: the PTS of 00:00:00:00", MEASURED_PAIRS, "it is estimated",
+           field="origin", read=origin_word, in_profile=True, shape=Maybe(PTS),
            said="null where it was to be found; the one that was used is in the part."),
     Option("--complete", None, "ask for [closing headers]"
            "(transmissions.md#closing-headers---complete)", PAIRS, "they are asked for",
@@ -200,8 +200,11 @@ OPTIONS: tuple[Option, ...] = (
            said="The numbers of the first and the last PES packet that may be judged."),
     Option("--start", "TIME|tcp", "the clock: the time code of the recording's [first picture]"
            "(recording.md#the-clock-by-the-first-picture); `tcp`: that of the GSI block",
-           MEASURED_PAIRS, "it is fitted", field="start", read=start_word, shape=Maybe(Text()),
-           said="The time code of the first picture, or tcp."),
+           MEASURED_PAIRS, "it is estimated", field="start", read=start_word, in_profile=True,
+           shape=Maybe(Text()), said="The time code of the first picture, or tcp."),
+    Option("--relative", None, "status 0 for [`relative`](#verdicts-and-exit-status): a delay that "
+           "all subtitles share is not checked", PAIRS, "status 3", field="is_relative_allowed",
+           default=False, in_profile=True, shape=Flag(), said="Whether relative has status 0."),
     Option("--within", "N", "the frames within which a page has to be whole", MEASURED_PAIRS, "0",
            field="within", default=0, read=within_word, of_check=0, in_profile=True,
            shape=Integer(0, MOST_WITHIN), said="The frames within which a page has to be whole."),
@@ -211,9 +214,9 @@ OPTIONS: tuple[Option, ...] = (
            read=late_word, write=late_text, in_profile=True, shape=Maybe(Text()),
            said="The shares of begins and of ends that are so many frames late.",
            in_result=lambda late: late and late_text(late)),
-    Option("--strict", None, "[warnings](#warnings) about the recording count, also that the clock "
-           "was fitted", JUDGED, "they change nothing", field="is_strict", default=False,
-           shape=Flag(), said="Whether warnings count."),
+    Option("--strict", None, "[warnings](#warnings) about the recording count", JUDGED,
+           "they change nothing", field="is_strict", default=False, shape=Flag(),
+           said="Whether warnings count."),
     Option("--from", "TIME", "only the subtitles whose TCI is at TIME or later", MEASURED, "all",
            field="from_time", read=time_text, of_check=None, shape=Maybe(TIME),
            said="Only the subtitles whose TCI is then or later were judged."),
@@ -334,6 +337,7 @@ class Request:
     breaks: int
     pes: tuple[int, int] | None
     start: str | None
+    is_relative_allowed: bool = False  # `relative` has status 0
     within: int = 0  # frames within which a page has to be whole
     is_strict: bool = False  # warnings count
     from_time: str | None = None  # as it was typed
@@ -379,9 +383,15 @@ class Request:
         return None if word is None or word == NONE else int(word)
 
     @property
+    def has_clock(self) -> bool:
+        """Whether the clock of the recording is given, or there is no recording."""
+        return not self.recording or self.origin is not None or self.start is not None
+
+    @property
     def waivers(self) -> list[str]:
-        """The options by which the profile lets faults pass."""
-        return [one.name for one in OPTIONS if one.field in ("is_loss_allowed", "severity")
+        """The options by which the profile makes the verdict on this pair more lenient."""
+        fields = ["is_loss_allowed", "severity", *["is_relative_allowed"] * (not self.has_clock)]
+        return [one.name for one in OPTIONS if one.field in fields
                 and one.words(one.value_in(self), one.default) and self.profile
                 and self.profile.value(one.field, None) == one.value_in(self)]
 

@@ -17,11 +17,11 @@ from ..common.files import bounded_bytes, first_bytes, is_replaced, result_file
 from ..common.program import MadeWith
 from ..common.shapes import Listed, Member, Members, Shape
 from ..judging.part import Part
-from ..judging.status import ACCEPTED, NOT_JUDGED, STATUSES, is_of_call
+from ..judging.status import ACCEPTED, NOT_JUDGED, RELATIVE, STATUSES, is_of_call
 from ..judging.subtitles import Counts
 from ..judging.verdict import Verdict
 from ..request.request import Request
-from .schema import ASKED, FORMAT, LEFT_OUT, LISTS, NO_PAIR, TOGETHER, VERDICT, Writing, misfit
+from .schema import ASKED, FORMAT, LEFT_OUT, LISTS, NO_PAIR, VERDICT, Writing, misfit
 
 
 # A verdict as one JSON object, made by the table of results and written a piece after another:
@@ -53,8 +53,8 @@ def object_of(verdict: Verdict, program: MadeWith) -> Iterator[str]:
             head[member.name] = fitting(member.shape, value, member.name)
             yield json.dumps(value, ensure_ascii=False)
         before = ","
-    if TOGETHER.misfit(head) is not None:
-        raise ValueError("verdict, status, line and reason do not go together")
+    if any(rule.misfit(head) is not None for rule in VERDICT.rules):
+        raise ValueError("verdict, status, line, reason and clock do not go together")
     yield "\n}\n"
 
 
@@ -412,8 +412,8 @@ def column_rows(known: dict[str, Any]) -> Iterator[Known]:
 # Pairs as testcases of JUnit, which any CI shows.
 
 class TestCase(NamedTuple):
-    """A pair: what is said of it, the first lines of its list, the seconds that it took, and how
-    many subtitles were judged, where some are refused."""
+    """A pair: what is said of it, the first lines of its list, the seconds that it took, how many
+    subtitles were judged if some are refused, and its sentence."""
 
     name: str
     verdict: str
@@ -422,12 +422,15 @@ class TestCase(NamedTuple):
     lines: Sequence[str]
     seconds: float
     counts: str = ""
+    sentence: str = ""
 
 
 def element_of(case: TestCase) -> tree.Element:
     element = tree.Element("testcase", classname="subttx", name=shown_lines(case.name),
                            time=f"{case.seconds:.3f}")
-    text = shown_lines("\n".join([case.line, *[case.counts] * bool(case.counts), *case.lines]))
+    sentence = [case.sentence] * (case.verdict == RELATIVE)
+    text = shown_lines("\n".join([case.line, *sentence, *[case.counts] * bool(case.counts),
+                                  *case.lines]))
     if case.status:
         kind = "error" if case.verdict == NOT_JUDGED else "failure"
         told = tree.SubElement(element, kind, message=shown_lines(case.line), type=case.verdict)

@@ -13,7 +13,7 @@ from ..common.times import FRAMES_OF_A_DAY, time_of
 from ..judging.causes import NAMES, Wording, counts_of
 from ..judging.faults import faults_of, words_of_subtitle
 from ..judging.part import Part
-from ..judging.status import NOT_JUDGED, STATUSES
+from ..judging.status import ACCEPTED, NOT_JUDGED, POSSIBLE, RELATIVE, STATUSES, WAIVED
 from ..judging.verdict import Verdict
 from ..request.request import CHOICES, members
 
@@ -27,11 +27,13 @@ CODE_TIME = named("code_time", Text(r"[0-9]{2,3}(:[0-9]{2,3}){3}"))
 DATE = named("date", Text(r"[0-9]{4}-[0-9]{2}-[0-9]{2}T[0-9]{2}:[0-9]{2}:[0-9]{2}Z"))
 PART = named("part_number", Integer(1, MOST_NUMBER), "The part, from 1.")
 STATUS = named("status", OneOf(*sorted({*STATUSES.values()})),
-               "The exit status: 0 accepted or waived, 1 not accepted, 2 not judged.")
+               "The exit status: 0 accepted or waived, or relative with --relative; 1 not "
+               "accepted; 2 not judged; 3 relative.")
 WORD = named("word", OneOf(*STATUSES), "waived: refused by faults that --severity, or "
              "--allow-lost, names warnings, and by no other (status 0). lost: what was seen is "
              "accepted or waived, and TS packets are missing. warned: with --strict, what was seen "
-             "is accepted or waived, and there are warnings.")
+             "is accepted or waived, and there are warnings. relative: it would be accepted or "
+             "waived, but no clock was given, so a delay that all subtitles share was not checked.")
 
 FOUND_FILE = Record(
     "found", "",
@@ -312,7 +314,15 @@ TOGETHER = Rules([*(
     {"verdict": OneOf(word), "status": OneOf(status),
      "line": NOTHING if word == NOT_JUDGED else TEXT,
      "lead": NOTHING if word == NOT_JUDGED else TEXT,
-     "reason": TEXT if word == NOT_JUDGED else NOTHING} for word, status in STATUSES.items())])
+     "reason": TEXT if word == NOT_JUDGED else NOTHING} for word, status in POSSIBLE)])
+# Nothing is accepted or waived without a clock, and `relative` has status 0 by --relative alone.
+HAS_CLOCK = Rules([{"origin": PTS}, {"start": TEXT}, {"recording": NOTHING}])
+IS_ALLOWED = Rules([{"relative": OneOf(True)}])
+TIMED = Rules([
+    {"verdict": OneOf(*(word for word in STATUSES if word not in (ACCEPTED, WAIVED, RELATIVE)))},
+    {"verdict": OneOf(ACCEPTED, WAIVED), "asked": HAS_CLOCK},
+    {"verdict": OneOf(RELATIVE), "status": OneOf(STATUSES[RELATIVE])},
+    {"verdict": OneOf(RELATIVE), "asked": IS_ALLOWED}])
 
 # The lists, which are written one item after another and read like that; of each is said how many
 # items are left out.
@@ -385,7 +395,7 @@ VERDICT = Record(
            "so, or nobody looked.", lambda known: known.verdict.delays),
     *LISTS,
     Member("left_out", LEFT_OUT),
-    rules=[TOGETHER])
+    rules=[TOGETHER, TIMED])
 
 NO_PAIR = Record(
     "no_pair", "Something in a batch that is no pair of files, or a pair whose call did not end by "
