@@ -7,12 +7,14 @@ import random
 import time
 import unittest
 from types import SimpleNamespace
-from typing import Any, Sequence
+from typing import Any, Iterator, Sequence
 
 from subtitles.clock.alignment import MOST_BASES, Shown, bases_of
+from subtitles.clock.start import after_frame, left_out, most_off
 from subtitles.clock.stretches import LACKED, LEAST_BREAK, Stretch, by_breaks, find_row
 from subtitles.common.times import (
-    CLOCK, FRAMES_OF_A_DAY, Spans, TICKS, joined_spans, ticks_between, ticks_within)
+    CLOCK, EARLY, FRAMES_OF_A_DAY, NO_FRAME, Spans, TICKS, frame_at, frame_in, frames_at,
+    joined_spans, pts_of, ticks_after, ticks_between, ticks_within, wrapped)
 from subtitles.stream.gaps import (
     ClockJump, Place, SECOND, jumps_of, place_line, places_of, strange_of, what_of)
 from subtitles.stream.packets import Change, Clocked, Mark, Packets, Run, headers_in
@@ -39,8 +41,52 @@ def runs_of(numbers: set[int]) -> list[tuple[int, int]]:
     return list(zip(firsts, sorted(one for one in numbers if one + 1 not in numbers)))
 
 
+DAY = TICKS * FRAMES_OF_A_DAY
+BEFORE = (CLOCK - DAY) // 2  # ticks that a PTS of a day may be before its origin
+
+
+def all_over_the_clock(chance: random.Random) -> Iterator[tuple[int, int]]:
+    """Yield origins, each with distances from it over the 26.5 hours of the clock."""
+    for origin in (0, 1, TICKS, CLOCK // 2, CLOCK - 1, *(chance.randrange(CLOCK) for _ in range(9))):
+        for at in (0, TICKS, CLOCK // 2, DAY, CLOCK - BEFORE, CLOCK, *(
+                chance.randrange(CLOCK // TICKS) * TICKS for _ in range(30))):
+            for ticks in (at - EARLY - 1, at - EARLY, at - 1, at, at + 1, at + TICKS // 2):
+                yield origin, ticks % CLOCK
+
+
 class Times(unittest.TestCase):
     """Tables."""
+
+    def test_pts_all_over_the_clock(self) -> None:
+        """Each function on a PTS says what it would say if PTS never wrapped, over 26.5 hours."""
+        for origin, ticks in all_over_the_clock(random.Random(26)):
+            pts = (origin + ticks) % CLOCK
+            frame, rest = divmod(ticks, TICKS)
+            later = (ticks + EARLY) % CLOCK // TICKS
+            frames = [frame if not rest and frame < FRAMES_OF_A_DAY else None,
+                      later if later < FRAMES_OF_A_DAY else None]
+            after = ticks if ticks < CLOCK - BEFORE else ticks - CLOCK
+            found = (wrapped(origin + ticks), pts_of(frame, origin),
+                     frame_in(pts, origin), frame_in(pts, origin, 1),
+                     [frame_at(pts, origin, within) for within in (0, 1)],
+                     [[None if one == NO_FRAME else one for one in frames_at([pts], origin, within)]
+                      for within in (0, 1)],
+                     ticks_between(origin, pts), ticks_within(origin, DAY, pts),
+                     ticks_after(origin, pts), most_off([pts], origin),
+                     after_frame(packets_with([pts]), origin, 0))
+            wanted = (pts, (pts - rest) % CLOCK, frame, later, frames, [[one] for one in frames],
+                      ticks if ticks < CLOCK // 2 else ticks - CLOCK, after, after,
+                      min(after % TICKS, -after % TICKS), after % TICKS)
+            self.assertEqual(found, wanted, (origin, ticks))
+
+    def test_pictures_all_over_the_clock(self) -> None:
+        """Pictures leave out as many frames, whatever their first PTS."""
+        chance = random.Random(27)
+        for origin in (0, CLOCK - 5 * TICKS, *(chance.randrange(CLOCK) for _ in range(50))):
+            for missing in range(4):
+                pts = [(origin + TICKS * (at + missing * (at > 7))) % CLOCK
+                       for at in chance.sample(range(20), 20)]
+                self.assertEqual(left_out(pts, False), missing, (origin, pts))
 
     def test_spans(self) -> None:
         """What is said of spans, held against the numbers that they have, one by one."""

@@ -7,8 +7,8 @@ from typing import NamedTuple, Sequence
 from ..common.command_line import counted, pid_name, shown
 from ..common.files import first_bytes
 from ..common.times import (
-    ALL_DAY, Between, EARLY, TICKS, frame_in, frame_of, frame_of_code, ticks_between, time_of,
-    wrapped)
+    ALL_DAY, Between, EARLY, TICKS, frame_in, frame_of, frame_of_code, ticks_after, ticks_between,
+    time_of, wrapped)
 from ..formats.stl import GSI
 from ..request.request import ORIGIN_CHOICE, Request, Selection, Unclear
 from ..stream.packets import Packets, Range
@@ -198,7 +198,7 @@ def after_frame(packets: Packets, pts: int, within: int) -> int:
     frame; within 1 and more, where there are some, of those that are near it: fields have two."""
     ticks: collections.Counter[int] = collections.Counter()
     for _, (sent, _) in zip(range(PTS_LOOKED_AT), ((sent, 0) for sent in packets.pts())):
-        ticks[wrapped(sent - pts) % TICKS] += 1
+        ticks[ticks_after(pts, sent) % TICKS] += 1
     known = [rest for rest, _ in ticks.most_common()]
     near = [rest for rest in known if rest <= EARLY or rest >= TICKS - EARLY]
     return (near if within and near else known)[0]
@@ -255,10 +255,9 @@ MOST_PTS = 100_000  # PTS
 
 
 def most_off(several: Sequence[int], origin: int) -> int:
-    """Return by how many ticks some PTS are off their nearest frames at most. A PTS may be a day
-    after the origin, over half of the clock."""
-    return max((abs(wrapped(pts - origin + TICKS // 2) % TICKS - TICKS // 2)
-                for pts in several[:MOST_PTS]), default=0)
+    """Return by how many ticks some PTS are off their nearest frames at most."""
+    rests = (ticks_after(origin, pts) % TICKS for pts in several[:MOST_PTS])
+    return max((min(rest, TICKS - rest) for rest in rests), default=0)
 
 
 def off_words(most: int) -> str:

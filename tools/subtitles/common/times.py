@@ -86,6 +86,12 @@ def ticks_within(first: int, length: int, pts: int) -> int:
     return wrapped(pts - first + before) - before
 
 
+def ticks_after(origin: int, pts: int) -> int:
+    """Return how many ticks a PTS of a day is later than an origin; below 0 if it is up to an hour
+    before that."""
+    return ticks_within(origin, TICKS * FRAMES_OF_A_DAY, pts)
+
+
 def pts_of(frame: int, origin: int) -> int:
     """The PTS of a frame of the day; `origin` is that of 00:00:00:00."""
     return wrapped(origin + TICKS * frame)
