@@ -468,7 +468,7 @@ class Judged(Case):
     def test_kept(self) -> None:
         """What an earlier call has judged as it would be judged now; not what it did not judge, and
         no object of another program, or that is none."""
-        items = [self.item("accepted", name) for name in (
+        items = [self.item("accepted", name, "--origin", "0") for name in (
             "one", "two", "three", "four", "six", "seven", "eight")]
         items.append(Item("five", None, "no pair"))
         program = about_program(self.typed.program_path)
