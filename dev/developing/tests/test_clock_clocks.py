@@ -202,6 +202,24 @@ class Starts(Case):
                     "origin": (shift + 2 * TICKS) % CLOCK, "source": "start", "delay_frames": -2},
                     clock)
 
+    def test_of_another_time(self) -> None:
+        """The time of day for a file with another clock, however far they differ: nothing is judged,
+        and no other page is named."""
+        data = with_pictures(example_bytes("story.pes"), FIRST_PTS).data
+        ends = f"the recording begins at {STARTED}. TIME is on the subtitle file's own clock, not " \
+            "the time of day"
+        for words, told in (
+                (("--start", "10:00:00:00"), "--start 10:00:00:00 is 10 h 14 min 59 s earlier than "
+                 f"the subtitles tell: by these {ends}"),
+                (("--start", "00:00:00:01"), "--start 00:00:00:01 is 20 h 14 min 58 s 24 frames "
+                 f"earlier than the subtitles tell: by these {ends}"),
+                (("--start", "23:00:00:00"), "--start 23:00:00:00 is 2 h 45 min 1 s later than the "
+                 f"subtitles tell: by these {ends}"),
+                (("--origin", f"{90_000 * 3600}"), "by --origin 324000000 all subtitles come 1 h "
+                 "too early: none is in the recording at its time")):
+            found = self.judge(data, *words)
+            self.must(f"{words}", found.word == "not judged" and found.told == [told], found.told)
+
     def test_of_a_feed(self) -> None:
         """As soon as the first picture is known; and with a break, the first part."""
         data = with_pictures(example_bytes("story.pes"), FIRST_PTS).data

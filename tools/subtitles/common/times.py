@@ -69,6 +69,14 @@ def time_of(frame: int) -> str:
     return f"{seconds // 3600:02}:{seconds // 60 % 60:02}:{seconds % 60:02}:{frames:02}"
 
 
+def length_words(frames: int) -> str:
+    """Return a length as `10 h 15 min`, without what is zero."""
+    seconds, rest = divmod(frames, FRAMES_A_SECOND)
+    parts = [(seconds // 3600, "h"), (seconds // 60 % 60, "min"), (seconds % 60, "s"),
+             (rest, "frame" if rest == 1 else "frames")]
+    return " ".join(f"{count} {unit}" for count, unit in parts if count)
+
+
 def wrapped(ticks: int) -> int:
     """Ticks as a PTS has them, which begins again at 2^33."""
     return ticks % CLOCK

@@ -7,9 +7,12 @@ import os
 from typing import Iterable, Iterator, NamedTuple, Sequence
 
 from ..clock.origin import OfPart, Origin, Sought, find
-from ..clock.start import Clock, Found, GIVEN, NoFirst, RECORDING, START, TCP, began, refuse_outside
+from ..clock.start import (
+    Clock, Found, GIVEN, NoFirst, RECORDING, START, TCP, began, refuse_outside, start_frame)
 from ..common.command_line import Stop, counted, error_line, pid_name
-from ..common.times import FRAMES_A_SECOND, TICKS, pts_of, ticks_between, ticks_within, time_of
+from ..common.times import (
+    FRAMES_A_SECOND, FRAMES_OF_A_DAY, TICKS, length_words, pts_of, ticks_after, ticks_between,
+    ticks_within, time_of, wrapped)
 from ..formats.listing import NamedFault, PICTURES_LEFT
 from ..recording.recording import Recording
 from ..request.commands import Listener
@@ -64,6 +67,7 @@ def parts_of(programme: PartSearch, recording: Recording, listener: Listener) ->
     if given:
         clock, delay = with_delay(given, origin)
         alignments[0] = alignments[0]._replace(clock=clock)
+        refuse_another_time(programme, recording, alignments[0])
     return PartClocks(programme, alignments, delay, bool(origin.shifts))
 
 
@@ -151,6 +155,32 @@ def with_delay(clock: Clock, origin: Origin) -> tuple[Clock, list[str]]:
     line = f"{where} subtitles are {words} {'early' if sign < 0 else 'late'}"
     question = clock.question() if which == "all" and not ticks else ""
     return clock, [line, *filter(None, [question])]
+
+
+def refuse_another_time(programme: PartSearch, recording: Recording, part: Found) -> None:
+    """`Unclear` if the recording has nothing at the time of the subtitles, by the clock that was
+    given, and has them at another time: so the page is right, and the clock is wrong."""
+    clock = part.clock
+    if not clock.delay_frames or cut_within(programme, recording, part,
+                                            programme.request.within).range is not None:
+        return
+    raise Unclear(another_time_words(programme.request, clock, clock.delay_frames))
+
+
+def another_time_words(request: Request, clock: Clock, delay: int) -> str:
+    """Return by how much a clock that was given differs from the subtitles in the recording, which
+    come so many frames later than by it."""
+    if clock.source == GIVEN:
+        return f"by --origin {clock.origin} all subtitles come {length_words(abs(delay))} too " \
+            f"{'late' if delay > 0 else 'early'}: none is in the recording at its time"
+    given = start_frame(request)
+    estimated = wrapped(clock.origin + TICKS * delay)
+    begins = round(ticks_after(estimated, pts_of(given, clock.origin)) / TICKS)
+    name = "the TCP" if clock.source == TCP else "--start"
+    which = "earlier" if given < begins else "later"
+    return f"{name} {time_of(given)} is {length_words(abs(given - begins))} {which} than the " \
+        f"subtitles tell: by these the recording begins at {time_of(begins % FRAMES_OF_A_DAY)}. " \
+        "TIME is on the subtitle file's own clock, not the time of day"
 
 
 def unclear_origin(origin: Origin, again: Iterable[str]) -> Unclear:
