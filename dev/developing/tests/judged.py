@@ -10,7 +10,8 @@ from typing import Any, Iterable, NamedTuple, Sequence
 
 from subtitles.cli.main import parser_of
 from subtitles.cli.measure import Unprinted
-from subtitles.cli.single import Files, PairCall, claimed, end_pair, judge_pair, verdict_of
+from subtitles.cli.single import (
+    Files, PairCall, claimed, end_pair, judge_pair, stamps_of, verdict_of)
 from subtitles.common.program import MadeWith
 from subtitles.judging.pair import Pair
 from subtitles.judging.status import decide
@@ -85,12 +86,13 @@ def judged_by(program: str, *words: str, heard: Heard | None = None) -> Judged:
     known = read_options(parser_of(""), ["-p", program, *words], {}, {})
     asked, typed = request_of(known), CommandWords("tools/qc", program)
     listener = Listener(heard)
+    stamps = stamps_of(asked)
     verdict = verdict_of(asked, listener)
     with tempfile.TemporaryDirectory() as folder, claimed(known.out, "one"):
         names = Names("one", folder, known.out)
         names.give(asked.stl)
         files = Files(PairCall(program, known.out, known.is_kept, known.json, known.csv,
-                               known.junit), verdict, typed, names)
+                               known.junit), verdict, typed, names, stamps)
         verdict.files = found(asked)
         pair = Pair(verdict, typed, names, listener, True)
         judge_pair(pair, files)

@@ -9,6 +9,7 @@ import io
 import itertools
 import json
 import os
+import time
 from typing import Any, Callable, Iterator
 from unittest import mock
 
@@ -296,18 +297,42 @@ class Watched(Case):
         with contextlib.redirect_stdout(out):
             results.take(row("b", "accepted", "accepted 5"))
             results.take(row("a", "refused", "refused 72 X", "a hint"))
+        results.write_page(is_last=True)
         self.must("lines", [line[21:] for line in out.getvalue().splitlines()] ==
                   ["b  accepted", "a  refused: 72 X: a hint"], out.getvalue())
         page = self.read("out/index.html").decode()
         self.must("page", "4 pairs" in page and page.index("<td>a<") < page.index("<td>b<"))
         with contextlib.redirect_stdout(out):
             results.take(row("b", "not judged", "why"))
+        results.write_page(is_last=True)
+        results.next_page = 0.0
         with contextlib.redirect_stdout(out), contextlib.redirect_stderr(io.StringIO()) as told, \
                 mock.patch.object(collection, "result_file", side_effect=OSError(28, "full")):
             results.take(row("c", "accepted", "accepted 5"))  # it goes on where no page is written
         self.must("told", "full" in told.getvalue() and "c  accepted" in out.getvalue())
         self.must("once more", "4 pairs: 2 accepted, 1 not judged, 1 refused" in self.read(
             "out/index.html").decode())
+
+    def test_page_over_many(self) -> None:
+        """The more pairs it has, the more seldom it is written again: else a folder would take the
+        square of their number. The last verdict is on it in the end."""
+        os.mkdir(self.path("out"))
+        results, pages = collection.FolderRows(self.path("out")), list[int]()
+        results.rows = {f"{number}": row(f"{number}", "accepted") for number in range(9999)}
+        rows: list[tuple[float, str, int]] = [
+            (100.0, "new", 1), (100.1, "new", 0), (109.9, "look", 0), (110.0, "look", 1),
+            (150.0, "look", 0), (150.1, "new", 1), (150.2, "last", 0), (150.3, "new", 0),
+            (150.4, "last", 1)]
+        with mock.patch.object(collection, "write_index", lambda *_: pages.append(1)), \
+                contextlib.redirect_stdout(io.StringIO()):
+            for now, what, count in rows:
+                pages.clear()
+                with mock.patch.object(time, "monotonic", return_value=now):
+                    if what == "new":
+                        results.take(row("one", "accepted"))
+                    else:
+                        results.write_page(is_last=what == "last")
+                self.check(f"{now}: {what}", len(pages), count)
 
     def looked(self, looks: int, judged: Callable[[Calls, Item], Row],
                change: Callable[[int], None] = lambda look: None) -> list[str]:

@@ -301,16 +301,12 @@ class Judged(Case):
                 and not calls.running, have)
 
     def test_one(self) -> None:
-        """By its object; where that is another's, or a file changed, none, and nothing earlier."""
+        """By its object; where that is another's none, and nothing earlier."""
         for kind, verdict, line in (
                 ("accepted", "accepted", "accepted 72 Content"),
                 ("refused", "refused", "refused 72 Content"),
                 ("not judged", "not judged", "why"), ("silent", "not judged", "told last"),
-                ("other", "not judged", "told last"),
-                *((f"does {change}{name}", "not judged",
-                   "a file was written to while it was judged")
-                  for name in ("one.stl", "one.ts", "levels")
-                  for change in ("echo more >>", "rm "))):
+                ("other", "not judged", "told last")):
             self.write("one.ts", b"1")
             item = self.item(kind, "one", "--severity", self.write("levels", b"72 error\n"))
             self.write("out/one.json", json.dumps(result("accepted")).encode())
@@ -430,7 +426,8 @@ class Judged(Case):
             items = [self.item(kind, f"name{at}") for at, kind in enumerate(kinds)]
             lines: list[str] = []
 
-            def show(progress: object, line: str) -> None:
+            def show(progress: object, make_line: Callable[[], str]) -> None:
+                line = make_line()
                 lines.append(line)
                 if line.startswith("1 of 4 pairs: 1 accepted"):
                     raise reason

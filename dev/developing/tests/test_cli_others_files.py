@@ -111,7 +111,7 @@ class Lines(Case):
         self.write("secret", b"root:*:20228:0:99999:7:::\n")
         self.write("marked", b"\xef\xbb\xbf--page 888\n")
         self.write("long", b"#" * 65_537)
-        pair = f"{example('hello.stl')} {example('hello.pes')}"
+        pair = f"{example('hello.stl')} {example('hello.pes')} --origin 0"
         pipe = in_pipe(self, b"--page 888\n")
         rows = {
             f"--profile {pipe}": f"{pipe} is a pipe: give a file",
@@ -123,7 +123,7 @@ class Lines(Case):
             "--profile long": "long has more than 65,536 bytes",
             "--severity long": "long has more than 65,536 bytes",
             "--severity 'a\0b'": "a word has a NUL character",
-            f"{'--within 2 ' * 128}": "it has more than 256 words"}
+            f"{'--within 2 ' * 127}": "it has more than 256 words"}
         for words, reason in rows.items():
             self.write("list", f"{pair} {words}\n{pair}\n".encode())
             done = self.judged("list")
@@ -162,7 +162,8 @@ class Little(Case):
         """No status depends on standard error: the last line and the status say one thing."""
         pair = [example("story.stl"), example("story.pes")]
         wrong = [pair[0], example("five-faults.pes")]
-        rows = {"a pair": (pair, 0), "one with results": ([*pair, "-o", "out"], 0),
+        rows = {"a pair": ([*pair, "--origin", "0"], 0), "one without a clock": (pair, 3),
+                "one with results": ([*pair, "--origin", "0", "-o", "out"], 0),
                 "a subtitle file": (pair[:1], 0), "one that is refused": (wrong, 1),
                 "no file": (["none.stl"], 2), "a pair that is not": ([*pair, "--page", "150"], 2)}
         for (name, (words, status)), ending in itertools.product(
@@ -175,7 +176,7 @@ class Little(Case):
 
     def test_memory(self) -> None:
         """With little of it a pair is accepted, or a message says why not."""
-        pair = [example("story.stl"), example("story.pes"), "-o", "out"]
+        pair = [example("story.stl"), example("story.pes"), "--origin", "0", "-o", "out"]
         for size in range(20_000, 64_000, 4_000):
             done = self.call(["sh", "-c", f'ulimit -v {size}; exec "$0" "$@"', sys.executable,
                               tool_path("qc"), *pair, "-p", self.bench.program])

@@ -23,6 +23,7 @@ from subtitles.common.command_line import Stop, ended
 from subtitles.common.files import Inputs
 from subtitles.request.commands import CommandWords, Names, Speech
 from subtitles.request.lines import Item
+from subtitles.request.request import keep_stl
 from subtitles.results.files import found, put_object
 from .bench import Case, SECONDS, example, example_bytes
 from .parts import asked_for, qc
@@ -115,22 +116,55 @@ class NotBegun(Case):
                 min(jobs, count), max(count - jobs, 0), []))
 
     def test_begun(self) -> None:
-        """Its files are kept in mind as they were before, and its limit, which may be given."""
-        asked, begun = asked_for(self.path("one.stl"), self.path("one.ts")), list[batch.Begun]()
+        """It has its limit, which may be given."""
+        asked = asked_for(self.path("one.stl"), self.path("one.ts"))
         for limit, wanted in ((None, LEAST_SECONDS), (5, 5)):
-            calls, before = self.calls(), found(asked)
+            calls = self.calls()
             calls.limit = limit
-
-            def forked(_: object) -> Any:
-                self.write("one.ts", b"1" * (2 + len(begun)))
-                return mock.Mock()
-
-            with mock.patch.object(batch, "Forked", forked):
+            with mock.patch.object(batch, "Forked"):
                 calls.begin(Item("one", asked, None))
-            begun += calls.running.values()
-            begun[-1].claim.close()
-            self.must(f"{limit}", (begun[-1].found, begun[-1].limit) == (before, wanted) and
-                      found(asked) != before, begun)
+            [begun] = calls.running.values()
+            begun.claim.close()
+            self.check(f"{limit}", begun.limit, wanted)
+
+    def test_folder_is_listed_once(self) -> None:
+        """However many pairs a batch has: to list it for each takes the square of their number.
+        Files of parts that are no results are found all the same, of before and of meanwhile."""
+        for name in ("one.7.txt", "two.1.txt"):
+            self.write(f"out/{name}", b"theirs")
+        with mock.patch("os.listdir", side_effect=os.listdir) as listed:
+            calls = self.calls()
+            rows = [calls.begin(Item(f"{at}", None, "no pair")) for at in range(20)]
+            self.write("out/three.1.html", b"theirs")
+            rows += [calls.begin(Item(name, None, "no pair")) for name in ("one", "two", "three")]
+        self.check("listings", [call.args for call in listed.call_args_list],
+                   [(self.path("out"),)])
+        self.check("reasons", [row and row.line.replace(self.path(""), "") for row in rows],
+                   ["no pair"] * 20 + [
+                       f"out/{name} is there, and is no result of these tools: move it away, or "
+                       "give another folder" for name in (
+                           "one.7.txt", "two.1.txt", "three.1.html")])
+
+    def test_claimed_files(self) -> None:
+        """The process of a pair does not list the folder again, whose files are its caller's."""
+        asked = asked_for(example("hello.stl"), example("hello.pes"), "--origin", "0")
+        call = PairCall(self.bench.program, self.path("out"), name="one", is_claimed=True)
+        with mock.patch("subtitles.request.commands.PartFiles", side_effect=ZeroDivisionError), \
+                mock.patch.object(single, "ignore_signals"), \
+                contextlib.redirect_stdout(io.StringIO()), \
+                contextlib.redirect_stderr(io.StringIO()):
+            self.check("its verdict", single.judged(asked, call, "tools/qc").word, "accepted")
+
+    def test_pipe_that_comes_meanwhile(self) -> None:
+        """It is not waited for, though a file had its name when the list was read."""
+        os.mkfifo(self.path("pipe"))
+        for pair in (("pipe", "one.ts"), ("one.stl", "pipe")):
+            asked = asked_for(*map(self.path, pair))
+            with mock.patch.object(batch, "judge_request", return_value=0), \
+                    contextlib.redirect_stderr(io.StringIO()) as told:
+                status = batch.judge_alone(asked, PairCall(None))
+            self.check(f"{pair}", (status, f"{self.path('pipe')} is a pipe" in told.getvalue()),
+                       (2, True))
 
     def test_ends(self) -> None:
         """A verdict counts with its own status alone: not where a signal ended its process; but
@@ -142,8 +176,7 @@ class NotBegun(Case):
                 "accepted", "refused") for number in (1, 2, 9))]
         for (verdict, status, counts), is_over in itertools.product(rows, (False, True)):
             calls, call = self.calls(), mock.Mock(**{"end.return_value": (status, ["qc: why"])})
-            calls.running[call] = batch.Begun(Item("one", asked, None), found(asked), 7,
-                                              contextlib.ExitStack())
+            calls.running[call] = batch.Begun(Item("one", asked, None), 7, contextlib.ExitStack())
             calls.over |= {call} if is_over else {mock.Mock()}
             put_object(self.path("out/one.json"), result(verdict))
             row = calls.end(call)
@@ -193,9 +226,8 @@ class NotBegun(Case):
         data = example_bytes("story.stl")
         self.write("one.stl", data[:14] + b"08" + data[16:])
         for one, option in ((asked, "german"), (typed, "english")):
-            with mock.patch.object(batch, "judge_request", return_value=0) as judged:
-                self.must(option, batch.judge_alone(one, PairCall(None)) == 0 and
-                          judged.call_args[0][0].option == option)
+            keep_stl(one, self.folder)
+            self.check("option", one.option, option)
 
     def test_one_line(self) -> None:
         """It is judged beside other calls, whatever they judge: nothing over all is written, and

@@ -1,7 +1,9 @@
 """What `check` answers, and what was missed of it once."""
 from __future__ import annotations
 
+import contextlib
 import itertools
+import json
 import os
 import re
 import subprocess
@@ -222,25 +224,43 @@ STORY = example("story.stl")
 
 
 class Meanwhile(Case):
-    """A recording that another one writes to while it is judged."""
+    """Files that somebody replaces, or writes to, while they are judged."""
 
-    def test_another_size(self) -> None:
-        """While it is read, or while `check` judges it, the first byte more or less is told; by
-        --strict it counts."""
-        whole = in_stream((TELETEXT_PID, example_bytes("story.pes")))
-        for when in ("survey*one.ts", "check*--pes*--all*"):
-            for does, words in (("printf x >>one.ts", "grew"),
-                                ("truncate -s -188 one.ts", "became shorter"), ("", "")):
-                path = self.write("one.ts", whole + b"\x47\x1f\xff\x10" + b"\xff" * 184)
-                program = self.program_but(when, does.replace("one.ts", path) or ":")
-                for more, word in (((), "accepted"), (("--strict",), "warned")):
-                    self.write("one.ts", whole + b"\x47\x1f\xff\x10" + b"\xff" * 184)
-                    found = judged(self, STORY, path, "--origin", "0", *more, by=program)
-                    told = [one["line"] for one in found.result["warnings"]
-                            if one["kind"] == "grew"]
-                    self.must(f"{when} {does} {more}", len(told) == bool(words) and
-                              all(words in one for one in told) and
-                              found.word == (word if words else "accepted"), found.said)
+    CHANGES = {
+        "nothing": ":",
+        "one byte more": "printf x >>FILE",
+        "one byte less": "truncate -s -1 FILE",
+        "written to, with the times of before":
+            "touch -r FILE like; printf x | dd conv=notrunc of=FILE 2>&-; touch -r like FILE",
+        "another file of that size and those times": "touch -r FILE other; mv other FILE",
+        "a link to the same file": "mv FILE kept; ln -s kept FILE",
+        "another file, then the first again": "mv FILE kept; cp other FILE; mv kept FILE",
+        "gone": "rm FILE"}
+
+    def test_changes(self) -> None:
+        """A pair has no verdict if one of its files changed, whichever way, while it was read or
+        while `check` judged it: its result could describe another file."""
+        data = {"one.stl": example_bytes("story.stl"), "one.severity": b"79 warning\n",
+                "one.ts": in_stream((TELETEXT_PID, example_bytes("story.pes")))}
+        for (change, does), name, when in itertools.product(
+                self.CHANGES.items(), data, ("survey*one.ts", "check*--pes*--all*")):
+            for one, content in data.items():
+                self.write(one, content)
+            self.write("other", data[name])
+            program = self.program_but(when, f"(cd '{self.folder}'; "
+                                       f"{does.replace('FILE', name)})")
+            paths = [self.path(one) for one in ("one.stl", "one.ts", "one.severity")]
+            found = judged(self, *paths[:2], "--origin", "0", "--severity", paths[2],
+                           "-o", self.path("out"), by=program)
+            word = "accepted" if change == "nothing" else "not judged"
+            known = json.loads(self.read("out/one.json"))
+            place = f"{change}: {name}, {when}"
+            self.check(place, (found.word, known["verdict"]), (word, word))
+            self.must(f"{place}: the reason", (
+                f"{self.path(name)} was replaced or written to while it was judged: judge it again "
+                "when it is complete" in (known["reason"] or "")) == (word == "not judged"), known)
+            with contextlib.suppress(FileNotFoundError):
+                os.unlink(self.path(name))
 
 
 class Kept(Case):

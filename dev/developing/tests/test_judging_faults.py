@@ -317,7 +317,7 @@ class Made(Case):
                 progress = Progress()
                 for now in times:
                     with mock.patch("time.monotonic", lambda: now + 100):
-                        progress.show("x" * 500)
+                        progress.show(lambda: "x" * 500)
                 progress.clear()
                 progress.clear()
             lines = told.getvalue().split(CLEAR)

@@ -174,22 +174,6 @@ class Steps(Case):
         listener: Any = one.listener
         listener.said.assert_has_calls([mock.call("one"), mock.call("two")])
 
-    def test_at_the_end(self) -> None:
-        """That a recording grew is told once, and nothing twice."""
-        grew, other = Notice("grew", "grew", None), Notice("pause", "odd", None)
-        rows: list[tuple[list[Notice], list[Notice], list[Notice]]] = [
-            ([], [], []), ([other], [other], [other]), ([other], [other, grew], [other, grew]),
-            ([grew], [grew], [grew])]
-        for known, strange, wanted in rows:
-            one = self.pair(count=2)
-            one.verdict.warnings = [*known]
-            recording = mock.Mock(strange=lambda strange=strange: strange)
-            gap: Any = "gap"
-            with mock.patch.object(pair, "gaps_in", return_value=[gap]):
-                one.tell_losses(recording)
-            self.must(f"{known} {strange}", one.verdict.warnings == wanted and
-                      one.verdict.gaps == [gap], one.verdict.warnings)
-
 
 class Said(OfProgramme):
     """What is said of a pair, of one part."""

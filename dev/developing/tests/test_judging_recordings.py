@@ -92,7 +92,7 @@ class Recordings(Case):
                     f"not accepted, since warnings count ({', '.join(kinds)}): ")), strict.said)
 
     def test_what_is_not_whole(self) -> None:
-        """A recording whose end is cut after the last TCO, one that grows; a cut subtitle file."""
+        """A recording whose end is cut after the last TCO; a cut subtitle file."""
         pes = example_bytes("story.pes")
         stream = in_stream((TELETEXT_PID, pes))
         later = pes_packet(pts_in(packets(pes)[-1]) + 100 * TICKS, [HEADER] * 5)  # two TS packets
@@ -101,11 +101,6 @@ class Recordings(Case):
             self.must("cut", found.word == "accepted" and [
                 one["kind"] for one in found.result["warnings"]] == ["cut"] * (data != stream),
                 found.said)
-        by = self.write_program("program", f"#!/bin/sh\necho >>{self.path('grown.rec')}\n"
-                                f'exec {self.bench.program} "$@"\n')
-        found = judged(self, STORY, self.write("grown.rec", stream), "--origin", "0", by=by)
-        self.must("grown", [one["kind"] for one in found.result["warnings"]] == ["grew"],
-                  found.said)
         cut = self.write("cut.stl", example_bytes("story.stl")[:-128])
         self.must("counts", judged(self, cut, "--strict").said[-1].startswith(
             "not accepted, since warnings count (blocks, subtitles): "))

@@ -3,6 +3,7 @@ from __future__ import annotations
 
 import itertools
 import os
+import stat
 import subprocess
 from types import SimpleNamespace
 from typing import Any, Sequence
@@ -21,7 +22,6 @@ from .bench import Case
 from .parts import asked_for
 
 ONE, TWO, THREE = 257, 258, 259
-SIZE = "subtitles.recording.recording.size_of"
 
 
 def surveyed(*lines: str) -> Survey:
@@ -32,13 +32,13 @@ def surveyed(*lines: str) -> Survey:
     return survey
 
 
-def recorded(survey: Survey, *words: str, name: str = "one.ts", size: int | None = 9,
+def recorded(survey: Survey, *words: str, name: str = "one.ts", kind: int = stat.S_IFREG,
              folder: str = "") -> Any:
     """A recording of which this is told."""
     lines = list[str]()
     listener: Any = SimpleNamespace(lines=lines, said=lines.append,
                                     chosen=lambda one: lines.append(one.line))
-    with mock.patch(SIZE, lambda name: size):
+    with mock.patch("os.stat", return_value=SimpleNamespace(st_mode=kind)):
         made: Any = Recording(asked_for("a.stl", name, *words), mock.Mock(),
                               Names("one", folder, None), listener, [(100, 150)])
     made.survey, made.again = survey, lambda *more: " ".join(more)
@@ -98,18 +98,19 @@ class Chosen(Case):
 
     def test_what_it_is(self) -> None:
         """A file, what comes through a pipe; PES packets, or a stream."""
-        rows: list[tuple[str, int | None, int, bool, tuple[str, str | None]]] = [
-            ("one.ts", 9, 188, False, ("one.ts", "recording.pes")),
-            ("one.ts", 9, 204, False, ("one.ts", "recording.pes")),
-            ("one.ts", 9, 0, False, ("one.ts", None)),
-            ("one.ts", None, 192, True, ("one.recording.ts", "recording.ts")),
-            ("one.ts", None, 0, True, ("one.recording.pes", "recording.pes")),
-            ("-", 9, 188, True, ("one.recording.ts", "recording.ts")),
-            ("-", None, 0, True, ("one.recording.pes", "recording.pes"))]
-        for name, size, packet_size, is_piped, wanted in rows:
-            one = recorded(surveyed(f"size {packet_size}"), name=name, size=size)
+        file, pipe = stat.S_IFREG, stat.S_IFIFO
+        rows: list[tuple[str, int, int, bool, tuple[str, str | None]]] = [
+            ("one.ts", file, 188, False, ("one.ts", "recording.pes")),
+            ("one.ts", file, 204, False, ("one.ts", "recording.pes")),
+            ("one.ts", file, 0, False, ("one.ts", None)),
+            ("one.ts", pipe, 192, True, ("one.recording.ts", "recording.ts")),
+            ("one.ts", pipe, 0, True, ("one.recording.pes", "recording.pes")),
+            ("-", file, 188, True, ("one.recording.ts", "recording.ts")),
+            ("-", pipe, 0, True, ("one.recording.pes", "recording.pes"))]
+        for name, kind, packet_size, is_piped, wanted in rows:
+            one = recorded(surveyed(f"size {packet_size}"), name=name, kind=kind)
             one.packets = Packets(ONE)
-            self.must(f"{name} {size} {packet_size}", (
+            self.must(f"{name} {kind} {packet_size}", (
                 one.is_piped, one.path, one.stream(), (one.shown, one.kept_ending)) == (
                     is_piped, "one.recording" if is_piped else name,
                     (ONE, packet_size) if packet_size else None, wanted), vars(one))
@@ -156,17 +157,15 @@ class Told(Case):
             self.assertSaid(one.listener.lines, [*wanted[0], *wanted[1]])
 
     def test_strange(self) -> None:
-        """Another size than before, and an end within a PES packet."""
-        for before, now, is_cut, refusal, damage, size in itertools.product(
-                (None, 8, 9), (None, 8, 9), (False, True), (0, 31), (None, "is damaged"), (0, 188)):
-            one = recorded(surveyed(f"size {size}"), size=before)
+        """An end within a PES packet, and damage."""
+        for is_cut, refusal, damage, size in itertools.product(
+                (False, True), (0, 31), (None, "is damaged"), (0, 188)):
+            one = recorded(surveyed(f"size {size}"))
             one.packets = Packets(ONE, is_cut=is_cut, refusal=refusal, damage=damage)
-            with mock.patch(SIZE, lambda name: now):
-                found = [notice.line.split(" ", 1)[1] for notice in one.strange()]
-            sizes = ["grew" if now == 9 else "became shorter"] * ({before, now} == {8, 9})
+            found = [notice.line.split(" ", 1)[1] for notice in one.strange()]
             ends = ["ends within"] * (is_cut and not refusal and size > 0) + ["is damaged"] * bool(
                 damage)
-            self.assertSaid(found, sizes + ends)
+            self.assertSaid(found, ends)
 
     def test_kept(self) -> None:
         """The PID as it is extracted, up to a PES packet that is refused; where that fails nothing

@@ -19,9 +19,9 @@ from ..common.files import IsInput, NOTHING, temporary_folder
 from ..common.program import MadeWith, TOP, about_program
 from ..judging.status import NOT_JUDGED
 from ..report import page
-from ..request.commands import CommandWords, Progress
-from ..request.lines import Item, at_line, inputs_of, of_folder, pairs_at
-from ..request.request import Request, take_option
+from ..request.commands import CommandWords, PartFiles, Progress
+from ..request.lines import Item, at_line, inputs_of, no_file, of_folder, pairs_at
+from ..request.request import Request
 from ..results.files import (
     ENDING, Row, found, is_current, left_by_call, object_at, put_object, row_of_object, unjudged)
 from .main import leave
@@ -41,12 +41,12 @@ FILES = "/proc/self/fd"  # those that this process has open
 
 
 def judge_alone(asked: Request, call: PairCall) -> int:
-    """What a process does that is there for a pair; its status. Where that ends early, its object
-    says why. The national option that the subtitle file names is looked for anew."""
+    """Judge a pair in a process of its own; return its status. If that ends early, its object says
+    why. A pipe that has come in the place of a file meanwhile would be waited for."""
     def judge(_: Sequence[str]) -> int:
         try:
-            if asked.language is not None:
-                take_option(asked)
+            if reason := no_file(asked.stl) or no_file(asked.recording or ""):
+                raise Stop(reason)
             return judge_request(asked, call, os.path.join(TOP, "tools", "qc"))
         except (Exception, KeyboardInterrupt) as reason:
             if not isinstance(reason, IsInput):
@@ -204,11 +204,10 @@ def limit_of(files: Mapping[str, Any]) -> int:
 
 
 class Begun(NamedTuple):
-    """A pair that is judged, what its files were like when that began, the seconds of the processor
-    that it may take, and what keeps other calls from writing its results."""
+    """A pair that is judged, the seconds of the processor that it may take, and what keeps other
+    calls from writing its results."""
 
     item: Item
-    found: dict[str, Any]
     limit: int
     claim: contextlib.ExitStack
 
@@ -223,6 +222,7 @@ class Calls:
                  limit: int | None = None) -> None:
         self.typed, self.folder, self.out, self.is_kept = typed, folder, out, is_kept
         self.limit = limit  # seconds of the processor, where they are given
+        self.parts = PartFiles(out) if out is not None else None
         self.running: dict[Forked, Begun] = {}
         self.over: set[Forked] = set()  # those that took more than their limit
         self.inputs = NOTHING  # of all pairs
@@ -243,7 +243,7 @@ class Calls:
         claim = contextlib.ExitStack()
         try:
             if self.out is not None:
-                refuse_files_of(self.out, item.name, self.inputs)
+                refuse_files_of(self.out, item.name, self.inputs, self.parts)
             claim.enter_context(claimed(self.out, item.name))
             return self.begin_claimed(item, claim)
         except (Stop, OSError) as reason:
@@ -257,18 +257,17 @@ class Calls:
     def begin_claimed(self, item: Item, claim: contextlib.ExitStack) -> Row | None:
         """Begins to judge a pair whose files no other call writes now."""
         if self.out is not None:
-            clear(self.out, item.name)
+            clear(self.out, item.name, self.parts)
         if item.asked is None:
             return self.leave(item, item.reason or "")
         asked, call = item.asked, PairCall(self.typed.program_path, name=item.name, is_claimed=True)
         call = call._replace(out=self.out, is_kept=self.is_kept) if self.out else \
             call._replace(json=self.path(item))
-        before = found(asked)
-        limit = self.limit or limit_of(before)
+        limit = self.limit or limit_of(found(asked))
         try:
             with signals_held():
                 process = Forked(lambda: judge_alone(asked, call))
-                self.running[process] = Begun(item, before, limit, claim.pop_all())
+                self.running[process] = Begun(item, limit, claim.pop_all())
         except Stop as reason:
             return self.leave(item, str(reason))
         return None
@@ -285,13 +284,11 @@ class Calls:
 
     def end(self, call: Forked) -> Row:
         """Ends a call that is over; the row of its pair."""
-        item, before, limit, claim = self.running.pop(call)
+        item, limit, claim = self.running.pop(call)
         is_over = call in self.over
         self.over.discard(call)
         try:
             status, lines = call.end()
-            if item.asked and found(item.asked) != before:
-                return self.leave(item, "a file was written to while it was judged")
             known = left_by_call(self.path(item), item.name, status, lines)
             if known["verdict"] == NOT_JUDGED and is_over:
                 return self.leave(item, f"it took more than {counted(limit, 'second')} of the "
@@ -382,7 +379,7 @@ def all_rows(calls: Calls, items: list[Item], kept: dict[str, Row], jobs: int,
                 rows[row.name] = row
                 progress.clear()
                 take(row)
-            progress.show(collection.progress_line(rows, len(items), len(kept), began))
+            progress.show(lambda: collection.progress_line(rows, len(items), len(kept), began))
     except BaseException as reason:
         if isinstance(reason, KeyboardInterrupt):
             ignore_signals()  # what is known is written now
@@ -494,7 +491,9 @@ def watch(words: argparse.Namespace, called: str) -> int:
             due = [item for item in watching.due(items)
                    if not is_kept(results.earlier.pop(item.name, None), item, program)]
             all_rows(calls, due, {}, words.jobs or os.cpu_count() or 1, take)
+            results.write_page()
             time.sleep(LOOK)
     except KeyboardInterrupt:
         ignore_signals()
+    results.write_page(is_last=True)
     return 2

@@ -198,6 +198,9 @@ def write_collection(words: argparse.Namespace, rows: Sequence[Row], places: Seq
     return status()
 
 
+PAIRS_A_SECOND = 1000  # of a folder that is watched: so often its page is written again
+
+
 class FolderRows:
     """The rows of a folder of results, each of which is read once, with what tells whether it is
     still that of its pair."""
@@ -206,6 +209,7 @@ class FolderRows:
 
     def __init__(self, folder: str) -> None:
         self.folder, self.rows, self.earlier = folder, dict[str, Row](), dict[str, dict[str, Any]]()
+        self.is_page_old, self.next_page = False, 0.0
         for path, known in objects_in(folder):
             if known is not None:
                 name = os.path.basename(path).removesuffix(ENDING)
@@ -213,15 +217,24 @@ class FolderRows:
                 self.earlier[name] = {word: known[word] for word in self.TELLING if word in known}
 
     def take(self, row: Row) -> None:
-        """Tells a verdict, and writes the page over all pairs."""
-        self.rows[row.name] = row
+        """Print a verdict, and keep it for the page over all pairs."""
+        self.rows[row.name], self.is_page_old = row, True
         line = worst_fault(row)
         when = time.strftime("%Y-%m-%d %H:%M:%S")
         say(f"{when}  {row.name}  {row.verdict}{': ' if line else ''}{line}")
+        self.write_page()
+
+    def write_page(self, is_last: bool = False) -> None:
+        """Write the page over all pairs, if there is a new verdict. Unless it is the last time, a
+        second has to pass for each thousand pairs: the page takes longer, the more they are."""
+        if not self.is_page_old or not is_last and time.monotonic() < self.next_page:
+            return
         try:
             write_index(self.folder, in_order(self.rows))
         except OSError as reason:
             tell(error_line(reason))
+        self.is_page_old = False
+        self.next_page = time.monotonic() + len(self.rows) / PAIRS_A_SECOND
 
 
 def refuse_names(words: argparse.Namespace, inputs: Inputs = NOTHING,

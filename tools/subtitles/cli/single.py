@@ -10,12 +10,12 @@ import re
 import signal
 import stat
 import time
-from typing import Callable, Iterator, NamedTuple
+from typing import Callable, Iterator, Mapping, NamedTuple
 
 from ..common.command_line import Stop, Unanswered, counted, error_line, escaped, silence, tell
 from ..common.files import (
-    Inputs, OWN_OUTPUT, first_bytes, is_replaced, kind_of, naming, refuse_name, result_file,
-    temporary_folder, whole_file)
+    Inputs, OWN_OUTPUT, Stamp, first_bytes, is_replaced, kind_of, naming, refuse_name, result_file,
+    stamp_of, temporary_folder, whole_file)
 from ..common.markup import HEAD
 from ..common.program import about_program
 from ..formats.listing import count_of, is_line
@@ -26,8 +26,8 @@ from ..judging.status import ACCEPTED, NOT_JUDGED, RELATIVE, Severity
 from ..judging.verdict import Unjudged, Verdict
 from ..recording.recording import Recording
 from ..request.commands import (
-    CommandWords, LOCK, Listener, Names, Progress, Speech, files_in, index_in, lock_of, pair_name,
-    profile_line)
+    CommandWords, LOCK, Listener, Names, PartFiles, Progress, Speech, files_in, index_in, lock_of,
+    pair_name, profile_line)
 from ..request.request import Request, Unclear, Unsaid, keep_stl, request_of
 from ..results import files as results
 from ..results.files import found, object_text, unjudged
@@ -47,10 +47,11 @@ class InUse(Stop):
     """Another call writes the files that this one would write."""
 
 
-def refuse_files_of(folder: str, name: str, inputs: Inputs) -> None:
+def refuse_files_of(folder: str, name: str, inputs: Inputs, parts: PartFiles | None = None
+                    ) -> None:
     """`Stop` where a call for a pair would write over an input, or over what no call has written,
     or take that away: nothing is done yet."""
-    for path in [*files_in(folder, name), lock_of(folder, name)]:
+    for path in [*files_in(folder, name, parts), lock_of(folder, name)]:
         refuse_file(path, inputs)
 
 
@@ -94,9 +95,9 @@ def refuse_file(path: str, inputs: Inputs, is_known: Callable[[str], object] = i
             raise Stop(f"{path} is there, and {why}: move it away, or give another folder")
 
 
-def clear(folder: str, name: str) -> None:
+def clear(folder: str, name: str, parts: PartFiles | None = None) -> None:
     """Takes away what an earlier call left of a pair."""
-    for path in files_in(folder, name):
+    for path in files_in(folder, name, parts):
         if os.path.lexists(path):
             os.unlink(path)
 
@@ -214,23 +215,29 @@ def judged(asked: Request, call: PairCall, called: str) -> Verdict:
         speech.say(profile_line(asked.profile))
     typed = CommandWords(called, call.program)
     listener = Listener(speech)
+    stamps = stamps_of(asked)
     verdict = verdict_of(asked, listener)
     verdict.is_kept = call.is_kept
     name = call.name or pair_name(asked.stl)
     refuse_outputs(call, asked, here, name)
     with temporary_folder("subttx-qc-") as folder, claimed(
             None if call.is_claimed else here, name):
-        if here is not None:
+        if here is not None and not call.is_claimed:
             clear(here, name)
         names = Names(name, folder, out, here)
         keep_stl(asked, folder)
         names.give(asked.stl_path)
-        files = Files(call, verdict, typed, names)
+        files = Files(call, verdict, typed, names, stamps)
         verdict.files = found(asked)
         pair = Pair(verdict, typed, names, listener, files.are_any())
         judge_pair(pair, files)
         end_pair(verdict, speech, files)
     return verdict
+
+
+def stamps_of(asked: Request) -> dict[str, Stamp | None]:
+    """Return the stamps of the files of a pair that are read more than once."""
+    return {name: stamp_of(name) for name in (asked.stl, asked.recording, asked.severity) if name}
 
 
 def verdict_of(asked: Request, listener: Listener) -> Verdict:
@@ -247,7 +254,7 @@ def refuse_outputs(call: PairCall, asked: Request, out: str | None, name: str) -
         if path:
             inputs.refuse(path, True)
             refuse_name(path)
-    if out is not None:
+    if out is not None and not call.is_claimed:
         refuse_files_of(out, name, inputs)
 
 
@@ -372,8 +379,9 @@ class Files:
     """The files that are asked for."""
 
     def __init__(self, call: PairCall, verdict: Verdict, typed: CommandWords,
-                 names: Names) -> None:
+                 names: Names, stamps: Mapping[str, Stamp | None] = {}) -> None:
         self.call, self.verdict, self.typed, self.names = call, verdict, typed, names
+        self.stamps = stamps  # of the files that are judged, when that began
         self.written: list[Output] = []
 
     @property
@@ -390,10 +398,22 @@ class Files:
         written before is written once more, where that can be. The object in the folder comes
         last, when all else is there, but for what can't be written once more."""
         for output in sorted(self.wanted(recording), key=lambda one: not one.is_replaced):
+            self.find_changes()
             if self.try_to_put(output):
                 self.written.append(output)
             else:
                 self.write_again()
+        self.find_changes()
+
+    def find_changes(self) -> None:
+        """Take the verdict back if a file is no more what it was: it was read several times, and
+        nobody knows which bytes were judged."""
+        changed = [name for name, stamp in self.stamps.items() if stamp_of(name) != stamp]
+        if changed:
+            self.stamps = {}  # it is reported once
+            self.verdict.failed += [f"{name} was replaced or written to while it was judged: judge "
+                                    "it again when it is complete" for name in changed]
+            self.write_again()
 
     def write_again(self) -> None:
         """Writes once more what was written, with what failed since then."""

@@ -12,7 +12,7 @@ import stat
 import sys
 import tempfile
 import threading
-from typing import BinaryIO, Iterator, NamedTuple, TypeVar
+from typing import BinaryIO, Iterator, NamedTuple, Tuple, TypeVar
 
 from .command_line import Stop
 
@@ -144,6 +144,24 @@ def pieces_of(name: str, may_be_pipe: bool = False) -> Iterator[bytes]:
     """All bytes of a file."""
     with File(name, may_be_pipe) as file:
         yield from iter(file.read, b"")
+
+
+Stamp = Tuple[int, ...]
+
+
+def stamp_in(about: os.stat_result) -> Stamp:
+    """Return what differs if a name leads to another file, or its file was written to."""
+    return about.st_dev, about.st_ino, about.st_size, about.st_mtime_ns, about.st_ctime_ns
+
+
+def stamp_of(path: str) -> Stamp | None:
+    """Return the stamp of a file, after that of the link, if the path is one; `None` if it is a
+    pipe, or not there."""
+    with contextlib.suppress(OSError, ValueError):
+        link, about = os.lstat(path), os.stat(path)
+        if path != STANDARD and stat.S_ISREG(about.st_mode):
+            return stamp_in(link) + stamp_in(about)
+    return None
 
 
 def plain_name(name: str) -> str:

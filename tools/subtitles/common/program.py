@@ -12,7 +12,7 @@ import sys
 from typing import NamedTuple
 
 from .command_line import INSTALLED, Stop, version
-from .files import file_of, naming
+from .files import Stamp, file_of, naming, stamp_in
 
 
 # The program of this repository that ./subttx runs.
@@ -93,13 +93,12 @@ def about_program(path: str) -> MadeWith:
     real = os.path.realpath(behind_script(path))
     with naming(path):
         about = os.stat(real)
-    sha256 = sum_of(real, (about.st_dev, about.st_ino, about.st_size, about.st_mtime_ns,
-                           about.st_ctime_ns))
+    sha256 = sum_of(real, stamp_in(about))
     return MadeWith(version(), sha256, proved_line(real, sha256))
 
 
 @functools.lru_cache(maxsize=None)
-def sum_of(path: str, like: tuple[int, ...]) -> str:
+def sum_of(path: str, like: Stamp) -> str:
     """The sum of a file, which stays while the file is like that: a batch works it out once."""
     return file_of(path, path).sha256
 

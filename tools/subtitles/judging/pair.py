@@ -344,7 +344,7 @@ class Pair:
                 self.listener.chosen(selection, is_said=False)
         for part in parts:
             self.judge_part(part, programme, subtitles, len(parts))
-        self.tell_losses(recording)
+        self.verdict.gaps += gaps_in(recording, self.verdict.parts)
 
     def parts_in(self, recording: Recording, alignments: list[Found], programme: PartSearch,
                  subtitles: list[Subtitle]) -> list[PartFrames]:
@@ -416,13 +416,6 @@ class Pair:
             return due_beside(subtitles, request.page, request.option, layout)
         return due_pages_of(self.typed.program_path, self.names.given, subtitles, request.page,
                             request.option, request.between, request.words_of_pages())
-
-    def tell_losses(self, recording: Recording) -> None:
-        """Takes where something of the recording is missing, and that it grew meanwhile."""
-        verdict = self.verdict
-        if not any(notice.kind == "grew" for notice in verdict.warnings):
-            verdict.warnings += [notice for notice in recording.strange() if notice.kind == "grew"]
-        verdict.gaps += gaps_in(recording, verdict.parts)
 
     # What is strange, and breaks no rule.
 

@@ -105,7 +105,8 @@ class Grounds(NamedTuple):
     verdict speaks of frames there. Such a place counts as a 45 does, which `check` tells of all
     others: `severity` says whether that is an error, by its file and by --allow-lost. `warnings`
     are the kinds of what is strange and breaks no rule. `reasons` say why it was not judged, and
-    `failed` which outputs could not be written. `names` are those of faults without a number.
+    `failed` which outputs could not be written, or would describe other files. `names` are those of
+    faults without a number.
     `has_clock`: the clock of the recording was given, or there is no recording. Without it a delay
     that all subtitles share is not seen, so the best verdict is `relative`.
     """

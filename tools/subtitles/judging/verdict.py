@@ -175,7 +175,8 @@ class Verdict:
     recording: SummedFile | None = None
     is_kept: bool = False  # what was judged stays in the folder
     unjudged: Unjudged | None = None  # where it is not judged
-    failed: list[str] = dataclasses.field(default_factory=list)  # why outputs are not written
+    # Why outputs are not written, or would describe other files than were judged.
+    failed: list[str] = dataclasses.field(default_factory=list)
     files: dict[str, object] = dataclasses.field(default_factory=dict)
     seconds: float = 0.0
     count: int = 0  # of the subtitles

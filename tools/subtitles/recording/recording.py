@@ -44,8 +44,7 @@ def copy_piped(name: str, path: str, speech: Speech) -> SummedFile:
             with naming(path):
                 file.write(data)
                 file.flush()
-            if speech.progress.is_due():
-                speech.show(f"{source}: {count / 1e6:,.1f} MB")
+            speech.show(lambda: f"{source}: {count / 1e6:,.1f} MB")
     return SummedFile(name, count, digest.hexdigest())
 
 
@@ -100,12 +99,6 @@ def refuse_files(request: Request) -> None:
         os.stat(request.recording)
 
 
-def size_of(name: str) -> int | None:
-    """The bytes of a file; `None` for one that can be read only once."""
-    about = os.fstat(0) if name == STANDARD else os.stat(name)
-    return about.st_size if stat.S_ISREG(about.st_mode) else None
-
-
 def refuse_stream(survey: Survey, name: str) -> None:
     """What is no recording of Teletext is told so."""
     head = survey.head
@@ -135,9 +128,8 @@ class Recording:
         assert request.recording is not None
         self.request, self.typed, self.names, self.listener = request, typed, names, listener
         self.name = request.recording
-        self.size = size_of(self.name)
         self.times = times  # of the subtitles, in frames
-        self.is_piped = self.size is None or self.name == STANDARD
+        self.is_piped = self.name == STANDARD or not stat.S_ISREG(os.stat(self.name).st_mode)
         self.path = names.whole_path if self.is_piped else names.as_program(self.name, "given")
         self.survey, self.packets = Survey(), Packets(PES)
         self.file: SummedFile | None = None
@@ -156,8 +148,7 @@ class Recording:
 
     def show(self) -> None:
         """What is read, on a terminal."""
-        if self.listener.speech.progress.is_due():
-            self.listener.speech.show(self.name)
+        self.listener.speech.show(lambda: self.name)
 
     def chosen(self) -> Packets:
         """The only PID that carries the page, or the one that was asked for."""
@@ -294,13 +285,8 @@ class Recording:
             if known else None
 
     def strange(self) -> list[Notice]:
-        """Where it grew while it was read, or ends too early."""
-        notices, now = list[Notice](), size_of(self.name)
-        if None not in (self.size, now) and self.size != now:
-            word = "grew" if (now or 0) > (self.size or 0) else "became shorter"
-            notices.append(Notice("grew", f"{shown(self.name)} {word} while it was read, from "
-                                  f"{self.size:,} bytes to {now:,}: judge it again when it is "
-                                  "complete"))
+        """Return notices if it ends too early."""
+        notices = list[Notice]()
         is_open = self.packets.is_cut and not self.packets.refusal
         if self.is_stream and is_open:
             notices.append(Notice("cut", f"{shown(self.name)} ends within a PES packet of the "

@@ -3,6 +3,7 @@ from __future__ import annotations
 
 import collections
 import hashlib
+import itertools
 import os
 import re
 import shutil
@@ -124,14 +125,37 @@ class NamesOfList:
         return name if self.counts[name] == 1 else f"{name}~{self.counts[name]}"
 
 
-def files_in(folder: str, name: str) -> list[str]:
-    """The files of a pair in a folder of results: all that a call may write or take away."""
-    of_part = re.compile(rf"\.[1-9][0-9]*\.({'|'.join(map(re.escape, ENDINGS))})")
-    there = os.listdir(folder) if os.path.isdir(folder) else []
-    parts = sorted(one for one in there if one.startswith(name)
-                   and of_part.fullmatch(one, len(name)))
-    return [os.path.join(folder, one)
-            for one in (*(f"{name}.{ending}" for ending in OF_PAIR), *parts)]
+OF_PART = re.compile(rf"(.*)\.[1-9][0-9]*\.({'|'.join(map(re.escape, ENDINGS))})", re.DOTALL)
+
+
+class PartFiles:
+    """The files of parts in a folder of results, which is listed once: to list it for each pair of
+    a batch would take the square of their number."""
+
+    def __init__(self, folder: str) -> None:
+        self.folder = folder
+        self.listed: dict[str, set[str]] = collections.defaultdict(set)
+        for file in os.listdir(folder) if os.path.isdir(folder) else ():
+            if match := OF_PART.fullmatch(file):
+                self.listed[match[1]].add(file)
+
+    def of_pair(self, name: str) -> list[str]:
+        """Return those of a pair. A call that came after the listing numbered them from 1 on."""
+        found = {*self.listed.get(name, ())}
+        for number in itertools.count(1):
+            files = {f"{part_name(name, number)}.{ending}" for ending in ENDINGS}
+            there = {file for file in files if os.path.lexists(os.path.join(self.folder, file))}
+            found |= there
+            if not there:
+                break
+        return sorted(found)
+
+
+def files_in(folder: str, name: str, parts: PartFiles | None = None) -> list[str]:
+    """Return the files of a pair in a folder of results: all that a call may write or remove."""
+    of_parts = (parts or PartFiles(folder)).of_pair(name)
+    return [os.path.join(folder, file)
+            for file in (*(f"{name}.{ending}" for ending in OF_PAIR), *of_parts)]
 
 
 def lock_of(folder: str, name: str) -> str:
@@ -218,16 +242,12 @@ class Progress:
         self.is_terminal = sys.stderr is not None and sys.stderr.isatty()
         self.next, self.is_shown = 0.0, False
 
-    def is_due(self) -> bool:
-        """Whether it is time for another line."""
-        return self.is_terminal and time.monotonic() >= self.next
-
-    def show(self, line: str) -> None:
-        """Writes a line over the one before, if it is time for it."""
-        if self.is_due():
+    def show(self, make_line: Callable[[], str]) -> None:
+        """Make a line and write it over the one before, if it is time for it."""
+        if self.is_terminal and time.monotonic() >= self.next:
             self.next, self.is_shown = time.monotonic() + EACH, True
             width = shutil.get_terminal_size().columns - 1
-            sys.stderr.write(CLEAR + line[:width])
+            sys.stderr.write(CLEAR + make_line()[:width])
             sys.stderr.flush()
 
     def clear(self) -> None:
@@ -277,10 +297,10 @@ class Speech:
             self.progress.clear()
             tell(line)
 
-    def show(self, line: str) -> None:
-        """How far it is, on a terminal."""
+    def show(self, make_line: Callable[[], str]) -> None:
+        """Show the progress, on a terminal."""
         with self.lock:
-            self.progress.show(line)
+            self.progress.show(make_line)
 
     def command(self, line: str) -> None:
         """A command, as it would be typed; what it lists is said then."""

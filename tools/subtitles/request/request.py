@@ -439,14 +439,14 @@ def is_pipe(name: str) -> bool:
 
 
 def keep_stl(asked: Request, folder: str) -> None:
-    """Keeps what comes through a pipe as the subtitle file, up to what a whole one has."""
-    if not is_pipe(asked.stl):
-        return
-    asked.kept_stl = os.path.join(folder, KEPT)
-    data = stl_bytes(asked.stl)
-    with open(asked.kept_stl, "wb") as file:
-        file.write(data)
-    if asked.option == AUTO:
+    """Keep what comes through a pipe as the subtitle file, up to what a complete one has. Take the
+    national option of the file that is judged: that of a list was read when the list was."""
+    if is_pipe(asked.stl):
+        asked.kept_stl = os.path.join(folder, KEPT)
+        data = stl_bytes(asked.stl)
+        with open(asked.kept_stl, "wb") as file:
+            file.write(data)
+    if asked.option == AUTO or asked.language is not None:
         take_option(asked)
 
 

@@ -196,16 +196,14 @@ WARNING = Record(
     "warning", "",
     Member("kind", OneOf(
         "pts_behind", "pts_early", "pts_changed", "page", "type", "language", "option",
-        "character_set", "repeat", "clock_jump", "pause", "blocks", "subtitles", "grew",
-        "cut", "hidden"),
+        "character_set", "repeat", "clock_jump", "pause", "blocks", "subtitles", "cut", "hidden"),
            "PTS of the Teletext against the PCR; a clock that jumps; what the PMT announces "
            "(page, type, language, option: letters of another national option than the page was "
            "judged by); a character set that a packet X/28 or M/29 names; how often the page is "
            "repeated; how many TTI blocks (TNB) and subtitles (TNS) the GSI block counts; no PES "
-           "packet for some frames, of what else sends one in each frame but few (pause); a page "
-           "that the PMT moves to another PID (pid); a file that grew while it was read, or that "
-           "ends within a PES packet; a row of the subtitle file of which some sets do not show "
-           "each letter (hidden)."),
+           "packet for some frames, of what else sends one in each frame but few (pause); a file "
+           "that ends within a PES packet (cut); a row of the subtitle file of which some sets do "
+           "not show each letter (hidden)."),
     Member("line", Text()),
     Member("time", Maybe(TIME), "Of the first place, where there is one."))
 
