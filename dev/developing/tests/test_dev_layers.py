@@ -80,6 +80,27 @@ def wraps(text: str) -> list[int]:
             and isinstance(node.right, ast.Name) and node.right.id == "CLOCK"]
 
 
+# Arguments that functions have since a later Python than 3.9.
+NEWER_ARGUMENTS = {*((name, "key") for name in ("bisect", "bisect_left", "bisect_right", "insort")),
+                   ("dataclass", "slots"), ("dataclass", "kw_only"), ("zip", "strict")}
+
+
+def newer_lines(text: str) -> list[int]:
+    """Return the lines of a module that Python 3.9 refuses to run. A type with `|` is one of them
+    where it is no annotation."""
+    found = []
+    for node in ast.walk(ast.parse(text, feature_version=(3, 9))):
+        if isinstance(node, ast.Call):
+            name = node.func.attr if isinstance(node.func, ast.Attribute) else \
+                getattr(node.func, "id", "")
+            found += [node.lineno] * any((name, one.arg) in NEWER_ARGUMENTS
+                                         for one in node.keywords)
+        elif isinstance(node, ast.Assign) and isinstance(node.value, ast.BinOp) and \
+                isinstance(node.value.right, ast.Constant) and node.value.right.value is None:
+            found.append(node.lineno)
+    return found
+
+
 def long_lines(text: str) -> list[int]:
     """The numbers of the lines that are too long."""
     return [number for number, line in enumerate(text.split("\n"), 1) if len(line) > LONGEST_LINE]
@@ -116,6 +137,16 @@ class Layers(Case):
                 names = imported(file.read(), name, path.endswith("__init__.py"))
             wrong = wrong_imports(name, names)
             self.must(name, not wrong, wrong)
+
+    def test_runs_on_python_3_9(self) -> None:
+        """Each module of the tools; a line that does not is found."""
+        for path in modules(os.path.join(TOOLS, "subtitles")):
+            with open(path, encoding="utf-8") as file:
+                self.check(name_of(path), newer_lines(file.read()), [])
+        for line in ("at = bisect.bisect_left(a, b, key=c)", "dataclass(slots=True)",
+                     "for a in zip(b, c, strict=True): pass", "Page = Rows | None"):
+            self.check(line, newer_lines(line), [1])
+        self.check("annotations", newer_lines("a: int | None = 3\ndef b() -> int | None: pass"), [])
 
     def test_tells_wrong_ones(self) -> None:
         """What has to be found, by the module that imports it."""

@@ -6,7 +6,7 @@ import bisect
 import heapq
 import operator
 import re
-from typing import Iterable, Iterator, NamedTuple, Sequence
+from typing import Callable, Iterable, Iterator, NamedTuple, Sequence, TypeVar
 
 
 # Times of the day, their frames at 25 a second, the PTS of a frame, and the frame of a PTS.
@@ -132,6 +132,18 @@ def frames_at(several: Sequence[int], origin: int, within: int = 0) -> Sequence[
 
 
 # Spans of frames, or of PES packets, as few numbers.
+
+Item = TypeVar("Item")
+
+
+def count_until(items: Sequence[Item], is_later: Callable[[Item], bool]) -> int:
+    """Return how many items there are before the first of those that are later, as
+    `bisect.bisect_right` with a `key` does since Python 3.10."""
+    low, high = 0, len(items)
+    while low < high:
+        middle = (low + high) // 2
+        low, high = (low, middle) if is_later(items[middle]) else (middle + 1, high)
+    return low
 
 
 class Span(NamedTuple):

@@ -9,7 +9,8 @@ from typing import Collection, Iterable, Iterator, NamedTuple, Sequence
 
 from ..common.command_line import Stop, tell
 from ..common.files import Damaged, first_bytes
-from ..common.times import ALL_DAY, Between, FRAMES_OF_A_DAY, frame_of, frame_of_code, time_of_code
+from ..common.times import (
+    ALL_DAY, Between, FRAMES_OF_A_DAY, count_until, frame_of, frame_of_code, time_of_code)
 from .listing import fault_of_line
 from .teletext import ACCENTS, BY_WORD, codes_of, letters_of
 
@@ -128,7 +129,7 @@ SHOWN = re.compile(r"(?P<number>\d{5}) (?P<begin>[\d:]+) (?P<end>[\d:]+) vp (?P<
 NO_TEXT = "-"
 
 
-@dataclass(frozen=True, slots=True)
+@dataclass(frozen=True)
 class Subtitle:
     """A subtitle: its place in the file from 1, its SN, the frames of its TCI and its TCO, the row
     of its first line (VP), its justification code (JC) and its text, as the program reads them."""
@@ -217,7 +218,7 @@ class SubtitleList:
 
     def nearest(self, places: Sequence[int], frame: int) -> int:
         """Which of some subtitles begins nearest to a frame."""
-        at = bisect.bisect_left(places, frame, key=self.begins.__getitem__)
+        at = count_until(places, lambda place: self.begins[place] >= frame)
         return min(places[max(at - 1, 0):at + 1], key=lambda one: abs(self.begins[one] - frame))
 
     def edges(self, first: int, last: int) -> list[int]:

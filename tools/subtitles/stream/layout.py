@@ -3,7 +3,7 @@ from __future__ import annotations
 
 import itertools
 from collections import Counter
-from typing import Iterable, Iterator, NamedTuple, Sequence, TypeVar
+from typing import Iterable, Iterator, NamedTuple, Optional, Sequence, TypeVar
 
 from ..formats.layout import (
     CODES, COLOURS, COLUMNS, DOUBLE, DRAWN_CODES, Layout, MOST_AFTER, MOST_BEFORE, MOST_SHIFT,
@@ -280,7 +280,7 @@ BOXES_SHOWN = 2  # start boxes before a line: of one alone libzvbi shows nothing
 MOST_MOVED = 2  # rows by which a house may have all lines elsewhere
 LayoutItem = tuple[str, int]  # its name, and of `strip` the code
 Group = frozenset[LayoutItem]
-Page = Rows | None  # what a layout draws of a text, if it does
+Page = Optional[Rows]  # what a layout draws of a text, if it does
 
 
 class Rest(NamedTuple):

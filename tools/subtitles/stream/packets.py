@@ -2,13 +2,12 @@
 from __future__ import annotations
 
 import array
-import bisect
 import dataclasses
 import functools
 import itertools
 from typing import BinaryIO, Iterable, Iterator, NamedTuple, Sequence
 
-from ..common.times import TICKS, ticks_between, wrapped
+from ..common.times import TICKS, count_until, ticks_between, wrapped
 
 
 # PES packets of a PID with Teletext, as values: what each does with the page, and what is missing
@@ -123,7 +122,7 @@ class Packets:
 
     def inside(self, first: int, last: int) -> Iterator[Run]:
         """Those with some numbers."""
-        at = bisect.bisect_right(self.runs, first, key=lambda run: run.first) - 1
+        at = count_until(self.runs, lambda run: run.first > first) - 1
         for place in range(max(at, 0), len(self.runs)):  # a slice would copy all that follow
             run = self.runs[place]
             begin, end = max(run.first, first), min(run.end, last + 1)

@@ -7,7 +7,7 @@ import functools
 import itertools
 from typing import Iterable, Iterator, NamedTuple, Sequence
 
-from ..common.times import FRAMES_OF_A_DAY, NO_FRAME, Span, frames_at, wrapped
+from ..common.times import FRAMES_OF_A_DAY, NO_FRAME, Span, count_until, frames_at, wrapped
 from ..formats.teletext import CONTROL_BITS, Page, has_bit
 from .packets import (
     CLOSED, ERASE, HEADER, OPEN, Packets, Range, Run, STRAY, Texts, headers_in)
@@ -261,7 +261,7 @@ class Order:
     def pause_at(self, frame: int) -> Span | None:
         """The frames around one in which no PES packet came, of what else sends one in each frame
         but few."""
-        at = bisect.bisect_right(self.pauses, frame, key=lambda span: span.first) - 1
+        at = count_until(self.pauses, lambda span: span.first > frame) - 1
         is_steady = len(self.pauses) * FEW <= self.count
         return self.pauses[at] if is_steady and at >= 0 and self.pauses[at].last >= frame else None
 
@@ -289,7 +289,7 @@ class Order:
 
     def frame_before(self, number: int) -> int | None:
         """The frame that was heard last before a PES packet with a number."""
-        at = bisect.bisect_left(self.heard, number, key=lambda run: run.first) - 1
+        at = count_until(self.heard, lambda run: run.first >= number) - 1
         if at < 0:
             return None
         run = self.heard[at]
@@ -297,7 +297,7 @@ class Order:
 
     def frame_after(self, number: int) -> int | None:
         """The frame that was heard next after a PES packet with a number."""
-        at = bisect.bisect_right(self.heard, number, key=lambda run: run.end - 1)
+        at = count_until(self.heard, lambda run: run.end - 1 > number)
         if at == len(self.heard):
             return None
         return self.frames_heard(at)[max(number + 1 - self.heard[at].first, 0)]
