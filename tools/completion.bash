@@ -20,8 +20,9 @@ _subttx_value() {
         --option) _subttx_words 'english german swedish italian french spanish czech' "$2" ;;
         --receiver) _subttx_words 'blank keep drop anew' "$2" ;;
         --packet-size) _subttx_words '188 192 204' "$2" ;;
-        --at | --breaks | --every | --flip | --from | --jobs | --late | --layout | --limit | \
-            --line | --lose | --origin | --pace | --page | --pes | --pid | --settled | --skip | \
+        --at | --breaks | --every | --every-seconds | --flip | --free | --from | --jobs | \
+            --late | --layout | --length | --limit | --line | --lose | --margin | --on-result | \
+            --origin | --pace | --page | --pause | --pes | --pid | --settled | --skip | \
             --start | --to | --within)
             COMPREPLY=()
             ;;
@@ -66,16 +67,24 @@ _subttx() {
     esac
 }
 
-# The options of a tool are those that its --help names.
+# The options of a tool are those that its --help names. subttx-air has commands.
 _subttx_tool() {
     local word=${COMP_WORDS[COMP_CWORD]} before=${COMP_WORDS[COMP_CWORD - 1]}
+    local command=()
+    if [[ $1 == *air ]]; then
+        if ((COMP_CWORD == 1)); then
+            _subttx_words 'record judge --help --version' "$word"
+            return
+        fi
+        command=("${COMP_WORDS[1]}")
+    fi
     _subttx_value "$before" "$word" && return
     case $word in
-        -*) _subttx_words "$("$1" --help 2>/dev/null |
+        -*) _subttx_words "$("$1" "${command[@]}" --help 2>/dev/null |
             grep -oE '(^|[ ,[])--?[a-z][a-z-]*' | tr -d ' ,[' | sort -u)" "$word" ;;
         *) _subttx_files "$word" ;;
     esac
 }
 
 complete -F _subttx subttx
-complete -F _subttx_tool subttx-qc subttx-ts2pes
+complete -F _subttx_tool subttx-qc subttx-air subttx-ts2pes

@@ -24,6 +24,7 @@ from .cited import rows_of_numbers
 
 TABLE = os.path.join("docs", "manual", "all-commands.md")
 PROGRAM_PAGE, QC_PAGE = os.path.join("docs", "subttx.1"), os.path.join("docs", "subttx-qc.1")
+AIR_PAGE = os.path.join("docs", "subttx-air.1")
 SCHEMA = os.path.join("docs", "verdict.schema.json")
 NUMBERS = os.path.join("docs", "ASSURANCE.md")  # the rows of the proof in numbers
 QC_CHAPTER = os.path.join("docs", "manual", "qc.md")
@@ -85,11 +86,11 @@ def options(text: str) -> list[Option]:
                    row[5].strip()) for row in ROW.finditer(text)]
 
 
-def help_of(tool: str) -> str:
+def help_of(tool: str, *command: str) -> str:
     """What a tool prints with --help, each option in a line."""
-    done = subprocess.run([sys.executable, os.path.join(TOP, "tools", tool), "--help"], text=True,
-                          env=dict(os.environ, COLUMNS="2000"), stdin=subprocess.DEVNULL,
-                          stdout=subprocess.PIPE, check=True)
+    done = subprocess.run([sys.executable, os.path.join(TOP, "tools", tool), *command, "--help"],
+                          text=True, env=dict(os.environ, COLUMNS="2000"),
+                          stdin=subprocess.DEVNULL, stdout=subprocess.PIPE, check=True)
     return done.stdout
 
 
@@ -161,14 +162,14 @@ def of_program(usage: str, table: str) -> dict[str, str]:
                                for one in known)}
 
 
-def of_qc(text: str) -> dict[str, str]:
-    """The parts of the page of qc, of its help text."""
-    prose, _, _ = text.partition("\npositional arguments:")
+def of_tool(text: str, name: str = "qc") -> dict[str, str]:
+    """The parts of the page of a tool, of its help text."""
+    prose = re.split(r"\n(?:positional arguments|options):\n", text)[0]
     paragraphs = [one for one in prose.strip().split("\n\n") if one.strip()]
     calls = [one for one in paragraphs if one.startswith("    ")]
     rest = [one for one in paragraphs[1:] if one not in calls]
     lines = re.sub(r"\n {8,}", " ", "\n".join(calls)).split("\n")
-    made = "".join(f".SY subttx\\-qc\n{roff(line.strip().partition(' ')[2])}\n.YS\n"
+    made = "".join(f".SY subttx\\-{name}\n{roff(line.strip().partition(' ')[2])}\n.YS\n"
                    for line in lines)
     status = [one for one in rest if one.startswith("Status ")]
     rest = [one for one in rest if one not in status and not one.startswith(MORE)]
@@ -179,6 +180,17 @@ def of_qc(text: str) -> dict[str, str]:
                                          + value[1:-1].replace(",", ", ") + ".")
                                for name, value, means in entries(text)),
             "status": "".join(filled(one) + "\n" for one in status)}
+
+
+def of_air(text: str, helps: dict[str, str]) -> dict[str, str]:
+    """The parts of the page of air, of its help text and those of its commands. The options of qc
+    are in the page of qc."""
+    others = {one.name for one in request.OPTIONS} | {"--help", "--version"}
+    commands = {command: "".join(item(name, value, sentence(means)) for name, value, means in
+                                 entries(help) if name not in others)
+                for command, help in helps.items()}
+    return {**{name: part for name, part in of_tool(text, "air").items() if name != "options"},
+            **commands}
 
 
 def of_chapter(table: str = "") -> dict[str, str]:
@@ -202,7 +214,8 @@ def completed(usage: str, table: str, helps: list[str]) -> dict[str, str]:
     named |= {name for text in helps for name, value, _ in entries(text)
               if value and not value.startswith("{") and not FILES.search(value)}
     chosen = {one.name for one in known if one.choices()}
-    words = sorted(named - chosen)
+    flags = {name for text in helps for name, value, _ in entries(text) if not value}
+    words = sorted(named - chosen - flags)
     made = "        " + " | ".join(words) + ")\n"
     while (long := [line for line in made.split("\n") if len(line) > WIDTH - 2]):
         at = long[0].rindex(" | ", 0, WIDTH - 3) + 3
@@ -258,9 +271,11 @@ def made() -> dict[str, str]:
         return read(os.path.join(TOP, name)) or ""
 
     usage, table = text("subttx").partition("usage: ")[2].partition("\nEND\n")[0], text(TABLE)
-    helps = [help_of(tool) for tool in TOOLS]
-    parts = {PROGRAM_PAGE: of_program(usage, table), QC_PAGE: of_qc(helps[TOOLS.index("qc")]),
-             QC_CHAPTER: of_chapter(table), COMPLETION: completed(usage, table, helps)}
+    helps = {tool: help_of(tool) for tool in TOOLS}
+    of_commands = {command: help_of("air", command) for command in ("record", "judge")}
+    parts = {PROGRAM_PAGE: of_program(usage, table), QC_PAGE: of_tool(helps["qc"]),
+             AIR_PAGE: of_air(helps["air"], of_commands), QC_CHAPTER: of_chapter(table),
+             COMPLETION: completed(usage, table, [*helps.values(), *of_commands.values()])}
     numbers = text(NUMBERS)
     for row, counted in rows_of_numbers(TOP):
         numbers = numbers.replace(row, counted)

@@ -8,8 +8,8 @@ muxed      transport streams: what is sent beside video
 judged     pairs judged in process by the words of a call, and all that is said of them
 parts      values between the tools' packages, without files: answers, parts, requests
 results    JSON results, and what is wrong in one by the schema
-channels   programmes, made for tests, and what is sent of them
-air        a folder of segments and a schedule for tools/air
+programmes programmes made for tests, and what is sent of them
+air        segments and schedules for the tests of tools/air
 scenario   pairs at random, by numbers: at_random calls qc with them
 strangers  folders at random that others have filled, and calls there
 at_random  all output of a random call, or of a named one; many_at_random of a folder of pairs

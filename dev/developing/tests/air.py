@@ -1,16 +1,16 @@
-"""Feeds for the tests of tools/air: segments in which each second is a byte, and who judges them
-without the program."""
+"""Segments and schedules for the tests of tools/air, and a checker that needs no program. Times are
+seconds of one day, and each second of the feed is a byte."""
 from __future__ import annotations
 
 import argparse
 import json
 import os
 from typing import Any, Callable, NamedTuple, Sequence
+from unittest import mock
 
-from subtitles.air import main
+from subtitles.air import judge, main
 from subtitles.air.check import Outcome
-from subtitles.air.judge import Judge
-from subtitles.air.segments import Piece, name_at
+from subtitles.air.segments import Unbroken, segment_name
 from subtitles.request.lines import read_options
 from subtitles.request.request import Request
 from subtitles.results.files import unjudged
@@ -22,92 +22,104 @@ MARGIN = 60
 
 
 class Sent(NamedTuple):
-    """When a programme is really sent, and whether as it should be."""
+    """When a programme is really sent, and whether all of it is right."""
 
     begin: float
     end: float
     is_right: bool = True
 
 
-def told(name: str, verdict: str, status: int, reason: str) -> Outcome:
-    """An answer of the program, all of the programme being there."""
-    return Outcome({**unjudged(name, reason), "verdict": verdict, "status": status,
-                   "inputs": {"recording": {}}}, reason, True)
-
-
-class Model:
-    """Judges a piece by what is really sent, as `qc` does: what it can't know it does not use."""
+class FakeChecker:
+    """Judges a stretch by what is really sent in it, as the program does."""
 
     def __init__(self, sent: dict[str, Sent], fails: Callable[[], bool] = lambda: False) -> None:
         self.sent, self.fails, self.work, self.calls = sent, fails, os.devnull, list[str]()
 
-    def check(self, _: Request, name: str, piece: Piece) -> Outcome:
-        """What comes of it."""
+    def check(self, _: Request, name: str, begin: float, stretch: Unbroken) -> Outcome:
+        """Return what the program would find."""
         self.calls.append(name)
         if self.fails():
             return Outcome(None, "the machine failed")
-        sent, begin, end = self.sent.get(name), piece.begin - DAY, piece.end - DAY
-        if sent is None or sent.begin >= end or sent.end <= begin:
-            return told(name, "not judged", 2, "no cue")
-        is_over = sent.end <= end
-        if is_over and sent.begin >= begin and sent.is_right:
-            return told(name, "accepted", 0, "accepted")
-        found = told(name, "refused", 1, f"refused {72 if is_over else 74}")
-        return found._replace(is_over=is_over)
+        sent = self.sent.get(name)
+        first, last = max(stretch.begin, begin - MARGIN) - DAY, stretch.end - DAY
+        if sent is None or sent.begin >= last or sent.end <= first:
+            return outcome(name, "not judged", "no cue agrees")
+        if sent.begin > begin - DAY + MARGIN:
+            return outcome(name, "not judged", "it began later")
+        if sent.is_right and sent.begin >= first and sent.end <= last:
+            return outcome(name, "relative", "relative 1500 frames")
+        if sent.begin < first:
+            return outcome(name, "not judged", "its beginning is missing")
+        refused = outcome(name, "refused", "refused 72" if sent.end < last else "refused 74")
+        return refused._replace(is_finished=sent.end < last)
 
     def clear(self) -> None:
-        """There is nothing to take away."""
+        """Delete nothing: there is no work."""
+
+
+def outcome(name: str, verdict: str, reason: str) -> Outcome:
+    """Return the outcome of a programme that was judged."""
+    return Outcome({**unjudged(name, reason), "verdict": verdict, "inputs": {"recording": {}}},
+                   reason)
 
 
 class Air(Case):
-    """A schedule, segments and results in the folder of a test; times are seconds of a day."""
+    """A schedule, segments and results in the folder of a test."""
 
     def setUp(self) -> None:
         super().setUp()
-        for name in ("s", "o"):
+        for name in ("segments", "out"):
             os.mkdir(self.path(name))
-        self.stls: dict[str, float] = {}
+        for module, name in ((judge, "say"), (judge, "write_state"), (os, "fsync")):
+            patch = mock.patch.object(module, name)  # a test waits for no disk, and prints nothing
+            patch.start()
+            self.addCleanup(patch.stop)
 
-    def words(self, *more: str) -> argparse.Namespace:
-        """The words of a call."""
-        line = [self.path("list"), self.path("s"), "-o", self.path("o"), "--margin", f"{MARGIN}",
-                "-p", "/bin/true", *more]
-        return read_options(main.judge_words(""), line, {}, {})
+    def args(self, *more: str) -> argparse.Namespace:
+        """Return the arguments of a call of `judge`."""
+        line = [self.path("schedule"), self.path("segments"), "-o", self.path("out"), "--margin",
+                f"{MARGIN}", "-p", "/bin/true", *more]
+        return read_options(main.judge_parser(""), line, {}, {})
 
-    def judge(self, model: Model, *more: str) -> Judge:
-        """A judge that asks a model."""
-        judge = Judge(self.words(*more), "qc")
-        judge.checker = model  # type: ignore
-        judge.state.look = lambda *_: None  # type: ignore
-        judge.state.free = [1 << 40]
-        return judge
+    def make_judge(self, checker: FakeChecker, *more: str) -> judge.Judge:
+        """Return a judge that asks a checker of tests, and does not look at disks."""
+        made = judge.Judge(self.args(*more), "qc")
+        made.checker = checker  # type: ignore
+        made.monitor.look = lambda *_: None  # type: ignore
+        made.monitor.free = [1 << 40]
+        return made
+
+    def write_schedule(self, *lines: str) -> None:
+        """Write a schedule of some lines."""
+        self.write("schedule", "".join(f"{line}\n" for line in lines).encode())
 
     def put_segment(self, begin: float, end: float, data: bytes = b"", is_new: bool = False
-                    ) -> None:
-        """A segment of some seconds of the day."""
-        path = self.path(f"s/{name_at(DAY + begin, is_new)}")
+                    ) -> str:
+        """Write the segment of some seconds; return its path."""
+        path = self.path(f"segments/{segment_name(DAY + begin, is_new)}")
         with open(path, "wb") as file:
             file.write(data or b"." * max(int(end - begin), 1))
         os.utime(path, (DAY + end, DAY + end))
+        return path
 
     def put_segments(self, begin: int, end: int, missing: Sequence[tuple[int, int]] = ()) -> None:
-        """Segments from one second to another, but for those that have something of some times."""
+        """Write segments from one second to another, but those that have a missing second."""
         for at in range(begin, end, LENGTH):
             if not any(at < last and at + LENGTH > first for first, last in missing):
                 self.put_segment(at, min(at + LENGTH, end))
 
-    def results(self) -> dict[str, str]:
-        """The verdicts that stand in the folder of results."""
-        names = (name[:-5] for name in os.listdir(self.path("o")) if name.endswith(".json"))
-        return {name: self.result(name)["verdict"] for name in names if name != "state"}
+    def verdicts(self) -> dict[str, str]:
+        """Return the verdicts in the folder of results."""
+        names = (name[:-5] for name in os.listdir(self.path("out")) if name.endswith(".json"))
+        return {name: str(self.result(name)["verdict"]) for name in names if name != "state"}
 
     def result(self, name: str) -> dict[str, Any]:
-        """What stands in a result."""
-        known: dict[str, Any] = json.loads(self.read(f"o/{name}.json"))
-        return known
+        """Return a JSON result."""
+        found: dict[str, Any] = json.loads(self.read(f"out/{name}.json"))
+        return found
 
-    def clear(self) -> None:
-        """Takes away all segments and results."""
-        for folder in ("s", "o"):
+    def delete_all(self, *folders: str) -> None:
+        """Delete the files of some folders."""
+        for folder in folders:
             for name in os.listdir(self.path(folder)):
                 os.unlink(self.path(f"{folder}/{name}"))

@@ -8,182 +8,228 @@ import signal
 import subprocess
 import sys
 import time
+from typing import Iterator, NamedTuple
 from unittest import mock
 
 from subtitles.air import check
-from subtitles.air.check import Outcome, Checker
-from subtitles.air.schedule import schedule_at
-from subtitles.air.segments import between, name_at, pieces_in
+from subtitles.air.check import Checker, Outcome
+from subtitles.air.schedule import read_schedule
+from subtitles.air.segments import Unbroken, segment_name, segments_between, stretches_in
 from subtitles.cli.single import locking
 from .air import Air, DAY
 from .bench import SECONDS, tool_path
-from .channels import BEGIN, LASTS, SECOND, blank, make_programme, until
 from .muxed import in_frames
+from .programmes import BEGIN, LASTS, SECOND, blank, make_programme, until
 from .sent import packets, subtitle_file
 
-LEAD, TAIL = 4, 6  # seconds of the feed before and behind the programme
+LEAD, TAIL = 4, 6  # seconds of the feed before and after the programme
+ALL = LEAD + LASTS + TAIL
+
+
+class Trial(NamedTuple):
+    """The seconds of the feed that are recorded; whether a PES packet is left out; the time of air
+    and the margin; the verdict, whether it is final, and the beginning of its reason."""
+
+    recorded: tuple[int, int]
+    is_wrong: bool
+    air: int
+    margin: int
+    verdict: str
+    is_final: bool
+    reason: str
+
+
+NO_BEGINNING = "the first subtitle was due before the page's first PES packet in what was recorded"
+TRIALS = {
+    "right": Trial((0, ALL), False, 0, 60, "relative", True, "relative"),
+    "wrong": Trial((0, ALL), True, 0, 60, "refused", True, "refused 72"),
+    "it has not ended": Trial((0, LEAD + 6), False, 0, 60, "refused", False, "refused"),
+    "it has not begun": Trial((0, LEAD - 1), False, 0, 60, "not judged", False, ""),
+    "its beginning is missing": Trial((LEAD + 4, ALL), False, 0, 60, "not judged", False,
+                                      NO_BEGINNING),
+    "it begins within the margin": Trial((0, ALL), False, 0, 5, "relative", True, "relative"),
+    "it begins later": Trial((0, ALL), False, 0, 2, "not judged", False,
+                             "it did not begin within 2 s of 2026-12-01T08:00:00Z, but later"),
+    "the same, wrong": Trial((0, ALL), True, 0, 2, "not judged", False, "it did not begin within"),
+    "it begins earlier": Trial((0, ALL), False, LEAD + 4, 2, "not judged", False, NO_BEGINNING),
+}
 
 
 class Feeds(Air):
     """A feed with one programme."""
 
-    def feed(self, first_left_out: int | None = None) -> list[bytes]:
-        """The frames of a feed with one programme, of which a PES packet may be left out."""
+    def feed(self, is_wrong: bool = False) -> list[bytes]:
+        """Return the frames of a feed; two PES packets are left out if it is to be wrong."""
         made = make_programme(self, "one", 1_000_000, "Alpha Beta Gamma Delta",
                               BEGIN + SECOND * LEAD)
         pes = packets(made + blank(made, BEGIN + SECOND * (LEAD + LASTS), TAIL))
-        if first_left_out is not None:
-            del pes[first_left_out:first_left_out + 2]
-        return [*in_frames(pes, BEGIN, (LEAD + LASTS + TAIL) * 25, 1)]
+        if is_wrong:
+            del pes[4:6]
+        return [*in_frames(pes, BEGIN, ALL * 25, 1)]
 
 
 class Checks(Feeds):
-    """A piece of the feed that is judged by the program."""
+    """A stretch of the feed that is judged by the program."""
 
-    def checked(self, frames: list[bytes], program: str = "") -> Outcome:
-        """What comes of some frames."""
-        self.clear()
-        self.put_segment(0, 60, b"".join(frames))
-        self.write("list", b"2026-12-01T08:00:00Z one.stl\n")
-        one, = schedule_at(self.path("list"), self.words()).programmes
-        piece, = pieces_in(between(self.path("s"), DAY, DAY + 60), 5)
-        checker = Checker(program or self.bench.program, "qc", self.path("o"), self.path("o"))
-        answer = checker.check(one.request, one.name, piece)
+    def judged(self, frames: list[bytes], begin: int = 0, air: int = 0, margin: int = 60,
+               program: str = "") -> Outcome:
+        """Return what comes of frames that are recorded from a second on."""
+        self.delete_all("segments", "out")
+        self.put_segment(begin, begin + len(frames) / 25, b"".join(frames))
+        self.write_schedule("2026-12-01T08:00:00Z one.stl")
+        one, = read_schedule(self.path("schedule"), self.args()).programmes
+        stretch, = stretches_in(segments_between(self.path("segments"), DAY, DAY + 60), 5)
+        out = self.path("out")
+        checker = Checker(program or self.bench.program, "qc", out, out, margin)
+        found = checker.check(one.request, one.name, DAY + air, stretch)
         checker.clear()
-        return answer
+        self.check("files that are left", os.listdir(out), [])
+        return found
 
-    def test_answers(self) -> None:
-        """Accepted, refused, not over yet; and what the machine failed at."""
-        whole, half = self.feed(), (LEAD + LASTS // 2) * 25
-        dies = self.program_but("check*", "kill -9 $$")
-        for what, answer, verdict, is_over in (
-                ("right", self.checked(whole), "accepted", True),
-                ("wrong", self.checked(self.feed(4)), "refused", True),
-                ("half of it", self.checked(whole[:half]), "refused", False),
-                ("before it", self.checked(whole[:LEAD * 25 - 10]), "not judged", None),
-                ("the program dies", self.checked(whole, dies), None, None)):
-            found = answer.known and answer.known["verdict"]
-            self.must(what, found == verdict, answer)
-            self.must(f"{what}: is it over", is_over in (None, answer.is_over), answer)
-            self.must(f"{what}: settled", answer.is_settled == bool(is_over), answer)
+    def test_judges_what_is_recorded(self) -> None:
+        feeds = [self.feed(is_wrong) for is_wrong in (False, True)]
+        for name, trial in TRIALS.items():
+            first, last = trial.recorded
+            found = self.judged(feeds[trial.is_wrong][first * 25:last * 25], first, trial.air,
+                                trial.margin)
+            self.check(name, (found.verdict, found.is_final), (trial.verdict, trial.is_final))
+            self.must(f"{name}: why", found.reason.startswith(trial.reason), found.reason)
 
-    def test_file_alone(self) -> None:
-        """A subtitle file that is refused by itself is so whatever is sent."""
+    def test_a_verdict_says_within_which_time_it_began(self) -> None:
+        for is_wrong in (False, True):
+            result = self.judged(self.feed(is_wrong)).result
+            self.must(f"{is_wrong}", result and "begun within 60 s of 2026-12-01T08:00:00Z" in
+                      result["notes"], result)
+
+    def test_a_program_that_dies_is_no_result(self) -> None:
+        found = self.judged(self.feed(), program=self.program_but("check*", "kill -9 $$"))
+        self.check("result", found.result, None)
+
+    def test_a_subtitle_file_is_refused_whatever_is_sent(self) -> None:
         frames = self.feed()
         subtitle_file(self, [(100, 100, b"Never")])
-        answer = self.checked(frames[:50])
-        self.must("of the file", answer.is_of_file and not answer.is_accepted, answer)
+        found = self.judged(frames[:50])
+        self.check("it", (found.verdict, found.is_final), ("refused", True))
 
-    def test_slow(self) -> None:
-        """What takes too long is ended, and told."""
-        with mock.patch.object(check, "JUDGING_SECONDS", 0.1):
-            answer = self.checked(self.feed(), self.program_but("check*", "sleep 60"))
-        self.must("slow", answer.is_slow and answer.known is None, answer)
+    def test_ends_what_takes_too_long(self) -> None:
+        program = self.program_but("check*", "sleep 60")
+        with mock.patch.object(check, "LEAST_SECONDS", 0.1):
+            found = self.judged(self.feed(), program=program)
+        self.must("it", found.result is None and "not judged within" in found.reason, found)
 
-    def test_no_room(self) -> None:
-        """Where there is no room nothing is copied."""
+    def test_copies_nothing_if_there_is_no_room(self) -> None:
         with mock.patch.object(check, "SPARE", 1 << 60):
-            answer = self.checked(self.feed())
-        self.must("no room", answer.known is None and answer.reason.startswith("no room"), answer)
+            found = self.judged(self.feed())
+        self.must("no room", found.result is None and found.reason.startswith("no room"), found)
+
+    def test_a_segment_that_becomes_shorter_is_no_result(self) -> None:
+        """As if the disk lost its end."""
+        real = Unbroken.read
+
+        def read(stretch: Unbroken, begin: float, end: float) -> Iterator[bytes]:
+            os.truncate(stretch.segments[0].path, 5000)
+            return real(stretch, begin, end)
+
+        with mock.patch.object(Unbroken, "read", read):
+            found = self.judged(self.feed())
+        self.must("it", found.result is None and found.reason.endswith("become shorter"), found)
 
 
 class Calls(Feeds):
     """Whole calls."""
 
     def record(self, frames: list[bytes], *words: str) -> None:
-        """Records a feed as fast as it comes."""
-        done = self.call([tool_path("air"), "record", self.path("s"), "--free", "0", *words],
+        """Record a feed as fast as it comes."""
+        done = self.call([tool_path("air"), "record", self.path("segments"), "--free", "0", *words],
                          b"".join(frames))
-        self.assertEqual((0, []), (done.status, done.told))
+        self.check("record", (done.status, done.told), (0, []))
 
-    def write_list(self, begin: float, *words: str) -> None:
-        """A list of one line."""
+    def put_on_air(self, begin: float, *options: str) -> None:
+        """Write a schedule with one programme."""
         date = datetime.datetime.fromtimestamp(begin, datetime.timezone.utc)
-        self.write("list", " ".join([f"{date:%Y-%m-%dT%H:%M:%SZ}", "one.stl", *words]).encode()
-                   + b"\n")
+        self.write_schedule(" ".join([f"{date:%Y-%m-%dT%H:%M:%SZ}", "one.stl", *options]))
 
     def judge_call(self, *words: str) -> list[str]:
-        """The words of a call that judges."""
-        return [tool_path("air"), "judge", self.path("list"), self.path("s"), "-o", self.path("o"),
-                "-p", self.bench.program, *words]
+        """Return a call of `judge`."""
+        return [tool_path("air"), "judge", self.path("schedule"), self.path("segments"), "-o",
+                self.path("out"), "-p", self.bench.program, *words]
 
     def spread(self, begin: float, end: float) -> None:
-        """Gives the segments the times at which a feed would have come."""
-        names = sorted(name for name in os.listdir(self.path("s")) if name.endswith(".ts"))
+        """Give the segments the times at which a feed would have come."""
+        names = sorted(name for name in os.listdir(self.path("segments")) if name.endswith(".ts"))
         for number, name in enumerate(names):
-            os.rename(self.path(f"s/{name}"), self.path(f"s/{name_at(begin + number)}"))
-            os.utime(self.path(f"s/{name_at(begin + number)}"), (end, end))
+            path = self.path(f"segments/{segment_name(begin + number)}")
+            os.rename(self.path(f"segments/{name}"), path)
+            os.utime(path, (end, end))
 
-    def test_verdicts(self) -> None:
-        """What was sent right is accepted, what was not is refused, once the time has come."""
-        for left_out, verdict in ((None, "accepted"), (4, "refused")):
-            with self.subTest(verdict):
-                self.clear()
-                os.makedirs(self.path("o/.work-of-an-earlier-call"))
-                self.write("o/.work-of-an-earlier-call/other.json", b"{}")
-                begin = time.time()
-                self.record(self.feed(left_out))
-                self.write_list(begin - 120)
-                self.spread(begin - 200, begin)
-                done = self.call(self.judge_call("--once", "--margin", "60"))
-                self.assertEqual((0, []), (done.status, done.told))
-                self.assertEqual([verdict], [*self.results().values()], done.out)
-                endings = {os.path.splitext(one)[1] for one in os.listdir(self.path("o"))}
-                left = [name for name in os.listdir(self.path("o")) if name.startswith(".work")]
-                self.must("nothing of any work is left", not left, left)
-                self.must("its files", endings >= {".json", ".html", ".txt"}, endings)
+    def test_judges_what_was_recorded(self) -> None:
+        """And deletes what earlier calls have left."""
+        for is_wrong, verdict in ((False, "relative"), (True, "refused")):
+            self.delete_all("segments", "out")
+            os.makedirs(self.path("out/.work-of-an-earlier-call"))
+            self.write("out/.work-of-an-earlier-call/other.json", b"{}")
+            begin = time.time()
+            self.record(self.feed(is_wrong))
+            self.put_on_air(begin - 120)
+            self.spread(begin - 200, begin)
+            done = self.call(self.judge_call("--once", "--margin", "110"))
+            self.check(f"{verdict}: the call", (done.status, done.told), (0, []))
+            self.check(f"{verdict}: results", [*self.verdicts().values()], [verdict])
+            endings = {os.path.splitext(name.lstrip("."))[1] for name in
+                       os.listdir(self.path("out"))}
+            self.check(f"{verdict}: files", endings, {".json", ".html", ".txt"})
 
-    def test_live(self) -> None:
-        """Live, both ended by kill -9 and begun again: one result, in time."""
+    def test_outlasts_kills_of_the_judge(self) -> None:
+        """While the feed comes: there is one result, in time."""
         frames, begin = self.feed(), time.time() + 2
-        self.write_list(begin + LEAD - 1)
+        self.put_on_air(begin + LEAD - 1)
         source, sink = os.pipe()
-        both = self.begin(source)
+        recorder = self.start(source, "record", self.path("segments"), "--length", "2", "--free",
+                              "0")
+        judge = self.start_judge()
         for number, frame in enumerate(frames):
             time.sleep(max(begin + number / 25 - time.time(), 0))
             os.write(sink, frame)
             if number in (60, 200, 420):
-                both[1].kill()
-                both[1].wait()
-                both[1] = self.begin_judge()
-        there = until(lambda: self.results())
+                judge.kill()
+                judge.wait()
+                judge = self.start_judge()
+        until(lambda: self.verdicts())
         os.close(sink)
-        both[0].wait(SECONDS)
-        both[1].send_signal(signal.SIGTERM)
-        self.assertEqual(2, both[1].wait(SECONDS))
+        self.check("the recorder ends with the feed", recorder.wait(SECONDS), 0)
+        judge.send_signal(signal.SIGTERM)
+        self.check("a signal ends the judge", judge.wait(SECONDS), 2)
         os.close(source)
-        self.must("a result", there and [*self.results().values()] == ["accepted"], self.results())
-        state = json.loads(self.read("o/state.json"))
-        self.must("no line waits", state["waiting"] == 0, state)
+        self.check("results", [*self.verdicts().values()], ["relative"])
+        self.check("programmes that wait", json.loads(self.read("out/state.json"))["waiting"], 0)
 
-    def begin(self, source: int) -> list[subprocess.Popen[bytes]]:
-        """Begins both services."""
-        recorder = subprocess.Popen([sys.executable, tool_path("air"), "record", self.path("s"),
-                                     "--length", "2", "--free", "0"], stdin=source)
-        return [recorder, self.begin_judge()]
+    @staticmethod
+    def start(source: int, *words: str) -> subprocess.Popen[bytes]:
+        """Start a service."""
+        return subprocess.Popen([sys.executable, tool_path("air"), *words], stdin=source,
+                                stdout=subprocess.DEVNULL, stderr=subprocess.DEVNULL)
 
-    def begin_judge(self) -> subprocess.Popen[bytes]:
-        return subprocess.Popen([sys.executable, *self.judge_call(
-            "--margin", "5", "--pause", "30", "--every-seconds", "1")], stdout=subprocess.DEVNULL)
+    def start_judge(self) -> subprocess.Popen[bytes]:
+        """Start the judge."""
+        return self.start(subprocess.DEVNULL, *self.judge_call(
+            "--margin", "5", "--pause", "30", "--every-seconds", "1")[1:])
 
-    def test_wrong_words(self) -> None:
-        """Wrong words are one line and status 2."""
-        rows: list[tuple[list[str], str]] = [
-            ([], "give record or judge first"),
-            (["watch"], "give record or judge first"),
-            (["judge", "list", "nothing", "-o", "o"], "nothing is no folder"),
-            (["judge", "list", "s"], "the following arguments are required: -o"),
-            (["record", "s", "--keep", "0"], "argument --keep: 0 is no number of hours: 1 to "
-             "99999")]
-        for line, told in rows:
-            done = self.tool("air", *line)
-            self.must(f"{line}", done.status == 2 and done.told == [f"air: {told}"], done)
+    def test_wrong_words_are_one_line_and_status_2(self) -> None:
+        rows: dict[str, str] = {
+            "": "give record or judge first",
+            "watch": "give record or judge first",
+            "judge schedule nothing -o o": "nothing is not a folder: start `record` first, or name "
+                                           "its folder",
+            "judge schedule segments": "the following arguments are required: -o",
+            "record segments --keep 0": "argument --keep: 0 is no number of hours: 1 to 99999"}
+        for line, message in rows.items():
+            done = self.tool("air", *line.split())
+            self.check(line or "none", (done.status, done.told), (2, [f"air: {message}"]))
 
-    def test_one_at_a_time(self) -> None:
-        """A second recorder, and a second judge, of the same folder is told so."""
-        self.write("list", b"")
-        for name, folder, line in (("recorder", "s", "record s"),
-                                   ("air", "o", "judge list s -o o")):
+    def test_one_call_at_a_time_writes_into_a_folder(self) -> None:
+        self.write("schedule", b"")
+        for name, folder, line in (("recorder", "segments", "record segments"),
+                                   ("air", "out", "judge schedule segments -o out")):
             with locking(self.path(folder), name, ""):
                 done = self.tool("air", *line.split())
             self.must(name, done.status == 2 and done.told[0].startswith("air: another "), done)

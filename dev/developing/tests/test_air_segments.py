@@ -1,4 +1,4 @@
-"""Segments: their names and times, pieces, the recorder and its limits."""
+"""Segments: their names and times, stretches without a gap, the recorder and its limits."""
 from __future__ import annotations
 
 import errno
@@ -9,7 +9,8 @@ from unittest import mock
 
 from subtitles.air import recorder, segments
 from subtitles.air.recorder import Limits, Recorder
-from subtitles.air.segments import between, name_at, names_in, pieces_in, time_in
+from subtitles.air.segments import (
+    Segment, Unbroken, begin_in, names_in, segment_name, segments_between, stretches_in)
 from .air import Air, DAY
 
 NAMES = {
@@ -20,7 +21,7 @@ NAMES = {
     "news-20261201-080000.ts": DAY,
     "feed_2026-12-01_08-00-00.m2ts": DAY,
     "feed_2026-12-01T08:00:00Z.ts": DAY,
-    "channel4_20261201080000.trp": DAY,
+    "radio4_20261201080000.trp": DAY,
     "20261201T080000.ts.tmp": None,
     "20261301T080000Z.ts": None,
     "20261201T0800.ts": None,
@@ -30,77 +31,93 @@ NAMES = {
     "٢٠٢٦1201T080000Z.ts": None,
 }
 
-# Segments as begin-end, with ! where one says that something is missing before it; the seconds that
-# may pass without a byte; and the pieces.
-PIECES = [
-    ("", 2, ""),
-    ("0-10", 2, "0-10"),
-    ("0-10 10-20 20-30", 2, "0-30"),
-    ("0-10 12-20", 2, "0-20"),
-    ("0-10 13-20", 2, "0-10 13-20"),
-    ("0-10 13-20", 3, "0-20"),
-    ("0-10 20-30 30-40 50-60", 2, "0-10 20-40 50-60"),
-    ("0-15 10-20", 2, "0-20"),
-    ("!0-10 10-20 !20-30 30-40", 2, "0-20 20-40"),
-]
+# Segments as begin-end, with ! if the name says that something may be missing before it; the
+# longest pause; and the stretches.
+STRETCHES = {
+    "none": ("", 2, ""),
+    "one": ("0-10", 2, "0-10"),
+    "three": ("0-10 10-20 20-30", 2, "0-30"),
+    "the longest pause": ("0-10 12-20", 2, "0-20"),
+    "a longer pause": ("0-10 13-20", 2, "0-10 13-20"),
+    "the same with more patience": ("0-10 13-20", 3, "0-20"),
+    "two gaps": ("0-10 20-30 30-40 50-60", 2, "0-10 20-40 50-60"),
+    "one that begins before the end of the last": ("0-15 10-20", 2, "0-20"),
+    "new ones": ("!0-10 10-20 !20-30 30-40", 2, "0-20 20-40"),
+}
+
+# A segment of 100 bytes from second 10 to 20, and the bytes of it up to a time.
+OFFSETS = {"before it": (5, 0), "its beginning": (10, 0), "a tenth": (11, 10), "half": (15, 50),
+           "its end": (20, 100), "after it": (99, 100)}
 
 
 class Segments(Air):
-    """Which files are segments, and which have something of a time."""
+    """Which files are segments, and which hold something of a time."""
 
-    def test_names(self) -> None:
-        """The time in each name; others are no segments."""
-        for name, time_of_name in NAMES.items():
-            self.must(name, time_in(name) == time_of_name, time_in(name))
+    def test_reads_the_time_in_a_name(self) -> None:
+        self.check_each(begin_in, {name: ((name,), time) for name, time in NAMES.items()})
 
-    def test_own_names(self) -> None:
-        """A name that is made is read as the same time, to the millisecond, in the same order."""
+    def test_own_names_keep_time_and_order(self) -> None:
         chance = random.Random(3)
         times = sorted(round(chance.uniform(0, 4e9), 3) for _ in range(500))
         for one in times:
-            self.must(f"{one}", abs((time_in(name_at(one)) or 0) - one) < 1e-3, name_at(one))
-        self.must("their order", [*map(name_at, times)] == sorted(map(name_at, times)))
+            found = begin_in(segment_name(one)) or 0
+            self.must(f"{one} to the millisecond", abs(found - one) < 1e-3, segment_name(one))
+        names = [*map(segment_name, times)]
+        self.check("order", names, sorted(names))
 
-    def test_pieces(self) -> None:
-        """Where nothing is missing segments are one piece."""
-        for text, pause, pieces in PIECES:
-            with self.subTest(text):
-                for name in os.listdir(self.path("s")):
-                    os.unlink(self.path(f"s/{name}"))
-                for word in text.split():
-                    begin, end = map(float, word.strip("!").split("-"))
-                    self.put_segment(begin, end, is_new=word[0] == "!")
-                found = pieces_in(between(self.path("s"), 0, DAY + 99), pause)
-                said = " ".join(f"{one.begin - DAY:.0f}-{one.end - DAY:.0f}" for one in found)
-                self.assertEqual(pieces, said)
+    def test_divides_where_something_may_be_missing(self) -> None:
+        for name, (text, pause, expected) in STRETCHES.items():
+            self.delete_all("segments")
+            for word in text.split():
+                begin, end = map(float, word.strip("!").split("-"))
+                self.put_segment(begin, end, is_new=word[0] == "!")
+            found = stretches_in(segments_between(self.path("segments"), 0, DAY + 99), pause)
+            self.check(name, " ".join(f"{one.begin - DAY:.0f}-{one.end - DAY:.0f}"
+                                      for one in found), expected)
 
-    def test_between(self) -> None:
-        """Those that have something of a time, as by a plain loop; an empty one has nothing."""
+    def test_finds_the_segments_of_a_time(self) -> None:
+        """As a plain loop does; an empty segment holds nothing."""
         chance = random.Random(4)
         at, known = 0, []
         for _ in range(60):
             begin = at + chance.choice((0, 0, 0, 7))
             at = begin + chance.randint(1, 9)
-            self.put_segment(begin, at)
+            path = self.put_segment(begin, at)
             if chance.random() < .1:
-                os.truncate(self.path(f"s/{name_at(DAY + begin)}"), 0)
-                os.utime(self.path(f"s/{name_at(DAY + begin)}"), (DAY + at, DAY + at))
+                os.truncate(path, 0)
+                os.utime(path, (DAY + at, DAY + at))
             else:
                 known.append((begin, at))
         for _ in range(300):
             first, last = sorted(chance.sample(range(at), 2))
-            found = [(one.begin - DAY, one.end - DAY)
-                     for one in between(self.path("s"), DAY + first, DAY + last)]
-            right = [(begin, end) for begin, end in known if begin < last and end >= first]
-            self.must(f"{first} to {last}", found == right, (found, right))
+            found = segments_between(self.path("segments"), DAY + first, DAY + last)
+            self.check(f"{first} to {last}", [(one.begin - DAY, one.end - DAY) for one in found],
+                       [(begin, end) for begin, end in known if begin < last and end >= first])
 
-    def test_gone(self) -> None:
-        """A segment that goes while it is looked at is as if it was never there."""
+    def test_a_deleted_segment_was_never_there(self) -> None:
         self.put_segments(0, 30)
-        names = names_in(self.path("s"))
-        os.unlink(self.path(f"s/{names[1][1]}"))
+        names = names_in(self.path("segments"))
+        os.unlink(self.path(f"segments/{names[1][1]}"))
         with mock.patch.object(segments, "names_in", lambda _: names):
-            self.assertEqual(2, len(between(self.path("s"), DAY, DAY + 30)))
+            self.check("segments", len(segments_between(self.path("segments"), DAY, DAY + 30)), 2)
+
+    def test_places_a_time_in_a_segment(self) -> None:
+        self.check_each(Segment("", 100, 10, 20).offset_at, {
+            name: ((time,), offset) for name, (time, offset) in OFFSETS.items()})
+        self.check("one of a moment", Segment("", 100, 10, 10).offset_at(10.5), 100)
+
+    def test_reads_what_came_in_a_time(self) -> None:
+        """What is read in two parts is what is read at once, and a shorter file is an error."""
+        parts = [Segment(self.put_segment(at, at + 10, bytes(range(at, at + 10))), 10,
+                         DAY + at, DAY + at + 10) for at in (0, 10, 20)]
+        stretch = Unbroken(tuple(parts))
+        for first, middle, last in ((0, 5, 30), (3, 10, 25), (7, 7, 8), (0, 0, 99), (12, 18, 19)):
+            found = [b"".join(stretch.read(DAY + begin, DAY + end))
+                     for begin, end in ((first, middle), (middle, last))]
+            self.check(f"{first}, {middle}, {last}", found,
+                       [bytes(range(first, middle)), bytes(range(middle, min(last, 30)))])
+        os.truncate(parts[1].path, 5)
+        self.assertRaisesRegex(OSError, "shorter", lambda: [*stretch.read(DAY, DAY + 30)])
 
 
 class Recorded(Air):
@@ -119,73 +136,71 @@ class Recorded(Air):
         self.now += seconds
 
     def recorder(self, length: float = 10, kept: float = 1000, free: int = 0) -> Recorder:
-        return Recorder(self.path("s"), Limits(length, kept, free))
+        return Recorder(self.path("segments"), Limits(length, kept, free))
 
     def contents(self) -> list[tuple[float, bytes]]:
-        """The segments, with the seconds at which they begin."""
-        return [(round(begin - DAY, 3), self.read(f"s/{name}"))
-                for begin, name in names_in(self.path("s"))]
+        """Return when the segments begin, and what they hold."""
+        return [(round(begin - DAY, 3), self.read(f"segments/{name}"))
+                for begin, name in names_in(self.path("segments"))]
 
-    def test_lengths(self) -> None:
-        """Each byte stands in the segment of its time."""
+    def new_ones(self) -> list[bool]:
+        """Return of each segment whether something may be missing before it."""
+        return ["-new" in name for _, name in names_in(self.path("segments"))]
+
+    def test_writes_each_byte_into_the_segment_of_its_time(self) -> None:
         one = self.recorder()
         for at in range(35):
             self.now = DAY + at
             one.take(b"%c" % (65 + at))
         text = bytes(range(65, 100))
-        self.assertEqual([(0.0, text[:10]), (10.0, text[10:20]), (20.0, text[20:30]),
-                          (30.0, text[30:])], self.contents())
-        new = ["-new" in name for _, name in names_in(self.path("s"))]
-        self.must("the first one alone is new", new == [True, False, False, False], new)
+        self.check("contents", self.contents(), [(0.0, text[:10]), (10.0, text[10:20]),
+                                                 (20.0, text[20:30]), (30.0, text[30:])])
+        self.check("only the first is new", self.new_ones(), [True, False, False, False])
 
-    def test_begun_again(self) -> None:
-        """A recorder that begins again goes on with a segment of its own, and says so."""
+    def test_each_start_begins_a_new_segment(self) -> None:
         for at in (0, 3, 3, 9):
             self.now = DAY + at
             self.recorder().take(b"%d" % at)
-        self.must("all are new", all("-new" in name for _, name in names_in(self.path("s"))))
-        self.assertEqual([(0.0, b"0"), (3.0, b"3"), (3.001, b"3"), (9.0, b"9")], self.contents())
+        self.check("contents", self.contents(),
+                   [(0.0, b"0"), (3.0, b"3"), (3.001, b"3"), (9.0, b"9")])
+        self.check("all are new", self.new_ones(), [True] * 4)
 
-    def test_clock(self) -> None:
-        """A clock that is set back or forth: segments keep the order in which they came."""
+    def test_keeps_the_order_when_the_clock_is_set(self) -> None:
         one = self.recorder(kept=10_000)
         with mock.patch.object(recorder, "tell", lambda _: None):
             for number, at in enumerate((0, 5, -3600, -3595, -3590, 3600, 3605, 20)):
                 self.now = DAY + at
                 one.take(b"%d" % number)
-        self.assertEqual(b"01234567", b"".join(data for _, data in self.contents()))
+        self.check("all of it", b"".join(data for _, data in self.contents()), b"01234567")
 
-    def test_kept(self) -> None:
-        """What is older than the limit goes."""
+    def test_deletes_what_is_too_old(self) -> None:
         one = self.recorder(kept=50)
         for at in range(0, 200, 10):
             self.now = DAY + at
             one.take(b".")
-        self.assertEqual([140.0, 150.0, 160.0, 170.0, 180.0, 190.0],
-                         [begin for begin, _ in self.contents()])
+        self.check("begins", [begin for begin, _ in self.contents()],
+                   [140.0, 150.0, 160.0, 170.0, 180.0, 190.0])
 
-    def test_free(self) -> None:
-        """As many of the oldest go as have to be free, and no more."""
+    def test_deletes_as_much_as_has_to_be_free(self) -> None:
         self.put_segments(-200, 0)
-        about = os.statvfs(self.path("s"))
+        about = os.statvfs(self.path("segments"))
 
         def free(_: str) -> object:
-            count = len(os.listdir(self.path("s")))
+            count = len(os.listdir(self.path("segments")))
             return mock.Mock(f_bavail=max(15 - count, 0), f_frsize=about.f_frsize)
 
         with mock.patch.object(os, "statvfs", free):
             self.recorder(free=5 * about.f_frsize).take(b".")
-        self.assertEqual([*range(-100, 0, 10), 0], [int(one) for one, _ in self.contents()])
+        self.check("begins", [int(one) for one, _ in self.contents()], [*range(-100, 0, 10), 0])
 
-    def test_full(self) -> None:
-        """On a full disk the oldest makes room; where nothing is left to delete, bytes are lost,
-        and the next segment begins later."""
+    def test_names_what_a_full_disk_has_lost(self) -> None:
+        """The oldest makes room; if nothing is left to delete bytes are lost, and the next segment
+        is new."""
         self.put_segments(-30, 0)
         room, real = [0], os.write
 
         def write(file: int, data: bytes) -> int:
-            there = sum(len(data) for _, data in self.contents())
-            if there >= room[0]:
+            if sum(len(data) for _, data in self.contents()) >= room[0]:
                 raise OSError(errno.ENOSPC, "full")
             return real(file, data[:1])
 
@@ -194,17 +209,16 @@ class Recorded(Air):
                 mock.patch.object(recorder, "tell", lambda _: None):
             room[0] = 12
             one.take(b"abcd")
-            self.assertEqual([(0.0, b"abcd")], self.contents())
+            self.check("the oldest made room", self.contents(), [(0.0, b"abcd")])
             room[0] = 0
             one.take(b"lost")
             room[0] = 99
             one.take(b"more")
-        begin, data = self.contents()[-1]
-        self.must("what was written stays", self.contents()[0] == (0.0, b"abcd"), self.contents())
-        *_, (_, name) = names_in(self.path("s"))
-        self.must("what is lost shows", "-new" in name and begin > 0 and data == b"more", name)
+        self.check("what was written stays", self.contents()[0], (0.0, b"abcd"))
+        self.check("what came later", self.contents()[-1][1], b"more")
+        self.check("the last one is new", self.new_ones()[-1], True)
 
-    def test_other_errors(self) -> None:
-        """Any other error ends it: its service begins it again."""
+    def test_ends_at_any_other_error(self) -> None:
+        """Its service starts it again."""
         with mock.patch.object(os, "write", side_effect=OSError(errno.EIO, "disk")):
             self.assertRaises(OSError, self.recorder().take, b"x")

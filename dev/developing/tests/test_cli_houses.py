@@ -20,7 +20,7 @@ from subtitles.common.program import PAGES, TOP, chosen, documents, read, withou
 from ..compiled import plain_environment
 from ..proved import lacking, parsed
 from .bench import Case, Done, SECONDS, example, example_bytes, tool_path
-from .channels import until
+from .programmes import until
 
 
 # tools/install and dev/dist: what they make is run from another folder.

@@ -28,7 +28,7 @@ from subtitles.request.request import Request
 from subtitles.results.files import Row, found, object_at, put_object, unjudged
 from subtitles.results.schema import ASKED
 from .bench import Case, SECONDS
-from .channels import until
+from .programmes import until
 from .parts import asked_for, call_words, defaults, qc
 from .results import result, row
 

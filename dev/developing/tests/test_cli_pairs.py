@@ -14,7 +14,7 @@ from subtitles.common.program import TOP
 from subtitles.formats.stl import MOST_STL
 from subtitles.recording import recording
 from .bench import Case, Done, SECONDS, example, example_bytes, tool_path
-from .channels import until
+from .programmes import until
 from .judged import judged
 from .sent import in_pipe
 

@@ -205,7 +205,7 @@ class Parts(unittest.TestCase):
         self.assertIn(".B listen\n.I PES\n.B \\-\\-at TIME\n.OP \\-\\-page P\n", made["synopsis"])
         self.assertIn("\\fB\\-\\-page\\fP \\fIP\\fP\nThe page: one. Without it: \\fB888\\fP.",
                       made["options"])
-        made = pages.of_qc(HELP)
+        made = pages.of_tool(HELP)
         self.assertEqual(made["status"], "Status 0 or 2.\n")
         self.assertIn("Which one. WORD is a, b.", made["options"])
         self.assertIn("[\\-\\-from TIME] [\\-o OUT]", made["synopsis"])
@@ -344,26 +344,9 @@ COMMENT = re.compile(r"//[^\n]*|/\*.*?\*/", re.DOTALL)
 class Examples(Case):
     """Files that the manual shows to be copied."""
 
-    def test_units_restart_and_write_where_they_may(self) -> None:
-        """Each service starts again, and each folder that it writes to is one that it may."""
-        manual = os.path.join(TOP, "docs", "manual")
-        watch = read(os.path.join(manual, "subttx-watch.service")) or ""
-        blocks = [text for _, text in BLOCK.findall(read(os.path.join(manual, "air.md")) or "")]
-        units = [watch, *(part for text in blocks if "ExecStart=" in text
-                          for part in text.split("[Service]")[1:])]
-        self.check("units", len(units), 3)
-        for unit in units:
-            lines = dict(re.findall(r"^(\w+)=(.*)$", unit.replace("\\\n", ""), re.M))
-            self.check(f"{lines['ExecStart']}: restarts", lines.get("Restart"), "always")
-        lines = dict(re.findall(r"^(\w+)=(.*)$", watch, re.M))
-        written = re.findall(r"-o (\S+)", lines["ExecStart"])
-        self.check("folders", written, lines["ReadWritePaths"].split())
-        self.check("needed", all(folder.startswith(f"{needed}/") for folder in written for needed in
-                                 re.findall(r"^RequiresMountsFor=(.*)$", watch, re.M)), True)
-        self.check("a signal ends what judges", lines.get("KillMode"), "mixed")
-        for name in ("subttx-watch.service", "judge.sh"):
-            self.check(f"{name}: languages", "--option auto" in (
-                read(os.path.join(manual, name)) or ""), True)
+    def test_jobs_take_the_language_of_each_file(self) -> None:
+        self.must("judge.sh", "--option auto" in (
+            read(os.path.join(TOP, "docs", "manual", "judge.sh")) or ""))
 
     def test_severity_file(self) -> None:
         """Each line of the manual's is a rule, and what it does not name is an error."""

@@ -70,7 +70,7 @@ asked = request_of(parser_of("").parse_args([*pair, *given]))
 none = request_of(parser_of("").parse_args(pair))
 help = parser_of("").format_help()
 print(json.dumps({
-    "help": help, "man page": pages.of_qc(help)["options"],
+    "help": help, "man page": pages.of_tool(help)["options"],
     "chapter": pages.of_chapter()["options"],
     "completion": pages.completed("  check STL PES  does\\n", "", [help])["values"],
     "asked": ASKED.made(asked), "left out": ASKED.made(none), "call": call_words(asked),

@@ -1,12 +1,13 @@
-"""Programmes of a feed that never ends, judged by the times at which they are on air.
+"""Programmes of a feed that never ends, judged by their times of air.
 
-segments    what stands in a folder of segments, by their names, and pieces without a hole
-schedule    when programmes are on air, and how each is judged
+segments    the segments in a folder, and stretches of them in which nothing is missing
 recorder    appends segments, and deletes the oldest
-check       a programme judged out of a piece of the feed, in a process of its own
-state       how it stands, for monitoring
-judge       holds a schedule against segments and results
-main        the words of tools/air
+schedule    when each programme is on air, and how it is judged
+check       judges a programme from a stretch of the feed, in a process of its own
+decision    which result a programme gets
+state       the state, for monitoring
+judge       works on the schedule, the segments and the results
+main        the command line of tools/air
 
-Neither recorder nor judge keeps any other state: what was done stands in the folder of results.
+Recorder and judge keep no other state: a result in the folder of results marks what is done.
 """

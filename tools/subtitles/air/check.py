@@ -1,137 +1,210 @@
-"""Judges a programme out of a piece of the feed, as `qc STL RECORDING` does, in a process of its
-own."""
+"""Judges a programme from a stretch of the feed, as `qc STL RECORDING` does, in a process of its
+own: one that fails, is killed or hangs costs nothing but another try."""
 from __future__ import annotations
 
 import contextlib
 import dataclasses
+import itertools
+import math
 import os
 import shutil
-from typing import Any, Callable, NamedTuple, Sequence
+from typing import Any, Callable, Mapping, NamedTuple, Sequence
 
 from ..cli import single
 from ..cli.batch import Forked, ended_of, signals_held
 from ..common.command_line import Stop, ended, error_line, tell
 from ..common.files import new_name
+from ..common.times import FRAMES_A_SECOND, TICKS, pts_of, ticks_between
+from ..judging.part import Part
 from ..judging.status import ACCEPTED, NOT_JUDGED, REFUSED, RELATIVE, WAIVED
-from ..judging.verdict import Verdict, counts_of_numbers
-from ..request.request import Request
+from ..judging.verdict import Verdict
+from ..request.commands import CommandWords
+from ..request.request import Request, Unclear
 from ..results.files import ENDING, left_by_call, unjudged
+from ..stream.survey import survey
 from .schedule import RECORDING
-from .segments import Piece
+from .segments import Unbroken
 
-JUDGING_SECONDS, SLOWEST = 60.0, 2_000_000  # seconds, and one more for each so many bytes
-WORK = ".work-"  # begins the name of the folder in which is judged
-ENDS_EARLY, MACHINE = 4, 5  # how a process ends, beside the status of qc
-NOT_OVER = 74  # of `check`: the last TCO comes after the last PES packet
+LEAST_SECONDS, BYTES_A_SECOND = 60.0, 2_000_000  # for judging; one more for each so many bytes
+WORK = ".work-"  # begins the name of the folder in which a programme is judged
+HEAD = "head.ts"  # in it: the recording up to a time
 SPARE = 1 << 20  # bytes of the disk that are left to others
+QUIET = 1.0  # seconds within which a PMT comes, so that PES packets are seen
+PTS_SECOND = FRAMES_A_SECOND * TICKS
+CORRECT = {ACCEPTED, WAIVED, RELATIVE}  # the verdicts that find no error
+# Exit statuses of the process that judges, beside 0 to 3 of qc: the machine failed; something is
+# refused, and the programme had not ended where the stretch ends.
+FAILED, UNFINISHED = 101, 102
 
 
 class Outcome(NamedTuple):
-    """What a programme comes to. `is_over`: all of it was in the piece, as far as that can be
-    known. Where `known` is `None` the machine failed, and another time it may be judged."""
+    """What came of judging a programme once: its JSON result, or `None` if the machine failed, so
+    that it has to be tried again; the reason, or the line of `check`. `is_finished` is false if a
+    refusal may only mean that the programme goes on after the stretch."""
 
-    known: dict[str, Any] | None
+    result: dict[str, Any] | None
     reason: str
-    is_over: bool = False
-    is_slow: bool = False
+    is_finished: bool = True
 
     @property
-    def is_accepted(self) -> bool:
-        """Whether nothing was found wrong; a clock may not have been given."""
-        return self.known is not None and self.known["verdict"] in (ACCEPTED, WAIVED, RELATIVE)
+    def verdict(self) -> str | None:
+        return None if self.result is None else str(self.result["verdict"])
 
     @property
-    def is_of_file(self) -> bool:
-        """Whether the subtitle file is refused by itself, whatever is sent."""
-        known = self.known or {"verdict": ""}
-        return known["verdict"] == REFUSED and known["inputs"]["recording"] is None
-
-    @property
-    def is_settled(self) -> bool:
-        """Whether more of the feed would change nothing."""
-        return self.known is not None and self.known["verdict"] != NOT_JUDGED and self.is_over
+    def is_final(self) -> bool:
+        """Whether nothing else that is recorded can change it."""
+        if self.result is None:
+            return False
+        is_file_refused = self.verdict == REFUSED and self.result["inputs"]["recording"] is None
+        return self.verdict in CORRECT or is_file_refused or (
+            self.verdict != NOT_JUDGED and self.is_finished)
 
 
-def status_of(verdict: Verdict) -> int:
-    """How the process ends that has judged."""
+def not_judged(name: str, reason: str) -> Outcome:
+    """Return the outcome of a programme that can't be judged any more."""
+    return Outcome(unjudged(name, reason), reason)
+
+
+class BeginCheck(NamedTuple):
+    """Checks when a programme began: within `margin` seconds of its time of air. `first` is when
+    the recording begins; `packets_by` returns how many PES packets of each PID had come by a time.
+    """
+
+    air_time: float
+    margin: float
+    first: float
+    packets_by: Callable[[float], Mapping[int, int]]
+
+    def examine(self, verdict: Verdict) -> None:
+        """Note in a verdict that the programme began in time. `Unclear` if it did not, or if
+        something is refused and the beginning may be missing."""
+        if not verdict.parts or verdict.word == NOT_JUDGED:
+            return
+        part, words = verdict.parts[0], f"{self.margin:g} s of {single.now(self.air_time)}"
+        if part.alignment is None or part.pes is None:  # the subtitle file itself is refused
+            return
+        pid, _ = part.stream or (0, 0)
+        missing = seconds_before_first(part)
+        if verdict.word not in CORRECT and missing > 0 and \
+                self.packets_by(self.first + missing + QUIET).get(pid, 0):
+            raise Unclear("the first subtitle was due before the page's first PES packet in what "
+                          f"was recorded: it did not begin within {words}, or its beginning was "
+                          "not recorded")
+        if begin_number(part) >= self.packets_by(self.air_time + self.margin).get(pid, 0):
+            raise Unclear(f"it did not begin within {words}, but later")
+        verdict.notes.append(f"begun within {words}")
+
+
+def begin_number(part: Part) -> int:
+    """Return the number of the PES packet with which the first subtitle is due."""
+    _, alignment = part.recorded
+    begin, (first, _) = pts_of(alignment.begin, alignment.origin), part.pes or (0, 0)
+    earlier = itertools.takewhile(lambda pts: ticks_between(begin, pts) < 0, part.pts())
+    return first + sum(1 for _ in earlier)
+
+
+def seconds_before_first(part: Part) -> float:
+    """Return how long before the page's first PES packet the first subtitle was due; 0 or less if
+    it was not."""
+    recording, alignment = part.recorded
+    begin = pts_of(alignment.begin, alignment.origin)
+    first = next(recording.packets.pts(alignment.packets), begin)
+    return ticks_between(begin, first) / PTS_SECOND
+
+
+def has_end(part: Part) -> bool:
+    """Return whether a PES packet comes after those that are judged with the last subtitle."""
+    return part.pes is None or part.packets.count > part.pes[1] + 1
+
+
+def exit_status(verdict: Verdict) -> int:
+    """Return the exit status of the process that has judged."""
     if not verdict.is_final:
-        return MACHINE
-    numbers = {count.number for count in counts_of_numbers(verdict.parts)}
-    is_over = verdict.parts and not verdict.named and NOT_OVER not in numbers
-    return ENDS_EARLY if verdict.word == REFUSED and not is_over else verdict.status
+        return FAILED
+    is_finished = verdict.parts and has_end(verdict.parts[-1])
+    return UNFINISHED if verdict.status == 1 and not is_finished else verdict.status
 
 
 @dataclasses.dataclass
 class Checker:
-    """Judges into a folder, `work`, of the folder `place`; its files are written as those of the
-    folder `out`. Each time it is another one: a process that an earlier call has left, when it was
-    killed, finds nothing there any more."""
+    """Judges into a folder `work`, which it makes in `place` for each try, so that a process left
+    by an earlier call finds its own folder gone. Reports name the folder `out`."""
 
     program: str | None
-    called: str
+    program_name: str
     place: str
     out: str
+    margin: float
     is_kept: bool = False
     work: str = ""
 
     def clear(self) -> None:
-        """Takes away what was judged last, here or by an earlier call."""
+        """Delete what the last try, or an earlier call, has left."""
         for name in os.listdir(self.place):
             if name.startswith(WORK):
                 shutil.rmtree(os.path.join(self.place, name), ignore_errors=True)
 
-    def check(self, request: Request, name: str, piece: Piece) -> Outcome:
-        """Judges a programme."""
+    def check(self, request: Request, name: str, air_time: float, stretch: Unbroken) -> Outcome:
+        """Judge a programme of a time of air from a stretch."""
         self.clear()
         self.work = new_name(self.place, WORK)
-        size = sum(segment.size for segment in piece.segments)
-        recording = os.path.join(self.work, RECORDING)
-
-        def does(_: Sequence[str]) -> int:
-            try:
-                piece.write(recording)
-                asked = dataclasses.replace(request, recording=recording)
-                return status_of(single.judged(asked, single.PairCall(
-                    self.program, out=self.out, here=self.work, name=name, is_claimed=True,
-                    is_kept=self.is_kept), self.called))
-            except (OSError, MemoryError) as reason:  # as where a segment was deleted just now
-                tell(error_line(reason))
-                return MACHINE
-
+        first = max(stretch.begin, air_time - self.margin)
+        size = stretch.size(first, math.inf)
+        needed = size + stretch.size(first, air_time + self.margin) + SPARE
         try:
             os.mkdir(self.work)
-            if shutil.disk_usage(self.work).free < size + SPARE:
-                return Outcome(None, f"no room in {self.work} for {size:,} bytes of the feed")
-            status, lines = called(lambda: ended(does, ()), JUDGING_SECONDS + size / SLOWEST)
-        except TimeoutError as reason:
-            return Outcome(None, str(reason), is_slow=True)
+            if shutil.disk_usage(self.work).free < needed:
+                return Outcome(None, f"no room in {self.place} for {needed:,} bytes")
+            status, lines = run_forked(
+                lambda: ended(lambda _: self.judge(request, name, air_time, stretch), ()),
+                LEAST_SECONDS + size / BYTES_A_SECOND)
         except (OSError, Stop) as reason:
             return Outcome(None, error_line(reason))
         finally:
-            with contextlib.suppress(OSError):
-                os.unlink(recording)
-        if status == MACHINE or status < 0:
-            return Outcome(None, (lines or ["it did not end by itself"])[-1])
-        known = left_by_call(os.path.join(self.work, name + ENDING), name,
-                             1 if status == ENDS_EARLY else status, lines)
-        return Outcome(known, known["reason"] or known["lead"], status != ENDS_EARLY)
+            for file in (RECORDING, HEAD):
+                with contextlib.suppress(OSError):
+                    os.unlink(os.path.join(self.work, file))
+        if status == FAILED or status < 0:
+            return Outcome(None, lines[-1] if lines else "the process that judged it was killed")
+        result = left_by_call(os.path.join(self.work, name + ENDING), name,
+                              1 if status == UNFINISHED else status, lines)
+        return Outcome(result, result["reason"] or result["lead"], status != UNFINISHED)
+
+    def judge(self, request: Request, name: str, air_time: float, stretch: Unbroken) -> int:
+        """Judge a programme in this process; return its exit status."""
+        recording, first = os.path.join(self.work, RECORDING), air_time - self.margin
+
+        def packets_by(time: float) -> Mapping[int, int]:
+            head = os.path.join(self.work, HEAD)
+            with open(head, "wb") as file:
+                file.writelines(stretch.read(first, time))
+            program = CommandWords(self.program_name, self.program).program_path
+            found = survey(program, head, request.page)
+            return {pid: packets.count for pid, packets in found.by_pid.items()}
+
+        begin = BeginCheck(air_time, self.margin, max(first, stretch.begin), packets_by)
+        call = single.PairCall(self.program, out=self.out, here=self.work, name=name,
+                               is_claimed=True, is_kept=self.is_kept, examine=begin.examine)
+        try:
+            with open(recording, "xb") as file:
+                file.writelines(stretch.read(first, math.inf))
+            return exit_status(single.judged(dataclasses.replace(request, recording=recording),
+                                             call, self.program_name))
+        except (OSError, MemoryError) as reason:  # as if a segment was deleted just now
+            tell(error_line(reason))
+            return FAILED
 
 
-def called(does: Callable[[], int], longest: float) -> tuple[int, list[str]]:
-    """How a process ends, and what it tells; `TimeoutError` where it takes more than so many
-    seconds. However this ends, nothing of it goes on."""
+def run_forked(does: Callable[[], int], longest: float) -> tuple[int, list[str]]:
+    """Run a function in a process of its own; return its exit status and its lines on standard
+    error. `Stop` if it takes longer than so many seconds. Nothing of it goes on afterwards."""
     with signals_held():
-        call = Forked(does)
+        process = Forked(does)
     try:
-        if not ended_of([call], longest):
-            raise TimeoutError(f"it was not judged within {longest:.0f} seconds")
-        return call.end()
+        if not ended_of([process], longest):
+            raise Stop(f"it was not judged within {longest:.0f} seconds")
+        return process.end()
     except BaseException:
-        call.kill()
-        call.end()
+        process.kill()
+        process.end()
         raise
-
-
-def not_judged(name: str, reason: str) -> Outcome:
-    """A programme that has no verdict, for a reason that stays."""
-    return Outcome(unjudged(name, reason), reason)

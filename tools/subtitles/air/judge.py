@@ -1,5 +1,5 @@
-"""The judge: a function of the schedule, the segments and the results on disk. What it keeps in
-memory says when to try again, and nothing else, so it may end at any moment."""
+"""The judge: works on the schedule, the segments and the results on disk. Its memory says only when
+to try again, so it may be killed and started again at any moment."""
 from __future__ import annotations
 
 import argparse
@@ -9,259 +9,176 @@ import shutil
 import subprocess
 import sys
 import time
-from typing import NamedTuple, Sequence
 
 from ..cli.single import heed_signals, locking, now as date
 from ..common.command_line import Stop, error_line, say
 from ..common.files import BEGIN, result_file
 from ..request.commands import CommandWords
 from ..results.files import ENDING, object_text
-from .check import Outcome, Checker, not_judged
-from .schedule import Programme, Schedule, schedule_at, seconds_of
-from .segments import Piece, between, pieces_in
-from .state import Watched, write_state
+from .check import Checker, Outcome, not_judged
+from .decision import SOON, Window, decide, gaps_in, seconds_to_next_try, window_of
+from .schedule import Programme, Schedule, length_of, read_schedule
+from .segments import segments_between, stretches_in
+from .state import Monitor, write_state
 
-SOON = 10.0  # seconds after its end at which a programme is tried first
-EARLY = 60.0  # seconds by which one may begin before its time, at most, behind a hole
-SLACK = 1.0  # seconds
-AGAIN, SELDOM = 2.0, 60.0  # seconds until what the machine failed at is tried again
-SLOW = 3  # times that a programme may take too long
-MOST_TOLD = 3  # holes that are named in a result
-
-
-class Window(NamedTuple):
-    """When a programme is on air, as far as is known, and how long it is, in seconds; from when to
-    when it is looked for, which may be longer than by the margin; whether that has passed."""
-
-    begin: float
-    end: float
-    length: float
-    first: float
-    last: float
-    has_passed: bool
-    is_longer: bool = False
+RETRY, MOST_RETRY = 2.0, 60.0  # seconds until a failure of the machine is tried again
+SHARE = 10  # of the judge's time, at most one part in so many is for what fails
+HOOK_SECONDS = 10  # for the site's command
 
 
 class Tries:
-    """When a programme is tried again; how often, and how often it took too long."""
+    """When a programme is tried again, how often the machine failed, and why it did last."""
 
     def __init__(self) -> None:
-        self.next, self.count, self.slow, self.reason = 0.0, 0, 0, ""
-
-    def put_off(self, now: float, seconds: float, reason: str) -> None:
-        """Tries it some seconds later."""
-        self.next, self.reason = now + seconds, reason
-        self.count += 1
+        self.next, self.failures, self.reason = 0.0, 0, ""
 
 
 class Judge:
-    """Judges what is due."""
+    """Judges the programmes that are over."""
 
-    def __init__(self, words: argparse.Namespace, called: str) -> None:
-        self.words, self.segments, self.out = words, words.segments, words.out
-        self.program = CommandWords(called, words.program).program_path
-        self.checker = Checker(words.program, called, words.work or words.out, words.out,
-                               words.is_kept)
+    def __init__(self, args: argparse.Namespace, program_name: str) -> None:
+        self.args, self.segments, self.out = args, args.segments, args.out
+        self.program = CommandWords(program_name, args.program).program_path
+        self.checker = Checker(args.program, program_name, args.work or args.out, args.out,
+                               args.margin, args.is_kept)
         self.tries: dict[str, Tries] = {}
         self.schedule = Schedule()
-        self.state = Watched()
+        self.monitor = Monitor()
 
     def look(self, now: float) -> bool:
-        """Judges the first programme that is due, and writes how it stands; whether one was tried.
-        """
+        """Judge the first programme whose time has come, and write the state. Return whether there
+        was one."""
         self.read_schedule()
-        open_lines = self.open_lines()
-        tried = next((one for one in open_lines if self.attempt(one, now)), None)
-        waiting = [one for one in open_lines if one.begin is not None and one is not tried]
-        self.state.late = [one.name for one in waiting if self.is_late(one, now)]
-        self.state.waiting = len(self.open_lines()) if tried else len(open_lines)
-        self.state.look(self.segments, self.out, now, self.program, {
-            one.request.page for one in open_lines})
-        write_state(self.out, self.state.known())
+        waiting = self.waiting()
+        tried = next((one for one in waiting if self.attempt(one, now)), None)
+        waiting = self.waiting() if tried else waiting
+        self.monitor.waiting = len(waiting)
+        self.monitor.late = [one.name for one in waiting if self.is_late(one, now)]
+        self.monitor.look(self.segments, self.out, now, self.program,
+                          {one.request.page for one in waiting})
+        write_state(self.out, self.monitor.state())
         return tried is not None
 
     def read_schedule(self) -> None:
-        """Reads the schedule; as long as it can't be read the last one holds."""
+        """Read the schedule; as long as it can't be read the last one holds."""
         try:
-            self.schedule = schedule_at(self.words.schedule, self.words, self.schedule)
-            self.state.list_faults = [*self.schedule.faults]
+            self.schedule = read_schedule(self.args.schedule, self.args, self.schedule)
+            self.monitor.schedule_faults = [*self.schedule.faults]
         except (OSError, Stop) as reason:
-            self.state.list_faults = [error_line(reason)]
+            self.monitor.schedule_faults = [error_line(reason)]
 
-    def open_lines(self) -> list[Programme]:
-        """The programmes that have no result, by their times."""
-        done = {*os.listdir(self.out)}
-        return sorted((one for one in self.schedule.programmes if one.name + ENDING not in done),
-                      key=lambda one: one.begin or 0.0)
+    def waiting(self) -> list[Programme]:
+        """Return the programmes that have no result, earliest first."""
+        files = {*os.listdir(self.out)}
+        return sorted((one for one in self.schedule.programmes if one.name + ENDING not in files),
+                      key=lambda one: one.begin)
 
     def is_late(self, programme: Programme, now: float) -> bool:
-        """Whether a result should be there by now."""
-        tries = self.tries.get(programme.name)
-        end = programme.end or (programme.begin or now)
-        return bool(tries and tries.reason) and now > end + 2 * self.words.margin
-
-    def window(self, programme: Programme, now: float) -> Window | None:
-        """When a programme is looked for; `None` where it is not over yet. `OSError` where its
-        subtitle file is not there."""
-        margin, begin = self.words.margin, programme.begin
-        if begin is None:  # some time within the last hours
-            first, length = now - 3600 * self.words.find, seconds_of(programme.request)
-            return Window(first, now, length, first, now, False)
-        if now < begin + SOON:
-            return None
-        length = seconds_of(programme.request)
-        end = max(programme.end or 0.0, begin + length)
-        window = Window(begin, end, length, begin - margin, end + margin, now >= end + margin)
-        return window if now >= end + SOON else None
-
-    # ---- one programme
+        """Return whether a result is overdue."""
+        margin: float = self.args.margin
+        return now > programme.begin + 2 * margin and now > self.window(programme).last + margin
 
     def attempt(self, programme: Programme, now: float) -> bool:
-        """Judges a programme if it is time to; whether that was tried."""
-        tries = self.tries.setdefault(programme.name, Tries())
-        if now < tries.next:
+        """Judge a programme if its time has come. Return whether it was tried."""
+        tries, started = self.tries.setdefault(programme.name, Tries()), time.monotonic()
+        if now < max(tries.next, programme.begin + SOON):
             return False
         try:
-            window = self.window(programme, now)
-            if window is None:
+            window = self.window(programme)
+            if now < window.end + SOON:
                 return False
-            answer = self.judged(programme, window, tries, now)
-            if answer is None or answer.known is None:
-                self.put_off(programme, window, tries, now, answer)
+            outcome = self.judge(programme, window, now)
+            if outcome and outcome.result and not outcome.is_finished:
+                window = window.longer
+                outcome = self.judge(programme, window, now)
+            if outcome is None:
+                tries.next = now + seconds_to_next_try(window, now)
+            elif outcome.result is None:
+                self.retry(programme, now, started, outcome.reason)
             else:
-                self.publish(programme.name, answer)
-        except Exception as reason:  # whatever it is, others are judged all the same
-            self.fail(programme, tries, now, error_line(reason))
+                self.publish(programme.name, outcome)
+        except Exception as reason:  # whatever it is, other programmes are judged all the same
+            self.retry(programme, now, started, error_line(reason))
         return True
 
-    def put_off(self, programme: Programme, window: Window, tries: Tries, now: float,
-                answer: Outcome | None) -> None:
-        """Tries a programme later: one that may still be on air twice as long after its end as it
-        is now, and in any case once its window has passed."""
-        if answer is not None:
-            tries.slow += answer.is_slow
-            self.fail(programme, tries, now, answer.reason)
-        elif programme.begin is None:
-            tries.put_off(now, max(window.length / 10, SELDOM), "")
-        else:
-            rest = window.last - now if now < window.last else SELDOM
-            tries.put_off(now, min(max(now - window.end, SOON), rest), "")
+    def window(self, programme: Programme) -> Window:
+        """Return when a programme is looked for; as if it had no length if its subtitle file is not
+        there."""
+        length = 0.0
+        with contextlib.suppress(OSError):
+            length = length_of(programme.request)
+        return window_of(programme, length, self.args.margin)
 
-    def fail(self, programme: Programme, tries: Tries, now: float, reason: str) -> None:
-        """Tells what the machine failed at, once, and tries it again; where its segments are gone
-        by then, that is its result."""
+    def judge(self, programme: Programme, window: Window, now: float) -> Outcome | None:
+        """Judge each stretch that may hold a programme, until one is final."""
+        name, has_passed = programme.name, now >= window.last
+        segments = segments_between(self.segments, window.first, window.last)
+        if not os.path.exists(programme.request.stl):
+            reason = f"{programme.request.stl} is not there"
+            return not_judged(name, reason) if has_passed and not segments else \
+                Outcome(None, reason)
+        stretches, outcomes = [*stretches_in(segments, self.args.pause)], list[Outcome]()
+        for stretch in filter(window.may_hold, stretches):
+            outcomes.append(self.checker.check(programme.request, name, window.begin, stretch))
+            if outcomes[-1].is_final or outcomes[-1].result is None:
+                break
+        gaps = gaps_in(window, stretches, self.args.pause)
+        return decide(name, outcomes, gaps, has_passed, self.tries[name].reason)
+
+    def retry(self, programme: Programme, now: float, started: float, reason: str) -> None:
+        """Try a programme again later, since the machine failed; report each reason once."""
+        tries, spent = self.tries[programme.name], time.monotonic() - started
         if reason != tries.reason:
-            say(f"{date()}  {programme.name}: tried again: {first_line(reason)}")
-        tries.put_off(now, min(AGAIN * 2 ** min(tries.count, 10), SELDOM), reason)
-        self.state.last_error = f"{programme.name}: {reason}"
-        begin = programme.begin
-        if begin is not None and not os.path.exists(programme.request.stl) and \
-                now > begin + self.words.margin and \
-                not between(self.segments, begin, now):
-            self.publish(programme.name, not_judged(programme.name, reason))
+            say(f"{date()}  {programme.name}: will be tried again: {first_line(reason)}")
+        delay = min(RETRY * 2 ** min(tries.failures, 10), MOST_RETRY)
+        tries.next, tries.reason = now + max(delay, SHARE * spent), reason
+        tries.failures += 1
+        self.monitor.last_error = f"{programme.name}: {reason}"
 
-    def judged(self, programme: Programme, window: Window, tries: Tries, now: float
-               ) -> Outcome | None:
-        """What a programme comes to; `None` where that is not known yet. It is accepted only out of
-        a piece in which nothing is missing."""
-        name = programme.name
-        if tries.slow >= SLOW:
-            return not_judged(name, tries.reason)
-        segments = between(self.segments, window.first, window.last)
-        pieces = [*pieces_in(segments, self.words.pause)]
-        answers = list[Outcome]()
-        for piece in pieces:
-            if piece.end - piece.begin < window.length - SLACK:
-                continue
-            answer = self.checker.check(programme.request, name, piece)
-            if answer.is_accepted or answer.is_of_file or answer.known is None:
-                return answer
-            if answer.is_settled and is_covered(window, piece):
-                return answer
-            answers.append(answer)
-        if not window.has_passed:
-            return None
-        holes = holes_in(window, pieces, self.words.pause)
-        if answers and not holes and not answers[0].is_over and not window.is_longer:
-            return self.judged(programme, longer(window, now), tries, now)
-        return last_word(name, holes, answers)
-
-    # ---- its result
-
-    def publish(self, name: str, answer: Outcome) -> None:
-        """Gives a result its place: its other files first, then the JSON result; each is stored."""
-        assert answer.known is not None
+    def publish(self, name: str, outcome: Outcome) -> None:
+        """Store the files of a result, the JSON result last: it marks the programme as done."""
+        assert outcome.result is not None
         work, main = self.checker.work, name + ENDING
-        files = sorted(os.listdir(work)) if "asked" in answer.known else []
+        files = sorted(os.listdir(work)) if "asked" in outcome.result else []
         others = [file for file in files if file.startswith(f"{name}.") and file != main]
         for file in [*others, main]:
-            with result_file(os.path.join(self.out, file), is_stored=True) as written:
+            with result_file(os.path.join(self.out, file), is_stored=True) as target:
                 if file in files:
                     with open(os.path.join(work, file), "rb") as source:
-                        shutil.copyfileobj(source, written)
+                        shutil.copyfileobj(source, target)
                 else:
-                    written.write(object_text(answer.known))
+                    target.write(object_text(outcome.result))
         self.checker.clear()
         self.tries.pop(name, None)
-        self.state.last_result = f"{name}: {answer.reason}"
-        say(f"{date()}  {name}  {answer.known['verdict']}: {first_line(answer.reason)}")
-        self.call(os.path.join(self.out, main), answer.known["verdict"])
+        self.monitor.last_result = f"{name}: {outcome.reason}"
+        say(f"{date()}  {name}  {outcome.verdict}: {first_line(outcome.reason)}")
+        self.call_hook(os.path.join(self.out, main), outcome.result["verdict"])
 
-    def call(self, *words: str) -> None:
-        """Tells a program of the house, which has ten seconds."""
-        if self.words.on_result:
+    def call_hook(self, *words: str) -> None:
+        """Call the site's command, if there is one. Its failure changes nothing."""
+        if self.args.on_result:
             with contextlib.suppress(OSError, subprocess.SubprocessError):
-                subprocess.run([self.words.on_result, *words], timeout=10, check=False)
+                subprocess.run([self.args.on_result, *words], timeout=HOOK_SECONDS, check=False)
 
 
 def first_line(text: str) -> str:
-    """The first line of a text."""
+    """Return the first line of a text."""
     return text.partition("\n")[0]
 
 
-def is_covered(window: Window, piece: Piece) -> bool:
-    """Whether a programme that ends in a piece has begun there, too: what is missing before it was
-    missing well before its time."""
-    return piece.begin <= max(window.first, window.begin - EARLY) + SLACK
-
-
-def holes_in(window: Window, pieces: Sequence[Piece], longest_pause: float) -> list[str]:
-    """From when to when something was not recorded of a window, or is there no more."""
-    ends = [window.first, *(piece.end for piece in pieces)]
-    begins = [*(piece.begin for piece in pieces), window.last]
-    return [f"{date(end)} to {date(begin)}" for number, (end, begin) in enumerate(zip(ends, begins))
-            if 0 < number < len(pieces) or begin - end > longest_pause]
-
-
-def longer(window: Window, now: float) -> Window:
-    """The same by the length of the programme: one that has begun in it is over by then."""
-    last = window.last + window.length
-    return window._replace(last=last, has_passed=now >= last, is_longer=True)
-
-
-def last_word(name: str, holes: Sequence[str], answers: Sequence[Outcome]) -> Outcome:
-    """What a programme comes to whose time has passed, where no piece has told it for sure."""
-    if answers and not holes:
-        return answers[0]  # of the only piece
-    more = f" and {len(holes) - MOST_TOLD} more" if len(holes) > MOST_TOLD else ""
-    found = f"; of the rest: {answers[0].reason}" if answers else ""
-    told = ", ".join(holes[:MOST_TOLD]) or "some seconds"
-    return not_judged(name, f"not recorded: {told}{more}{found}")
-
-
-def judge_schedule(words: argparse.Namespace, called: str) -> int:
-    """Judges what is due, once or for ever; answers the status."""
+def judge_schedule(args: argparse.Namespace, program_name: str) -> int:
+    """Judge a schedule, once or until a signal ends it; return the exit status."""
     heed_signals()
-    os.makedirs(words.work or words.out, exist_ok=True)
-    with locking(words.out, "air", "another call is judging into "):
-        for name in os.listdir(words.out):
-            if name.startswith(BEGIN):  # an earlier call was ended while it wrote
-                os.unlink(os.path.join(words.out, name))
-        judge = Judge(words, called)
+    os.makedirs(args.work or args.out, exist_ok=True)
+    with locking(args.out, "air", "another call is judging into "):
+        for name in os.listdir(args.out):
+            if name.startswith(BEGIN):  # an earlier call was killed while it wrote this file
+                os.unlink(os.path.join(args.out, name))
+        judge = Judge(args, program_name)
         judge.checker.clear()
         while True:
             while judge.look(time.time()):
                 sys.stdout.flush()
-            if words.is_once:
+            if args.is_once:
                 return 0
-            time.sleep(words.every_seconds)
+            time.sleep(args.every_seconds)

@@ -1,5 +1,5 @@
-"""Records a feed: appends segments named by time, and deletes the oldest. It knows nothing of any
-programme, and may end and begin again at any moment."""
+"""The recorder: appends segments named by time, and deletes the oldest. It knows nothing of
+programmes, and may be killed and started again at any moment."""
 from __future__ import annotations
 
 import contextlib
@@ -12,16 +12,17 @@ from typing import NamedTuple
 
 from ..cli.single import locking
 from ..common.command_line import tell
-from .segments import name_at, names_in
+from .segments import names_in, segment_name
 
-PART = 1 << 18  # bytes read at once
-ROOM_OF_PIPE = 1 << 20  # bytes that wait in a pipe: a quarter of a second of 40 Mbit/s
-WAIT, PATIENCE = 0.1, 5.0  # seconds between two tries to write, and until what can't be is lost
-MOST_DELETED = 50  # segments at once: a folder that was never cleared does not hold up the feed
+MOST_READ = 1 << 18  # bytes at a time
+PIPE_SIZE = 1 << 20  # bytes that a pipe holds: a quarter of a second of 40 Mbit/s
+# Seconds between two tries to write to a full disk, and after which what can't be written is lost.
+WRITE_RETRY, WRITE_PATIENCE = 0.1, 5.0
+MOST_DELETED = 50  # segments at a time, so that a full folder does not hold up the feed
 
 
 class Limits(NamedTuple):
-    """How long a segment is and how long it is kept, in seconds; bytes that stay free."""
+    """How long a segment is, and how long it is kept, in seconds; how many bytes stay free."""
 
     length: float
     kept: float
@@ -29,21 +30,21 @@ class Limits(NamedTuple):
 
 
 class Recorder:
-    """Writes a feed. A segment is never written to once the next one has begun."""
+    """Writes a feed. It never writes to a segment once the next one has begun."""
 
     def __init__(self, folder: str, limits: Limits) -> None:
         self.folder, self.limits = folder, limits
         self.file: int | None = None
-        self.is_new = True  # something may be missing before what comes
+        self.is_new = True  # something may be missing before the next segment
         self.begun = self.latest = 0.0  # when the segment began, by the clock and by its name
 
     def take(self, data: bytes) -> None:
-        """Writes some bytes. On a full disk the oldest segments make room; what can't be written
-        then is lost, which the name of the next segment tells."""
-        left, until = memoryview(data), time.monotonic() + PATIENCE
+        """Write some bytes. On a full disk the oldest segments make room; what can't be written
+        even so is lost, and the name of the next segment says so."""
+        left, until = memoryview(data), time.monotonic() + WRITE_PATIENCE
         while left:
             try:
-                left = left[os.write(self.current(), left):]
+                left = left[os.write(self.current_file(), left):]
             except OSError as error:
                 if error.errno != errno.ENOSPC:
                     raise
@@ -53,37 +54,38 @@ class Recorder:
                         self.close()
                         self.is_new = True
                         return
-                    time.sleep(WAIT)
+                    time.sleep(WRITE_RETRY)
 
-    def current(self) -> int:
-        """The segment to write to: a new one where that is long enough, or the clock was set."""
+    def current_file(self) -> int:
+        """Return the segment to write to: a new one if that is long enough, or the clock was set.
+        """
         now = time.time()
         if self.file is None or not 0 <= now - self.begun < self.limits.length:
             self.close()
             self.make_room(now)
-            self.file = self.new(now)
+            self.file = self.open_segment(now)
             self.begun = now
         return self.file
 
-    def new(self, now: float) -> int:
-        """A new segment. Its name comes after all others: a clock that is set back waits so."""
+    def open_segment(self, now: float) -> int:
+        """Open a new segment. Its name comes after all others, also if the clock was set back."""
         last = names_in(self.folder)[-1:]
         self.latest = max(now, self.latest + 0.001, *(begin + 0.001 for begin, _ in last))
         if self.latest > now + 1:
             tell(f"the clock is {self.latest - now:.0f} seconds behind the last segment")
-        file = os.open(os.path.join(self.folder, name_at(self.latest, self.is_new)),
+        file = os.open(os.path.join(self.folder, segment_name(self.latest, self.is_new)),
                        os.O_WRONLY | os.O_CREAT | os.O_APPEND | os.O_CLOEXEC)
         self.is_new = False
         return file
 
     def close(self) -> None:
-        """Ends the segment, which is stored meanwhile: the feed does not wait for the disk."""
+        """Close the segment. A thread stores it: the feed does not wait for the disk."""
         if self.file is not None:
-            threading.Thread(target=store, args=(self.file,)).start()
+            threading.Thread(target=store_and_close, args=(self.file,)).start()
             self.file = None
 
     def make_room(self, now: float) -> None:
-        """Deletes what is too old, and as much as has to be free."""
+        """Delete what is too old, and as much as has to be free."""
         while self.delete_oldest(MOST_DELETED, now - self.limits.kept):
             pass
         for _ in range(MOST_DELETED):
@@ -92,29 +94,29 @@ class Recorder:
                 break
 
     def delete_oldest(self, most: int, before: float | None = None) -> bool:
-        """Deletes so many of the oldest segments, of those before a time; whether there was one.
-        The last one stays."""
-        old = [name for begin, name in names_in(self.folder)[:-1]
-               if before is None or begin < before][:most]
-        for name in old:
+        """Delete so many of the oldest segments, of those that begin before a time; never the last
+        one. Return whether there was one to delete."""
+        oldest = [name for begin, name in names_in(self.folder)[:-1]
+                  if before is None or begin < before][:most]
+        for name in oldest:
             with contextlib.suppress(FileNotFoundError):
                 os.unlink(os.path.join(self.folder, name))
-        return bool(old)
+        return bool(oldest)
 
 
-def store(file: int) -> None:
-    """Stores a file, so that it is there also where the machine stops, and closes it."""
+def store_and_close(file: int) -> None:
+    """Store a file, so that it outlasts a power failure, and close it."""
     with contextlib.suppress(OSError):
         os.fsync(file)
     os.close(file)
 
 
 def record(source: int, folder: str, limits: Limits) -> None:
-    """Records a feed, to its end."""
-    with contextlib.suppress(OSError):  # no pipe
-        fcntl.fcntl(source, getattr(fcntl, "F_SETPIPE_SZ", 1031), ROOM_OF_PIPE)
-    with locking(folder, "recorder", "another feed is recorded in "):
+    """Record a feed up to its end."""
+    with contextlib.suppress(OSError):  # it is no pipe
+        fcntl.fcntl(source, getattr(fcntl, "F_SETPIPE_SZ", 1031), PIPE_SIZE)
+    with locking(folder, "recorder", "another feed is being recorded in "):
         recorder = Recorder(folder, limits)
-        while data := os.read(source, PART):
+        while data := os.read(source, MOST_READ):
             recorder.take(data)
         recorder.close()

@@ -1,7 +1,8 @@
-"""A schedule, or an as-run log: when programmes are on air, and how each is judged."""
+"""The schedule, or an as-run log: when each programme is on air, and how it is judged."""
 from __future__ import annotations
 
 import argparse
+import contextlib
 import datetime
 import functools
 import os
@@ -16,108 +17,111 @@ from ..request.commands import pair_name
 from ..request.lines import Line, lines_in, list_at, request_of_line
 from ..request.request import Request
 
-ANY = "-"  # in the place of a time: some time after the line before
-ZONE = re.compile(r".*T.*(Z|[+-]\d\d:?\d\d)", re.ASCII)
-RECORDING = "recording.ts"
+TIME = re.compile(r"\d{4}-\d\d-\d\dT\d\d:\d\d:\d\d(\.\d{1,6})?(Z|[+-]\d\d:\d\d)", re.ASCII)
+FORMATS = "%Y-%m-%dT%H:%M:%S%z", "%Y-%m-%dT%H:%M:%S.%f%z"  # without and with a fraction
+EXAMPLE = "2026-11-29T20:15:00Z"
+RECORDING = "recording.ts"  # the name under which a line's recording will be judged
 
 
 class Programme(NamedTuple):
-    """A line of a schedule. `name` is that of its result, by the time and the subtitle file; `end`
-    is `None` where the subtitle file tells it, and `begin` where nobody does."""
+    """A line of the schedule: the name of its result, and its time of air in seconds since the
+    epoch. `end` is `None` if the line gives none: then the subtitle file tells how long it is."""
 
     name: str
-    begin: float | None
+    begin: float
     end: float | None
     request: Request
 
 
-def time_of_air(text: str) -> float:
-    """A date and time with its zone, in seconds of the epoch; `ValueError` for any other text."""
-    if not ZONE.fullmatch(text):
-        raise ValueError(f"{text}: give a date and time with Z or an offset, as "
-                         "2026-11-29T20:15:00Z")
-    return datetime.datetime.fromisoformat(text.replace("Z", "+00:00")).timestamp()
-
-
-def times_of_air(word: str) -> tuple[float | None, float | None]:
-    """The times in the first word of a line: `BEGIN`, `BEGIN/END`, or `-`."""
-    if word == ANY:
-        return None, None
-    begin, slash, end = word.partition("/")
-    times = time_of_air(begin), time_of_air(end) if slash else None
-    if times[1] is not None and times[1] <= times[0]:
-        raise ValueError(f"{word} ends before it begins")
-    return times
-
-
-def name_of(begin: float | None, stl: str) -> str:
-    """The name of a result."""
-    if begin is None:
-        return pair_name(stl)
-    date = datetime.datetime.fromtimestamp(begin, datetime.timezone.utc)
-    return f"{date:%Y%m%dT%H%M%SZ}-{pair_name(stl)}"
-
-
 class Schedule(NamedTuple):
-    """What a list says, and what is wrong with it, in lines; its text."""
+    """The programmes of a schedule, a message for each line that is wrong, and the text itself."""
 
     programmes: Sequence[Programme] = ()
     faults: Sequence[str] = ()
     text: str = ""
 
 
-def schedule_at(path: str, options: argparse.Namespace, known: Schedule = Schedule()) -> Schedule:
-    """The schedule in a file, which may be the one that is known. Its last line counts once it has
-    its end: it may still be written."""
+def time_of_air(text: str) -> float:
+    """Return a date and time with its zone in seconds since the epoch; `Stop` if it is none."""
+    found = TIME.fullmatch(text)
+    with contextlib.suppress(ValueError, OverflowError):
+        if found:
+            time = datetime.datetime.strptime(text, FORMATS[bool(found[1])])
+            return time.astimezone(datetime.timezone.utc).timestamp()
+    raise Stop(f"{text} is not a time of air: begin the line with a date and a time that ends in Z "
+               f"or an offset, as `{EXAMPLE} news.stl`")
+
+
+def times_of_air(word: str) -> tuple[float, float | None]:
+    """Return the times in the first word of a line, which is `BEGIN` or `BEGIN/END`."""
+    first, slash, last = word.partition("/")
+    begin, end = time_of_air(first), time_of_air(last) if slash else None
+    if end is not None and end <= begin:
+        raise Stop(f"{word} ends before it begins")
+    return begin, end
+
+
+def result_name(begin: float, stl: str) -> str:
+    """Return the name of a result: the time of air and the name of the subtitle file."""
+    date = datetime.datetime.fromtimestamp(begin, datetime.timezone.utc)
+    return f"{date:%Y%m%dT%H%M%SZ}-{pair_name(stl)}"
+
+
+def read_schedule(path: str, options: argparse.Namespace, known: Schedule = Schedule()) -> Schedule:
+    """Read the schedule in a file. A line counts once its line feed is there: the rest may still be
+    being written. `known` is returned if nothing has changed since then."""
     text = list_at(path)
     text = text[:text.rfind("\n") + 1]
-    return known if text == known.text else schedule_in(text, os.path.dirname(path), options)
+    return known if text == known.text else parse_schedule(text, os.path.dirname(path), options)
 
 
-def schedule_in(text: str, folder: str, options: argparse.Namespace) -> Schedule:
-    """The schedule in a text; files are named from a folder on."""
+def parse_schedule(text: str, folder: str, options: argparse.Namespace) -> Schedule:
+    """Return the schedule in a text; the names of its files are relative to a folder."""
     programmes, faults = dict[str, Programme](), list[str]()
+    lines = dict[str, int]()
     for line in lines_in(text):
         try:
-            programme = programme_of(line, folder, options)
-        except (Stop, ValueError, OSError) as reason:
-            why = str(reason) if isinstance(reason, ValueError) else error_line(reason)
-            faults.append(f"line {line.number}: {why}")
+            programme = parse_line(line, folder, options)
+        except (Stop, OSError, ValueError) as reason:
+            faults.append(f"line {line.number}: {error_line(reason)}")
             continue
         if programme.name in programmes:
-            faults.append(f"line {line.number}: {programme.name} is in the list already")
+            faults.append(f"line {line.number}: its result would have the name of that of line "
+                          f"{lines[programme.name]}, {programme.name}: it is not judged")
         programmes.setdefault(programme.name, programme)
+        lines.setdefault(programme.name, line.number)
     return Schedule([*programmes.values()], faults, text)
 
 
-def programme_of(line: Line, folder: str, options: argparse.Namespace) -> Programme:
-    """The programme of a line: a time, a subtitle file, and options."""
+def parse_line(line: Line, folder: str, options: argparse.Namespace) -> Programme:
+    """Return the programme of a line: a time of air, a subtitle file, and options."""
     if line.fault:
         raise Stop(line.fault)
-    if len(line.words) < 2:
-        raise Stop("give a time and a subtitle file")
     begin, end = times_of_air(line.words[0])
+    if len(line.words) < 2:
+        raise Stop("it names no subtitle file: write the time of air, then the subtitle file")
     stl = os.path.join(folder, line.words[1])
     request = request_of_line([stl, RECORDING, *line.words[2:]], options, folder)
-    return Programme(name_of(begin, stl), begin, end, request)
+    if request.start or request.pes:
+        raise Stop("--start and --pes name a place in a recording, and nobody knows where in the "
+                   "segments a programme will be: leave them out")
+    return Programme(result_name(begin, stl), begin, end, request)
 
 
-def seconds_of(request: Request) -> float:
-    """How long a programme is, from its first TCI to its last TCO; `OSError` where its subtitle
-    file is not there. Where that can't be read it is short: it will be refused by itself."""
+def length_of(request: Request) -> float:
+    """Return how many seconds it is from the first TCI to the last TCO; 0 if the subtitle file
+    can't be read, since `check` will refuse it. `OSError` if the file is not there."""
     about = os.stat(request.stl)
-    return length_at(request.stl, about.st_mtime_ns, about.st_size, request.between)
+    return length_in(request.stl, about.st_mtime_ns, about.st_size, request.between)
 
 
 @functools.lru_cache(maxsize=10_000)
-def length_at(path: str, _changed: int, _size: int, part: Between) -> float:
-    """The same of a subtitle file as it is now."""
+def length_in(path: str, _modified: int, _size: int, between: Between) -> float:
+    """Return the length of a subtitle file as it is now."""
     times = list[tuple[int, int]]()
-    try:
+    with contextlib.suppress(Damaged, Stop):
         for subtitle in subtitles_in(stl_bytes(path)):
             begin, end = subtitle_times(subtitle)
-            if begin is not None and end is not None and part.has(begin):
+            if begin is not None and end is not None and between.has(begin):
                 times.append((begin, end))
-    except (Damaged, Stop):
-        pass
     return (times[-1][1] - times[0][0]) % FRAMES_OF_A_DAY / FRAMES_A_SECOND if times else 0.0

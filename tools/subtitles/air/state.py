@@ -1,4 +1,4 @@
-"""What a monitoring reads: one JSON file that says how it stands."""
+"""The state for monitoring: one JSON file. Nothing reads it back, and nothing is decided by it."""
 from __future__ import annotations
 
 import contextlib
@@ -16,26 +16,26 @@ from .segments import names_in, segment_at
 NAME = "state.json"
 SILENCE = 10.0  # seconds without a byte
 PAGE_SILENCE = 600.0  # seconds without a header of a page
-LOOK, LOOKED_AT = 60.0, 3  # seconds between two looks for pages, and segments that are looked at
+PAGES_EVERY, NEWEST = 60.0, 3  # seconds between two looks for pages, in so many segments
 LEAST_FREE = 100_000_000  # bytes
 
 
-class Watched:
-    """How it stands. Nothing here decides anything."""
+class Monitor:
+    """What is known of the feed, the disks, the schedule and the results."""
 
     def __init__(self) -> None:
         self.now = self.next_look = 0.0
-        self.began: float | None = None
+        self.started: float | None = None
         self.segments, self.oldest, self.last_byte = 0, 0.0, 0.0
         self.free: list[int] = []
-        self.headers: dict[Page, float] = {}
-        self.waiting, self.late, self.list_faults = 0, list[str](), list[str]()
+        self.headers: dict[Page, float] = {}  # when the last one of each page came
+        self.waiting, self.late, self.schedule_faults = 0, list[str](), list[str]()
         self.last_error = self.last_result = ""
 
     def look(self, segments: str, out: str, now: float, program: str,
              pages: Collection[Page]) -> None:
-        """Looks at the segments and the disks."""
-        self.now, self.began = now, now if self.began is None else self.began
+        """Look at the segments and the disks."""
+        self.now, self.started = now, now if self.started is None else self.started
         names = []
         with contextlib.suppress(OSError):
             names = names_in(segments)
@@ -43,15 +43,15 @@ class Watched:
         for begin, name in names[-1:]:
             last = segment_at(segments, name, begin)
             self.last_byte = last.end if last else self.last_byte
-        self.free = [free_at(segments), free_at(out)]
+        self.free = [free_bytes(segments), free_bytes(out)]
         self.headers = {page: self.headers.get(page, 0.0) for page in pages}
         if now >= self.next_look:
-            self.next_look = now + LOOK
-            for begin, name in names[-LOOKED_AT:]:
+            self.next_look = now + PAGES_EVERY
+            for begin, name in names[-NEWEST:]:
                 self.look_for_pages(os.path.join(segments, name), program)
 
     def look_for_pages(self, path: str, program: str) -> None:
-        """Looks for headers of all pages in a segment."""
+        """Look for headers of all pages in a segment."""
         for page in self.headers:
             with contextlib.suppress(OSError, Stop):
                 found = survey(program, path, page)
@@ -59,42 +59,42 @@ class Watched:
                     self.headers[page] = max(self.headers[page], os.stat(path).st_mtime)
 
     def alarms(self) -> list[str]:
-        """What is wrong now."""
-        said = [
-            ("silence", self.now - self.last_byte > SILENCE),
-            ("disk", min(self.free) < LEAST_FREE),
-            ("late", bool(self.late)),
-            ("list", bool(self.list_faults))]
+        """Return the names of the alarms that are on."""
+        alarms = {
+            "silence": self.now - self.last_byte > SILENCE,
+            "disk": min(self.free) < LEAST_FREE,
+            "late": bool(self.late),
+            "schedule": bool(self.schedule_faults)}
         pages = [f"page {page_name(*page)}" for page, header in sorted(self.headers.items())
-                 if self.now - max(header, self.began or 0.0) > PAGE_SILENCE]
-        return [name for name, is_wrong in said if is_wrong] + pages
+                 if self.now - max(header, self.started or 0.0) > PAGE_SILENCE]
+        return [name for name, is_on in alarms.items() if is_on] + pages
 
-    def known(self) -> dict[str, Any]:
-        """All of it."""
+    def state(self) -> dict[str, Any]:
+        """Return what the file holds."""
         return {
             "date": date(self.now), "alarms": self.alarms(),
             "last_byte": date_or_none(self.last_byte), "oldest": date_or_none(self.oldest),
             "segments": self.segments, "free_bytes": dict(zip(("segments", "results"), self.free)),
             "last_header": {page_name(*page): date_or_none(header)
                             for page, header in self.headers.items()},
-            "waiting": self.waiting, "late": self.late, "list_faults": self.list_faults,
+            "waiting": self.waiting, "late": self.late, "schedule_faults": self.schedule_faults,
             "last_error": self.last_error, "last_result": self.last_result}
 
 
 def date_or_none(time: float) -> str | None:
-    """A time in UTC; `None` for none."""
+    """Return a time as text in UTC; `None` for 0, which stands for never."""
     return date(time) if time else None
 
 
-def free_at(folder: str) -> int:
-    """The bytes that are free where a folder is; none where it is not there."""
+def free_bytes(folder: str) -> int:
+    """Return how many bytes are free where a folder is; 0 if it is not there."""
     with contextlib.suppress(OSError):
         about = os.statvfs(folder)
         return about.f_bavail * about.f_frsize
     return 0
 
 
-def write_state(folder: str, known: dict[str, Any]) -> None:
-    """Writes it. Where that can't be done its date gets old, which tells it, too."""
+def write_state(folder: str, state: dict[str, Any]) -> None:
+    """Write the file. If that fails its date becomes old, which monitoring sees."""
     with contextlib.suppress(OSError), result_file(os.path.join(folder, NAME)) as file:
-        file.write(json.dumps(known, indent=1).encode() + b"\n")
+        file.write(json.dumps(state, indent=1).encode() + b"\n")

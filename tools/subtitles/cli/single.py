@@ -178,7 +178,7 @@ class PairCall(NamedTuple):
     """A call for a pair, beside what is asked of it: the program, and the files that are written.
     `name` is that of the pair, where it is not that of its subtitle file, and `here` the folder in
     which its files stand until somebody gives them their place. `is_claimed`: its files are the
-    caller's."""
+    caller's. `examine` looks at the verdict before it is written: `Unclear` makes it not judged."""
 
     program: str | None
     out: str | None = None
@@ -190,6 +190,7 @@ class PairCall(NamedTuple):
     here: str | None = None
     is_claimed: bool = False
     is_quiet: bool = False
+    examine: Callable[[Verdict], None] = lambda _: None
 
 
 def judge_call(words: argparse.Namespace, called: str) -> int:
@@ -263,6 +264,7 @@ def judge_pair(pair: Pair, files: Files) -> None:
     verdict, began = pair.verdict, time.monotonic()
     try:
         pair.judge()
+        files.call.examine(verdict)
         verdict.hints = [*dict.fromkeys(hints_of(verdict))]  # parts may have the same
     except Unclear as unclear:
         verdict.unjudged = Unjudged(unclear.reason, unclear.to_type, isinstance(unclear, Unsaid))

@@ -117,7 +117,7 @@ def proved_line(program: str, sha256: str) -> str | None:
 # What is installed under a folder: the program, its man page and the tools beside it.
 
 TOOLS = ["qc", "air", "ts2pes"]
-PAGES = ["subttx.1", "subttx-qc.1"]
+PAGES = ["subttx.1", "subttx-qc.1", "subttx-air.1"]
 READ = ["README.md", os.path.join("docs", "MANUAL.md"),
         os.path.join("docs", "verdict.schema.json"), "VERSION"]
 COMPLETION = os.path.join("tools", "completion.bash")

@@ -1,0 +1,139 @@
+"""Randomized days of tools/air against a simple model of what is recorded and sent."""
+from __future__ import annotations
+
+import os
+import random
+import re
+import time
+from typing import NamedTuple, Sequence
+
+from subtitles.air.segments import segment_name
+from .air import Air, DAY, FakeChecker, LENGTH, MARGIN, Sent
+from .sent import subtitle_file
+
+SECONDS = 60  # that a programme lasts
+GAP = re.compile(r"(\S+Z) to (\S+Z)")
+Lost = Sequence["tuple[int, int]"]
+
+
+class Day(NamedTuple):
+    """What happens on a day, in seconds: which programmes are in the schedule, with the second that
+    it gives them; when each is really sent; what is lost of the feed, where a start of the recorder
+    loses nothing but time; for how long segments are kept, and when nobody judges."""
+
+    lines: list[str]
+    times: dict[str, int]
+    sent: dict[str, Sent]
+    lost: list[tuple[int, int]]
+    end: int
+    kept: int
+    away: tuple[int, int]
+
+
+def date(second: int) -> str:
+    """Return a second of the day as text."""
+    return time.strftime("%Y-%m-%dT%H:%M:%SZ", time.gmtime(DAY + second))
+
+
+def random_day(chance: random.Random) -> Day:
+    """Return a random day."""
+    lines, times, sent, at = list[str](), dict[str, int](), dict[str, Sent](), 200
+    for number in range(5):
+        at += chance.randint(40, 200)
+        name = f"{date(at).replace('-', '').replace(':', '')}-p{number}"
+        begin = at + chance.choice((0, 0, 0, -20, 15, 40, 60, 61, 90, -60, -61))
+        lines.append(f"{date(at)} p{number}.stl")
+        times[name] = at
+        sent[name] = Sent(begin, begin + SECONDS, chance.random() < .6)
+        at += SECONDS
+    lost = list[tuple[int, int]]()
+    for _ in range(chance.choice((0, 0, 1, 3, 6))):
+        first = chance.randrange(0, at, LENGTH)
+        lost.append((first, first + chance.choice((0, 0, 10, 30, 90))))
+    is_short = chance.random() < .3
+    away = chance.randrange(at) if is_short else at + 9999
+    return Day(lines, times, sent, lost, at + 600, 400 if is_short else at + 9999,
+               (away, away + 700))
+
+
+def possible(sent: Sent, time: int, lost: Lost, is_deleted: bool) -> set[str]:
+    """Return the verdicts that are right for a programme."""
+    is_cut = any(first < sent.end and last > sent.begin for first, last in lost)
+    if abs(sent.begin - time) > MARGIN or is_cut:
+        return {"not judged"}
+    # What is lost just before or after a programme may hide where a fault comes from.
+    is_near = any(first <= sent.end and last >= sent.begin for first, last in lost)
+    deserved = "relative" if sent.is_right else "refused"
+    is_open = is_deleted or is_near and not sent.is_right
+    return {deserved, "not judged"} if is_open else {deserved}
+
+
+class Days(Air):
+    """Kills, edits, failures, gaps, deleted segments, and late programmes on one day."""
+
+    SEEDS = range(50)
+
+    def test_each_programme_gets_a_right_result(self) -> None:
+        """One result, which never changes; what it names as not recorded was lost."""
+        for number in range(5):
+            subtitle_file(self, [(0, SECONDS * 25, b"One")], f"p{number}.stl")
+        for seed in self.SEEDS:
+            self.delete_all("segments", "out")
+            self.judge_day(random.Random(seed), seed)
+
+    def judge_day(self, chance: random.Random, seed: int) -> None:
+        """Record and judge a day."""
+        day, first_seen = random_day(chance), dict[str, str]()
+        checker = FakeChecker(day.sent, lambda: chance.random() < .1)
+        judge = self.make_judge(checker)
+        starts, was_half = {first for first, last in day.lost if first == last}, True
+        for now in range(0, day.end + 3000, LENGTH):
+            is_lost = any(now < last and now + LENGTH > first for first, last in day.lost)
+            if now < day.end and not is_lost:
+                self.put_segment(now, now + LENGTH, is_new=now in starts)
+                self.delete_segment(now - day.kept)
+            if chance.random() < .05:
+                judge = self.make_judge(checker)  # it was killed, and started again
+            if is_half := chance.random() < .05 and now < day.end:  # it is being edited
+                self.write("schedule", "\n".join(chance.sample(day.lines, 3)).encode())
+            elif was_half:
+                self.write_schedule(*day.lines)
+            was_half = is_half
+            if chance.random() < .4 and not day.away[0] < now < day.away[1]:
+                while judge.look(DAY + now + LENGTH):
+                    pass
+            if len(first_seen) < len(day.lines) or now % 500 == 0:
+                found = self.verdicts()
+                changed = {name for name, verdict in first_seen.items()
+                           if found.get(name) != verdict}
+                self.check(f"seed {seed}: results that have changed at {now}", changed, set())
+                first_seen = found
+        self.check(f"seed {seed}: programmes with results", {*first_seen}, {*day.times})
+        for name, verdict in first_seen.items():
+            lost, is_deleted = day.lost, day.kept < day.end
+            right = possible(day.sent[name], day.times[name], lost, is_deleted)
+            self.must(f"seed {seed}: {name}, {day.sent[name]}", verdict in right,
+                      (verdict, right, lost))
+            reason = self.result(name)["reason"] if verdict == "not judged" else ""
+            gaps = [(date(first), date(last)) for first, last in joined(lost)]
+            for begin, end in GAP.findall(reason) if not is_deleted else []:
+                self.must(f"seed {seed}: {name}: {reason}", any(
+                    first <= begin and end <= last for first, last in gaps), gaps)
+
+    def delete_segment(self, begin: int) -> None:
+        """Delete the segment of a second, if there is one."""
+        for is_new in (False, True):
+            path = self.path(f"segments/{segment_name(DAY + begin, is_new)}")
+            if os.path.exists(path):
+                os.unlink(path)
+
+
+def joined(lost: Lost) -> list[tuple[int, int]]:
+    """Return what is lost as one recorder would see it: what overlaps or touches is one gap."""
+    found = list[tuple[int, int]]()
+    for first, last in sorted(lost):
+        if found and first <= found[-1][1]:
+            found[-1] = found[-1][0], max(last, found[-1][1])
+        else:
+            found.append((first, last))
+    return found

@@ -1,0 +1,76 @@
+"""The systemd units of the manual: what they may write, how often they are started again."""
+from __future__ import annotations
+
+import configparser
+import os
+import shlex
+import shutil
+
+from subtitles.common.program import TOP
+from .bench import Case, tool_path
+
+MANUAL = os.path.join(TOP, "docs", "manual")
+RECORD, JUDGE = "subttx-air-record.service", "subttx-air-judge.service"
+UNITS = {RECORD: "record", JUDGE: "-o", "subttx-watch.service": "-o"}  # before what is written to
+
+
+def read_unit(name: str) -> configparser.ConfigParser:
+    """Return the sections of a unit."""
+    unit = configparser.ConfigParser(interpolation=None, strict=False)
+    unit.optionxform = str  # type: ignore
+    with open(os.path.join(MANUAL, name), encoding="utf-8") as file:
+        unit.read_string(file.read().replace("\\\n", " "))
+    return unit
+
+
+def words_of(command: str) -> list[str]:
+    """Return the words of a command; those of a shell's command line instead of it."""
+    words = shlex.split(command)
+    return shlex.split(words[2]) if words[:2] == ["/bin/sh", "-c"] else words
+
+
+class Units(Case):
+    """Each unit of the manual."""
+
+    def test_each_folder_that_is_written_may_be_written(self) -> None:
+        self.check("units", {*UNITS}, {name for name in os.listdir(MANUAL)
+                                       if name.endswith(".service")})
+        for name, option in UNITS.items():
+            unit = read_unit(name)
+            words = words_of(unit["Service"]["ExecStart"])
+            written = words[words.index(option) + 1]
+            self.check(name, unit["Service"]["ReadWritePaths"].split(), [written])
+            self.check(f"{name}: all else", unit["Service"]["ProtectSystem"], "strict")
+            mounted = unit["Unit"]["RequiresMountsFor"].split()
+            self.must(f"{name}: its disk is there", any(
+                os.path.commonpath([written, folder]) == folder for folder in mounted), mounted)
+
+    def test_the_judge_reads_what_is_recorded(self) -> None:
+        words = {name: words_of(read_unit(name)["Service"]["ExecStart"]) for name in UNITS}
+        self.must("the same folder", words[RECORD][-1] in words[JUDGE], words)
+
+    def test_a_signal_ends_what_judges_for_the_watch_folder(self) -> None:
+        service = read_unit("subttx-watch.service")["Service"]
+        self.check("kill mode", service["KillMode"], "mixed")
+        self.must("languages", "--option auto" in service["ExecStart"], service["ExecStart"])
+
+    def test_is_started_again_however_often_it_ends(self) -> None:
+        for name in UNITS:
+            unit = read_unit(name)
+            self.check(name, unit["Service"]["Restart"], "always")
+            if name in (RECORD, JUDGE):
+                self.check(f"{name}: limit", unit["Unit"]["StartLimitIntervalSec"], "0")
+                self.must(f"{name}: wait", int(unit["Service"]["RestartSec"]) > 0)
+
+    def test_systemd_takes_it(self) -> None:
+        """With the program of these sources, and the user of this test."""
+        if not shutil.which("systemd-analyze"):
+            self.skipTest("units, since there is no systemd-analyze")
+        for name in UNITS:
+            with open(os.path.join(MANUAL, name), encoding="utf-8") as file:
+                text = file.read()
+            text = text.replace("/usr/bin/subttx-air", tool_path("air")).replace(
+                "/usr/bin/subttx-qc", tool_path("qc")).replace("User=subtitles", "User=root")
+            done = self.call(["systemd-analyze", "verify", self.write(name, text.encode())])
+            own = [line for line in done.told if name in line]
+            self.must(name, done.status == 0 and not own, done)
