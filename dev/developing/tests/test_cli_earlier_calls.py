@@ -117,11 +117,13 @@ class Objects(Case):
     """Objects of earlier calls."""
 
     def test_many_values(self) -> None:
-        """One of so many values that Python takes gigabytes for them is not judged, unread; as many
-        as may be are read."""
-        for data, words in ((b"0," * MOST_VALUES, "has more than 4,000,000 values"),
-                            (b"[]," * (MOST_VALUES // 2), "has more than 4,000,000 values"),
-                            (b"{}," * (MOST_VALUES // 2), "has more than 4,000,000 values"),
+        """One of so many values, or names, that Python takes gigabytes for them is not judged,
+        unread; as many as may be are read."""
+        for data, words in ((b"0," * MOST_VALUES, "has more than 2,000,000 values"),
+                            (b"[]," * (MOST_VALUES // 2), "has more than 2,000,000 values"),
+                            (b"{}," * (MOST_VALUES // 2), "has more than 2,000,000 values"),
+                            (b'0],"b":0,' + b'"b":0,' * MOST_VALUES + b'"c":[',
+                             "has more than 2,000,000 values"),
                             (b"0," * 1000, "")):
             path = self.write("many.json", b'{"verdict":0,"format":%d,"a":[' % FORMAT +
                               data + b"0]}")

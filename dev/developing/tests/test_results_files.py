@@ -248,6 +248,10 @@ class ReadBack(Case):
         self.must("all lists", {one.name for one in VERDICT.members
                                 if isinstance(one.shape, Listed)} == {one.name for one in LISTS})
         self.must("room", files.MOST_READ == 2 * files.MOST_BYTES)
+        text = json.dumps({**FAULT, "cause": {"cause": "late", "words": "a, b, c", "subtitle": 1}})
+        values = 20_000 * 2 * sum(map(text.count, ",{[")) + 100_000 * 4
+        self.must("values of full lists of faults, causes and subtitles",
+                  values < files.MOST_VALUES, values)
 
 
 # What is printed and written of many pairs, by their JSON results.

@@ -27,7 +27,7 @@ from .schema import ASKED, FORMAT, LEFT_OUT, LISTS, NO_PAIR, VERDICT, Writing, m
 # A verdict as one JSON object, made by the table of results and written a piece after another:
 # there may be any number of faults, of which as many stand in it as are read back.
 
-MOST_BYTES = 64 << 20  # of the items of all lists; what is read back may have twice as many
+MOST_BYTES = 32 << 20  # of the items of all lists; what is read back may have twice as many
 
 
 class Room:
@@ -87,7 +87,7 @@ def fitting(shape: Shape, value: Any, name: str) -> Any:
 ENDING = ".json"
 LINES = 100  # of the faults of a pair, in a row
 MOST_READ = 2 * MOST_BYTES  # bytes of an object
-MOST_VALUES = 4_000_000  # of it, and of what they hold: Python takes 70 bytes and more for each
+MOST_VALUES = 2_000_000  # of it: Python takes 70 bytes for each, and 160 for one with a name
 MOST_DIGITS = 20  # of a number in it
 
 
