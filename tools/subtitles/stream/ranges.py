@@ -1,83 +1,24 @@
 """Find which PES packets are of some frames."""
 from __future__ import annotations
 
-import array
 import itertools
-from typing import Iterator, NamedTuple, Sequence
+from typing import Iterator, NamedTuple
 
 from ..common.command_line import counted
-from ..common.times import FRAMES_OF_A_DAY, NO_FRAME, TICKS, frame_in, pts_of, time_of, wrapped
+from ..common.times import FRAMES_OF_A_DAY, TICKS, frame_in, pts_of, time_of, wrapped
 from .packets import BLANK, CLOSED, HEADER, OPEN, Packets, Range, Run
 
-
-# Which PES packets of a recording are of some frames: the numbers of the first and the last.
 
 SKIPPED = 1 << 31  # ticks of a run that may be skipped: it does not reach around the clock
 AFTER = 2  # PES packets in a row after the last frame, with which reading ends
 
 
-class SentPacket(NamedTuple):
-    """A PES packet: its number, its frame, where it has a PTS, and what it does."""
+class Sent(NamedTuple):
+    """A PES packet: its number, its frame if it has a PTS, and what it does."""
 
     number: int
     frame: int | None
     does: str
-    changes: bool
-
-
-class SentPackets:
-    """PES packets in their order. A day has millions, so each is made when it is asked for."""
-
-    def __init__(self) -> None:
-        self.numbers, self.frames = array.array("q"), array.array("i")
-        self.does, self.changes = list[str](), bytearray()
-
-    def add(self, number: int, frame: int | None, does: str, changes: bool) -> None:
-        """One more, by what a `SentPacket` is made of."""
-        self.numbers.append(number)
-        self.frames.append(NO_FRAME if frame is None else frame)
-        self.does.append(does)
-        self.changes.append(changes)
-
-    def at(self, place: int) -> SentPacket:
-        """The one at a place, from 0."""
-        frame = self.frames[place]
-        return SentPacket(self.numbers[place], None if frame == NO_FRAME else frame,
-                          self.does[place], bool(self.changes[place]))
-
-    def __len__(self) -> int:
-        return len(self.numbers)
-
-    def __iter__(self) -> Iterator[SentPacket]:
-        return map(self.at, range(len(self)))
-
-
-class CutTime(NamedTuple):
-    """The time of a cut: the first and the last frame of the subtitles, and those from which and up
-    to which PES packets are looked at, `low` and `high`; how late pages may be. `is_bound`: it ends
-    with a page transmission at `end` or later."""
-
-    begin: int
-    end: int
-    low: int
-    high: int
-    within: int
-    is_bound: bool
-
-    def has(self, frame: int | None) -> bool:
-        """Whether a frame is looked at."""
-        return frame is not None and self.low <= frame <= self.high
-
-
-class CutEnd(NamedTuple):
-    """Where a cut ends: the last PES packet that is taken, the last frame of these, whether the
-    last page transmission has come; and the place of the PES packet that tells that all may be
-    taken, `None` where more may come."""
-
-    number: int
-    frame: int
-    has_come: bool
-    over_at: int | None
 
 
 class Cut(NamedTuple):
@@ -113,52 +54,117 @@ def cut_of(packets: Packets, begin: int, end: int, origin: int, every: int | Non
     is blank, and has ended where it does, or that is as many after it. `inside` are the numbers
     that may be taken.
     """
+    low = max(begin - (every or 0), 0)
     high = end if every is None else min(end + max(every, within), FRAMES_OF_A_DAY - 1)
-    time = CutTime(begin, end, max(begin - (every or 0), 0), high, within, every is not None)
-    own, read, is_over = in_time(packets, time, origin, inside)
-    came = own.at(0).frame if own else None
-    at, first = beginning_in(own, time)
+    changed = {change.number for change in packets.changes}
+    beginning = Beginning(begin, within)
+    ending = Ending(low, high, end, within, every is not None)
+    first = came = None
+    read, is_over = 0, False
+    for sent in sent_from(packets, low, high, origin, within):
+        read = sent.number + 1
+        if inside and sent.number > inside[1]:
+            break
+        is_in_time = sent.frame is not None and low <= sent.frame <= high
+        if inside and sent.number < inside[0] or came is None and not is_in_time:
+            continue
+        came = sent.frame if came is None else came
+        if first is None and is_in_time:
+            first = beginning.find(sent, sent.number in changed)
+        if first is None:
+            beginning.take(sent)
+        is_over = ending.take(sent, first)
+        if is_over:
+            break
+    read = read or packets.count
     if first is None:
         return Cut(None, read, came=came, is_over=is_over)
-    last = ending_in(own, at, first, time)
-    if last.over_at is not None:
-        read, is_over = own.at(last.over_at).number + 1, True
-    frame = next((packet.frame for packet in own
-                  if packet.number >= first and packet.frame is not None), None)
-    return Cut((first, last.number), read, frame, last.frame, came, last.has_come, is_over)
+    begun = frame_in(next(packets.pts((first, ending.number))), origin, within)
+    return Cut((first, ending.number), read, begun, ending.last, came, ending.has_end, is_over)
 
 
-# Which PES packets lie in the time.
+class Beginning:
+    """With which PES packet a range begins: with the first of the last page transmission before the
+    first frame after which the page is blank, erased or kept so; else with the first header from
+    that frame on. If pages may be late, all PES packets of a frame are one transmission."""
 
-def in_time(packets: Packets, time: CutTime, origin: int, inside: Range | None) \
-        -> tuple[SentPackets, int, bool]:
-    """The PES packets from the first that comes in the time on, to the second in a row that comes
-    behind it; how many were read up to there, and whether there are two such: one alone may have a
-    wrong PTS."""
-    changed = {change.number for change in packets.changes}
-    own = SentPackets()
-    behind = read = 0
-    for number, pts, does in from_time_on(packets, *(
-            pts_of(frame, origin) for frame in (time.low, time.high))):
-        read = number + 1
-        if inside and number > inside[1]:
-            break
-        frame = None if pts is None else frame_in(pts, origin, time.within)
-        if inside and number < inside[0] or not own and not time.has(frame):
-            continue
-        own.add(number, frame, does, number in changed)
+    def __init__(self, begin: int, within: int) -> None:
+        self.begin, self.within = begin, within
+        self.sending: list[Sent] = []  # the transmission that may go on
+        self.blank: int | None = None  # the first of the last one before it that leaves it blank
+        self.is_blank = True
+
+    def take(self, sent: Sent) -> None:
+        """Take a PES packet that comes before the range is known to begin."""
+        if not (self.within and self.sending and sent.frame in (self.sending[0].frame, None)):
+            self.blank, self.sending = self.last_blank(), []
+        self.sending.append(sent)
+        if sent.frame is not None:
+            self.is_blank = BLANK in sent.does
+
+    def last_blank(self) -> int | None:
+        """Return the first PES packet of the last transmission that leaves the page blank."""
+        leaves_blank = self.sending and BLANK in self.sending[-1].does and any(
+            HEADER in sent.does for sent in self.sending)
+        return self.sending[0].number if leaves_blank else self.blank
+
+    def find(self, sent: Sent, changes: bool) -> int | None:
+        """Return the number with which the range begins, if this PES packet tells it."""
+        if sent.frame is None or sent.frame < self.begin:
+            return None
+        replaces = sent.frame == self.begin and not self.is_blank and changes
+        blank = None if replaces else self.last_blank()
+        return blank if blank is not None else sent.number if HEADER in sent.does else None
+
+
+class Ending:
+    """With which PES packet a range ends, between the frames `low` and `high`: with a header at
+    `end` or later, and all of its frame. If pages may be late, with the first PES packet from `end`
+    on that leaves the page blank, and closes it if it was closed before, or that comes so late."""
+
+    def __init__(self, low: int, high: int, end: int, within: int, is_bound: bool) -> None:
+        self.low, self.high, self.end, self.within = low, high, end, within
+        self.may_be_late = is_bound and within > 0
+        self.has_end = not is_bound  # whether the last page transmission has come
+        self.number, self.last, self.behind = -1, -1, 0
+        self.closed = -1  # the last PES packet that closed the page
+
+    def take(self, sent: Sent, first: int | None) -> bool:
+        """Take one more PES packet, of a range that begins with `first`, if it has begun; return
+        whether no later one can be of the range. One behind it alone may have a wrong PTS."""
+        frame = sent.frame
+        if CLOSED in sent.does:
+            self.closed = sent.number
         if frame is not None:
-            behind = behind + 1 if frame > time.high else 0
-            if behind == AFTER:
-                return own, read, True
-    return own, read or packets.count, False
+            if self.may_be_late and self.has_end and frame > self.last:
+                self.high = self.last
+            self.behind = self.behind + 1 if frame > self.high else 0
+            if self.behind == (1 if self.has_end and self.last == self.high else AFTER):
+                return True
+        if first is not None and not self.behind:
+            self.number = sent.number
+            if frame is not None and self.low <= frame <= self.high:
+                self.last = frame
+                if not self.has_end and frame >= self.end:
+                    self.has_end = self.ends(sent, frame, first)
+                    self.high = frame if self.has_end and not self.within else self.high
+        return False
+
+    def ends(self, sent: Sent, frame: int, first: int) -> bool:
+        """Return whether the range ends with a PES packet that comes at the last TCO or later."""
+        if not self.within:
+            return HEADER in sent.does
+        is_page_over = BLANK in sent.does and not (OPEN in sent.does and self.closed >= first)
+        return is_page_over or frame >= self.end + self.within
 
 
-def from_time_on(packets: Packets, low: int, high: int) -> Iterator[tuple[int, int | None, str]]:
-    """The PES packets from the first run on of which one may be between two PTS."""
-    runs = itertools.dropwhile(lambda run: is_outside(run, low, high), packets.runs)
-    return ((number, run.pts_of(number), run.does) for run in runs
-            for number in range(run.first, run.end))
+def sent_from(packets: Packets, low: int, high: int, origin: int, within: int) -> Iterator[Sent]:
+    """Return the PES packets from the first run on of which one may be in some frames."""
+    first, last = pts_of(low, origin), pts_of(high, origin)
+    for run in itertools.dropwhile(lambda run: is_outside(run, first, last), packets.runs):
+        for number in range(run.first, run.end):
+            pts = run.pts_of(number)
+            yield Sent(number, None if pts is None else frame_in(pts, origin, within), run.does)
 
 
 def is_outside(run: Run, low: int, high: int) -> bool:
@@ -169,78 +175,3 @@ def is_outside(run: Run, low: int, high: int) -> bool:
         return first is None
     begin, length = low - TICKS, wrapped(high - low) + 2 * TICKS
     return wrapped(first - begin) > length and wrapped(begin - first) > wrapped(last - first)
-
-
-# Where what is judged begins.
-
-def beginning_in(own: SentPackets, time: CutTime) -> tuple[int, int | None]:
-    """The place of the first PES packet of the subtitles' time with which it is known where a cut
-    begins, and the number with which it does; `None` where nothing tells it."""
-    for at, packet in enumerate(own):
-        if time.has(packet.frame) and packet.frame is not None and packet.frame >= time.begin:
-            first = begin_of([*map(own.at, range(at + 1))], time.begin, time.within)
-            if first is not None:
-                return at, first
-    return 0, None
-
-
-def begin_of(own: Sequence[SentPacket], begin: int, within: int) -> int | None:
-    """The number with which a row begins whose last is the first from the first frame on: that of
-    the last sending before it after which the page is blank, erased or kept so, else its own, if it
-    has a header."""
-    *before, now = own
-    number: int | None = None
-    at = 0
-    while at < len(before):
-        end = at + 1
-        while within and end < len(before) and before[end].frame in (before[at].frame, None):
-            end += 1
-        sending = before[at:end]
-        if any(HEADER in packet.does for packet in sending) and BLANK in sending[-1].does:
-            number = sending[0].number
-        at = end
-    is_blank = not before or BLANK in next(
-        (packet.does for packet in reversed(before) if packet.frame is not None), BLANK)
-    if now.frame == begin and not is_blank and now.changes:
-        number = None
-    return number if number is not None else now.number if HEADER in now.does else None
-
-
-# Where it ends.
-
-def ending_in(own: SentPackets, at: int, first: int, time: CutTime) -> CutEnd:
-    """Where a cut ends that begins with the number `first`, as the PES packet at a place tells.
-    What comes in the last frame is taken too."""
-    number, last, high, behind = first, -1, time.high, 0
-    has_come = not time.is_bound
-    for place in range(at, len(own)):
-        packet = own.at(place)
-        frame = packet.frame
-        if frame is not None:
-            if has_come and time.within and time.is_bound and frame > last:
-                high = last
-            behind = behind + 1 if frame > high else 0
-            if behind == (1 if has_come and last == high else AFTER):
-                return CutEnd(number, last, has_come, place)
-        if behind:
-            continue
-        number = packet.number
-        if frame is not None and time.low <= frame <= high:
-            last = frame
-            if not has_come and frame >= time.end:
-                has_come = is_last(own, place, first, time)
-                high = frame if has_come and not time.within else high
-    return CutEnd(number, last, has_come, None)
-
-
-def is_last(own: SentPackets, place: int, first: int, time: CutTime) -> bool:
-    """Whether a cut ends with the one at a place, which comes at the last TCO or later."""
-    if not time.within:
-        return HEADER in own.does[place]
-    return own.frames[place] >= time.end + time.within or is_page_over(own, place, first)
-
-
-def is_page_over(own: SentPackets, place: int, first: int) -> bool:
-    """Whether the page is blank behind the one at a place, and has ended where it did before."""
-    return BLANK in own.does[place] and not (OPEN in own.does[place] and any(
-        CLOSED in own.does[at] for at in range(place + 1) if own.numbers[at] >= first))
