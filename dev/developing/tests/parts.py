@@ -15,7 +15,7 @@ from subtitles.common.program import TOP
 from subtitles.formats.listing import FaultLine, Meaning, fault_of_line
 from subtitles.formats.teletext import Page
 from subtitles.judging.check import Answer
-from subtitles.judging.part import Explanation, Part
+from subtitles.judging.part import Part
 from subtitles.request.commands import Names
 from subtitles.request.lines import read_options
 from subtitles.request.request import Request, add_options, option_words, request_with
@@ -61,7 +61,7 @@ def part_with(begin: int | None, end: int | None, origin: int | None,
                                             places=lambda jumps: [*places])
     known: dict[str, Any] = {
         "request": asked_for("a.stl", "a.pes"), "names": names, "alignment": alignment,
-        "explanation": Explanation(was_read=True), **more}
+        "was_read": True, **more}
     if packets is not None and alignment and "pes" in more:
         held = Timeline(packets, known["request"].page, alignment.origin, 0, more["pes"])
         known["timeline"] = lambda: held

@@ -291,7 +291,7 @@ class Mistakes(Story):
     def test_each_step(self) -> None:
         """An error in a step, before these, while words are read, and while a file is made."""
         for place in ("judging.pair.Pair.judge", "judging.pair.check_alone", "judging.timing.find",
-                      "judging.pair.Explainer.explained", "judging.part.Part.is_read",
+                      "judging.pair.explained", "judging.part.Part.is_read",
                       "judging.check.Answer.take", "cli.main.parser_of", "cli.single.request_of",
                       "cli.single.CommandWords", "cli.single.found", "results.files.listed",
                       "results.files.fitting", "cli.single.about_program"):

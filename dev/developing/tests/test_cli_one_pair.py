@@ -20,7 +20,7 @@ from subtitles.clock.start import Clock, FITTED, FITTED_LATER, Found, GIVEN, REC
 from subtitles.common.command_line import Stop, Unanswered
 from subtitles.common.markup import HEAD
 from subtitles.judging.check import Answer
-from subtitles.judging.part import Explanation, Part
+from subtitles.judging.part import Part
 from subtitles.judging.status import Severity
 from subtitles.judging.verdict import Gap, Unjudged, Verdict
 from subtitles.recording.notices import Notice
@@ -83,8 +83,7 @@ class Ends(Case):
             self.must("without a clock", said[-1] == last and (FITTED in said) == is_said, said)
         causes: list[Any] = ["first", None, "third"]
         with mock.patch.object(single, "count_line", lambda some: f"{some}"):
-            said = self.said(self.verdict([part_with(0, 9, 0, explanation=Explanation(
-                causes=one, was_read=True)) for one in causes]))
+            said = self.said(self.verdict([part_with(0, 9, 0, causes=one) for one in causes]))
         self.must("causes of all parts", said[0] == "['first', 'third']", said)
 
     def test_lost(self) -> None:
@@ -115,7 +114,7 @@ class Ends(Case):
         rows: list[tuple[Sequence[int], int, bool]] = [
             ((0, 3), 1, True), ((), 1, False), ((0, 3), 0, False)]
         for delays, within, is_said in rows:
-            one = part_with(0, 9, 0, explanation=Explanation(delays=delays, was_read=True))
+            one = part_with(0, 9, 0, delays=delays)
             said = self.said(self.verdict([one], *(["--within", str(within)] if within else [])))
             self.must(f"{delays} {within}", len(said) == 2 + is_said, said)
         accepted = [part_with(0, 9, 0)]

@@ -18,7 +18,7 @@ from subtitles.formats.listing import fault_of_line
 from subtitles.judging.causes import (
     ATTRIBUTE, Cause, EARLY, IN_PAUSE, LATE, NEVER, NOT_ERASED, OTHER, PLACE, TEXT, UNKNOWN)
 from subtitles.judging.faults import end_words, fault_place, gap_words, hints_of
-from subtitles.judging.part import Explanation, tell_causes
+from subtitles.judging.part import tell_causes
 from subtitles.judging.sentence import Count, Facts, of_causes, what_is_wrong
 from subtitles.judging.transmissions import program_answer
 from subtitles.request.commands import CLEAR, Listener, Progress, Speech
@@ -94,7 +94,7 @@ class Words(Case):
             self.assertEqual(of_causes(causes_of(*several), "english"), wanted)
         wrong = cause(0, TEXT)._replace(sent=(b"]".ljust(40),) + BLANK_PAGE[1:])
         part = part_with(0, 9, 0, answer(["refused 72 X frame 00:00:00:00", "1 faults"]),
-                         explanation=Explanation(causes_of(wrong, text=b"[")))
+                         causes=causes_of(wrong, text=b"["))
         verdict = verdict_of([part])
         verdict.request = asked_for("one.stl", "one.pes", "--option", "german")
         self.assertEqual(verdict.sentence, 'Refused: at 00:00:00:00 subtitle 1, "Ä", has a wrong '

@@ -15,7 +15,7 @@ from subtitles.judging import faults as judging_faults
 from subtitles.judging.causes import Causes, NEVER
 from subtitles.judging.faults import (
     FaultPlace, code_at, faults_of, hints_of, lead_words, letter_words)
-from subtitles.judging.part import Explanation, Part
+from subtitles.judging.part import Part
 from subtitles.judging.status import Severity
 from subtitles.judging.subtitles import AT_MIDNIGHT
 from subtitles.judging.transmissions import DuePages
@@ -50,7 +50,7 @@ class Listed(Case):
         made = part_with(25 * number, 25 * number + 24, 0, answer(lines, path=self.path(
             f"list{number}")), number, request=asked_for("one.stl", "one.pes", "--from", times[0],
                                                          "--to", times[1]),
-                         explanation=Explanation(causes if kind == "r" else None))
+                         causes=causes if kind == "r" else None)
         made.names.given = stl
         return made
 
@@ -111,7 +111,7 @@ class Listed(Case):
         part = part_with(0, 99, 0, answer([*(f"refused {line}" for line, _, _ in rows),
                                            f"{len(rows)} faults"], path=self.path("list")),
                          packets=packets_told(self, pes_packet(25 * TICKS, [NO_C4, CLOSING])),
-                         pes=(0, 0), explanation=Explanation(otherwise="drawn otherwise"))
+                         pes=(0, 0), otherwise="drawn otherwise")
         part.names.given = stl
         verdict = verdict_of([part])
         firsts = {line[:2]: means or do for line, means, do in reversed(rows)}

@@ -15,9 +15,7 @@ from subtitles.common.program import MadeWith
 from subtitles.common.times import CLOCK, Span, TICKS, time_of
 from subtitles.formats.listing import NEVER_SENT, NamedFault, PICTURES_LEFT
 from subtitles.judging.check import Answer, NO_END
-from subtitles.judging.part import (
-    Explanation, Part, PartFrames, PartPace, PartRange, answered_part, is_in, nothing_due,
-    part_causes)
+from subtitles.judging.part import Part, is_in, part_causes
 from subtitles.judging.status import Severity
 from subtitles.judging.subtitles import Counts, JudgedBeside
 from subtitles.judging.verdict import (
@@ -262,7 +260,7 @@ class Verdicts(Case):
         for several, wanted in of_spreads:
             self.must(f"{several}", spread_of(several) == wanted, spread_of(several))
         delays: list[list[int | None]] = [[1, None], [], [7]]
-        parts = [dataclasses.replace(part, explanation=Explanation(delays=known))
+        parts = [dataclasses.replace(part, delays=known)
                  for part, known in zip(self.three(), delays)]
         self.must("of all parts", verdict_of(parts).delays == Spread(1, 7, 7, 1))
 
@@ -324,23 +322,17 @@ class Read(Case):
             HEADER, row(20, b"%d" % at), CLOSING]) for at in range(10, 60, 10)))
         recording: Any = SimpleNamespace(packets=packets)
         asked = asked_for("a.stl", "a.pes", "--within", "1")
-        frames = PartFrames(1, asked, Names("a", "", None), Found(10, 50, Clock(0, GIVEN)),
-                            recording)
-        held = answered_part(PartPace(PartRange(frames, (1, 2)), asked), answer(),
-                             nothing_due).held
-        self.must("two", held and [*held.frames] == [20, 30], held and held.frames)
-        paced, said = asked_for("a.stl", "a.pes", "--pace", "2"), answer()
-        known = SummedFile("a", 9, "")
-        part = answered_part(PartPace(PartRange(frames._replace(number=3, left_out={4}), (1, 2),
-                                                known), paced, [(5, 6)]), said, nothing_due)
-        self.must("as it was asked", (
-            part.number, part.request, part.names, part.answer, part.alignment, part.recording,
-            part.left_out, part.pes, part.judged, part.jumps, part.due) == (
-            3, paced, frames.names, said, frames.alignment, recording, {4}, (1, 2), known,
-            [(5, 6)], nothing_due), part)
+        part = Part(3, asked, Names("a", "", None), answer(), Found(10, 50, Clock(0, GIVEN)),
+                    recording, {4})
+        summed = SummedFile("a", 9, "")
+        for pes, frames in (((1, 2), [20, 30]), ((0, 3), [10, 20, 30, 40])):
+            made = part.with_range(pes, summed)
+            self.check(f"{pes}", (made.pes, made.judged), (pes, summed))
+            self.check(f"{pes}: held", made.held and [*made.held.frames], frames)
+            self.must(f"{pes}: made once", made.held is dataclasses.replace(made, hint="x").held)
         with mock.patch("subtitles.judging.part.SubtitleFile") as file:
             part.subtitle_file()
-        file.assert_called_once_with("", paced.between, {4})
+        file.assert_called_once_with("", asked.between, {4})
 
     def test_what_tells_causes(self) -> None:
         """What is held around the frames, but for all that is lost of a stream; what never came is

@@ -11,7 +11,6 @@ from subtitles.common.markup import escape
 from subtitles.common.times import TICKS
 from subtitles.formats.listing import NamedFault
 from subtitles.formats.stl import Subtitle
-from subtitles.judging.part import Explanation
 from subtitles.judging.status import REFUSED
 from subtitles.judging.transmissions import DuePages
 from subtitles.judging.verdict import Gap, Unjudged, Verdict
@@ -49,9 +48,7 @@ class Whole(Case):
                     1, 1, 75, 100, 20, 2, b"")], [BLANK_PAGE], Held())} if is_read else {}
             part = part_with(75, 99, 0, answer(self.KINDS[kind], path=self.path(f"{number}.txt")),
                              number, RECORDING if is_fitted and number == len(kinds) else GIVEN,
-                             explanation=Explanation(delays=[0], was_read=True,
-                                                     otherwise=f"drawn {number}"),
-                             **given)
+                             delays=[0], otherwise=f"drawn {number}", **given)
             part.names.given = example("story.stl")
             parts.append(part)
         verdict = verdict_of(parts)

@@ -15,10 +15,9 @@ from ..formats.layout import (
     PLAIN, Refused, drawn, layout_of, layout_text, letters_of_text, letters_on, page_rows)
 from ..formats.stl import Subtitle
 from ..formats.teletext import BY_WORD, NationalOption, page_name
-from ..judging.check import Answer
 from ..judging.pages import cells_text, first_letters
 from ..judging.pair import Pair
-from ..judging.part import Part, PartFrames, PartPace, PartRange, answered_part, nothing_due
+from ..judging.part import Part
 from ..judging.status import Severity
 from ..judging.timing import PartSearch, cut_within, measured_pace
 from ..judging.transmissions import control_words, keeps
@@ -406,10 +405,8 @@ def of_pair(pair: Pair) -> Measured:
     """The same of a pair that is read."""
     request, option = pair.request, BY_WORD[pair.request.option]
     recording, clocks, subtitles = pair.located
-    cuts = [cut_of_part(clocks.programme, frames) for frames in pair.parts_in(
+    parts = [cut_of_part(clocks.programme, part) for part in pair.parts_in(
         recording, clocks.alignments, clocks.programme, subtitles)]
-    parts = [answered_part(PartPace(cut, cut.frames.request), Answer(pair.names.list_path),
-                           nothing_due) for cut in cuts]
     times = [(one.begin, one.end) for one in subtitles]
     sent = [(subtitles_of(part, subtitles), held_near(part)) for part in parts]
     headers = [part.headers_sent() for part in parts]
@@ -417,7 +414,7 @@ def of_pair(pair: Pair) -> Measured:
         *pid_of(pair),
         [repeats for part in parts if (repeats := repeats_in(
             part.pts(HEADER), part.pts()[-1], part.origin or 0, times))],
-        [measured_pace(cut, times)[0] for cut in cuts],
+        [measured_pace(part, times)[0] for part in parts],
         [delays_of(request.stl, *both, option) for both in sent],
         (sum(counts.total() for counts in headers),
          sum(count for counts in headers for header, count in counts.items() if keeps(header))),
@@ -426,12 +423,12 @@ def of_pair(pair: Pair) -> Measured:
         [sending for both in sent for sending in sendings_of(request.stl, *both, option)])
 
 
-def cut_of_part(programme: PartSearch, frames: PartFrames) -> PartRange:
+def cut_of_part(programme: PartSearch, part: Part) -> Part:
     """A part with the PES packets of its time."""
-    pes = cut_within(programme, frames.recording, frames.alignment, programme.request.within).range
+    pes = cut_within(programme, *part.recorded, programme.request.within).range
     if pes is None:
         raise Unclear("nothing of the page is in the recording at the time of the subtitles")
-    return PartRange(frames, pes)
+    return part.with_range(pes)
 
 
 def held_near(part: Part) -> Timeline:

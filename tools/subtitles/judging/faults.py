@@ -118,11 +118,11 @@ def hint_words(fault: FaultLine, part: Part, verdict: Verdict) -> str:
     if fault.number == DISPLAY:
         return open_words(part.subtitle_file())
     if fault.number in OF_HEADERS:
-        return part.explanation.of_header
+        return part.of_header
     if fault.number in OF_ENDS:
         return (end_words(part) if fault.number == END else "") or unrecorded_words(fault, part)
     if fault.number == CONTENT:
-        return part.explanation.otherwise
+        return part.otherwise
     if fault.number in (EMPTY_TIME, OUT_OF_ORDER):
         return midnight_words(fault, part.subtitle_file())
     if part.pes is None or part.origin is None:
@@ -137,8 +137,8 @@ def hint_words(fault: FaultLine, part: Part, verdict: Verdict) -> str:
                          part.answer.numbers, times)
     if fault.number == PARITY:
         return letter_words(fault, part)
-    if part.explanation.kept:
-        return part.explanation.kept.words()
+    if part.kept:
+        return part.kept.words()
     return header_words(fault_place(fault, part.packets, part.held).headers, request)
 
 
@@ -274,7 +274,7 @@ class PartFaults:
         if fault.number == DISPLAY:
             do = open_words(self.subtitles) or do
         if fault.number == CONTENT:
-            do = self.part.explanation.otherwise or do
+            do = self.part.otherwise or do
         do = midnight_words(fault, self.subtitles) or do
         means = header_words(place.headers, self.request) or means
         return {

@@ -25,9 +25,7 @@ from .causes import Causes
 from .check import Answer, check, check_alone, say_alone
 from .faults import OF_HEADERS, hint_words, lead_words
 from .pages import hidden_rows, may_hide, otherwise
-from .part import (
-    Explanation, Part, PartFrames, PartPace, PartRange, answered_part, part_causes, parted,
-    refuse_others, tell_causes)
+from .part import Part, part_causes, parted, refuse_others, tell_causes
 from .sentence import Lead
 from .status import REFUSED, UNSAID
 from .subtitles import beside_of, due_beside, is_judged_beside, title_words
@@ -40,55 +38,45 @@ from .verdict import MOVED, Verdict, frames_in, gaps_in
 # Why `check` refuses a part, and what else follows of its answer.
 
 
-class Explainer(NamedTuple):
-    """What explains the parts of a pair: what is looked for in the recording, who hears what is
-    said, and the verdict. `is_summed`: results are written."""
-
-    programme: PartSearch
-    listener: Listener
-    verdict: Verdict
-    is_summed: bool
-
-    def explained(self, part: Part) -> Part:
-        """A part with what explains the answer that `check` gave."""
-        causes = part_causes(part) if part.answer.numbers & WITH_CAUSE else None
-        if causes:
-            tell_causes(self.listener, causes, self.programme.request.option)
-        part = dataclasses.replace(part, severity=self.verdict.severity, explanation=Explanation(
-            causes, otherwise=self.otherwise(part, causes) if causes else ""))
-        part = with_more(part, delays=self.delays(part), was_read=part.is_read())
-        if CONTROL in part.answer.numbers and not part.request.may_keep:
-            part = with_more(part, kept=kept_in(part.headers_sent(), part.request.option))
-        if OF_HEADERS & part.answer.numbers:
-            part = with_more(part, of_header=part.recorded[0].header_words(part.packets))
-        return with_more(part, hint=self.hint(part.worst, part),
-                         sent_hint=self.hint(part.worst_sent, part))
-
-    def otherwise(self, part: Part, causes: Causes) -> str:
-        """What is drawn otherwise, where letters are right and the content is refused."""
-        if CONTENT not in part.answer.numbers:
-            return ""
-        due, option = part.due(), BY_WORD[self.programme.request.option]
-        return otherwise(due.subtitles, due.pages, causes.held, option)
-
-    def delays(self, part: Part) -> Sequence[int | None]:
-        """After how many frames the subtitles of a part were whole; nothing where nobody asks."""
-        request = self.programme.request
-        held = part.causes.held if part.causes else part.held
-        if not (self.is_summed or request.within) or not held:
-            return ()
-        is_known = not request.within and not part.answer.numbers & MOVED
-        return frames_in(is_known, len(part.subtitle_file().begins), held, part.due,
-                         request.is_complete)
-
-    def hint(self, lead: Lead | None, part: Part) -> str:
-        """What to know of the fault that is said first."""
-        return lead_words(lead.fault, part, self.verdict) if lead else ""
+def explained(part: Part, verdict: Verdict, listener: Listener, is_summed: bool) -> Part:
+    """Return a part with what explains the answer of `check`. `is_summed`: results are written."""
+    request, numbers = verdict.request, part.answer.numbers
+    causes = part_causes(part) if numbers & WITH_CAUSE else None
+    if causes:
+        tell_causes(listener, causes, request.option)
+    part = dataclasses.replace(
+        part, severity=verdict.severity, causes=causes,
+        otherwise=drawn_otherwise(part, causes, request.option) if causes else "",
+        delays=delays_in(part, causes, request, is_summed), was_read=part.is_read(),
+        kept=kept_in(part.headers_sent(), part.request.option)
+        if CONTROL in numbers and not part.request.may_keep else None,
+        of_header=part.recorded[0].header_words(part.packets) if OF_HEADERS & numbers else "")
+    return dataclasses.replace(part, hint=hint_of(part.worst, part, verdict),
+                               sent_hint=hint_of(part.worst_sent, part, verdict))
 
 
-def with_more(part: Part, **more: object) -> Part:
-    """A part of which more is known."""
-    return dataclasses.replace(part, explanation=dataclasses.replace(part.explanation, **more))
+def drawn_otherwise(part: Part, causes: Causes, option: str) -> str:
+    """Return what is drawn otherwise if all characters are right and the content is refused."""
+    if CONTENT not in part.answer.numbers:
+        return ""
+    due = part.due()
+    return otherwise(due.subtitles, due.pages, causes.held, BY_WORD[option])
+
+
+def delays_in(part: Part, causes: Causes | None, request: Request, is_summed: bool) \
+        -> Sequence[int | None]:
+    """Return after how many frames each subtitle was whole; nothing if nobody asks."""
+    held = causes.held if causes else part.held
+    if not (is_summed or request.within) or not held:
+        return ()
+    is_known = not request.within and not part.answer.numbers & MOVED
+    return frames_in(is_known, len(part.subtitle_file().begins), held, part.due,
+                     request.is_complete)
+
+
+def hint_of(lead: Lead | None, part: Part, verdict: Verdict) -> str:
+    """Return what to know of the fault that is reported first."""
+    return lead_words(lead.fault, part, verdict) if lead else ""
 
 
 # The call of `check` for a part.
@@ -258,12 +246,12 @@ class Pair:
             count = self.verdict.count = len(self.subtitles())
             answer.accept(f"{counted(count, 'subtitle')}, nothing is wrong with "
                           f"{'it' if count == 1 else 'them'}")
-        part = Part(1, self.request, self.names, answer, explanation=Explanation(
-            was_read=self.request.recording is None), severity=self.verdict.severity)
+        part = Part(1, self.request, self.names, answer, severity=self.verdict.severity,
+                    was_read=self.request.recording is None)
         self.verdict.parts.append(part)
         if answer.first:
-            part = with_more(part, hint=hint_words(answer.first, part, self.verdict))
-            self.verdict.parts[-1] = part
+            self.verdict.parts[-1] = dataclasses.replace(
+                part, hint=hint_words(answer.first, part, self.verdict))
 
     def subtitles(self) -> list[Subtitle]:
         """The subtitles that are judged."""
@@ -340,43 +328,45 @@ class Pair:
         self.warn(recording, clocks.alignments[0].origin, programme.whole)
         parts = self.parts_in(recording, clocks.alignments, programme, subtitles)
         for part in parts:
-            if selection := part.alignment.clock.chosen(part.number):
+            if selection := part.recorded[1].clock.chosen(part.number):
                 self.listener.chosen(selection, is_said=False)
         for part in parts:
-            self.judge_part(part, programme, subtitles, len(parts))
+            self.judge_part(part, programme, subtitles)
         self.verdict.gaps += gaps_in(recording, self.verdict.parts)
 
     def parts_in(self, recording: Recording, alignments: list[Found], programme: PartSearch,
-                 subtitles: list[Subtitle]) -> list[PartFrames]:
-        """What is judged, one after another."""
+                 subtitles: list[Subtitle]) -> list[Part]:
+        """What is judged, one after another, with its frames and their clock."""
         request = self.request
         alignments = parted(alignments, programme.whole)
         if len(alignments) > 1:
             refuse_others(alignments, subtitles, request.stl)
         is_whole = len(alignments) == 1
-        return [PartFrames(
-            number, request if is_whole else request.of_part(*part.between),
-            self.names if is_whole else self.names.of_part(number), part, recording, self.left_out)
-            for number, part in enumerate(alignments, 1)]
+        parts = []
+        for number, alignment in enumerate(alignments, 1):
+            own = request if is_whole else request.of_part(*alignment.between)
+            names = self.names if is_whole else self.names.of_part(number)
+            parts.append(Part(number, own, names, Answer(names.list_path), alignment, recording,
+                              self.left_out))
+        return parts
 
-    def judge_part(self, frames: PartFrames, programme: PartSearch, subtitles: list[Subtitle],
-                   count: int) -> None:
-        """Judges a part, one of so many: the PES packets of its time, their pace, what `check`
-        says of them, and why."""
-        recording, names, listener = frames.recording, frames.names, self.listener
-        own = [subtitle for subtitle in subtitles if frames.request.between.has(subtitle.begin)]
-        due = functools.lru_cache(maxsize=None)(lambda: self.due_of(frames.request, own))
-        cut = PartRange(frames, cut_part(programme, frames, listener), file_of(
-            recording.path, recording.shown) if self.is_summed and recording.is_piped else None)
-        answer = Answer(names.list_path)
-        self.begun = answered_part(PartPace(cut, frames.request), answer, due)
-        pace = paced_part(cut, [(subtitle.begin, subtitle.end) for subtitle in own], listener)
-        self.begun = part = answered_part(pace, answer, due)
+    def judge_part(self, part: Part, programme: PartSearch, subtitles: list[Subtitle]) -> None:
+        """Judges a part: the PES packets of its time, their pace, what `check` says of them, and
+        why."""
+        listener, request, (recording, _) = self.listener, part.request, part.recorded
+        own = [subtitle for subtitle in subtitles if request.between.has(subtitle.begin)]
+        due = functools.lru_cache(maxsize=None)(lambda: self.due_of(request, own))
+        part = dataclasses.replace(part, due=due).with_range(
+            cut_part(programme, part, listener), file_of(recording.path, recording.shown)
+            if self.is_summed and recording.is_piped else None)
+        self.begun = part
+        part = paced_part(part, [(subtitle.begin, subtitle.end) for subtitle in own], listener)
+        self.begun = part
         check_part(part, self.typed, listener)
         self.refuse_middle(part)
         self.verdict.parts.append(part)
-        self.look_at_pictures(frames)
-        part = Explainer(programme, listener, self.verdict, self.is_summed).explained(part)
+        self.look_at_pictures(part)
+        part = explained(part, self.verdict, listener, self.is_summed)
         self.verdict.parts[-1] = part
         self.warn_of(part, subtitles)
 
@@ -400,10 +390,10 @@ class Pair:
                       *(self.again("--to", time_of(end + 1))
                         for end in pauses_near(subtitles, at)))
 
-    def look_at_pictures(self, part: PartFrames) -> None:
+    def look_at_pictures(self, part: Part) -> None:
         """Takes where the pictures leave the subtitles of a part."""
-        recording = part.recording
-        faults, notes = left_by_pictures(recording.survey, recording.packets.pid, part.alignment,
+        recording, alignment = part.recorded
+        faults, notes = left_by_pictures(recording.survey, recording.packets.pid, alignment,
                                          part.request.within, part.number)
         self.verdict.named += faults
         self.listener.noted(*notes)

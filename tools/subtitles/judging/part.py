@@ -5,7 +5,7 @@ import array
 import collections
 import dataclasses
 import functools
-from typing import Callable, Collection, Iterator, NamedTuple, Sequence
+from typing import Callable, Collection, Iterator, Sequence
 
 from ..clock.start import Clock, Found
 from ..common.command_line import counted
@@ -19,67 +19,13 @@ from ..recording.recording import Recording
 from ..request.commands import Listener, MOST_LINES, Names
 from ..request.request import Request, Unclear
 from ..stream.gaps import Place
-from ..stream.packets import PES, PTSPair, Packets, Range
+from ..stream.packets import NO_RANGE, PES, PTSPair, Packets, Range
 from ..stream.receiver import Timeline, national_option, timeline_near
 from .causes import Causes, Wording
 from .check import Answer
 from .sentence import Lead, lead_of
 from .status import REFUSED, Said, Severity
 from .transmissions import DuePages, Kept, headers_of
-
-
-# A part of a pair, made in steps, each a value that the next one takes: its frames with their
-# clock, the PES packets of these frames, the pace by which they are judged; then what `check --all`
-# said of it, and why.
-
-
-class PartFrames(NamedTuple):
-    """A part as it is found: its number, its options and names, its frames with their clock, and
-    the recording. Subtitles of the file that are not judged are left out, by their places there."""
-
-    number: int
-    request: Request
-    names: Names
-    alignment: Found
-    recording: Recording
-    left_out: Collection[int] = ()
-
-
-class PartRange(NamedTuple):
-    """A part with the numbers of the PES packets that are judged; of a feed, which nobody can read
-    once more, with the file that is."""
-
-    frames: PartFrames
-    pes: Range
-    judged: SummedFile | None = None
-
-
-class PartPace(NamedTuple):
-    """A part with the options by which it is judged, the pace that is asked for among them; and
-    between which PTS a jump of the counter is announced, and more time passes than usual."""
-
-    range: PartRange
-    request: Request
-    jumps: Sequence[PTSPair] = ()
-
-
-@dataclasses.dataclass(frozen=True)
-class Explanation:
-    """What follows of what `check` said of a part: why its content is refused, and after how many
-    frames each subtitle was whole. `was_read`: something of its recording, or it has none. Of what
-    is told first `hint` is what to know of it, and `sent_hint` of the first of its transmission;
-    `of_header` is what is wrong with its PES headers, `otherwise` what is drawn otherwise where
-    letters are right, and `kept` how many headers keep the page, where they are refused for
-    nothing else."""
-
-    causes: Causes | None = None
-    delays: Sequence[int | None] = ()
-    was_read: bool = False
-    hint: str = ""
-    sent_hint: str = ""
-    of_header: str = ""
-    otherwise: str = ""
-    kept: Kept | None = None
 
 
 def nothing_due() -> DuePages:
@@ -89,11 +35,13 @@ def nothing_due() -> DuePages:
 
 @dataclasses.dataclass(frozen=True)
 class Part:
-    """What is judged by itself: all of a pair, or the subtitles of one clock; with what `check`
-    answered, and what explains that.
+    """What is judged by itself: all of a pair, or the subtitles of one clock. Each step of judging
+    returns it with what it found.
 
-    `alignment` are its frames with their clock; of a subtitle file alone there are none. `pes` are
-    the numbers of the PES packets that are judged, and `judged` is what is judged of a feed.
+    First the frames and their clock are known, `alignment`; a subtitle file alone has none. Then
+    the PES packets, `pes`, with the file that is `judged` if they came through a pipe; then the
+    pace, an option of the request, and the PTS between which a jump of the counter is announced and
+    more time passes than usual, `jumps`. Then `check` answers. The rest explains its answer.
     """
 
     number: int
@@ -108,8 +56,15 @@ class Part:
     jumps: Sequence[PTSPair] = ()
     due: Callable[[], DuePages] = nothing_due
     timeline: Callable[[], Timeline | None] = lambda: None
-    explanation: Explanation = Explanation()
     severity: Severity | None = None
+    causes: Causes | None = None  # why its content is refused
+    delays: Sequence[int | None] = ()  # after how many frames each subtitle was whole
+    was_read: bool = False  # whether something of its recording was, or it has none
+    hint: str = ""  # on the fault that is reported first
+    sent_hint: str = ""  # on the first fault of its transmission
+    of_header: str = ""  # what is wrong with its PES headers
+    otherwise: str = ""  # what is drawn otherwise where all characters are right
+    kept: Kept | None = None  # how many headers keep the page, if nothing else is wrong with them
 
     @property
     def packets(self) -> Packets:
@@ -168,14 +123,16 @@ class Part:
         """What a receiver holds of what is judged."""
         return self.timeline()
 
-    @property
-    def causes(self) -> Causes | None:
-        return self.explanation.causes
+    def with_range(self, pes: Range, judged: SummedFile | None = None) -> Part:
+        """Return the part with the PES packets that are judged, and what a receiver holds then."""
+        recording, alignment = self.recorded
+        request = self.request
 
-    @property
-    def delays(self) -> Sequence[int | None]:
-        """After how many frames each subtitle was whole."""
-        return self.explanation.delays
+        def timeline() -> Timeline:
+            return Timeline(recording.packets, request.page, alignment.origin, request.within, pes)
+
+        return dataclasses.replace(self, pes=pes, judged=judged,
+                                   timeline=functools.lru_cache(maxsize=None)(timeline))
 
     def subtitle_file(self) -> SubtitleFile:
         """Its subtitles by their blocks and frames."""
@@ -183,7 +140,7 @@ class Part:
 
     def said(self) -> Said:
         """What the program said of it."""
-        return self.answer.said(self.explanation.was_read)
+        return self.answer.said(self.was_read)
 
     @property
     def is_refused(self) -> bool:
@@ -222,14 +179,14 @@ class Part:
 
     def options_sent(self) -> set[str]:
         """The national options of its headers of the page."""
-        bits = {national_option(header) for run in self.packets.inside(*self.pes or (0, -1))
+        bits = {national_option(header) for run in self.packets.inside(*self.pes or NO_RANGE)
                 for header in headers_of(run)}
         return {BY_BITS[one].word for one in bits if one != RESERVED}
 
     def headers_sent(self) -> collections.Counter[bytes]:
         """How many there are of each of its headers that `check` hears."""
         counts: collections.Counter[bytes] = collections.Counter()
-        for run in self.packets.inside(*self.pes or (0, -1)):
+        for run in self.packets.inside(*self.pes or NO_RANGE):
             for header in headers_of(run) if run.pts is not None and not run.fault else ():
                 counts[header] += run.length
         return counts
@@ -243,18 +200,6 @@ class Part:
         """Its first and its last frame as times."""
         alignment = self.alignment
         return (time_of(alignment.begin), time_of(alignment.end)) if alignment else (None, None)
-
-
-def answered_part(pace: PartPace, answer: Answer, due: Callable[[], DuePages]) -> Part:
-    """The part that `check` answers about, as it was asked; due is what is due of it."""
-    (frames, pes, judged), request, jumps = pace
-    number, _, names, alignment, recording, left_out = frames
-
-    def timeline() -> Timeline:
-        return Timeline(recording.packets, request.page, alignment.origin, request.within, pes)
-
-    return Part(number, request, names, answer, alignment, recording, left_out, pes, judged, jumps,
-                due, functools.lru_cache(maxsize=None)(timeline))
 
 
 def is_in(place: Place, part: Part) -> bool:

@@ -21,10 +21,10 @@ from ..request.request import (
 from ..stream.gaps import (
     BY_EVERY, IRREGULAR, PAUSED, Pace, REGULAR, TOO_FEW, each_of, frame_rows, pace_of, pauses_of,
     unseen_from)
-from ..stream.packets import PACKET, PTSPair, Packets, Range, jumps_at, jumps_told
+from ..stream.packets import NO_RANGE, PACKET, PTSPair, Packets, Range, jumps_at, jumps_told
 from ..stream.ranges import Cut, cut_of
 from ..stream.survey import Departure, PictureClock, Survey, departures_of
-from .part import PartFrames, PartPace, PartRange
+from .part import Part
 
 
 NO_CLOCK = Clock(0, RECORDING)  # stands for one that is not found yet
@@ -209,10 +209,10 @@ def cut_within(programme: PartSearch, recording: Recording, alignment: Found, wi
                   programme.request.every, within, alignment.packets or programme.inside)
 
 
-def cut_part(programme: PartSearch, part: PartFrames, listener: Listener) -> Range:
+def cut_part(programme: PartSearch, part: Part, listener: Listener) -> Range:
     """The same of a part by their numbers, which is said."""
-    recording, request = part.recording, programme.request
-    cut = cut_within(programme, recording, part.alignment, request.within)
+    recording, alignment = part.recorded
+    cut = cut_within(programme, recording, alignment, programme.request.within)
     damage, line = recording.packets.damage, f"cut: {cut.words()}"
     if cut.range is None:
         listener.said(line)
@@ -235,10 +235,10 @@ NEXT = 1  # frame from a PES packet to one that comes in the next frame
 UNCHECKED = "not checked: whether"  # begins the note on what nothing tells
 
 
-def paced_part(part: PartRange, times: Sequence[tuple[int, int]], listener: Listener) -> PartPace:
+def paced_part(part: Part, times: Sequence[tuple[int, int]], listener: Listener) -> Part:
     """A part with the pace of the PES packets that are judged, where they are regular and none is
     asked for, by the frames of the subtitles. Where holes may be unseen notes say so."""
-    number, request, recording = part.frames.number, part.frames.request, part.frames.recording
+    number, request, (recording, _) = part.number, part.request, part.recorded
     pace, unseen = measured_pace(part, times)
     jumps, count = late_jumps(part, pace)
     notes = [jump_words(count, recording)]
@@ -252,13 +252,13 @@ def paced_part(part: PartRange, times: Sequence[tuple[int, int]], listener: List
         elif note:  # which is told with the verdict
             listener.chosen(Selection(PACE_CHOICE, None, note, part=number), is_said=False)
     listener.noted(*notes)
-    return PartPace(part, request, jumps)
+    return dataclasses.replace(part, request=request, jumps=jumps)
 
 
-def measured_pace(part: PartRange, times: Sequence[tuple[int, int]]) -> tuple[Pace, int | None]:
+def measured_pace(part: Part, times: Sequence[tuple[int, int]]) -> tuple[Pace, int | None]:
     """How far apart the PES packets of a part come; and from how many frames on a hole of them is
     one that the counter may not show."""
-    (_, request, _, alignment, recording, _), pes, _ = part
+    request, (recording, alignment), pes = part.request, part.recorded, part.pes or NO_RANGE
     size = None if recording.is_stream else os.path.getsize(recording.path)
     rows = frame_rows(recording.packets, pes, alignment.origin, request.within)
     each = each_of(recording.packets, pes, size)
@@ -266,15 +266,15 @@ def measured_pace(part: PartRange, times: Sequence[tuple[int, int]]) -> tuple[Pa
         unseen_from(rows, each)
 
 
-def late_jumps(part: PartRange, pace: Pace) -> tuple[list[PTSPair], int]:
+def late_jumps(part: Part, pace: Pace) -> tuple[list[PTSPair], int]:
     """The jumps of the counter that a stream announces where a PES packet comes later than is
     usual; and at how many others there is a frame for one that may be missing."""
-    recording = part.frames.recording
+    (recording, _), inside = part.recorded, part.pes or NO_RANGE
     if not recording.is_stream:
         return [], 0
     packets, usual = recording.packets, min(pace.apart, NEXT)
-    jumps = jumps_told(packets, part.pes, usual) if recording.survey.tells_seams else jumps_at(
-        packets, part.pes, usual, recording.path, recording.survey.size or PACKET)
+    jumps = jumps_told(packets, inside, usual) if recording.survey.tells_seams else jumps_at(
+        packets, inside, usual, recording.path, recording.survey.size or PACKET)
     late = [pair for pair in jumps if ticks_between(*pair) > pace.apart * TICKS]
     return late, len(jumps) - len(late)
 

@@ -269,7 +269,7 @@ class Verdict:
         if refused and self.beside:
             said = self.sent_beside(said, self.beside)
         elif refused and not self.first_named:
-            said = with_lead(said._replace(hint=refused.explanation.hint, causes=refused.causes),
+            said = with_lead(said._replace(hint=refused.hint, causes=refused.causes),
                              refused.worst)
         return sentence_of(said)
 
@@ -282,7 +282,7 @@ class Verdict:
         said = said._replace(refused=beside.words(), subtitles=len(beside.judged), is_file=False,
                              faults=sum(answer.count_sent for answer in answers),
                              counts=counts_of_numbers(self.parts, STL_FAULTS | {UNDECIDED}))
-        return with_lead(said._replace(hint=part.explanation.sent_hint, causes=part.causes),
+        return with_lead(said._replace(hint=part.sent_hint, causes=part.causes),
                          part.worst_sent) if part else said
 
     @property

@@ -80,7 +80,7 @@ def verdict_box(verdict: Verdict) -> Markup:
     elif verdict.word != ACCEPTED:
         parts.append(advice(verdict))
     notes = [*verdict.notes, *(one.said() for one in verdict.warnings), *dict.fromkeys(
-        part.explanation.otherwise for part in verdict.parts if part.explanation.otherwise)]
+        part.otherwise for part in verdict.parts if part.otherwise)]
     parts += [markup('<p class="note">{}</p>', with_options(one)) for one in notes]
     return markup('<div class="verdict {}">{}<div><p class="sentence">{}</p><p class="line" '
                   'id="verdict">{}</p>{}</div></div>', kind, drawn,

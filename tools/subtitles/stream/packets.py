@@ -16,6 +16,7 @@ from ..common.times import TICKS, count_until, ticks_between, wrapped
 PES = 0  # stands for the PID of a file of PES packets
 HEADER, ERASE, CLOSED, OPEN, BLANK, STRAY = "h", "e", "c", "o", "b", "s"
 Range = tuple[int, int]  # the numbers of the first and the last PES packet
+NO_RANGE: Range = (0, -1)
 PTSPair = tuple[int, int]  # of two PES packets, one after the other
 Texts = tuple[tuple[int, bytes], ...]  # some rows, each by its number
 

@@ -10,7 +10,7 @@ from typing import Iterable, Iterator, NamedTuple, Sequence
 from ..common.times import FRAMES_OF_A_DAY, NO_FRAME, Span, count_until, frames_at, wrapped
 from ..formats.teletext import CONTROL_BITS, Page, has_bit
 from .packets import (
-    CLOSED, ERASE, HEADER, OPEN, Packets, Range, Run, STRAY, Texts, headers_in)
+    CLOSED, ERASE, HEADER, NO_RANGE, OPEN, Packets, Range, Run, STRAY, Texts, headers_in)
 from .ranges import cut_of
 
 
@@ -439,7 +439,7 @@ def timeline_near(packets: Packets, page: Page, origin: int, within: int, span: 
     more = max(LEAST, every)
     cut = cut_of(packets, max(span.first - more, 0), min(span.last + more, FRAMES_OF_A_DAY - 1),
                  origin, None, within, inside)
-    return Timeline(packets, page, origin, within, cut.range or (0, -1), span.first,
+    return Timeline(packets, page, origin, within, cut.range or NO_RANGE, span.first,
                     NO_FRAME if cut.came is None else cut.came, lost=lost)
 
 
