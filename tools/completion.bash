@@ -87,4 +87,4 @@ _subttx_tool() {
 }
 
 complete -F _subttx subttx
-complete -F _subttx_tool subttx-qc subttx-air subttx-ts2pes
+complete -F _subttx_tool subttx-qc subttx-air

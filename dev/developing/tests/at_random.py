@@ -23,7 +23,6 @@ from unittest import mock
 from subtitles.cli.main import main
 from subtitles.cli.single import claimed
 from subtitles.common.command_line import run
-from subtitles.common.program import TOP
 from subtitles.judging import faults, subtitles
 from subtitles.report import page as report
 from .bench import example
@@ -99,16 +98,9 @@ def said_of(number: int, program: str) -> Said:
         scenario = (Scenario if number < WIDER else Wider)(number, program)
         words = scenario.call()
         said = called(words, program, wrong=by_one_reader)
-        told = "".join(plain(said_by(*words), program) for words in scenario.tools(words[1]))
         if number >= WIDER and number % 3 == 0 and not scenario.is_feed:  # which comes once
-            told += plain(measured(words[1], program), program)
-        return said._replace(files={**said.files, "tools": told})
-
-
-def said_by(name: str, *words: str) -> str:
-    """What another tool says."""
-    done = tool_here([sys.executable, os.path.join(TOP, "tools", name), *words])
-    return f"{name} {done.returncode}\n{done.stdout}{done.stderr}"
+            said.files["measured"] = plain(measured(words[1], program), program)
+        return said
 
 
 def measured(recording: str, program: str) -> str:

@@ -265,7 +265,3 @@ class Scenario:
                                           "others warning\n", "45 warning\n61 warning\n")))
             words += ["--severity", "severity"]
         return [*words, "--json", "one.json"]
-
-    def tools(self, recording: str) -> list[list[str]]:
-        """The words of other tools on the same files."""
-        return [["ts2pes", recording, "-p", self.program]] * (recording == "one.ts")

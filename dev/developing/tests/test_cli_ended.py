@@ -166,10 +166,6 @@ class Programs(Story):
                     self.assertTrue(known["reason"] and done.told and not any(
                         line.startswith("accepted") for line in done.printed[-1:]), done)
                     self.assertTrue(all(line.startswith("qc: ") for line in done.told), done)
-        program = self.program_but("extract*", f"'{self.bench.program}' \"$@\"; kill -9 $$")
-        taken = self.tool("ts2pes", example("recording.ts"), "0x101", "-p", program)
-        self.assertEqual((taken.status, taken.told), (2, [
-            "ts2pes: extract was not answered: written 7 pes 0 gaps, status -9"]))
 
     def test_waived(self) -> None:
         """A file that names all faults warnings: status 0, and never accepted."""

@@ -40,16 +40,17 @@ def runs_the_whole_way(case: Case, prefix: str) -> None:
 
     stl = example("story.stl")
     stream = case.tool("pes2ts", example("story.pes"), "0x101")
-    recording = run("subttx-ts2pes", case.write("story.ts", stream.out), "0x101")
-    pes = case.write("recording.pes", recording.out)
-    done = run("subttx", "check", stl, pes, "--pes", "0-4")
+    done = run("subttx", "extract", case.write("story.ts", stream.out), "recording.pes", "--pid",
+               "0x101")
+    case.must("extract", done.out == b"written 5 pes 0 gaps\n", done)
+    done = run("subttx", "check", stl, "recording.pes", "--pes", "0-4")
     case.must("check", done.out == b"accepted 226 frames 5 transmissions\n", done)
     done = run("subttx-qc", stl, "story.ts", "-o", "report")
     case.must("qc", done.out.endswith(b"\nrelative 226 frames 5 transmissions\n") and
               os.path.join(prefix, "bin", "subttx").encode() in done.out and
               os.path.exists(case.path("report/story.html")), done)
-    done = run("subttx-ts2pes", "--help")
-    case.must("its own names in the help", b"subttx-ts2pes TS PID" in done.out
+    done = run("subttx-air", "--help")
+    case.must("its own names in the help", b"subttx-air" in done.out
               and b"tools/" not in done.out, done)
     done = run("subttx-qc", "--help")
     named = re.findall(r"\S+/docs/manual/\w+\.md", done.out.decode())
@@ -176,8 +177,6 @@ class Installed(Case):
             options = set(re.findall(r"--[\w-]+", words))
             self.must(name, options <= offered("subttx", name, "-"), (options, name))
         self.must("values", offered("subttx", "check", "--option", "g") == {"german"})
-        tool = os.path.join(TOP, "tools", "ts2pes")
-        self.must("a tool", {"--version", "-p"} <= offered(tool, "-"), offered(tool, "-"))
         tool = os.path.join(TOP, "tools", "qc")
         self.must("qc", {"--batch", "--allow-lost", "--severity", "-o"} <= offered(tool, "-"),
                   offered(tool, "-"))

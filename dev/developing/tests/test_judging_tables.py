@@ -334,13 +334,12 @@ class Named(Case):
                   "tools/qc one.stl --origin T")
         self.must("words", shell_line("cat", "a b", ">", "c", "|", "d'e") ==
                   "cat 'a b' >c | 'd'\"'\"'e'")
-        for called, tool, program in (("tools/qc", "tools/ts2pes", "subttx"), ("./qc", "./ts2pes",
-                                                                           "../subttx"),
-                                      ("qc", "./ts2pes", "../subttx"),
-                                      ("/a/tools/qc", "/a/tools/ts2pes", "/a/subttx")):
+        for called, tool, program in (("tools/qc", "tools/air", "subttx"),
+                                      ("./qc", "./air", "../subttx"), ("qc", "./air", "../subttx"),
+                                      ("/a/tools/qc", "/a/tools/air", "/a/subttx")):
             made = CommandWords(called, self.bench.program)
-            self.must(called, made.tool("ts2pes") == tool and made.program_words ==
-                      ["-p", self.bench.program], made.tool("ts2pes"))
+            self.must(called, made.tool("air") == tool and made.program_words ==
+                      ["-p", self.bench.program], made.tool("air"))
             self.must(f"{called}: beside", os.path.normpath(made.beside()) ==
                       os.path.normpath(program), made.beside())
 

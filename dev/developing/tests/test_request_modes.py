@@ -163,13 +163,13 @@ class Modes(Case):
         program = self.bench.program
         with mock.patch.dict(os.environ, {"PATH": self.folder}):
             for called, tool, beside in (
-                    ("tools/qc", "tools/ts2pes", "./subttx"), ("qc", "./ts2pes", "../subttx"),
-                    ("/some/tools/qc", "/some/tools/ts2pes", "/some/subttx"),
-                    ("/some/subttx-qc", "/some/subttx-ts2pes", "/some/subttx"),
-                    (self.path("subttx-qc"), "subttx-ts2pes", "subttx")):
+                    ("tools/qc", "tools/air", "./subttx"), ("qc", "./air", "../subttx"),
+                    ("/some/tools/qc", "/some/tools/air", "/some/subttx"),
+                    ("/some/subttx-qc", "/some/subttx-air", "/some/subttx"),
+                    (self.path("subttx-qc"), "subttx-air", "subttx")):
                 typed = CommandWords(called, program)
-                self.must(called, (typed.tool("ts2pes"), typed.beside()) == (tool, beside), (
-                    typed.tool("ts2pes"), typed.beside()))
+                self.must(called, (typed.tool("air"), typed.beside()) == (tool, beside), (
+                    typed.tool("air"), typed.beside()))
 
 
 class Words(unittest.TestCase):
@@ -235,9 +235,6 @@ WRONG: dict[str, list[list[str]]] = {
            [STL, PES, "--json", "no/folder.json"], [STL, PES, "--csv", TOP],
            [STL, PES, "--every", "9" * 5000], ["--batch", TOP, "--junit", "no/folder.xml"],
            ["--batch", TOP, "--jobs", "9" * 5000]],
-    "ts2pes": [[], ["none.ts"], [PES, "9" * 5000], ["/dev/null"], [PES],
-               [PES, "0x101"], [PES, "8191"], [PES, "x"],
-               [PES, "1", "2"]],
     "pes2ts": [[], [PES], ["none.pes", "0x101"], [PES, "0x100"], [PES, "7"], [PES, "0x1fff"],
                [PES, "0x101", "english"], [PES, "0x101", "--page", "8FF"]],
     "install": [[], ["-x"], ["--", "-x"], ["--prefix"], [""], [PES], ["-p", "none", "to"],
@@ -337,7 +334,7 @@ class WrongWords(Case):
         if not os.path.exists("/dev/full"):
             self.skipTest("a full device, since there is no /dev/full")
         for name, *words in (["qc", STL, PES, "-p", self.bench.program],
-                             ["pes2ts", PES, "0x101"], ["poke", STL], ["ts2pes", "--help"]):
+                             ["pes2ts", PES, "0x101"], ["poke", STL], ["qc", "--help"]):
             done = self.call(["sh", "-c", 'exec "$@" >/dev/full', "sh",
                               tool_path(name), *words])
             self.must(name, done.status == 2 and done.told and "No space" in done.told[-1], done)

@@ -14,7 +14,7 @@ from subtitles.recording.recording import silent_in
 from subtitles.stream.gaps import why_refused
 from subtitles.stream.packets import Packets, Run
 from subtitles.stream.survey import Survey, names_of, survey
-from .bench import Case, SECONDS
+from .bench import Case, SECONDS, example, example_bytes
 from .sent import HEADER, packets, row
 
 
@@ -123,3 +123,44 @@ class Fed(Case):
                         told = int(runs[-1][2]) + int(runs[-1][3]) if runs else 0
                     self.must(f"{end} in blocks of {size}", told == wanted, (told, wanted))
                 process.stdin.close()
+
+
+class Carried(Case):
+    """dev/pes2ts, and what `subttx extract` takes out of its streams."""
+
+    def test_extracts_what_was_put_in(self) -> None:
+        """The same PES packets, with TS packets of each size, from a pipe, behind other bytes."""
+        done = self.tool("pes2ts", example("story.pes"), "0x101")
+        self.check("made", (done.status, done.told), (0, ["pes2ts: 5 PES packets as PID 0x101"]))
+        made = [done.out[at:at + 188] for at in range(0, len(done.out), 188)]
+        for name, data, *words in (
+                ("188 bytes", b"".join(made)),
+                ("192 bytes", b"".join(b"TIME" + one for one in made), "--packet-size", "192"),
+                ("204 bytes", b"".join(one + b"\x47" * 16 for one in made), "--packet-size", "204"),
+                ("from the midst of a packet", made[0][77:] + b"".join(made))):
+            done = self.call([self.bench.program, "extract", self.write("one.ts", data),
+                              self.path("back.pes"), "--pid", "0x101", *words])
+            self.check(name, (done.status, done.out), (0, b"written 5 pes 0 gaps\n"))
+            self.check(f"{name}: bytes", self.read("back.pes") == example_bytes("story.pes"), True)
+
+    def test_names_the_first_that_is_no_teletext(self) -> None:
+        """After the PES packets before it."""
+        data = example_bytes("story.pes")
+        first = packets(data)[0]
+        for name, pes, count, line in (
+                ("cut", data[:-1], 4, "PES packet 4 is cut"),
+                ("another start", data[:368] + b"\1" + data, 1,
+                 "PES packet 1 does not begin with 00 00 01 BD"),
+                ("no PTS", first + data[:7] + b"\0" + data[8:], 1,
+                 "PES packet 1 is none of Teletext"),
+                ("another length", data[:4] + b"\0\xb3" + data[6:184] + b"x", 0,
+                 "PES packet 0 is none of Teletext")):
+            path = self.write("wrong.pes", pes)
+            done = self.tool("pes2ts", path, "0x101")
+            self.check(name, (done.status, done.told), (1, [
+                f"pes2ts: {path}: {line}",
+                f"pes2ts: {count} PES packet{'s' * (count != 1)} as PID 0x101"]))
+            own = [one for at in range(0, len(done.out), 188)
+                   if (one := done.out[at:at + 188])[1] & 0x1F == 1 and one[2] == 1]
+            self.check(f"{name}: before it", b"".join(one[4:] for one in own),
+                       b"".join(packets(data)[:count]))

@@ -116,7 +116,7 @@ def proved_line(program: str, sha256: str) -> str | None:
 
 # What is installed under a folder: the program, its man page and the tools beside it.
 
-TOOLS = ["qc", "air", "ts2pes"]
+TOOLS = ["qc", "air"]
 PAGES = ["subttx.1", "subttx-qc.1", "subttx-air.1"]
 READ = ["README.md", os.path.join("docs", "MANUAL.md"),
         os.path.join("docs", "verdict.schema.json"), "VERSION"]
