@@ -11,7 +11,6 @@ sources       what a file of specs/, proofs/ or src/ defines
 signs         the signs of antt, with their meaning
 promises      the index of clauses in CLAUSES
 cited         names that documents cite
-questions     how many words stand before the answers to questions
 shown         the command lines of documents, with what they print there
 edits         wrong programs
 bugs          what a tired programmer gets wrong, by ast

@@ -290,7 +290,7 @@ class Mistakes(Story):
                       "judging.pair.explained", "judging.part.Part.is_read",
                       "judging.check.Answer.take", "cli.main.parser_of", "cli.single.request_of",
                       "cli.single.CommandWords", "cli.single.found", "results.files.listed",
-                      "results.files.fitting", "cli.single.about_program"):
+                      "cli.single.about_program"):
             with self.subTest(place):
                 self.failing(place, ValueError("odd"))
 

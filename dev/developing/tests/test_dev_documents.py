@@ -16,7 +16,6 @@ from .. import pages
 from ..definitions import Library
 from ..looks import browser
 from ..promises import clauses_in, unknown_clauses
-from ..questions import Question, ask, count, link, page
 from ..sizes import KINDS, counted, total
 from .bench import Case, script
 
@@ -86,25 +85,6 @@ class Documents(Case):
                     self.must(where, bool(gone) and all(
                         old.count(line + "\n") == 1 for line in gone), gone)
         self.must("blocks", count > 2, count)
-
-    def test_are_asked(self) -> None:
-        """How many words stand before an answer, by the way that a reader goes to it."""
-        self.write("A.md",
-                   b"# A\n\nOne two [three](B.md#the-answer) four.\n\n## C d!\n\nFive | - six.")
-        self.write("B.md", b"# B\n\nNot here: yes.\n\n## The answer\n\nIt is\nyes.\n")
-        for way, answer, words in (
-                (["A.md"], "two", 2), (["A.md"], "six", 8), (["A.md#c-d"], "six", 3),
-                (["A.md", "B.md#the-answer"], "is yes", 7), (["A.md", "B.md"], "yes", 7),
-                (["B.md", "A.md"], "One", None),
-                (["A.md"], "seven", None), (["A.md#none"], "two", None)):
-            found = ask(Question("A1", "?", way, answer), self.folder)
-            self.must(f"{way} {answer}",
-                      found.words == words and (words is None) == bool(found.why),
-                      found)
-        self.must("words", count("a [b](c d) | - e`f`") == 3)
-        self.must("links", [link("docs/A.md", one) for one in (
-            "docs/B.md", "README.md#x", "docs/A.md#y")] == ["(B.md", "(../README.md#x)", "(#y)"])
-        self.must("a page", page("B.md#the-answer", self.folder).startswith("## The answer"))
 
     def test_have_a_picture(self) -> None:
         """dev/make-picture makes README's picture of a report, PNG, and says whether one is of the

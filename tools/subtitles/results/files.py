@@ -15,7 +15,7 @@ from ..clock.start import RECORDING
 from ..common.command_line import Stop, error_line, shown_lines
 from ..common.files import bounded_bytes, first_bytes, is_replaced, result_file
 from ..common.program import MadeWith
-from ..common.shapes import Listed, Member, Members, Shape
+from ..common.shapes import Listed, Member, Members
 from ..judging.part import Part
 from ..judging.status import ACCEPTED, NOT_JUDGED, RELATIVE, STATUSES, is_of_call
 from ..judging.subtitles import Counts
@@ -39,10 +39,8 @@ class Room:
 
 
 def object_of(verdict: Verdict, program: MadeWith) -> Iterator[str]:
-    """The text of the object. What does not fit the table is a mistake of these tools, and no
-    result."""
+    """Return the text of the object. Tests hold it against the table; who reads it back does."""
     known, room = Writing(verdict, program), Room()
-    head: dict[str, Any] = {}
     before = "{"
     for member in VERDICT.members:
         yield f"{before}\n \"{member.name}\": "
@@ -50,11 +48,8 @@ def object_of(verdict: Verdict, program: MadeWith) -> Iterator[str]:
             yield from listed(member, known, room)
         else:
             value = room.left_out if member.shape is LEFT_OUT else member.made(known)
-            head[member.name] = fitting(member.shape, value, member.name)
             yield json.dumps(value, ensure_ascii=False)
         before = ","
-    if any(rule.misfit(head) is not None for rule in VERDICT.rules):
-        raise ValueError("verdict, status, line, reason and clock do not go together")
     yield "\n}\n"
 
 
@@ -63,8 +58,7 @@ def listed(member: Member, known: Writing, room: Room) -> Iterator[str]:
     assert isinstance(member.shape, Listed) and member.of
     items, before = iter(member.of(known)), "["
     for count, item in enumerate(items):
-        shape = member.shape.shape
-        text = json.dumps(fitting(shape, shape.made(item), member.name), ensure_ascii=False)
+        text = json.dumps(member.shape.shape.made(item), ensure_ascii=False)
         room.left -= len(text.encode("utf-8", "surrogatepass"))
         if count == member.shape.most or room.left < 0:
             room.left_out[member.name] = 1 + sum(1 for _ in items)
@@ -72,14 +66,6 @@ def listed(member: Member, known: Writing, room: Room) -> Iterator[str]:
         yield f"{before}\n  {text}"
         before = ","
     yield "[]" if before == "[" else "]"
-
-
-def fitting(shape: Shape, value: Any, name: str) -> Any:
-    """A value that fits."""
-    wrong = shape.misfit(value)
-    if wrong is not None:
-        raise ValueError(f"{name}{wrong} of the result is not what its table says")
-    return value
 
 
 # Objects of pairs that were judged, wherever they were made, as rows of a table.
