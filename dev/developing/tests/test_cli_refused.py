@@ -24,7 +24,7 @@ from subtitles.common.files import Inputs
 from subtitles.request.commands import CommandWords, Names, Speech
 from subtitles.request.lines import Item
 from subtitles.request.request import keep_stl
-from subtitles.results.files import found, put_object
+from subtitles.results.files import put_object
 from .bench import Case, SECONDS, example, example_bytes
 from .parts import asked_for, qc
 from .results import result

@@ -12,7 +12,7 @@ from subtitles.common.times import ALL_DAY, Between, CLOCK, TICKS, time_of
 from subtitles.formats.listing import NEVER_SENT, NOT_SHOWN, NamedFault
 from subtitles.judging import pair
 from subtitles.judging.pair import Pair
-from subtitles.recording.notices import NeverSent, Notice
+from subtitles.recording.notices import NeverSent
 from subtitles.request.commands import CommandWords, Names
 from .bench import Case, example, example_bytes
 from .judged import FEW, OfProgramme, judged

@@ -8,7 +8,7 @@ import itertools
 import math
 import os
 import shutil
-from typing import Any, Callable, Mapping, NamedTuple, Sequence
+from typing import Any, Callable, Mapping, NamedTuple
 
 from ..cli import single
 from ..cli.batch import Forked, ended_of, signals_held

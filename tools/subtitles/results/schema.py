@@ -308,11 +308,11 @@ CAUSE_COUNTS = Record("cause_counts", "How many causes there are of each name.",
 
 # What hangs together: verdict, status, last line and reason.
 TEXT, NOTHING = Text(least=1), OneOf(None)
-TOGETHER = Rules([*(
+TOGETHER = Rules([
     {"verdict": OneOf(word), "status": OneOf(status),
      "line": NOTHING if word == NOT_JUDGED else TEXT,
      "lead": NOTHING if word == NOT_JUDGED else TEXT,
-     "reason": TEXT if word == NOT_JUDGED else NOTHING} for word, status in POSSIBLE)])
+     "reason": TEXT if word == NOT_JUDGED else NOTHING} for word, status in POSSIBLE])
 # Nothing is accepted or waived without a clock, and `relative` has status 0 by --relative alone.
 HAS_CLOCK = Rules([{"origin": PTS}, {"start": TEXT}, {"recording": NOTHING}])
 IS_ALLOWED = Rules([{"relative": OneOf(True)}])

@@ -50,7 +50,6 @@ class ClockJump(NamedTuple):
 def places_of(packets: Packets, announced: Iterable[PTSPair] = ()) -> list[Place]:
     """Where a mark stands, where the PCR and the counters of other PIDs alone tell it, and where a
     jump of the counter is announced that hides it."""
-    after = {run.first: run.pts for run in packets.runs}
     following: dict[int, int | None] = {}
     pts = None
     for run in reversed(packets.runs):
