@@ -14,7 +14,7 @@ from subtitles.clock.stretches import by_breaks, find_row, parts_of, runs_of
 from subtitles.common.command_line import Lateness
 from subtitles.common.times import CLOCK, FRAMES_A_SECOND, FRAMES_OF_A_DAY, TICKS
 from subtitles.stream.packets import Change, Packets, Run
-from subtitles.stream.ranges import Beginning, Sent, cut_of
+from subtitles.stream.ranges import Beginning, SentPacket, cut_of
 
 SEEDS = range(20)
 Sending = tuple[int, bytes]  # a PTS that does not wrap, and the letters of the page then
@@ -253,9 +253,10 @@ class Cuts(unittest.TestCase):
         for frame in (90, None):
             for within, wanted in ((0, 3), (1, 0)):
                 beginning = Beginning(100, within)
-                for sent in (Sent(0, 90, "heo"), Sent(1, frame, "o"), Sent(2, 90, "ob")):
+                for sent in (SentPacket(0, 90, "heo"), SentPacket(1, frame, "o"),
+                             SentPacket(2, 90, "ob")):
                     beginning.take(sent)
-                self.assertEqual(beginning.find(Sent(3, 100, "heo"), True), wanted, frame)
+                self.assertEqual(beginning.find(SentPacket(3, 100, "heo"), True), wanted, frame)
 
 
 def plain(packets: Packets, frames: Sequence[int], begin: int, end: int,

@@ -13,7 +13,7 @@ SKIPPED = 1 << 31  # ticks of a run that may be skipped: it does not reach aroun
 AFTER = 2  # PES packets in a row after the last frame, with which reading ends
 
 
-class Sent(NamedTuple):
+class SentPacket(NamedTuple):
     """A PES packet: its number, its frame if it has a PTS, and what it does."""
 
     number: int
@@ -90,11 +90,11 @@ class Beginning:
 
     def __init__(self, begin: int, within: int) -> None:
         self.begin, self.within = begin, within
-        self.sending: list[Sent] = []  # the transmission that may go on
+        self.sending: list[SentPacket] = []  # the transmission that may go on
         self.blank: int | None = None  # the first of the last one before it that leaves it blank
         self.is_blank = True
 
-    def take(self, sent: Sent) -> None:
+    def take(self, sent: SentPacket) -> None:
         """Take a PES packet that comes before the range is known to begin."""
         if not (self.within and self.sending and sent.frame in (self.sending[0].frame, None)):
             self.blank, self.sending = self.last_blank(), []
@@ -108,7 +108,7 @@ class Beginning:
             HEADER in sent.does for sent in self.sending)
         return self.sending[0].number if leaves_blank else self.blank
 
-    def find(self, sent: Sent, changes: bool) -> int | None:
+    def find(self, sent: SentPacket, changes: bool) -> int | None:
         """Return the number with which the range begins, if this PES packet tells it."""
         if sent.frame is None or sent.frame < self.begin:
             return None
@@ -129,7 +129,7 @@ class Ending:
         self.number, self.last, self.behind = -1, -1, 0
         self.closed = -1  # the last PES packet that closed the page
 
-    def take(self, sent: Sent, first: int | None) -> bool:
+    def take(self, sent: SentPacket, first: int | None) -> bool:
         """Take one more PES packet, of a range that begins with `first`, if it has begun; return
         whether no later one can be of the range. One behind it alone may have a wrong PTS."""
         frame = sent.frame
@@ -150,7 +150,7 @@ class Ending:
                     self.high = frame if self.has_end and not self.within else self.high
         return False
 
-    def ends(self, sent: Sent, frame: int, first: int) -> bool:
+    def ends(self, sent: SentPacket, frame: int, first: int) -> bool:
         """Return whether the range ends with a PES packet that comes at the last TCO or later."""
         if not self.within:
             return HEADER in sent.does
@@ -158,13 +158,15 @@ class Ending:
         return is_page_over or frame >= self.end + self.within
 
 
-def sent_from(packets: Packets, low: int, high: int, origin: int, within: int) -> Iterator[Sent]:
+def sent_from(packets: Packets, low: int, high: int, origin: int, within: int) \
+        -> Iterator[SentPacket]:
     """Return the PES packets from the first run on of which one may be in some frames."""
     first, last = pts_of(low, origin), pts_of(high, origin)
     for run in itertools.dropwhile(lambda run: is_outside(run, first, last), packets.runs):
         for number in range(run.first, run.end):
             pts = run.pts_of(number)
-            yield Sent(number, None if pts is None else frame_in(pts, origin, within), run.does)
+            frame = None if pts is None else frame_in(pts, origin, within)
+            yield SentPacket(number, frame, run.does)
 
 
 def is_outside(run: Run, low: int, high: int) -> bool:
