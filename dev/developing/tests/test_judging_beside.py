@@ -115,11 +115,11 @@ class Beside(Case):
                               one["character"]) for one in known["faults"]] == [
             (50, 3, "\u0132"), (50, 7, "\u0132"), (78, None, None), (78, None, None)],
             known["faults"])
-        self.must("subtitles", [one["position"] for one in known["subtitles"]] == [
-            1, 2, 4, 5, 6, 8, 9, 10], known["subtitles"])
+        verdicts = ["wrong" if position in (3, 7) else "right" for position in range(1, 11)]
+        found_verdicts = [one["verdict"] for one in known["subtitles"]]
+        self.must("subtitles", found_verdicts == verdicts, found_verdicts)
         rows = list(csv.DictReader(self.read("x.csv").decode().splitlines()))
-        self.must("table", {(one["subtitles_judged"], one["subtitles_refused"]) for one in rows} ==
-                  {("8", "2")}, rows)
+        self.must("table", [one["verdict"] for one in rows] == ["refused", *verdicts], rows)
         words, case = "8 subtitles judged, 2 refused", tree.fromstring(self.read("x.xml"))
         self.must("case", words in "".join(case.itertext()))
         row = row_of_object(known, "one")

@@ -333,20 +333,22 @@ class Said(OfProgramme):
         self.schedule(stl, "two.pes", "--page", "1A9", "--option", "german", "--origin", "4242")
         two, no_end, five = self.path("two.pes"), example("no-end.pes"), example("five-faults.pes")
         faults = b"".join(b"%d warning\n" % number for number in (67, 68, 69, 72, 73))
-        rows: list[tuple[list[str], bytes, str]] = [
+        rows: list[tuple[list[str], bytes, str, str]] = [*((*row, "") for row in (
             ([stl, two, "--page", "1a9", "--option", "german"], b"", "accepted"),
             ([stl, two, "--page", "1a9", "--option", "auto"], b"", "accepted"),
             ([stl, two, "--page", "1a9"], b"", "refused"), ([stl, two], b"", "refused"),
             ([stl, two, "--option", "german"], b"", "not judged"),
             ([HELLO, no_end], b"", "refused"), ([HELLO, no_end, "--complete"], b"", "refused"),
-            ([HELLO, no_end, "--no-complete"], b"", "accepted"),
-            *(([STORY, five, "--every", "25"], text, word) for text, word in (
-                (faults, "waived"), (faults + b"73 error\n", "refused"),
-                (b"67 warning\n", "refused"), (b"others warning\n# no more\n", "waived"),
-                (b"others warning\n72 error\n", "refused")))]
-        for words, text, word in rows:
+            ([HELLO, no_end, "--no-complete"], b"", "accepted"))),
+            *(([STORY, five, "--every", "25"], text, word, last) for text, word, last in (
+                (faults, "waived", "relative, waived: refused 67 "),
+                (faults + b"73 error\n", "refused", "refused 73 "),
+                (b"67 warning\n", "refused", "refused 73 "),
+                (b"others warning\n# no more\n", "waived", "relative, waived: refused 67 "),
+                (b"others warning\n72 error\n", "refused", "refused 72 ")))]
+        for words, text, word, last in rows:
             more = ["--severity", self.write("severity", text)] if text else []
             found = judged(self, *words, *more)
             self.must(f"{words} {text!r}", found.word == word, found.said)
-            first = "waived: " * (word == "waived") + "refused 67 "
-            self.must(f"{words} {text!r}: line", not text or found.said[-1].startswith(first))
+            self.must(f"{words} {text!r}: last line", found.said[-1].startswith(last),
+                      found.said[-1])

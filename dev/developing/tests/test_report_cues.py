@@ -27,7 +27,7 @@ def page(text: bytes) -> Rows:
 class Held20(Held):
     """Pages by the frames from which on they are held, up to frame 1000."""
 
-    last, halt = 1000, None
+    first, last, halt = 0, 1000, None
 
     def __init__(self, *changes: tuple[int, Rows]) -> None:
         super().__init__()

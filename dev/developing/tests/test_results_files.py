@@ -127,7 +127,7 @@ class Written(Case):
             known = self.judge()
         counts = {one.name: len(whole[one.name]) for one in LISTS}
         self.must("none", known["left_out"] == counts and known["fault_count"] == 4, known)
-        size = sum(len(json.dumps(one, ensure_ascii=False)) for name in counts
+        size = sum(len(json.dumps(one, ensure_ascii=False).encode()) for name in counts
                    for one in whole[name])
         for room, left in ((size, 0), (size - 1, 1)):
             with mock.patch.object(files, "MOST_BYTES", room):

@@ -20,7 +20,7 @@ from ..common.markup import HEAD
 from ..common.program import about_program
 from ..formats.listing import count_of, is_line
 from ..judging.causes import count_line
-from ..judging.faults import faults_of, hints_of
+from ..judging.faults import hints_of
 from ..judging.pair import Pair
 from ..judging.status import ACCEPTED, NOT_JUDGED, RELATIVE, Severity
 from ..judging.verdict import Unjudged, Verdict
@@ -438,7 +438,7 @@ class Files:
     def wanted(self, recording: Recording | None) -> list[Output]:
         """What is asked for."""
         call, verdict, names = self.call, self.verdict, self.names
-        wanted = [Output(call.csv, self.table_lines)] if call.csv else []
+        wanted = [Output(call.csv, lambda: results.subtitle_lines(verdict))] if call.csv else []
         wanted += [Output(call.junit, self.testcase)] if call.junit else []
         wanted += self.raw(recording) if names.out else []
         if not call.json and not names.machine:
@@ -479,12 +479,6 @@ class Files:
         lines = (line for part in self.verdict.parts for line in part.answer.lines()
                  if part.answer.count)
         return list(itertools.islice(lines, SUMMED))
-
-    def table_lines(self) -> Iterator[bytes]:
-        """The lines of the CSV file: the names of the columns, the pair, its faults."""
-        return map(str.encode, results.column_lines(itertools.chain(
-            [results.pair_columns(self.verdict)], (results.fault_columns(self.verdict, fault)
-                                                  for fault in faults_of(self.verdict)))))
 
     @staticmethod
     def put(output: Output) -> None:

@@ -1,23 +1,36 @@
-"""Each subtitle of a part: when it was expected, and when a receiver decoded it."""
+"""Each subtitle of a part: when it was expected, when a receiver decoded it, and its verdict."""
 from __future__ import annotations
 
+import functools
+import itertools
 import operator
-from typing import Iterator, NamedTuple
+from typing import Iterator, NamedTuple, Sequence
 
-from ..common.times import Span, pts_of, ticks_between, wrapped
-from ..formats.stl import Subtitle
+from ..common.command_line import counted
+from ..common.shapes import Members
+from ..common.times import Span, joined_spans, pts_of, ticks_between, time_of, wrapped
+from ..formats.listing import BEGIN, FaultLine, STL_FAULTS, WITH_CAUSE
+from ..formats.stl import COMMENT, LAST, NamedSubtitle, Subtitle, SubtitleFile, USER_DATA, \
+    subtitles_read
+from ..formats.teletext import BY_WORD, letters_of
 from ..stream.receiver import BLANK_PAGE, Rows, Timeline
-from .causes import ATTRIBUTE, Cause, EARLY, LATE, OTHER, PLACE, TEXT
-from .pages import SPACE
+from .causes import ATTRIBUTE, Cause, EARLY, LATE, NOT_RECEIVED, OTHER, PLACE, TEXT, UNKNOWN, \
+    Wording
+from .pages import SPACE, page_text
 from .part import Part
+from .status import ACCEPTED, Severity
+from .subtitles import JudgedBeside
 from .transmissions import DuePages
+
+
+# When a receiver had the page of each subtitle.
 
 REPLACED = {TEXT, PLACE, ATTRIBUTE, OTHER}  # causes with another page in place of the expected one
 
 
 class Cue(NamedTuple):
-    """A subtitle with its expected page; the frame at which a receiver began to hold its page, or
-    the page sent in its place, and the first frame after that. `None`: not seen."""
+    """A subtitle with its expected page; the frame at which a receiver decoded this page, or the
+    one sent in its place, and the first frame without it. `None`: not seen."""
 
     subtitle: Subtitle
     expected: Rows
@@ -33,73 +46,200 @@ class Cue(NamedTuple):
 
     @property
     def late_out(self) -> int | None:
-        """The same of the out-cue."""
+        """How many frames late the out-cue is; negative if early."""
         return None if self.end is None else self.end - self.subtitle.end
 
 
 def cues_of(part: Part) -> Iterator[Cue]:
     """Yield the cues of a part in the order of its subtitles."""
     expected, causes = part.due(), part.causes
-    held = causes.held if causes else part.held
+    timeline = causes.held if causes else part.held
     for place, (subtitle, page) in enumerate(zip(expected.subtitles, expected.pages)):
-        cause = causes.named.get(place) if causes else None
-        cue = Cue(subtitle, page, cause)
+        cue = Cue(subtitle, page, causes.named.get(place) if causes else None)
         delay = part.delays[place] if part.delays else 0
-        yield decoded_cue(cue, place, expected, held, delay) if held else cue
+        yield decoded_cue(cue, place, expected, timeline, delay) if timeline else cue
 
 
-def decoded_cue(cue: Cue, place: int, expected: DuePages, held: Timeline,
+def decoded_cue(cue: Cue, place: int, expected: DuePages, timeline: Timeline,
                 delay: int | None) -> Cue:
-    """Return a cue with the times between which a receiver held its page."""
-    number = page_number(cue, held, delay)
-    if number is None and cue.cause:  # whatever its cause, a page that is nearly the expected one
-        numbers = held.numbers(cue.subtitle.begin, cue.subtitle.end)
-        number = next((one for one in numbers
-                       if is_variant(held.pages[one], cue.expected, expected)), None)
+    """Return a cue with the times between which a receiver had its page."""
+    number = page_number(cue, expected, timeline, delay)
     if number is None:
         return cue
-    one, page, (first, last) = cue.subtitle, held.pages[number], held.stretch(number)
-    while last + 1 < one.end and number + 1 < len(held.pages) and is_variant(
-            held.pages[number + 1], page, expected):
+    subtitle, page, (first, last) = cue.subtitle, timeline.pages[number], timeline.stretch(number)
+    while last + 1 < subtitle.end and number + 1 < len(timeline.pages) and is_variant(
+            timeline.pages[number + 1], page, expected):
         number += 1
-        last = held.stretch(number).last
+        last = timeline.stretch(number).last
     before, after = expected.subtitles[place - 1:place], expected.subtitles[place + 1:place + 2]
-    if place and before[0].end == one.begin and expected.pages[place - 1] == page:
-        first = max(first, one.begin)  # the same page twice without a change between
+    begin: int | None = first
+    if place and before[0].end == subtitle.begin and expected.pages[place - 1] == page:
+        begin = max(first, subtitle.begin)  # the same page twice without a change between
+    elif subtitle.begin < first == timeline.first and not (
+            cue.cause and subtitle.begin + (cue.cause.frames or 0) == first):
+        begin = None  # it was there when the recording began
     end: int | None = last + 1
-    if after and after[0].begin == one.end and expected.pages[place + 1] == page:
-        end = min(last + 1, one.end)
-    elif number + 1 == len(held.pages) or last + 1 != one.end and not held.is_seen(
-            min(one.end, last + 1), max(one.end, last + 1)):
+    if after and after[0].begin == subtitle.end and expected.pages[place + 1] == page:
+        end = min(last + 1, subtitle.end)
+    elif number + 1 == len(timeline.pages) or last + 1 != subtitle.end and not timeline.is_seen(
+            min(subtitle.end, last + 1), max(subtitle.end, last + 1)):
         end = None  # it was still there when the recording ended, or that part was lost
-    return cue._replace(decoded=page, begin=first, end=end)
+    return cue._replace(decoded=page, begin=begin, end=end)
+
+
+def page_number(cue: Cue, expected: DuePages, timeline: Timeline, delay: int | None) -> int | None:
+    """Return the number of the decoded page that belongs to a cue, if any was decoded."""
+    cause, (begin, end) = cue.cause, (cue.subtitle.begin, cue.subtitle.end)
+    if cause and cause.name in (LATE, EARLY):
+        frame = begin + (cause.frames or 0) * (1 if cause.name == LATE else -1)
+        number = timeline.number_at(max(frame, timeline.first))
+        return number if number >= 0 else None
+    number = timeline.number_at(max(begin + (delay or 0), min(timeline.first, end - 1)))
+    if number >= 0 and timeline.pages[number] == cue.expected:
+        return number
+    sent = cause.sent if cause and cause.name in REPLACED else None
+    if sent is not None and sent != BLANK_PAGE:
+        frames = [frame for frame in timeline.when.get(sent, ()) if frame < end
+                  and timeline.stretch(timeline.number_at(frame)).last >= begin]
+        if frames:
+            return timeline.number_at(min(frames, key=lambda frame: abs(frame - begin)))
+    return next((number for number in timeline.numbers(begin, end)
+                 if is_variant(timeline.pages[number], cue.expected, expected)), None) \
+        if cause else None
 
 
 def is_variant(page: Rows, decoded: Rows, expected: DuePages) -> bool:
-    """Return whether a page that replaces one before the out-cue is that page once more, damaged or
-    corrected: not the page of another subtitle, and most of its characters are the same."""
+    """Return whether a page is another one once more, damaged or corrected: it is not the page of
+    another subtitle, and most of its characters are the same."""
     if page == decoded or page in expected.by_page:
         return page == decoded
     differing: int = sum(map(operator.ne, b"".join(page), b"".join(decoded)))
     return 2 * differing < sum(code > SPACE for code in b"".join(decoded))
 
 
-def page_number(cue: Cue, held: Timeline, delay: int | None) -> int | None:
-    """Return the number of the decoded page that belongs to a cue, if any was decoded."""
-    cause, begin = cue.cause, cue.subtitle.begin
-    if cause and cause.name in (LATE, EARLY):
-        number = held.number_at(begin + (cause.frames or 0) * (1 if cause.name == LATE else -1))
-        return number if number >= 0 else None
-    number = held.number_at(begin + (delay or 0))
-    if number >= 0 and held.pages[number] == cue.expected:
-        return number
-    sent = cause.sent if cause and cause.name in REPLACED else None
-    if sent is None or sent == BLANK_PAGE:
-        return None
-    frames = [frame for frame in held.when.get(sent, ())
-              if frame < cue.subtitle.end and held.stretch(held.number_at(frame)).last >= begin]
-    return held.number_at(min(frames, key=lambda one: abs(one - begin))) if frames else None
+# The verdict on each subtitle: the one place that decides it, for reports and results.
 
+RIGHT, WRONG, WAIVED, UNSURE = "right", "wrong", "waived", "not known"
+NOT_ALL_RECEIVED = "not received completely"
+
+
+class CueVerdict(NamedTuple):
+    """The verdict on a subtitle, and the reason if it is not right: the words of its cause, the
+    numbers of the other faults at its time, or why nobody knows."""
+
+    word: str
+    cause: str = ""
+    numbers: Sequence[int] = ()
+    unsure: str = ""
+
+
+class CueJudge:
+    """Decide the verdicts on the subtitles of a part."""
+
+    def __init__(self, part: Part, severity: Severity) -> None:
+        self.part, self.severity = part, severity
+        self.wording = Wording(part.causes, part.request.option) if part.causes else None
+        with_cause = WITH_CAUSE if part.causes else set[int]()
+        self.spans = {number: joined_spans([spans]) for number, spans in part.answer.marks.items()
+                      if number not in with_cause | {BEGIN}}
+
+    @functools.cached_property
+    def is_cause_waived(self) -> bool:
+        """Whether the faults that have causes are warnings."""
+        numbers = WITH_CAUSE & self.part.answer.numbers
+        return bool(numbers) and not any(map(self.severity.is_error, numbers))
+
+    def verdict(self, cue: Cue) -> CueVerdict:
+        """Return the verdict on a cue."""
+        begin, end = cue.subtitle.begin, cue.subtitle.end
+        numbers = [number for number, spans in self.spans.items()
+                   if any(True for _ in spans.between(begin, end))]
+        words = self.wording.said(cue.cause, has_text=False) if cue.cause and self.wording else ""
+        if not words and not numbers:
+            unsure = self.missing_words(cue)
+            return CueVerdict(UNSURE if unsure else RIGHT, unsure=unsure)
+        is_waived = not any(map(self.severity.is_error, numbers)) and \
+            (self.is_cause_waived or not words)
+        is_unsure = cue.cause and cue.cause.name in (NOT_RECEIVED, UNKNOWN) and not numbers
+        word = WAIVED if is_waived else UNSURE if is_unsure else WRONG
+        return CueVerdict(word, words, numbers)
+
+    def missing_words(self, cue: Cue) -> str:
+        """Return why nobody knows whether a cue without a fault is right; nothing if it is: a
+        receiver had it, if its part is accepted or `check` trusts all its frames."""
+        begin, end = cue.subtitle.begin, cue.subtitle.end
+        if self.part.answer.verdict == ACCEPTED:
+            is_lost = any(span.first < end and begin <= span.last for span in self.part.losses)
+            return NOT_ALL_RECEIVED if is_lost else ""
+        trusted = sum(min(span.last + 1, end) - max(span.first, begin)
+                      for span in self.part.trusted.between(begin, end))
+        if trusted == end - begin:
+            return ""
+        if cue.begin is None and cue.end is None:
+            return "not received"
+        words = f"{counted(end - begin - trusted, 'frame')} not trusted"
+        return f"{words}: the out-cue is moved" if cue.late_out else words
+
+    def reason(self, verdict: CueVerdict) -> str:
+        """Return the reason of a verdict in words; nothing if it is right."""
+        firsts = self.part.answer.firsts
+        faults = [f"{number} {firsts[number].name}" for number in verdict.numbers]
+        return "; ".join(filter(None, [verdict.cause, *faults, verdict.unsure]))
+
+
+# The subtitles that the subtitle file has wrong, which are not judged.
+
+MOST_REFUSED = 20_000  # faults of a subtitle file that are looked at
+AFTER_IT = "not judged: the next subtitle is refused"
+
+
+class SubtitleFaults(NamedTuple):
+    """The faults of one subtitle of a file; of the GSI block there is no subtitle."""
+
+    subtitle: NamedSubtitle | None
+    faults: Sequence[FaultLine]
+
+    def is_waived(self, severity: Severity) -> bool:
+        """Return whether all of them are warnings."""
+        return not any(severity.is_error(fault.number) for fault in self.faults)
+
+
+def refused_subtitles(part: Part, file: SubtitleFile, beside: JudgedBeside | None) \
+        -> Iterator[SubtitleFaults]:
+    """Yield the refused subtitles of a file, each with its faults; then those without a fault that
+    cannot be judged, since the next one is refused."""
+    left_out = set(beside.left_out) if beside else set[int]()
+    faults = [fault for fault, _ in itertools.islice(part.answer.told(), MOST_REFUSED)
+              if fault.number in STL_FAULTS]
+    for _, several in itertools.groupby(faults, lambda fault: first_block(file, fault)):
+        group = list(several)
+        block = group[0].block
+        subtitle = None if block is None else file.at_block(block)
+        left_out.discard(subtitle.position if subtitle else 0)
+        yield SubtitleFaults(subtitle, group)
+    for position in sorted(left_out):
+        yield SubtitleFaults(file.at_block(file.starts[position - 1]), [])
+
+
+def first_block(file: SubtitleFile, fault: FaultLine) -> int:
+    """Return the first block of the subtitle of a fault."""
+    block = fault.block or 0
+    return file.firsts[block] if block < len(file.firsts) else block
+
+
+def block_text(file: SubtitleFile, block: int) -> bytes:
+    """Return the text of a block's subtitle, as far as there are blocks of it."""
+    first, last = file.firsts[block], block
+    for number in range(block, len(file.firsts)):
+        data = file.block(number)
+        if file.firsts[number] == first and data[3] != USER_DATA and data[15] != COMMENT:
+            last = number
+            if data[3] == LAST:
+                break
+    return file.text(last)
+
+
+# Where a frame is in the recording.
 
 LONGEST = 3600 * 90_000  # ticks: a longer step, or one back, is a jump of the clock
 
@@ -119,16 +259,73 @@ def recording_start(part: Part) -> int | None:
     return None if last is None else wrapped(last - elapsed)
 
 
-def seconds_into(part: Part, start: int | None, frame: int) -> int | None:
-    """Return how many seconds into the recording a frame is."""
+def into_recording(part: Part, start: int | None, frame: int) -> str:
+    """Return how far into the recording a frame is, as H:MM:SS; nothing if it is not known."""
     if start is None or part.origin is None:
-        return None
-    ticks = ticks_between(start, pts_of(frame, part.origin))
-    return ticks // 90_000 if ticks >= 0 else None
+        return ""
+    seconds = ticks_between(start, pts_of(frame, part.origin)) // 90_000
+    return "" if seconds < 0 else f"{seconds // 3600}:{seconds // 60 % 60:02}:{seconds % 60:02}"
 
 
-def blank_free(held: Timeline) -> Iterator[Span]:
-    """Yield the frames during which a page with text was held."""
-    for number, page in enumerate(held.pages):
+def text_spans(timeline: Timeline) -> Iterator[Span]:
+    """Yield the frames during which a receiver had a page with text."""
+    for number, page in enumerate(timeline.pages):
         if page != BLANK_PAGE:
-            yield held.stretch(number)
+            yield timeline.stretch(number)
+
+
+# All subtitles of a part as values for machines.
+
+
+def subtitle_values(part: Part, severity: Severity, beside: JudgedBeside | None) \
+        -> Iterator[Members]:
+    """Yield the subtitles of a part in the order of the file, each with its times and verdict."""
+    rows = [*judged_values(part, severity), *refused_values(part, severity, beside)]
+    yield from sorted(rows, key=lambda row: int(row["position"]))
+
+
+def judged_values(part: Part, severity: Severity) -> Iterator[Members]:
+    """Yield the values of the subtitles that were judged."""
+    judge, option = CueJudge(part, severity), BY_WORD[part.request.option].bits
+    start = recording_start(part)
+    for place, cue in enumerate(cues_of(part)):
+        subtitle, verdict = cue.subtitle, judge.verdict(cue)
+        yield {
+            "part": part.number, "position": subtitle.index, "number": subtitle.number,
+            "into_recording": into_recording(part, start, subtitle.begin) or None,
+            "expected_in": time_of(subtitle.begin), "expected_out": time_of(subtitle.end),
+            "actual_in": None if cue.begin is None else time_of(cue.begin),
+            "actual_out": None if cue.end is None else time_of(cue.end),
+            "late_in": cue.late_in, "late_out": cue.late_out,
+            "text": page_text(cue.expected, option),
+            "decoded": None if cue.decoded is None else page_text(cue.decoded, option),
+            "verdict": verdict.word, "reason": judge.reason(verdict) or None,
+            "whole_after": part.delays[place] if part.delays else None}
+    if part.recording is None and not part.answer.numbers:
+        for subtitle in subtitles_read(part.subtitle_file().data):
+            text = " / ".join(map(letters_of, subtitle.text.split(b"\x8a")))
+            yield file_values(part, NamedSubtitle(
+                subtitle.index, subtitle.number, time_of(subtitle.begin), time_of(subtitle.end)),
+                RIGHT, None, text)
+
+
+def refused_values(part: Part, severity: Severity, beside: JudgedBeside | None) \
+        -> Iterator[Members]:
+    """Yield the values of the subtitles that the subtitle file has wrong."""
+    file = SubtitleFile(part.names.given, part.request.between)
+    for refused in refused_subtitles(part, file, beside):
+        if refused.subtitle and (refused.faults or beside):
+            word = UNSURE if not refused.faults else \
+                WAIVED if refused.is_waived(severity) else WRONG
+            reason = "; ".join(fault.line for fault in refused.faults) or AFTER_IT
+            yield file_values(part, refused.subtitle, word, reason, None)
+
+
+def file_values(part: Part, subtitle: NamedSubtitle, verdict: str, reason: str | None,
+                text: str | None) -> Members:
+    """Return the values of a subtitle of which the file alone is known."""
+    unknown = dict.fromkeys(("into_recording", "actual_in", "actual_out", "late_in", "late_out",
+                             "decoded", "whole_after"))
+    return {"part": part.number, "position": subtitle.position, "number": subtitle.number,
+            "expected_in": subtitle.begin, "expected_out": subtitle.end, "text": text,
+            "verdict": verdict, "reason": reason, **unknown}

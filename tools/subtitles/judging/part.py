@@ -164,14 +164,18 @@ class Part:
         return self.recording.places(self.jumps) if self.recording else []
 
     @functools.cached_property
-    def trusted(self) -> Spans:
-        """The frames that may stay on air. A hole without a mark is seen by who reads the PCR: of
-        its frames nothing is known."""
+    def losses(self) -> list[Span]:
+        """The frames in which packets are missing that have no gap marker, which `check` would
+        report: the PCR alone shows that."""
         if self.alignment is None:
-            return self.answer.trusted
-        holes = [place for place in self.places() if place.mark is None and is_in(place, self)]
-        return self.answer.trusted.without(
-            unseen(holes, self.alignment.origin, self.request.within, False))
+            return []
+        places = [place for place in self.places() if place.mark is None and is_in(place, self)]
+        return [*unseen(places, self.alignment.origin, self.request.within, False)]
+
+    @functools.cached_property
+    def trusted(self) -> Spans:
+        """The frames that may stay on air: of lost ones nothing is known."""
+        return self.answer.trusted.without(self.losses)
 
     def pts(self, does: str = "") -> array.array[int]:
         """The PTS of its PES packets, of those that do something."""

@@ -1,14 +1,12 @@
 """Show the refused subtitles of a subtitle file, with the bytes that are wrong."""
 from __future__ import annotations
 
-import itertools
-from typing import Iterator, NamedTuple
+from typing import Sequence
 
 from ..common.markup import BREAK, Markup, Value, joined, markup
 from ..common.times import frame_of
-from ..formats.listing import FaultLine, STL_FAULTS, number_link
-from ..formats.stl import COMMENT, GSI, LAST, NamedSubtitle, SubtitleFile, USER_DATA
-from ..judging.part import Part
+from ..formats.listing import FaultLine, number_link
+from ..formats.stl import GSI, NamedSubtitle, SubtitleFile
 
 ORDER_FAULTS = {56, 57}  # of the TCI
 BYTE_FAULTS, ROW_FAULTS = (50, 51), range(50, 56)
@@ -17,42 +15,6 @@ FIELDS = {11: ("DFC", slice(3, 11)), 12: ("DFC", slice(3, 11)), 13: ("DSC", slic
           14: ("CCT", slice(12, 14)), 15: ("EBN", slice(3, 4)), 16: ("CS", slice(4, 5)),
           17: ("CF", slice(15, 16)), 18: ("JC", slice(14, 15)), 19: ("VP", slice(13, 14)),
           22: ("SGN and SN", slice(0, 3))}
-MOST_OF_BLOCKS = 20_000  # faults of a subtitle file that are shown
-
-
-class RefusedBlocks(NamedTuple):
-    """The faults of one subtitle of a file; of the GSI block there is no subtitle."""
-
-    subtitle: NamedSubtitle | None
-    faults: list[FaultLine]
-
-
-def refused_blocks(part: Part, file: SubtitleFile) -> Iterator[RefusedBlocks]:
-    """Yield the refused subtitles of a file in order, each with its faults."""
-    faults = [fault for fault, _ in itertools.islice(part.answer.told(), MOST_OF_BLOCKS)
-              if fault.number in STL_FAULTS]
-    for _, several in itertools.groupby(faults, lambda one: first_block(file, one)):
-        group = list(several)
-        block = group[0].block
-        yield RefusedBlocks(None if block is None else file.at_block(block), group)
-
-
-def first_block(file: SubtitleFile, fault: FaultLine) -> int:
-    """Return the first block of the subtitle of a fault."""
-    block = fault.block or 0
-    return file.firsts[block] if block < len(file.firsts) else block
-
-
-def subtitle_text(file: SubtitleFile, block: int) -> bytes:
-    """Return the text of a block's subtitle, as far as there are blocks of it."""
-    first, last = file.firsts[block], block
-    for number in range(block, len(file.firsts)):
-        one = file.block(number)
-        if file.firsts[number] == first and one[3] != USER_DATA and one[15] != COMMENT:
-            last = number
-            if one[3] == LAST:
-                break
-    return file.text(last)
 
 
 def field(file: SubtitleFile, fault: FaultLine) -> Markup:
@@ -69,7 +31,7 @@ def mark(text: Value) -> Markup:
     return markup("<mark>{}</mark>", text)
 
 
-def marked_times(subtitle: NamedSubtitle, faults: list[FaultLine]) -> tuple[Value, Value]:
+def marked_times(subtitle: NamedSubtitle, faults: Sequence[FaultLine]) -> tuple[Value, Value]:
     """Return TCI and TCO of a subtitle, marked if a fault is about them."""
     numbers = {one.number for one in faults}
     is_begin, is_end = (20 in numbers and frame_of(time) is None or 21 in numbers
@@ -78,12 +40,12 @@ def marked_times(subtitle: NamedSubtitle, faults: list[FaultLine]) -> tuple[Valu
             mark(subtitle.end) if is_end else subtitle.end)
 
 
-def fault_lines(file: SubtitleFile, faults: list[FaultLine]) -> Markup:
+def fault_lines(file: SubtitleFile, faults: Sequence[FaultLine]) -> Markup:
     """Return the lines of `check` for some faults, each with its field."""
     return joined((number_link(fault.line) + field(file, fault) for fault in faults), BREAK)
 
 
-def marked_text(text: bytes, faults: list[FaultLine]) -> Markup:
+def marked_text(text: bytes, faults: Sequence[FaultLine]) -> Markup:
     """Return the lines of a text with the byte or the line marked that a fault names."""
     marked = {(one.number in BYTE_FAULTS, one.at) for one in faults if one.number in ROW_FAULTS}
     lines, begin = [], 0

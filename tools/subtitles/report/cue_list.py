@@ -8,25 +8,26 @@ from typing import Collection, Iterable, Iterator, NamedTuple, Sequence
 
 from ..common.command_line import counted
 from ..common.markup import BREAK, Markup, NO_MARKUP, Value, joined, markup
-from ..common.times import frame_of, joined_spans, time_of
-from ..formats.listing import BEGIN, FaultLine, WITH_CAUSE
+from ..common.times import frame_of, time_of
+from ..formats.listing import FaultLine, WITH_CAUSE
 from ..formats.stl import NamedSubtitle, Subtitle, SubtitleFile, subtitles_read
 from ..formats.teletext import BY_WORD, letters_of
-from ..judging.causes import (
-    Cause, IN_PAUSE, LATE, NAMES, NOT_RECEIVED, UNKNOWN, Wording)
-from ..judging.cues import Cue, cues_of, recording_start, seconds_into
+from ..judging.causes import Cause, IN_PAUSE, LATE, NAMES
+from ..judging.cues import (
+    AFTER_IT, Cue, CueJudge, CueVerdict, RIGHT, UNSURE, WAIVED, WRONG, block_text, cues_of,
+    into_recording, recording_start, refused_subtitles)
 from ..judging.pages import page_text
 from ..judging.part import Part
 from ..judging.sentence import OF_CAUSE, of_one, of_several, rank_of
 from ..judging.status import Severity
 from ..judging.subtitles import JudgedBeside
-from .blocks import fault_lines, marked_text, marked_times, refused_blocks, subtitle_text
+from .blocks import fault_lines, marked_text, marked_times
 
 COLUMNS = ("No.", "Into recording", "Expected in", "Expected out", "Actual in", "Actual out",
-           "Late by (frames)", "Text", "Verdict")
+           "Frames late (in / out)", "Text", "Verdict")
 MOST_PRINTED = 200  # rows on paper
 MOST_BARS = 12  # differences of the histogram
-RIGHT, WAIVED, BAD, UNSEEN = "ok", "waived", "bad", "unseen"  # classes of rows
+LOOKS = {RIGHT: "ok", WAIVED: "waived", WRONG: "bad", UNSURE: "unseen"}  # classes of rows
 
 
 class Kind(NamedTuple):
@@ -38,28 +39,23 @@ class Kind(NamedTuple):
 
 
 class CueRow(NamedTuple):
-    """A row of the list: its place and its class, its kinds, and what it says."""
+    """A row of the list: its place and its class, its kinds of fault, and its cells."""
 
     position: int
-    grade: str
+    look: str
     kinds: Sequence[str]
     cells: Sequence[Value]
     is_again: bool = False  # equal to the row before it, so that paper needs only one
 
 
 class CueList:
-    """The cues of a part, each with its kinds of fault."""
+    """The subtitles of a part, each with its kinds of fault."""
 
     def __init__(self, part: Part, severity: Severity, beside: JudgedBeside | None) -> None:
         self.part, self.severity, self.beside = part, severity, beside
         self.option = BY_WORD[part.request.option].bits
-        self.start = recording_start(part)
-        self.causes = part.causes
-        self.wording = Wording(part.causes, part.request.option) if part.causes else None
-        self.cues = [*cues_of(part)]
-        caused = WITH_CAUSE if part.causes else set[int]()
-        self.marks = {number: joined_spans([spans]) for number, spans in part.answer.marks.items()
-                      if number not in caused | {BEGIN}}
+        self.start, self.causes = recording_start(part), part.causes
+        self.judge, self.cues = CueJudge(part, severity), [*cues_of(part)]
         self.rows = sorted([*self.judged_rows(), *self.refused_rows()],
                            key=lambda row: row.position)
         self.counts = collections.Counter(key for row in self.rows for key in row.kinds)
@@ -78,59 +74,37 @@ class CueList:
         """Yield the rows of the subtitles that were judged."""
         last: object = None
         for cue in self.cues:
-            grade, kinds, words = self.verdict_of(cue)
+            verdict = self.judge.verdict(cue)
+            kinds = [*([cause_key(cue.cause)] if cue.cause else []),
+                     *(f"n{number}" for number in verdict.numbers)]
             again = cue.cause and (cue.cause.name, cue.cause.frames, tuple(kinds))
-            yield CueRow(cue.subtitle.index, grade, kinds, self.cells(cue, words),
-                      bool(again) and again == last)
+            yield CueRow(cue.subtitle.index, LOOKS[verdict.word], kinds,
+                         self.cells(cue, verdict), bool(again) and again == last)
             last = again
-        if not self.cues and self.part.recording is None and not self.part.answer.numbers:
-            for one in subtitles_read(self.file.data):
-                text = joined(map(letters_of, one.text.split(b"\x8a")), BREAK)
-                yield CueRow(one.index, RIGHT, (), [
-                    number_cell(one.index, one.number), "", time_of(one.begin), time_of(one.end),
-                    "", "", "", text, "right"])
+        if self.part.recording is None and not self.part.answer.numbers:
+            for subtitle in subtitles_read(self.file.data):
+                text = joined(map(letters_of, subtitle.text.split(b"\x8a")), BREAK)
+                yield CueRow(subtitle.index, LOOKS[RIGHT], (), [
+                    number_cell(subtitle.index, subtitle.number), "", time_of(subtitle.begin),
+                    time_of(subtitle.end), "", "", "", text, RIGHT])
 
-    def verdict_of(self, cue: Cue) -> tuple[str, list[str], Value]:
-        """Return the class of a cue's row, its kinds, and its verdict with the reason."""
-        subtitle, cause = cue.subtitle, cue.cause
-        words: list[Value] = []
-        if cause and self.wording:
-            words.append(self.wording.said(cause, has_text=False))
-        numbers = [number for number, spans in self.marks.items()
-                   if any(True for _ in spans.between(subtitle.begin, subtitle.end))]
-        words += [markup('<a href="#n{}">{} {}</a>', number, number, self.name_of(number))
-                  for number in numbers]
-        kinds = [*([cause_key(cause)] if cause else []), *(f"n{number}" for number in numbers)]
-        if not kinds:
-            return self.without_fault(cue)
-        if all(kind.is_waived for kind in self.kinds if kind.key in kinds):
-            return WAIVED, kinds, markup("waived: {}", joined(words, "; "))
-        is_unseen = cause and cause.name in (NOT_RECEIVED, UNKNOWN) and not numbers
-        return UNSEEN if is_unseen else BAD, kinds, joined(words, "; ")
-
-    def without_fault(self, cue: Cue) -> tuple[str, list[str], Value]:
-        """Return the same of a cue without a fault: it is right if its part was accepted, or if
-        `check` calls all its frames trusted. Otherwise nobody knows."""
-        begin, end = cue.subtitle.begin, cue.subtitle.end
-        if not self.part.answer.count:
-            return RIGHT, [], "right"
-        trusted = sum(min(last + 1, end) - max(first, begin)
-                      for first, last in self.part.trusted.between(begin, end))
-        if trusted == end - begin:
-            return RIGHT, [], "right"
-        if cue.begin is None:
-            return UNSEEN, [], "not received"
-        words = f"{counted(end - begin - trusted, 'frame')} of it not trusted"
-        return UNSEEN, [], f"{words}: the out-cue is moved" if cue.late_out else words
-
-    def cells(self, cue: Cue, verdict: Value) -> list[Value]:
+    def cells(self, cue: Cue, verdict: CueVerdict) -> list[Value]:
         """Return the cells of a cue's row."""
-        one, late = cue.subtitle, [signed(cue.late_in), signed(cue.late_out)]
-        return [number_cell(one.index, one.number), self.into(one.begin), time_of(one.begin),
-                time_of(one.end), shown_time(cue.begin, cue.late_in),
-                shown_time(cue.end, cue.late_out),
-                late[0] if late[0] == late[1] else " / ".join(one or "-" for one in late),
-                self.text_cell(cue), verdict]
+        subtitle, late = cue.subtitle, [signed(cue.late_in), signed(cue.late_out)]
+        return [number_cell(subtitle.index, subtitle.number), self.into(subtitle.begin),
+                time_of(subtitle.begin), time_of(subtitle.end),
+                shown_time(cue.begin, cue.late_in), shown_time(cue.end, cue.late_out),
+                late[0] if late[0] == late[1] else " / ".join(frames or "-" for frames in late),
+                self.text_cell(cue), self.verdict_cell(verdict)]
+
+    def verdict_cell(self, verdict: CueVerdict) -> Value:
+        """Return a verdict with its reason; its numbers lead to the table of faults."""
+        firsts = self.part.answer.firsts
+        links = [markup('<a href="#n{}">{} {}</a>', number, number, firsts[number].name)
+                 for number in verdict.numbers]
+        words = joined(filter(None, [verdict.cause, *links, verdict.unsure]), "; ")
+        return RIGHT if verdict.word == RIGHT else \
+            markup("{}: {}", WAIVED, words) if verdict.word == WAIVED else words
 
     def text_cell(self, cue: Cue) -> Value:
         """Return the expected text, and the decoded one if it differs, with marks."""
@@ -143,35 +117,29 @@ class CueList:
 
     def refused_rows(self) -> Iterator[CueRow]:
         """Yield the rows of subtitles that the subtitle file has wrong, or that depend on one."""
-        left = set(self.beside.left_out) if self.beside else set[int]()
-        for subtitle, faults in refused_blocks(self.part, self.file):
-            if subtitle and faults[0].block:
-                left.discard(subtitle.position)
-                text = marked_text(subtitle_text(self.file, faults[0].block), faults)
-                waived = all(not self.severity.is_error(one.number) for one in faults)
-                kinds = dict.fromkeys(f"n{one.number}" for one in faults)
+        for refused in refused_subtitles(self.part, self.file, self.beside):
+            subtitle, faults = refused
+            if subtitle and faults and faults[0].block:
+                text = marked_text(block_text(self.file, faults[0].block), faults)
+                look = LOOKS[WAIVED if refused.is_waived(self.severity) else WRONG]
+                kinds = [*dict.fromkeys(f"n{fault.number}" for fault in faults)]
                 yield self.file_row(subtitle, marked_times(subtitle, faults), text,
-                                    fault_lines(self.file, faults), WAIVED if waived else BAD,
-                                    [*kinds])
-        for position in sorted(left):
-            one = self.file.at_block(self.file.starts[position - 1])
-            if one:
-                yield self.file_row(one, (one.begin, one.end), "", "not judged: the next subtitle "
-                                    "is refused", UNSEEN, [])
+                                    fault_lines(self.file, faults), look, kinds)
+            elif subtitle and not faults:
+                yield self.file_row(subtitle, (subtitle.begin, subtitle.end), "", AFTER_IT,
+                                    LOOKS[UNSURE], [])
 
-    def file_row(self, one: NamedSubtitle, times: tuple[Value, Value], text: Value,
-                 verdict: Value, grade: str, kinds: Sequence[str]) -> CueRow:
+    def file_row(self, subtitle: NamedSubtitle, times: tuple[Value, Value], text: Value,
+                 verdict: Value, look: str, kinds: Sequence[str]) -> CueRow:
         """Return the row of a subtitle of which the file alone is known."""
-        begin = frame_of(one.begin)
-        return CueRow(one.position, grade, kinds, [
-            number_cell(one.position, one.number), "" if begin is None else self.into(begin),
-            *times, "", "", "", text, verdict])
+        begin = frame_of(subtitle.begin)
+        return CueRow(subtitle.position, look, kinds, [
+            number_cell(subtitle.position, subtitle.number),
+            "" if begin is None else self.into(begin), *times, "", "", "", text, verdict])
 
     def into(self, frame: int) -> str:
-        """Return the time into the recording as H:MM:SS."""
-        seconds = seconds_into(self.part, self.start, frame)
-        return "" if seconds is None else \
-            f"{seconds // 3600}:{seconds // 60 % 60:02}:{seconds % 60:02}"
+        """Return how far into the recording a frame is."""
+        return into_recording(self.part, self.start, frame)
 
     # The kinds of fault.
 
@@ -182,8 +150,7 @@ class CueList:
     @functools.cached_property
     def kinds(self) -> list[Kind]:
         """The kinds of fault of a part, the worst first."""
-        edges = WITH_CAUSE & self.part.answer.numbers
-        is_waived = bool(edges) and not any(map(self.severity.is_error, edges))
+        is_waived = self.judge.is_cause_waived
         names = {cause.name for cause in self.causes.all()} if self.causes else set[str]()
         ranked = [(OF_CAUSE[name], Kind(name_key(name), name, is_waived)) for name in names]
         ranked += [(rank_of(number), Kind(f"n{number}", f"{number} {self.name_of(number)}",
@@ -241,18 +208,18 @@ class CueList:
         """Return the list of all subtitles."""
         number = self.part.number
         heads = joined(markup('<th scope="col">{}</th>', name) for name in COLUMNS)
-        wrong = sum(row.grade != RIGHT for row in self.rows)
+        wrong = sum(row.look != LOOKS[RIGHT] for row in self.rows)
         hidden = len(self.rows) - wrong, max(wrong - MOST_PRINTED, 0)
         printed = 0
         rows = []
         for row in self.rows:
-            printed += row.grade != RIGHT and not row.is_again
-            classes = [row.grade, *row.kinds, *["again"] * row.is_again,
+            printed += row.look != LOOKS[RIGHT] and not row.is_again
+            classes = [row.look, *row.kinds, *["again"] * row.is_again,
                        *["more"] * (printed > MOST_PRINTED)]
             cells = joined(markup("<td>{}</td>", cell) for cell in row.cells[1:])
             rows.append(markup('<tr id="s{}" class="{}"><th scope="row">{}</th>{}</tr>',
                                row.position, " ".join(classes), row.cells[0], cells))
-        choices = [("all", "all", len(self.rows)), (BAD, "not right", wrong)]
+        choices = [("all", "all", len(self.rows)), (LOOKS[WRONG], "not right", wrong)]
         choices += [(kind.key, kind.name, self.counts[kind.key]) for kind in self.kinds
                     if self.counts[kind.key]]
         radios = joined(
@@ -270,10 +237,8 @@ class CueList:
 
     def caption(self) -> str:
         """Return what the columns mean."""
-        grades = collections.Counter(row.grade for row in self.rows)
-        counts = ", ".join(f"{grades[grade]:,} {name}" for grade, name in (
-            (RIGHT, "right"), (BAD, "wrong"), (WAIVED, "waived"), (UNSEEN, "not known"))
-                           if grades[grade])
+        looks = collections.Counter(row.look for row in self.rows)
+        counts = ", ".join(f"{looks[look]:,} {word}" for word, look in LOOKS.items() if looks[look])
         words = f"{counted(len(self.rows), 'subtitle')}: {counts}. Expected: TCI and TCO. " \
             "Actual: the first frame at whose end a receiver has the page, and the first without."
         return words + " Into recording: counted from its first PCR." * (self.start is not None)

@@ -217,8 +217,9 @@ class PartView:
                 if left else NO_MARKUP
             waived = "" if self.verdict.severity.is_error(number) else " (waived)"
             rows.append(markup(
-                '<tr id="n{}"><th scope="row">{} {}{}</th><td>{:,}</td><td>{}</td><td>{}</td><td>'
-                "<details><summary>means, do, places</summary>{}<ol>{}</ol></details></td></tr>",
+                '<tr id="n{}"><th scope="row">{} {}{}</th><td data-name="Faults">{:,}</td><td '
+                'data-name="First">{}</td><td data-name="Into recording">{}</td><td><details>'
+                "<summary>means, do, places</summary>{}<ol>{}</ol></details></td></tr>",
                 number, number, first.name, waived, count, fault_place(self.part, first),
                 "" if frame is None else self.list.into(frame), more, told))
         return markup(

@@ -11,7 +11,7 @@ from typing import Any, Callable, Iterable, Iterator, NamedTuple, TypeVar
 from ..common.command_line import counted
 from ..common.markup import Markup, NO_MARKUP, joined, markup
 from ..formats.teletext import NEWSFLASH, SUBTITLE, has_bit, letters
-from ..stream.receiver import HIT, OLD, Rows, State, national_option
+from ..stream.receiver import BLANK_PAGE, HIT, OLD, Rows, State, national_option
 
 
 # A page as Teletext level 1 draws it (EN 300 706, 12.2), as SVG with its text in it.
@@ -221,12 +221,15 @@ def differences(due: Rows, held: Rows) -> list[Place]:
 
 # A pair of pictures: the expected page, and the one that a receiver decoded.
 
+NO_TEXT = "no text"
+
 
 def pictured(time: str, expected: Rows, header: bytes, state: State | None) -> Markup:
     """Draw the expected page and the decoded one at the end of a frame."""
     decoded = state.rows if state and state.is_heard else None
     cut = cut_of([expected, decoded] if decoded else [expected])
-    left = figure(f"Expected at {time}", "", picture(expected, header, cut))
+    left = figure(f"Expected at {time}", NO_TEXT * (expected == BLANK_PAGE),
+                  picture(expected, header, cut))
     if state is None or decoded is None or state.header is None:
         why = "not known" if state is None else "nothing received yet"
         return markup('<div class="pictures">{}{}</div>', left, figure(
@@ -234,6 +237,7 @@ def pictured(time: str, expected: Rows, header: bytes, state: State | None) -> M
     different = differences(expected, decoded)
     words = [f"{counted(len(different), 'cell')} differ{'s' * (len(different) == 1)}"
              if different else "no cell differs"]
+    words += [NO_TEXT] * (decoded == BLANK_PAGE)
     words += [] if is_boxed(state.header) else ["C5 and C6 are clear: the whole page is shown"]
     marks = set(b"".join(decoded))
     words += ["dotted: never sent"] * (OLD in marks) + ["dashed: even parity"] * (HIT in marks)

@@ -5,7 +5,7 @@ from typing import Iterable, Iterator
 
 from ..common.markup import Markup, NO_MARKUP, Value, joined, markup
 from ..common.times import FRAMES_A_SECOND, Span, time_of
-from ..judging.cues import Cue, blank_free
+from ..judging.cues import Cue, text_spans
 from ..stream.receiver import Timeline
 from .cue_list import CueList, cause_key
 
@@ -15,6 +15,7 @@ MINUTE = 60 * FRAMES_A_SECOND
 STEPS = [seconds * FRAMES_A_SECOND for seconds in (1, 2, 5, 10, 30)] + [
     minutes * MINUTE for minutes in (1, 2, 5, 10, 30, 60, 120, 240)]
 MOST_WORDS = 10  # times below the lanes
+EDGE = 8  # percent: a time so near to an end of the lanes is written inside of them
 
 
 class Lanes:
@@ -39,7 +40,7 @@ class Lanes:
                                                     for one in self.cues.cues))]
         if self.held:
             lanes.append(self.lane("received", "Decoded", (
-                (span.first, span.last + 1) for span in blank_free(self.held))))
+                (span.first, span.last + 1) for span in text_spans(self.held))))
         lanes += self.fault_lanes()
         if self.lost:
             lanes.append(self.lane("fault", "not recorded", (
@@ -54,7 +55,7 @@ class Lanes:
         for cue in self.cues.cues:
             if cue.cause:
                 places[cause_key(cue.cause)].append(around(cue))
-        for number, spans in self.cues.marks.items():
+        for number, spans in self.cues.judge.spans.items():
             places[f"n{number}"] += [(span.first, span.last + 1) for span in spans]
         for kind in self.cues.kinds:
             if places[kind.key]:
@@ -88,8 +89,10 @@ class Lanes:
         for frame in range(-(-self.begin // step) * step, self.end - length // 30, step):
             short = time_of(frame)[:5] if step >= MINUTE else time_of(frame)[3:8]
             one = next((one for one in begins if one.begin >= frame), None)
-            words.append(markup('<a href="#s{}" style="left:{:.4g}%">{}</a>', one.index,
-                                self.x(frame) / 10, short) if one else NO_MARKUP)
+            place = self.x(frame) / 10
+            edge = "first" if place < EDGE else "last" if place > 100 - EDGE else "inner"
+            words.append(markup('<a class="{}" href="#s{}" style="left:{:.4g}%">{}</a>', edge,
+                                one.index, place, short) if one else NO_MARKUP)
         return markup('<div class="axis"><div>{}</div></div>', joined(words))
 
 

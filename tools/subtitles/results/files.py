@@ -16,12 +16,12 @@ from ..common.command_line import Stop, error_line, shown_lines
 from ..common.files import bounded_bytes, first_bytes, is_replaced, result_file
 from ..common.program import MadeWith
 from ..common.shapes import Listed, Member, Members
-from ..judging.part import Part
 from ..judging.status import ACCEPTED, NOT_JUDGED, RELATIVE, STATUSES, is_of_call
 from ..judging.subtitles import Counts
 from ..judging.verdict import Verdict
 from ..request.request import Request
-from .schema import ASKED, FORMAT, LEFT_OUT, LISTS, NO_PAIR, VERDICT, Writing, misfit
+from .schema import (
+    ASKED, CUE, FORMAT, LEFT_OUT, LISTS, NO_PAIR, VERDICT, Writing, misfit, subtitle_rows)
 
 
 # A verdict as one JSON object, made by the table of results and written a piece after another:
@@ -267,7 +267,8 @@ def is_current(known: dict[str, Any], asked: Request, program: MadeWith) -> bool
         and known["program"]["version"] == program.version
 
 
-# Pairs and their faults as lines of CSV: one for each pair, then one for each of its faults.
+# Many pairs and their faults as lines of CSV: one for each pair, then one for each of its faults. Of
+# one pair: a line for the pair, then one for each subtitle.
 
 OF_FAULT = ["part", "number", "name", "severity", "file", "block", "subtitle", "begin", "end",
             "byte", "character", "pes", "pes_time", "packet", "frame", "time", "row", "column",
@@ -280,6 +281,7 @@ FORMULA = ("=", "+", "-", "@", "\t", "\r")  # with which a formula may begin
 COUNTS = {"subtitles_judged": "judged", "subtitles_refused": "refused"}
 COLUMNS = ["stl", "recording", *OF_FAULT, *OF_PAIR, *OF_CAUSE, *PLACES, "sentence", *OF_JUDGED,
            *COUNTS]
+OF_SUBTITLE = ["stl", "recording", *(member.name for member in CUE.members)]
 
 Known = dict[str, object]  # the columns that there is something to say of
 
@@ -292,25 +294,9 @@ def cell_words(cell: Members | None) -> str:
     return f"{code} {cell['character']}" if cell["character"] else code
 
 
-def pair_columns(verdict: Verdict) -> Known:
-    """The columns of a pair, which its faults have too; `line` is that of the verdict."""
-    return {"stl": verdict.request.stl, "recording": verdict.request.recording,
-            "verdict": verdict.word, "status": verdict.status, "reason": verdict.why_not,
-            "line": verdict.line, "sentence": verdict.sentence,
-            **count_columns(verdict.counts and verdict.counts._asdict()),
-            **part_columns([*map(part_words, verdict.parts)], None)}
-
-
 def count_columns(counts: dict[str, Any] | None) -> Known:
     """The columns of how many subtitles were judged, and how many are refused."""
     return {column: counts[name] for column, name in COUNTS.items()} if counts else {}
-
-
-def part_words(part: Part) -> dict[str, Any]:
-    """What is judged of the recording with a part, as its object has it."""
-    pid, packet_size = part.stream or (None, None)
-    return {"part": part.number, "pid": pid, "packet_size": packet_size,
-            "pes": part.pes_name}
 
 
 def part_columns(parts: Sequence[dict[str, Any]], number: int | None) -> Known:
@@ -334,11 +320,6 @@ def of_object(known: dict[str, Any]) -> Known:
             **count_columns(known["subtitle_counts"]), **part_columns(known["parts"], None)}
 
 
-def fault_columns(verdict: Verdict, fault: Members) -> Known:
-    """The columns of a fault."""
-    return with_fault(pair_columns(verdict), [*map(part_words, verdict.parts)], fault)
-
-
 def with_fault(pair: Known, parts: Sequence[dict[str, Any]], fault: Members) -> Known:
     """The columns of a fault of a pair with these parts."""
     subtitle, cause = fault["subtitle"], fault["cause"]
@@ -357,14 +338,23 @@ def with_fault(pair: Known, parts: Sequence[dict[str, Any]], fault: Members) -> 
     return known
 
 
-def column_lines(rows: Iterable[Known]) -> Iterator[str]:
-    """The names of the columns, then a line for each row, in which a column is empty where it does
-    not apply."""
+def subtitle_lines(verdict: Verdict) -> Iterator[bytes]:
+    """Yield the lines of one pair: its verdict with the sentence, then each subtitle."""
+    files: Known = {"stl": verdict.request.stl, "recording": verdict.request.recording}
+    pair: Known = {**files, "verdict": verdict.word,
+                   "reason": verdict.why_not or verdict.sentence}
+    rows = ({**files, **row} for row in subtitle_rows(verdict))
+    return map(str.encode, column_lines(itertools.chain([pair], rows), OF_SUBTITLE))
+
+
+def column_lines(rows: Iterable[Known], columns: Sequence[str]) -> Iterator[str]:
+    """Yield the names of the columns, then a line for each row, in which a column is empty if it
+    does not apply."""
     text = io.StringIO()
     writer = csv.writer(text, lineterminator="\n")
     values: Iterator[list[object]] = (
-        [said(known.get(name)) for name in COLUMNS] for known in rows)
-    head: list[object] = [*COLUMNS]
+        [said(known.get(name)) for name in columns] for known in rows)
+    head: list[object] = [*columns]
     for line in itertools.chain([head], values):
         writer.writerow(["" if one is None else one for one in line])
         yield text.getvalue()
@@ -384,7 +374,7 @@ def said(value: object) -> object:
 def table_lines(objects: Iterable[dict[str, Any]]) -> Iterator[bytes]:
     """The lines of many pairs and of their faults, by their objects, under one head."""
     rows = (row for known in objects for row in column_rows(known))
-    return (line.encode() for line in column_lines(rows))
+    return map(str.encode, column_lines(rows, COLUMNS))
 
 
 def column_rows(known: dict[str, Any]) -> Iterator[Known]:

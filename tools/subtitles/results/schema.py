@@ -11,7 +11,8 @@ from ..common.shapes import (
     Rules, SUM, Schema, TIME, Text, definitions, named)
 from ..common.times import FRAMES_OF_A_DAY, time_of
 from ..judging.causes import NAMES, Wording, counts_of
-from ..judging.faults import faults_of, words_of_subtitle
+from ..judging.cues import RIGHT, UNSURE, WAIVED, WRONG, subtitle_values
+from ..judging.faults import faults_of
 from ..judging.part import Part
 from ..judging.status import ACCEPTED, NOT_JUDGED, POSSIBLE, RELATIVE, STATUSES, WAIVED
 from ..judging.verdict import Verdict
@@ -209,13 +210,28 @@ WARNING = Record(
 
 TRUSTED = Record("trusted", "", Member("part", PART), Member("from", TIME), Member("to", TIME))
 
-WHOLE = Record(
-    "whole", "A subtitle, and when its page was whole.",
+LATE_BY = Maybe(Integer(-FRAMES_OF_A_DAY, FRAMES_OF_A_DAY))
+CUE = Record(
+    "cue", "A subtitle of the file: when it was expected, when a receiver had it, and its verdict.",
     Member("part", PART),
-    Member("position", Integer(1, MOST_NUMBER)),
+    Member("position", Integer(1, MOST_NUMBER), "Its place in the file, from 1."),
     Member("number", Integer(0, 65535)),
-    Member("begin", TIME),
-    Member("end", TIME),
+    Member("into_recording", Maybe(Text(r"[0-9]+:[0-9]{2}:[0-9]{2}")), "How far into the recording "
+           "its TCI is, in hours, minutes and seconds."),
+    Member("expected_in", CODE_TIME, "TCI."),
+    Member("expected_out", CODE_TIME, "TCO."),
+    Member("actual_in", Maybe(TIME), "The first frame at whose end a receiver has the page, or the "
+           "one that was sent in its place; null: not seen."),
+    Member("actual_out", Maybe(TIME), "The first frame at whose end it has this page no more."),
+    Member("late_in", LATE_BY, "By how many frames the in-cue is late; negative: early."),
+    Member("late_out", LATE_BY),
+    Member("text", Maybe(Text()), "The expected text, its rows joined by a slash; null of a "
+           "subtitle that the file has wrong."),
+    Member("decoded", Maybe(Text()), "The text that a receiver has."),
+    Member("verdict", OneOf(RIGHT, WRONG, WAIVED, UNSURE), "right: check accepts its part, or "
+           "trusts all its frames. waived: its faults are warnings. not known: not all of it was "
+           "received, or it cannot be judged."),
+    Member("reason", Maybe(Text()), "Why it is not right."),
     Member("whole_after", Maybe(COUNT), "How many frames after its TCI its page was whole, and "
            "where complete pages are asked for ended; null where it never was while it was due, or "
            "nobody saw it: of one too that was due before the recording has anything of the page."))
@@ -280,12 +296,10 @@ def cause_rows(known: Writing) -> Iterator[dict[str, Value]]:
                 yield {"part": part.number, **wording.values(cause)}
 
 
-def subtitle_rows(known: Writing) -> Iterator[dict[str, Value]]:
-    """The subtitles of all parts, each with the number of frames after which it was whole."""
-    for part in known.verdict.parts:
-        if part.delays:
-            for one, frames in zip(part.subtitle_file().all(), part.delays):
-                yield {"part": part.number, **words_of_subtitle(one), "whole_after": frames}
+def subtitle_rows(verdict: Verdict) -> Iterator[dict[str, Value]]:
+    """Yield the subtitles of all parts, unless nothing is judged."""
+    for part in verdict.parts if verdict.word != NOT_JUDGED else ():
+        yield from subtitle_values(part, verdict.severity, verdict.beside)
 
 
 def total(numbers: list[int | None]) -> int | None:
@@ -351,8 +365,9 @@ LISTS = (
     Member("causes", Listed(LISTED_CAUSE, MOST_LISTED), "Of each subtitle whose content is refused "
            "(72) one cause, in the order of the subtitles; of the first one that is 63 and the "
            "last one that is 74 too, where the recording goes on there.", cause_rows),
-    Member("subtitles", Listed(WHOLE, MOST_SUBTITLES),
-           "The subtitles of what was judged to its end.", subtitle_rows))
+    Member("subtitles", Listed(CUE, MOST_SUBTITLES), "All subtitles, those that the file has wrong "
+           "too. Faults between subtitles are no fault of one.",
+           lambda known: subtitle_rows(known.verdict)))
 LEFT_OUT = Record("left_out", "How many items of each list are left out, since there are so "
                   "many.", *(
     Member(one.name, COUNT) for one in LISTS))
