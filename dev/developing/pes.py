@@ -4,8 +4,9 @@ from __future__ import annotations
 from typing import Iterable, Iterator, Protocol, Sequence
 
 from subtitles.common.files import Damaged
-from subtitles.formats.teletext import CODE_WORDS, HEAD, NUMBER, START, begins_in, is_odd
+from subtitles.formats.teletext import CODE_WORDS, NUMBER, START, is_odd
 
+HEAD = 6  # bytes of a PES packet up to its length and with it
 FIRST_LINE = 7
 UNIT = 46  # bytes of a data unit
 DATA = 46  # where those that `subttx` writes begin: after 45 bytes and the data_identifier
@@ -93,6 +94,17 @@ def pes_packet(pts: int, packets: Sequence[bytes]) -> bytes:
     for line, one in enumerate(packets, FIRST_LINE):
         made += bytes([3, 0x2C, 0xE0 | line, 0xE4]) + mirrored(one)
     return made + STUFFING_UNIT * (4 * blocks - 1 - len(packets))
+
+
+def begins_in(data: bytes) -> list[int]:
+    """Return where the PES packets begin with which some bytes do, and where the last one ends."""
+    begins = [0]
+    while data.startswith(START, begins[-1]) and len(data) - begins[-1] >= HEAD:
+        length = HEAD + int.from_bytes(data[begins[-1] + 4:begins[-1] + HEAD], "big")
+        if begins[-1] + length > len(data):
+            break
+        begins.append(begins[-1] + length)
+    return begins
 
 
 def whole_in(data: bytes) -> list[bytes]:

@@ -6,9 +6,7 @@ import sys
 
 from subtitles.common.program import TOP
 from subtitles.formats.stl import GSI, NEW_LINE
-from subtitles.formats.teletext import begins_in
-
-from .pes import DATA, UNIT
+from .pes import DATA, UNIT, begins_in
 from .stl import boxed, tti_block
 from .trial import Trial, read
 

@@ -18,7 +18,7 @@ from subtitles.clock.stretches import Stretch
 from subtitles.common.times import CLOCK, FRAMES_OF_A_DAY, TICKS
 from subtitles.request.request import ORIGIN_CHOICE, Selection, Unclear
 from subtitles.stream.packets import Change, Mark, Packets, Run
-from subtitles.stream.receiver import control_text, national_option, printed_rows
+from subtitles.stream.receiver import national_option
 from subtitles.stream.survey import Survey
 from .judged import OfProgramme
 from .muxed import HEVC, H_264, MPEG_2
@@ -467,18 +467,7 @@ class Pages(OfProgramme):
                   causes[0].endswith("it stays for 20 frames, up to subtitle 4, which is the same"),
                   causes)
 
-    def test_words(self) -> None:
-        """Control bits and rows as they are printed."""
-        for header, words, option in (
-                ([8, 8, 0, 8, 0, 8, 1, 0], "C4 C6 C7", 0), ([0] * 8, "none", 0),
-                ([8, 8, 0, 0, 0, 4, 8, 15], "C5 C10 C11 C12 C13 C14", 7),
-                ([8, 8, 0, 0, 0, 0, 0, 8], "C14", 4), ([8, 8, 0, 0, 0, 0, 0, 1], "C11", 0)):
-            self.must(words, control_text(bytes(header)) == words and
-                      national_option(bytes(header)) == option,
-                      (control_text(bytes(header)), national_option(bytes(header))))
-        rows = {1: b"\x0b\x0bHi\x7f~", 6: b"\xa0" * 40, 7: b"a\xa0b", 24: b"\xbf" * 40}
-        shown = printed_rows(tuple(rows.get(at, b"").ljust(40) for at in range(1, 25)))
-        self.must("rows", shown == [
-            f"row {at:02} |{text.ljust(40)}|" for at, text in (
-                (1, "..Hi.~"), (7, "a b"), (24, "?" * 40))])
-        self.must("blank", printed_rows((b" " * 40, b"\xa0" * 40)) == ["blank"])
+    def test_national_option_is_c12_to_c14(self) -> None:
+        for header, option in (([8, 8, 0, 8, 0, 8, 1, 0], 0), ([8, 8, 0, 0, 0, 4, 8, 15], 7),
+                               ([8, 8, 0, 0, 0, 0, 0, 8], 4), ([8, 8, 0, 0, 0, 0, 0, 1], 0)):
+            self.check(f"{header}", national_option(bytes(header)), option)

@@ -6,7 +6,6 @@ import ast
 import contextlib
 import hashlib
 import io
-import itertools
 import os
 import random
 import shlex
@@ -25,7 +24,7 @@ from subtitles.common.files import (
     BackgroundSum, Input, Inputs, ROOM, SummedFile, bounded_bytes, first_bytes, is_replaced,
     is_utf_8, naming, plain_name, result_file, temporary_folder, whole_file)
 from subtitles.common.markup import joined, markup
-from subtitles.common.program import built_program, program_at, sources
+from subtitles.common.program import built_program, sources
 from subtitles.formats import listing
 from subtitles.request.lines import (
     MOST_BYTES, MOST_LINES, MOST_OF_LINE, MOST_WORDS, MOST_WORDS_OF_LINE, lines_in, list_at, split)
@@ -342,11 +341,10 @@ class Words(Case):
         self.write_program("program", "#!/bin/sh\n")
         self.write("text", b"#!/bin/sh\n")
         os.mkdir(self.path("folder"))
-        looks: list[Callable[[str], str]] = [program_at, built_program]
-        for look, name in itertools.product(looks, ("program", "text", "folder", "none")):
+        for name in ("program", "text", "folder", "none"):
             path = self.path(name)
-            self.must(f"{look} {name}", refused(lambda: look(path)) == (
-                "" if name == "program" else f"{path} is no program"))
+            self.check(name, refused(lambda: built_program(path)),
+                       "" if name == "program" else f"{path} is no program")
 
     def test_program_that_was_built(self) -> None:
         """That of the sources; where there is none, or they can't be read, that is told."""

@@ -18,7 +18,7 @@ from subtitles.common.times import ALL_DAY, Between
 from subtitles.formats import listing, stl
 from subtitles.formats.stl import (
     LAST, Subtitle, SubtitleFile, SubtitleList, USER_DATA, titles_in)
-from subtitles.formats.teletext import letters_of, option_name
+from subtitles.formats.teletext import letters_of
 from .bench import Case
 
 GSI = 1024
@@ -339,8 +339,6 @@ class Letters(unittest.TestCase):
                              (b"\xd0\xd7\xd8\xdb\xdc\xe4\xe5\xe6\xef\xf0\xfe\xff",
                               "—¦\ufffd\ufffd⅛Ħ\ufffdĲŉĸŋ\ufffd"), (b"\xc2e\xc2a!", "éá!")):
             self.assertEqual(letters_of(text), wanted)
-        self.assertEqual(option_name(7), "national option 111, which is reserved, its letters as □")
-        self.assertEqual(option_name(9), "national option 9, its letters as □")
 
     def test_iso_6937(self) -> None:
         """The C library's ISO 6937 is an outside value for each byte, and each accent on a letter;

@@ -16,9 +16,9 @@ from subtitles.common.program import TOP
 from subtitles.common.times import TICKS
 from subtitles.formats.stl import UNUSED
 from subtitles.formats.teletext import (
-    BY_WORD, CODE_WORDS, CZECH, ENGLISH, FRENCH, GERMAN, ITALIAN, NationalOption, OPTIONS, PLACES,
-    RESERVED, SPANISH, SWEDISH, character_of, codes_of, has_bit, has_characters, letter_at, letters,
-    named_by, of_track, option_name, options_with)
+    BY_WORD, CODE_WORDS, CZECH, ENGLISH, FRENCH, GERMAN, ITALIAN, NationalOption, OPTIONS,
+    PLACES, RESERVED, SPANISH, SWEDISH, character_of, codes_of, has_bit, has_characters,
+    letter_at, letters, named_by, of_track, options_with)
 from subtitles.judging.subtitles import advice_of
 from subtitles.recording.notices import of_character_sets, of_option
 from subtitles.request.request import Request
@@ -109,8 +109,6 @@ class Table(unittest.TestCase):
         self.assertIsNone(of_track("pol"))
 
     def test_names(self) -> None:
-        self.assertEqual([option_name(bits) for bits in (0, 4)], ["English", "German"])
-        self.assertIn("reserved", option_name(RESERVED))
         self.assertEqual({len(one.characters) for one in OPTIONS}, {len(PLACES)})
 
 

@@ -48,14 +48,6 @@ def built_program(path: str | None = None) -> str:
     return program
 
 
-def program_at(path: str | None) -> str:
-    """The file of the program: at `path`, or the one that stands by the tools."""
-    program = os.path.abspath(path or os.path.join(TOP, "subttx"))
-    if os.path.isdir(program) or not os.access(program, os.X_OK):
-        raise Stop(f"{path or program} is no program")
-    return behind_script(program)  # the script looks for it at each call
-
-
 def behind_script(path: str) -> str:
     """The program that a script ./subttx of a repository runs; else the path itself."""
     top = os.path.dirname(os.path.realpath(path))

@@ -12,7 +12,7 @@ from typing import Iterable, NamedTuple, Sequence
 from .teletext import NationalOption, cells_in
 
 
-COLUMNS, LAST_ROW, JUSTIFIED = 40, 23, range(1, 4)
+COLUMNS, LAST_ROW = 40, 23
 SPACE, START_BOX, END_BOX, DOUBLE, WHITE = 0x20, 0x0B, 0x0A, 0x0D, 0x07
 CODES = bytes(range(SPACE))
 COLOURS, DRAWN_CODES = range(0x01, 0x08), range(0x01, 0x0E)

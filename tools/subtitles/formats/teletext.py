@@ -2,9 +2,8 @@
 from __future__ import annotations
 
 import functools
-import itertools
 import unicodedata
-from typing import Iterator, NamedTuple, Sequence
+from typing import Iterator, NamedTuple
 
 
 # Codes of Teletext packets, and pages (EN 300 706).
@@ -19,7 +18,7 @@ for number, word in enumerate(CODE_WORDS):
 # The control bits C4 to C14: which of a header's eight numbers has it, and its value there.
 CONTROL_BITS = {4: (3, 8), 5: (5, 4), 6: (5, 8), **{7 + bit: (6, 1 << bit) for bit in range(4)},
                 **{11 + bit: (7, 1 << bit) for bit in range(4)}}
-ERASE, NEWSFLASH, SUBTITLE, SUPPRESS, INHIBIT, SERIAL = 4, 5, 6, 7, 10, 11
+ERASE, NEWSFLASH, SUBTITLE, SUPPRESS, INHIBIT = 4, 5, 6, 7, 10
 
 Page = tuple[int, int]  # its magazine, 0 for 8, and its number
 
@@ -222,39 +221,5 @@ def letters(option: int) -> list[str]:
     return table
 
 
-def option_name(option: int) -> str:
-    if option in BY_BITS:
-        return BY_BITS[option].name
-    number = "111, which is reserved" if option == RESERVED else str(option)
-    return f"national option {number}, its letters as {UNKNOWN}"
-
-
-# Where PES packets with Teletext begin (EN 300 472).
-
-START = b"\0\0\1\xbd"  # of a PES packet of private_stream_1
-HEAD = 6  # bytes of one up to its length and with it
-AT_ONCE = 64  # PES packets that are looked for in the first step
-
-
-def begins_in(data: bytes) -> Sequence[int]:
-    """Where the PES packets begin with which some bytes do, and where the last one ends: a range
-    where all are as long as the first."""
-    runs: list[range] = []
-    at, size, most = 0, len(data), AT_ONCE
-    while size - at >= HEAD and data.startswith(START, at):
-        head = data[at:at + HEAD]
-        length = HEAD + (head[4] << 8 | head[5])
-        # Most have the length of the one before: of some, each byte is asked in one step, and of
-        # more in the next one where that is so.
-        count = wanted = min((size - at) // length, most)
-        for place in range(HEAD):
-            column = data[at + place:at + count * length:length]
-            count = len(column) - len(column.lstrip(head[place:place + 1]))
-        if count == 0:
-            break
-        runs.append(range(at, at + count * length, length))
-        at += count * length
-        most = most * AT_ONCE if count == wanted else AT_ONCE
-    if len({run.step for run in runs}) == 1:
-        return range(0, at + 1, runs[0].step)
-    return [*itertools.chain.from_iterable(runs), at]
+# The start of a PES packet of private_stream_1, as Teletext has (EN 300 472).
+START = b"\0\0\1\xbd"

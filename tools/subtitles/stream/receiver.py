@@ -23,8 +23,6 @@ OLD, HIT = 0xBF, 0xA0
 
 Rows = tuple[bytes, ...]  # rows 1 to 24, a byte for each cell
 
-PRINTED = bytes(code & 0x7F if 0x20 <= code & 0x7F <= 0x7E else 0x2E for code in range(256))
-
 BLANK_PAGE: Rows = (b" " * 40,) * 24
 OLD_PAGE: Rows = (bytes([OLD]) * 40,) * 24
 
@@ -48,22 +46,9 @@ def control_bits(header: bytes) -> list[str]:
     return [f"C{bit}" for bit in CONTROL_BITS if has_bit(header, bit)]
 
 
-@functools.lru_cache(maxsize=1 << 12)
-def control_text(header: bytes) -> str:
-    """The same, or that there are none."""
-    return " ".join(control_bits(header)) or "none"
-
-
 def national_option(header: bytes) -> int:
     """C12, C13 and C14 as a number: 0 is English, 4 German."""
     return header[7] >> 1
-
-
-def printed_rows(rows: Rows) -> list[str]:
-    """The rows as `listen` prints them."""
-    return [f"row {number:02} |{row.translate(PRINTED).decode()}|"
-            for number, row in enumerate(rows, 1) if row != BLANK_PAGE[0]
-            and row.replace(b"\xa0", b" ") != BLANK_PAGE[0]] or ["blank"]
 
 
 # The pages that a receiver holds at the ends of frames, and when each is open.
