@@ -130,7 +130,7 @@ class Laws(unittest.TestCase):
             self.assertTrue(any(f"ends are {word} compared with the beginnings" in line
                                 for line in one.lines), one.lines)
 
-    def test_within(self) -> None:
+    def test_finds_the_origin_of_the_least_late(self) -> None:
         """Each up to N frames late: by shares that say so the origin is that of the least late.
         Without, it is that or a later one, before which some are early, or it is not clear."""
         for chance, shown, edges, origin in self.each():
@@ -149,7 +149,7 @@ class Laws(unittest.TestCase):
             self.assertTrue(origins == [least] or any(
                 "before what is usual for the others" in line for line in one.lines), one.lines)
 
-    def test_fields(self) -> None:
+    def test_takes_the_second_field_as_in_time(self) -> None:
         """Within some frames what comes in the second field of a frame is not late."""
         for chance, shown, edges, origin in self.each():
             first, *others = sent(edges, origin)
@@ -159,7 +159,7 @@ class Laws(unittest.TestCase):
             self.assertEqual([part.origin for part in one.parts], [origin % CLOCK], one.lines)
             self.assertIn("no cue is late", one.lines)
 
-    def test_breaks(self) -> None:
+    def test_finds_an_origin_for_each_part(self) -> None:
         """Each part of the programme has its own origin, also where an encoder begins anew."""
         for chance, shown, _, origin in self.each():
             breaks = chance.choice((1, 2))
@@ -189,7 +189,7 @@ class Laws(unittest.TestCase):
             self.assertEqual(one.shifted_from, edges[at].frame, one.lines)
             self.assertIn(f"({late} frames) late", one.shifts[0])
 
-    def test_runs(self) -> None:
+    def test_finds_each_run_of_a_programme(self) -> None:
         """The programme once, twice and three times."""
         for chance, shown, edges, origin in self.each():
             runs = chance.choice((1, 2, 3))

@@ -82,7 +82,7 @@ class Wraps(Case):
         """A multiplex in which each PES packet takes so many TS packets."""
         return multiplexed([large(joined([one]), size) for one in self.sent], Shape(200))
 
-    def test_losses(self) -> None:
+    def test_reports_losses_at_every_origin(self) -> None:
         """Nothing is lost; some TS packets, which the counter tells; some at a jump that is
         announced; 16 of the PID alone."""
         made, place = self.multiplexed(), 3 * EACH + 20 - EACH
@@ -112,7 +112,7 @@ class Wraps(Case):
             self.must_be_same(f"{words}", word, data, *words, stl=STORY, frames=[
                 FIRST_PTS // TICKS + more for more in (1, 5, EARLIER, EARLIER + 100)])
 
-    def test_breaks(self) -> None:
+    def test_judges_two_parts_at_every_origin(self) -> None:
         """Two parts, in the second of which a subtitle is late."""
         stl = programme(self, times(24), name="many.stl")
         for change, words, word in ((one_late(10, 0), (), "accepted"),
@@ -123,7 +123,7 @@ class Wraps(Case):
                 [joined([one]) for one in sent], [(0, OLD)]), "--breaks", "1", *words, stl=stl,
                 frames=[ORIGIN // TICKS + more for more in (500, 1200, 2000, 2050)])
 
-    def test_late(self) -> None:
+    def test_judges_late_subtitles_at_every_origin(self) -> None:
         """A subtitle is late, or all are by a clock that is given."""
         self.schedule(self.stl, "one.pes", "--every", "25")
         pes = packets(self.read("one.pes"))

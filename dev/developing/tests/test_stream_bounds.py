@@ -76,7 +76,7 @@ class Silences(unittest.TestCase):
                                       for at, length in enumerate(others, 1))]
             self.assertEqual(idle_of([silence], 50, pauses), [silence] * wanted, others)
 
-    def test_repeats(self) -> None:
+    def test_finds_the_longest_time_without_a_header(self) -> None:
         """The longest time without a header of the page, up to the end of the recording, and from
         when on it is; what is usual while nothing of the page changes."""
         steady = [*range(0, 100, 10)]
@@ -118,7 +118,7 @@ class Silences(unittest.TestCase):
 class Pictures(unittest.TestCase):
     """The clock of the first picture."""
 
-    def test_last(self) -> None:
+    def test_takes_the_later_of_the_last_pts_and_pcr(self) -> None:
         """The last PTS or PCR, whichever is later, over the wrap too."""
         for origin, (pts, pcr, last) in itertools.product(ORIGINS, (
                 (None, None, None), (4, None, 4), (None, 7, 7), (4, 7, 7), (7, 4, 7))):
@@ -139,7 +139,7 @@ class Pictures(unittest.TestCase):
             found = [after_frame(packets, origin, within) for within in (0, 1)]
             self.assertEqual(found, [exact, near], (origin, times))
 
-    def test_outside(self) -> None:
+    def test_refuses_subtitles_before_and_after_the_recording(self) -> None:
         """A subtitle before the first picture, and one that goes over a second after the last PTS.
         """
         asked, last = asked_for("a.stl", "a.ts"), 1000
@@ -186,7 +186,7 @@ class Heard(unittest.TestCase):
         self.assertEqual(Order().first, NO_FRAME)
 
 
-    def test_order(self) -> None:
+    def test_knows_which_frames_were_received_completely(self) -> None:
         """All rows of four frames, of which something is not heard before one, and some are lost:
         what is heard, from where on nothing is, and which frames are seen."""
         for frames, least, gap in itertools.product(itertools.product(range(4), repeat=4), (0, 1),
@@ -228,7 +228,7 @@ class Heard(unittest.TestCase):
                              for text in told]
         return Timeline(packets, (0, 0x88), 0, **more)
 
-    def test_timelines(self) -> None:
+    def test_holds_the_pages_that_were_sent(self) -> None:
         """The pages that are held, when the page turns open or closed, and its headers."""
         rows: list[tuple[str, str, str, list[int], list[int]]] = [
             ("none", "", "", [], []), ("before a header", "5:c 7:o:a 10:heo:b", "10 b", [10], [10]),
@@ -352,7 +352,7 @@ class Clear(unittest.TestCase):
             self.assertEqual(as_good(part), [other] * wanted, (best, other))
             self.assertEqual([is_clear(part), is_clear(part, True)], [not wanted] * 2)
 
-    def test_half(self) -> None:
+    def test_accepts_an_origin_with_which_half_of_the_cues_agree(self) -> None:
         """Half of the cues agree, or begins and ends are apart; and early ones are not many, unless
         the clock is known."""
         for agree, among, is_apart, wanted in ((5, 10, False, True), (5, 11, False, False),

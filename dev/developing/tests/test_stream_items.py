@@ -118,7 +118,7 @@ def moved(one: Sent, columns: int) -> Sent:
 class Items(Case):
     """Functions that decide."""
 
-    def test_items(self) -> None:
+    def test_reads_and_writes_layout_items(self) -> None:
         for text, items in ITEMS:
             layout = meant(text)
             told = [(layout_text(with_items(PLAIN, [item], layout)),
@@ -134,13 +134,13 @@ class Items(Case):
             told = layout_text(with_items(PLAIN, taken_from(layout), layout))
             self.must(text, told == gone, told)
 
-    def test_seen(self) -> None:
+    def test_takes_an_item_that_nine_in_ten_subtitles_draw(self) -> None:
         for decides, told, is_seen in ((9, 9, False), (10, 9, True), (10, 8, False), (0, 0, False),
                                        (19, 17, False), (19, 18, True), (100, 90, True),
                                        (100, 89, False)):
             self.must(f"{decides} {told}", Rest("", decides, told).is_seen == is_seen)
 
-    def test_clear(self) -> None:
+    def test_takes_an_item_that_is_clear(self) -> None:
         for found, count, is_clear in ((9, 9, False), (10, 9, True), (10, 8, False),
                                        (100, 90, True), (100, 89, False)):
             self.must(f"{count} of {found}", Choice(PLAIN, count, found).is_clear == is_clear)
@@ -167,7 +167,7 @@ class Taken(Case):
         left = [(one.text, one.more) for one in choice.left]
         self.must("left", left == [("strip=03", 5), ("trim", 4), ("strip=03,trim", 9)], left)
 
-    def test_columns(self) -> None:
+    def test_finds_rows_two_columns_off(self) -> None:
         """Those on the right, two columns off."""
         for count, taken in ((1, ""), (9, ""), (10, "right=2")):
             right = [moved(one, 2) for one in sent_of([One(b"Hi", b"Hi", 3)] * count)]
@@ -264,7 +264,7 @@ class Taken(Case):
         taken, gone = Evidence(sent, ENGLISH).supported(layout)
         self.must("few", len(items_in(taken)) <= MOST_ITEMS and len(gone) >= 4, taken)
 
-    def test_houses(self) -> None:
+    def test_finds_how_each_site_draws(self) -> None:
         """How each house draws is found beside 1, 5 and 20 that are drawn otherwise; of 20 it is
         the closest, and nothing is taken."""
         for number, (has_codes, leaves_room, text) in enumerate(HOUSES):

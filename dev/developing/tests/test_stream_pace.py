@@ -192,7 +192,7 @@ TABLE = [
 class Told(Case):
     """Functions that decide."""
 
-    def test_pace(self) -> None:
+    def test_measures_the_pace_of_each_row(self) -> None:
         """The whole table."""
         for row in TABLE:
             pace = pace_of(row.rows, row.each, row.every, row.pauses, row.is_stream)
@@ -208,7 +208,7 @@ class Told(Case):
         for rows, apart in closest:
             self.must(f"{rows}", pace_of(rows, 1, 250).apart == apart)
 
-    def test_usual(self) -> None:
+    def test_finds_the_distance_that_is_usual(self) -> None:
         """The longest distance that one in twenty has; none where more than one in a hundred is
         longer, or more than a few by two frames."""
         rows: list[tuple[dict[int, int], int | None]] = [
@@ -220,7 +220,7 @@ class Told(Case):
             self.must(f"{near}", usual_in(collections.Counter(near), sum(near.values()), FEW)
                       == wanted)
 
-    def test_unseen(self) -> None:
+    def test_finds_the_shortest_loss_that_no_counter_shows(self) -> None:
         """From how many frames on a hole of 16 TS packets is, by those that came."""
         two = without_frames(0)
         rows: list[tuple[list[list[int]], int, int | None]] = [
@@ -231,7 +231,7 @@ class Told(Case):
             self.must(f"{frames} {each}", unseen_from(frames, each) == wanted,
                       unseen_from(frames, each))
 
-    def test_rows(self) -> None:
+    def test_divides_the_frames_at_what_is_not_received(self) -> None:
         """The frames that are heard: up to marks, PES packets that are refused or have no frame,
         and where time goes back; also where the clock comes round."""
         origin = CLOCK - 5 * TICKS
@@ -253,7 +253,7 @@ class Told(Case):
         packets = Packets(5, [Run(0, 9, origin, TICKS, "-", "")])
         self.must("some", [[*row] for row in frame_rows(packets, (3, 5), origin, 0)] == [[3, 4, 5]])
 
-    def test_each(self) -> None:
+    def test_counts_ts_packets_of_a_pes_packet(self) -> None:
         """By all TS packets, or by the bytes of a file; more where one holds more; at most nine."""
         for total, size, units, wanted in (
                 (100, None, 0, 1), (103, None, 3, 1), (103, None, 4, 2), (149, None, 0, 1),
@@ -267,7 +267,7 @@ class Told(Case):
                 1, round((total if size is None else size // 184) / 100)))
         self.must("no PES packet", each_of(Packets(5, packets=3), (0, 0), None) == 1)
 
-    def test_silences(self) -> None:
+    def test_finds_silences_between_frames(self) -> None:
         """All rows of six frames: where so many lie between two, and whether fewer PES packets lie
         between two such places."""
         for apart, steps in itertools.product(itertools.product((1, 4, 5, 6), repeat=5), (1, 2, 4)):
@@ -277,7 +277,7 @@ class Told(Case):
                 0 < abs(at - other) < steps for other in places)) for at in places], (row, steps))
         self.must("one a frame", not [*silences_in(range(9), 1, 3)])
 
-    def test_pauses(self) -> None:
+    def test_finds_the_pauses_between_subtitles(self) -> None:
         """Before the first subtitle, between two, behind the last; each edge once."""
         self.must("edges", edges_of([(5, 9), (9, 30), (2, 5)]) == [2, 5, 9, 30])
         self.must("none", not pauses_of([]))
@@ -332,7 +332,7 @@ class Holes(OfProgramme):
         self.must(name, told.word == word and faults == [f"refused {line}" for line in lines],
                   (told.word, told.listed, told.told))
 
-    def test_regular(self) -> None:
+    def test_reports_79_where_the_counter_shows_nothing(self) -> None:
         """A PES packet in each frame: what the counter does not show is 79, at its time."""
         made = self.multiplexed(filled(self.sent))
         whole = self.judge_stream(made)
@@ -379,7 +379,7 @@ class Holes(OfProgramme):
         told = self.judge_stream(self.multiplexed(without_one, 400), "--within", "1")
         self.is_told("frames without", told, "accepted")
 
-    def test_asked(self) -> None:
+    def test_judges_by_the_pace_that_is_given(self) -> None:
         """None, one that a hole of 16 keeps, one that it does not, and where losses are allowed;
         of a feed, and of PES packets."""
         made = self.multiplexed(filled(self.sent))
@@ -398,7 +398,7 @@ class Holes(OfProgramme):
         self.is_told("PES packets", self.judge(sent[:660] + sent[676:]), "refused",
                      "79 Silent frame 10:00:26:10")
 
-    def test_irregular(self) -> None:
+    def test_notes_what_an_irregular_pace_does_not_show(self) -> None:
         """A second of them at each edge, then none: a hole of 16 is not seen, and that is said;
         one that the counter shows is 45."""
         made = self.in_bursts(TIMES)

@@ -46,7 +46,7 @@ def step(frames: float, before: int = 0) -> Step:
 class Departures(unittest.TestCase):
     """What leaves, what stays, and what is not clear."""
 
-    def test_steps(self) -> None:
+    def test_finds_steps_of_the_pictures_against_the_teletext(self) -> None:
         """On by some frames the Teletext is early, back it is late; where it goes along nothing
         leaves; over the wrap too."""
         for by in (1, 2, 12, 250, -1, -2, -250, 0.5, -0.5):
@@ -86,7 +86,7 @@ class Departures(unittest.TestCase):
         for before, after, wanted in rows:
             self.assertEqual(departures_of([*before, step(2), *after], PID), wanted)
 
-    def test_several(self) -> None:
+    def test_tells_each_of_several_steps(self) -> None:
         """Each step by what lies between it and its neighbours; and there and back."""
         lines = [*distances(60), step(3), *distances(60, 3, TICKS * 100), step(-3),
                  *distances(60, 6, TICKS * 200), step(9), *distances(60, 6, TICKS * 300)]
@@ -148,7 +148,7 @@ class Left(unittest.TestCase):
         return [(one.time, one.until, one.words.partition(" on subtitles come ")[2].partition(
             " for viewers")[0]) for one in faults], notes
 
-    def test_faults(self) -> None:
+    def test_reports_pictures_that_leave_the_subtitles(self) -> None:
         """On: early; back: late, but for what is allowed of that; there and back; outside."""
         middle, end = "00:01:00:00", "00:01:19:24"
         rows: list[tuple[list[tuple[float, int]], int, list[tuple[str, str, str]]]] = [
@@ -182,7 +182,7 @@ class Left(unittest.TestCase):
             found = Found(1000, 2000, Clock(0, source))
             self.assertEqual(len(departures_in(several, found)), count)
 
-    def test_notes(self) -> None:
+    def test_notes_steps_that_are_allowed_or_not_checked(self) -> None:
         """What is allowed, and what is not checked."""
         times = f"{NOT_CHECKED}: their decoding times"
         for survey, within, begin in (
@@ -246,7 +246,7 @@ def in_size(packet: bytes, size: int) -> bytes:
 class Announced(Case):
     """Functions that decide."""
 
-    def test_announced(self) -> None:
+    def test_finds_the_announced_jumps_of_a_pid(self) -> None:
         """The packet in which a PES packet begins, one before it, one without a payload; the last
         of several counts once, and each of several."""
         plain, first, second = ts_packet(), ts_packet(begin=5), ts_packet(begin=CLOCK - 7)
@@ -268,7 +268,7 @@ class Announced(Case):
             told = [*announced_in(iter(packets))]
             self.must(name, told == wanted, told)
 
-    def test_packets(self) -> None:
+    def test_reads_the_ts_packets_of_a_pid(self) -> None:
         """The TS packets of a PID, of each size, behind bytes of none and where some stand between,
         once and often; the last is whole."""
         for size, pid in zip(SIZES, (PID, 0x1EFE, 0xFF)):
@@ -288,7 +288,7 @@ class Announced(Case):
         self.must("no packet", not [*packets_in(io.BytesIO(b""), 188, PID)]
                   and not [*packets_in(io.BytesIO(b"G" * 100), 188, PID)])
 
-    def test_jumps(self) -> None:
+    def test_finds_announced_jumps_with_more_time_than_usual(self) -> None:
         """Of those after which more frames pass than usual, each once; over the wrap too."""
         path = self.path("one.ts")
         for origin, size in itertools.product((0, CLOCK - 5 * TICKS), SIZES):

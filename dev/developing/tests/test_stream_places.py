@@ -41,7 +41,7 @@ Around = Tuple[Optional[int], Optional[int]]  # those around a place
 class Places(Case):
     """Where something is missing: marks, the PCR, jumps that are announced."""
 
-    def test_places(self) -> None:
+    def test_lists_each_place_once(self) -> None:
         """Each once, at the ends too; what is announced is left out where it is known already.
         Wherever PTS begin anew."""
         for shift in range(9):
@@ -101,7 +101,7 @@ class Places(Case):
 class Late(Case):
     """How late PTS were, and up to where all is in a recording."""
 
-    def test_table(self) -> None:
+    def test_tells_how_late_and_how_early_pts_are(self) -> None:
         """By the last samples how late PTS are, by the first ones how far they are ahead."""
         rows: list[tuple[list[int], int, int]] = [
             ([], 0, 0), ([9], 0, 9), ([-9], 9, 0), ([-9, -30, 5, 7, 6], 30, 7),
@@ -226,7 +226,7 @@ class Words(Case):
     def options(self, *words: str) -> argparse.Namespace:
         return parser_of("").parse_args(words)
 
-    def test_words(self) -> None:
+    def test_passes_the_pace_to_check(self) -> None:
         """What is taken, what `check` gets, and what is asked once more."""
         for word, pace in (("none", None), ("1", 1), ("0025", 25), ("2160000", 2160000)):
             asked = asked_for("one.stl", "one.ts", "--pace", word)
@@ -239,7 +239,7 @@ class Words(Case):
             with self.assertRaises(Stop, msg=word):
                 asked_for("one.stl", "one.ts", "--pace", word)
 
-    def test_lines(self) -> None:
+    def test_takes_the_pace_of_a_line_of_a_list(self) -> None:
         """Of a list: the pace of the call, one of its own, none, and one that is wrong."""
         line = f"{self.path('one.stl')} {self.path('one.ts')}"
         items = pairs_at(self.write("list", f"{line}\n{line} --pace 9\n{line} --pace none\n"

@@ -117,7 +117,7 @@ class Ranges(Case):
                   "--from 00:00:04:00 --to 00:00:30:10" in commands[0] and
                   "--from 00:00:32:00 --to 00:00:58:10" in commands[1], commands)
 
-    def test_commands(self) -> None:
+    def test_knows_the_files_that_a_command_names(self) -> None:
         """The files that a command names; `judged` finds no others in any that is printed."""
         for line, files in (
                 ("subttx check one.stl one.pes --pes 0-9 --all", ["one.stl", "one.pes"]),
@@ -130,7 +130,7 @@ class Ranges(Case):
 class Read(Case):
     """A subtitle file of which some is passed over."""
 
-    def test_blocks(self) -> None:
+    def test_leaves_out_subtitles_by_their_first_block(self) -> None:
         """A subtitle goes with its first block's TCI; one that is no time is never left out."""
         made = [tti_block(1, 25, 50, 20, 2, b"one"), tti_block(2, 75, 99, 20, 2, b"tw", 0),
                 tti_block(2, 0, 0, 20, 2, b"o"), tti_block(3, 100, 150, 20, 2, b"three"),
@@ -163,7 +163,7 @@ class Read(Case):
         shown = subtitles_in(self.bench.program, path)
         self.must("long texts", len(shown) == 4 and subtitles_read(self.read(path)) == shown, shown)
 
-    def test_words(self) -> None:
+    def test_passes_from_and_to_to_check(self) -> None:
         """The options for some frames, as `check` takes them."""
         for between, words in ((Between(), ""), (Between(25), "--from 00:00:01:00"),
                                (Between(0, 50), "--to 00:00:02:00"), (Between(
@@ -172,7 +172,7 @@ class Read(Case):
         one = Between(5, 9)
         self.must("has", [one.has(frame) for frame in (4, 5, 8, 9)] == [False, True, True, False])
 
-    def test_titles(self) -> None:
+    def test_notes_a_title_an_hour_before_the_programme(self) -> None:
         """A file that begins at 00:00:00:00 and goes on an hour later, at least."""
         rows: list[tuple[list[int], str | None]] = [
             ([0, HOUR], "01:00:00:00"), ([0, HOUR - 1], None), ([1, HOUR], None), ([0], None),
@@ -208,7 +208,7 @@ class Adjoining(OfProgramme):
 
     due = [(100, 150), (200, 250), (250, 300), (300, 350), (400, 450), (500, 550)]
 
-    def test_middle(self) -> None:
+    def test_does_not_judge_an_end_between_adjoining_subtitles(self) -> None:
         """Where the next subtitle comes, as it does, nobody can judge the end: the pauses around
         are to type. Where another page comes, or something else is wrong too, it is refused; at a
         pause it is judged."""
@@ -242,7 +242,7 @@ class Adjoining(OfProgramme):
         self.must("not judged", told.word == "not judged" and len(told.verdict.to_type) == 2,
                   told.said)
 
-    def test_adjoining(self) -> None:
+    def test_finds_the_last_tco_at_which_a_subtitle_adjoins(self) -> None:
         """The last TCO, where one fault of the content is all, and is told there, or within as many
         frames as are allowed."""
         rows: list[tuple[int, int, list[int], int | None]] = [
@@ -257,7 +257,7 @@ class Adjoining(OfProgramme):
                 "a.stl", "a.pes", "--within", str(within)))
             self.assertEqual(adjoining_at(part), wanted, (number, within, frames))
 
-    def test_pauses(self) -> None:
+    def test_finds_the_pauses_near_a_frame(self) -> None:
         """Before a frame and behind it; the end of the file is one."""
         subtitles = [Subtitle(at, at, begin, end, 22, 2, b"")
                      for at, (begin, end) in enumerate(self.due)]

@@ -138,7 +138,7 @@ def pictures(flagged: Sequence[int], lost: Sequence[int] = (), scrambled: Sequen
 class FirstPictures(Case):
     """The line `pictures`."""
 
-    def test_counted(self) -> None:
+    def test_counts_breaks_and_scrambled_packets_of_a_group(self) -> None:
         """Breaks of the counter and scrambled TS packets of the group, and of no other."""
         group = 3, 15  # its TS packets are 6 to 29
         # LOST SCRAMBLED, and at the end of the recording PASSED STARTED
@@ -179,7 +179,7 @@ def with_pcr(intervals: Iterable[tuple[int, int]], behind: int = 1) -> bytes:
 class Clocks(Case):
     """Lines `clock` and `ahead`."""
 
-    def test_late(self) -> None:
+    def test_finds_late_pcr(self) -> None:
         """A PCR that is late by what is usual in the last hundred, or goes back."""
         usual = [(3600, 5)] * 1000
         # PCR, and TICKS PACKETS USUAL USUALPACKETS of those that are told
@@ -202,7 +202,7 @@ class Clocks(Case):
             self.must(name, lines == [f"clock {TELETEXT_PID} {FIRST} {LAST} {one} whole"
                                       for one in wanted], lines)
 
-    def test_ahead(self) -> None:
+    def test_samples_pts_against_pcr_once_a_second(self) -> None:
         """Once a second, by the last PCR, of a clock that runs fast or slow against the PTS."""
         for first in (FIRST, CLOCK - 40 * TICKS):
             for drift in (0, 1, 30, -7):
@@ -282,7 +282,7 @@ class PesPackets(Case):
             lines = told(self, of_pes(pes), "pes")
             self.must(name, lines == [f"pes {TELETEXT_PID} {one}" for one in wanted], lines)
 
-    def test_refused(self) -> None:
+    def test_reports_what_extract_refuses(self) -> None:
         """What `extract` refuses, and nothing behind it."""
         length = (184).to_bytes(2, "big"), (10 * 184 - 6).to_bytes(2, "big")
         for pes, refusal in ((each_frame(5), 0), (with_third(3, 0xBE), 31), (with_third(0, 1), 31),
@@ -298,7 +298,7 @@ class PesPackets(Case):
                 f"refused {refusal} " if refusal else "written 5 pes") and status == (refusal > 0),
                 out)
 
-    def test_long(self) -> None:
+    def test_reads_more_than_is_buffered(self) -> None:
         """More than is read at once, with bytes of no packet before it, in it and behind it."""
         pes = each_frame(1500)
         data, last = of_pes(pes), FIRST + 1499 * TICKS
@@ -325,7 +325,7 @@ class PesPackets(Case):
 class Answered(Case):
     """Whether a program's `survey` told all."""
 
-    def test_answered(self) -> None:
+    def test_believes_a_last_line_whose_status_agrees(self) -> None:
         """By its last line and its status; whatever else it says, of another version too."""
         begin, over = f"survey {VERSION}", "over 0 9"
         for lines, status, why in (
@@ -345,7 +345,7 @@ class Answered(Case):
                     heard.refuse(status)
 
 
-    def test_lines(self) -> None:
+    def test_reads_each_kind_of_line(self) -> None:
         """What is known by each kind of line, the first and the last of it; what is told besides is
         for later versions."""
         def on_5(heard: Survey) -> Packets:
@@ -454,7 +454,7 @@ class Answered(Case):
         os.chmod(path, 0o755)
         return path
 
-    def test_calls(self) -> None:
+    def test_calls_the_program_and_looks_after_each_line(self) -> None:
         """What the program is asked for, a look after each line, and its status."""
         looks = list[int]()
         found = survey(self.teller([]), "-one.ts", PAGE, 5, 204, lambda: looks.append(1))

@@ -88,7 +88,7 @@ class Times(unittest.TestCase):
                        for at in chance.sample(range(20), 20)]
                 self.assertEqual(left_out(pts, False), missing, (origin, pts))
 
-    def test_spans(self) -> None:
+    def test_answers_questions_on_spans_as_a_plain_list_does(self) -> None:
         """What is said of spans, held against the numbers that they have, one by one."""
         chance = random.Random(7)
         for _ in range(300):
@@ -120,7 +120,7 @@ class Times(unittest.TestCase):
                 self.assertEqual(ticks_within(first, length, (first + later) % CLOCK), later,
                                  (length, first))
 
-    def test_packets(self) -> None:
+    def test_answers_questions_on_pes_packets_as_a_plain_list_does(self) -> None:
         """What is said of PES packets, held against a plain list of them."""
         chance = random.Random(7)
         for _ in range(400):
@@ -150,7 +150,7 @@ class Times(unittest.TestCase):
             self.assertEqual([base.start for base in packets.bases()], begins)
         self.assertEqual(headers_in("0808081f+10"), (bytes([0, 8, 0, 8, 0, 8, 1, 15]), b"\1\0"))
 
-    def test_bases(self) -> None:
+    def test_begins_a_time_base_where_pts_go_back(self) -> None:
         """PTS may go on over 2^33; two in a row before the two that came before begin a base, also
         back over it."""
         second = 90_000
@@ -191,7 +191,7 @@ class Times(unittest.TestCase):
         self.assertIsNone(survey.programmes[0].after)
         self.assertLess(time.process_time() - began, 20)
 
-    def test_breaks(self) -> None:
+    def test_parts_a_programme_at_breaks(self) -> None:
         """An origin that is later by five seconds than in the part before, and than just before;
         another time base, or a minute that the recording lacks begins a part. What is early by
         less, or late by less, goes with the one before."""
@@ -221,7 +221,7 @@ class Times(unittest.TestCase):
             survey.take(line)
         self.assertEqual([survey.clock_of(pid) for pid in (257, 258, 259)], [(9, 11), (1, 1), None])
 
-    def test_strange(self) -> None:
+    def test_finds_strange_pts_with_the_worst(self) -> None:
         """From which PTS on, how many, and the worst of them, early or late."""
         rows: list[tuple[list[int], list[tuple[str, int, int]]]] = [
                 ([], []), ([-5, -700, -20], [("behind", 3, -700)]), ([-1], [("behind", 1, -1)]),
@@ -240,7 +240,7 @@ class Times(unittest.TestCase):
             found = list(strange_of(packets_with([], samples=[(7, alone)])))
             self.assertEqual([(one.kind, one.pts) for one in found], [(kind, 7)] * bool(kind))
 
-    def test_places(self) -> None:
+    def test_places_marks_and_holes_once(self) -> None:
         """Marks, and what the PCR and the counters of other PIDs alone tell elsewhere; a clock that
         goes back is no hole."""
         hole, back = clocked(500, 99_000, "broken"), clocked(500, -99_000, "broken")
@@ -257,7 +257,7 @@ class Times(unittest.TestCase):
                 Mark(number, 100, 3, 0) for number in marks])
             self.assertEqual([(one.before, one.missing) for one in places_of(packets)], wanted)
 
-    def test_cuts(self) -> None:
+    def test_cuts_the_range_of_each_row(self) -> None:
         """The three questions of a cut of frames 100 to 200: where it begins, where it ends, which
         PES packets lie in the time. A PES packet is its frame and what it does: a header, which
         erases, of a page that is blank then, opens it, closes it, changes its text."""
@@ -387,7 +387,7 @@ class Times(unittest.TestCase):
             found = cut_of(packets_with(pts), 0, 50, 0, 25).range
             self.assertEqual(found, wanted, frames)
 
-    def test_hours(self) -> None:
+    def test_cuts_all_of_a_long_programme(self) -> None:
         """All of a programme is taken, also where it is longer than half of what PTS count, and
         nothing of what comes before or after it, in whatever runs it comes."""
         hour, step = 90_000, 250
@@ -426,7 +426,7 @@ class Times(unittest.TestCase):
             self.assertEqual((found.range, found.has_end), ((0, 80 - more), not more),
                              (every, within, more))
 
-    def test_jumps(self) -> None:
+    def test_finds_clock_jumps_where_nothing_is_missing(self) -> None:
         """Where nothing is missing, and more packets than a tenth of those of that time would be
         there: the clock was set anew."""
         for one, wanted in ((clocked(5, 99_000, "whole"), [ClockJump(5, 90_000)]),

@@ -74,7 +74,7 @@ class Written(Case):
         silent = [one.pid for one in silent_in(known)]
         self.must("silent", silent == [1, 2, 5, 6, 9], silent)
 
-    def test_languages(self) -> None:
+    def test_names_the_languages_of_ebu_tech_3264(self) -> None:
         """EBU Tech 3264, appendix 3: those that national options are for, and others."""
         for code, wanted in (
                 ("09", "eng"), ("08", "deu ger"), ("0A", "spa"), ("0a", "spa"), ("28", "swe"),
