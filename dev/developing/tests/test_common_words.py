@@ -21,7 +21,7 @@ from unittest import mock
 from subtitles.common import command_line
 from subtitles.common.command_line import Stop
 from subtitles.common.files import (
-    BackgroundSum, Input, Inputs, ROOM, SummedFile, bounded_bytes, first_bytes, is_replaced,
+    BackgroundSum, File, Input, Inputs, ROOM, SummedFile, bounded_bytes, first_bytes, is_replaced,
     is_utf_8, naming, plain_name, result_file, temporary_folder, whole_file)
 from subtitles.common.markup import joined, markup
 from subtitles.common.program import built_program, sources
@@ -174,6 +174,10 @@ class Words(Case):
             self.must(f"{most}", bool(told) == (not wanted) and (
                 told or bounded_bytes(self.path("file"), most)) == (
                     wanted or f"{self.path('file')} has more than 4 bytes"), told)
+        with File(self.path("file")) as file, mock.patch.object(
+                file, "file", mock.Mock(**{"read.return_value": None})):
+            self.check("a file of the system that waits", refused(lambda: file.read()),
+                       f"{self.path('file')} has no end, as a file of the system: give a file")
         with subprocess.Popen(["sh", "-c", "sleep 0.2; yes >\"$0\"", self.path("pipe")]):
             self.must("a pipe", first_bytes(self.path("pipe"), 100_001, True) ==
                       (b"y\n" * 50_001)[:100_001])
@@ -268,7 +272,7 @@ class Words(Case):
 |---|---|---|---|
 | 10 | One | first | mend it |
 | 11 | Two | second | the same |
-| 12 | Three | [a](b) | third | the same, twice |
+| 12 | Three | third | the same, twice | [a](b) |
 """)
         with mock.patch.object(listing, "CHAPTER", path):
             self.assertEqual(listing.meanings(), {

@@ -38,6 +38,8 @@ Own = TypeVar("Own", bound="Input")
 class Input:
     """A file that is read as it comes. Errors name it as it was typed; `-` is standard input."""
 
+    is_stream = True  # more may come
+
     def __init__(self, name: str) -> None:
         self.name = name
         self.file = self.open()
@@ -59,7 +61,9 @@ class Input:
         """What is there, once there is something: a pipe is not waited for until it is full."""
         with naming(self.name):
             data: bytes | None = self.file.read(size)
-            while data is None:  # somebody has set the pipe to answer at once
+            while data is None:  # nothing is there yet, and the file answers at once
+                if not self.is_stream:
+                    raise Stop(f"{self.name} has no end, as a file of the system: give a file")
                 select.select([self.file], [], [])
                 data = self.file.read(size)
         return data
@@ -112,6 +116,7 @@ class File(Input):
     def look(self, may_be_pipe: bool) -> None:
         """Looks what it is."""
         kind = kind_of(os.fstat(self.file.fileno()).st_mode)
+        self.is_stream = kind is not None
         is_endless = kind not in ("a pipe", "a socket") and not self.file.isatty()
         if kind and (is_endless or not may_be_pipe):
             raise Stop(f"{self.name} is {kind}: give a file{' or a pipe' * may_be_pipe}")
