@@ -34,7 +34,8 @@ STEMS = ["film", "film.1", "film.2", "index", ".film", "film~2", "a\udce9", "a%E
          "a\x1b[31m", "two\nlines", "line 2", "-film", "=film", "x" * 240, "Film", "<script>",
          "50%"]
 KINDS = ["single", "single", "single", "folder", "folder", "list", "list", "collect", "watch"]
-VERDICTS = re.compile(r"accepted|waived|refused|not accepted|\d+ faults|\d+ subtitles?, nothing")
+VERDICTS = re.compile(
+    r"accepted|waived|relative|refused|not accepted|\d+ faults|\d+ subtitles?, nothing")
 JUDGED = re.compile(r"(\d+) pairs?: (.*)")
 Entry = tuple[int, bytes]  # the kind of a file, and its bytes, or where a link leads to
 
@@ -224,7 +225,7 @@ class World:
         text = "\n".join([*done.said, *done.told])
         found += ["a mistake"] * ("mistake of this tool" in text or "Traceback" in text)
         found += ["what a terminal obeys"] * bool(re.search("[\x00-\x09\x0b-\x1f\x7f]", text))
-        found += [f"status {done.status}"] * (done.status not in (0, 1, 2) or not is_last(
+        found += [f"status {done.status}"] * (done.status not in range(4) or not is_last(
             done, self.kind))
         if self.kind in ("folder", "list") and done.said and (
                 counted := JUDGED.fullmatch(done.said[-1])):
@@ -291,11 +292,13 @@ def is_last(done: Done, kind: str) -> bool:
     last = done.said[-1] if done.said else ""
     if pairs := JUDGED.fullmatch(last):
         words = re.sub(r"\d+ ", "", pairs[2]).split(", ")
-        is_good = all(word in ("accepted", "waived") for word in words)
+        is_good = all(word in ("accepted", "waived", "relative") for word in words)
         is_two = "not judged" in pairs[2] or ";" in pairs[2]
-        return done.status == (2 if is_two else 0 if is_good else 1)
-    is_verdict = bool(VERDICTS.match(last))
-    return is_verdict == (done.status < 2)
+        is_relative = "relative" in words and done.status == 3
+        return is_relative and is_good and not is_two or done.status == (
+            2 if is_two else 0 if is_good else 1)
+    return bool(VERDICTS.match(last)) == (done.status != 2) and (
+        last.startswith("relative") or done.status != 3)
 
 
 def tried(number: int, program: str, is_told: bool = False) -> list[str]:

@@ -88,7 +88,7 @@ class Inputs(Case):
         done = self.call([tool_path("qc"), "--batch", "list", "-o", "out", "-p",
                           self.bench.program])
         table = done.out.decode()
-        self.must("told", done.status == 2 and "4 pairs: 2 accepted, 2 not judged" in table and all(
+        self.must("told", done.status == 2 and "4 pairs: 2 relative, 2 not judged" in table and all(
             f" not judged          out/{name} is an input too" in table
             for name in ("b.json", "c.txt")), (done, table))
         self.must("as they were", all(self.read(f"out/{name}") == data
@@ -131,7 +131,7 @@ class Lines(Case):
             self.check(f"{words[:40]}: status", done.status, 2)
             self.must(f"{words[:40]}: the line", reason in table[1] and "root" not in table[1],
                       table)
-            self.must(f"{words[:40]}: the next", "accepted" in table[2], table)
+            self.must(f"{words[:40]}: the next", "relative" in table[2], table)
 
     def test_byte_order_marks(self) -> None:
         """A list that begins with one is refused: it would be part of the first word."""
@@ -251,8 +251,8 @@ class Starts(Case):
         for number, starts in STARTS.items():
             for after in ALL_STARTS if self.bench.is_timed else starts:
                 with subprocess.Popen(
-                        [tool_path("qc"), example("story.stl"), example("story.pes"), "-p",
-                         self.bench.program], stdin=subprocess.DEVNULL, stdout=subprocess.PIPE,
+                        [tool_path("qc"), example("story.stl"), example("story.pes"), "--origin",
+                         "0", "-p", self.bench.program], stdin=subprocess.DEVNULL, stdout=subprocess.PIPE,
                         stderr=subprocess.PIPE) as process:
                     time.sleep(after / 1000)
                     process.send_signal(number)
