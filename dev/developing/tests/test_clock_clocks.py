@@ -49,6 +49,18 @@ class Clocks(OfProgramme):
                       told == [f"all subtitles are {words}"][:bool(by)] and
                       found.result["parts"][0][clock[0]][clock[1]] == by, found.said)
 
+    def test_begins_within_a_subtitle(self) -> None:
+        """A correct recording of PES packets 4 to 7, which begins within the only subtitle of which
+        it has a cue: that is not late, since all cues agree with the clock."""
+        every = self.write("all.pes", b"")
+        done = self.call([self.bench.program, "schedule", STORY, every, "--every", "25"])
+        self.must("made", done.status == 0, done)
+        found = judged(self, STORY, self.write("cut.pes", self.read("all.pes")[1288:2024]),
+                       "--origin", "0")
+        self.must("not late", "origin: that is --origin 0" in found.said and not any(
+            "late" in line for line in found.said if not line.startswith("refused 74 Late")) and
+            found.result["parts"][0]["clock"]["delay_frames"] in (0, None), found.said)
+
     def test_late_from_one_on(self) -> None:
         """All is judged with the clock of the first part, and it is said from when on it is late;
         of a feed too. By less than five seconds that is no break, whatever is said."""

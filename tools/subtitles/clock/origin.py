@@ -6,13 +6,14 @@ from typing import Collection, Iterator, NamedTuple, Sequence
 
 from ..common.command_line import Lateness, Stop, counted, range_words
 from ..common.times import (
-    ALL_DAY, Between, FRAMES_A_SECOND, FRAMES_OF_A_DAY, TICKS, frame_in, ticks_between,
-    ticks_within, time_of)
+    ALL_DAY, Between, FRAMES_A_SECOND, FRAMES_OF_A_DAY, TICKS, frame_in, ticks_after,
+    ticks_between, ticks_within, time_of)
 from ..formats.stl import letters_on_page, readable, stl_bytes, subtitle_times
 from ..formats.teletext import Page, page_name
 from ..stream.packets import Packets, Range, STRAY, subcode_words, turns_of
 from .alignment import Base, Drift, Early, Fit, MOST_APART, MOST_BASES, Shown, bases_of, drift_of
-from .stretches import Airing, FittedPart, IN_A_ROW, Stretch, by_breaks, find_row, parts_of, runs_of
+from .stretches import (
+    Airing, FittedPart, IN_A_ROW, Stretch, by_breaks, find_row, others_of, parts_of, runs_of)
 
 
 NEAR = 10 * FRAMES_A_SECOND  # to the origin 0
@@ -149,7 +150,7 @@ def take_one(origin: Origin, sought: Sought, bases: Sequence[Base],
     if not parts:
         origin.lines.append("no cue agrees with any origin")
         return
-    part, edges = parts[0], bases[0].edges
+    part, edges = by_known(parts[0], sought.origin), bases[0].edges
     if is_clear(part, sought.origin is not None):
         origin.status = 0
         is_back = len(bases) > 1 and len(parts) == 1
@@ -166,6 +167,19 @@ def take_one(origin: Origin, sought: Sought, bases: Sequence[Base],
     first, last = (time_of_pts(pts, part.origin) for pts in part.sent.sent)
     origin.lines.append(f"subtitles due from {time_of(edges[0].frame)} to "
                         f"{time_of(edges[-1].frame)}, page sent from {first} to {last}")
+
+
+def by_known(part: FittedPart, known: int | None) -> FittedPart:
+    """Return a part with the origin that is known, if no cue agrees with the best one but the page
+    with which the recording begins, and one agrees with that. A recording that begins within a
+    subtitle has its text from the first header on, which looks like a late in-cue."""
+    sent = part.sent.limited(part.sent.edges, 0, part.sent.length + 1)  # without that page
+    if known is None or sent.fit_at(part.best.start).agree:
+        return part
+    start = round(ticks_after(known, sent.first) / TICKS)
+    fit = sent.fit_at(start)
+    return part._replace(best=fit, others=others_of(part.sent, start), sent=sent) if fit.agree \
+        else part
 
 
 def take_parts(origin: Origin, sought: Sought, bases: Sequence[Base],
