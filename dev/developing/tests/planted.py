@@ -12,6 +12,7 @@ from subtitles.formats.stl import NEW_LINE
 from .bench import Case
 from .sent import CLOSING, HEADER, PAGE, Sent, sendings, subtitle_file
 from .test_judging_reasons import KEEPING_HEADER
+from .test_right_recordings import SHARES
 
 FIRST = 900_000  # the frame of the first TCI, at least
 QUIET = 80  # frames before the first and behind the last subtitle, with repeats of a blank page
@@ -52,6 +53,19 @@ class Inserter(NamedTuple):
         """The options that judge it."""
         return ["--every", f"{self.every + self.within}", *["--keeping"] * self.keeps,
                 *["--within", f"{self.within}"] * (self.within > 0)]
+
+
+def is_rare(chance: random.Random) -> bool:
+    """Return whether one frame of twenty is it."""
+    return chance.randrange(20) == 0
+
+
+# The inserters of the right recordings, with one PES packet a frame, none in some frames, and two a
+# frame; repeats that erase the page, and that keep it.
+INSERTERS = [Inserter(name, begins, ends, 12 if keeps else 25, keeps, each, is_left_out)
+             for name, (begins, ends) in SHARES.items() for keeps in (False, True)
+             for each, is_left_out in ((1, lambda chance: False), (1, is_rare),
+                                       (2, lambda chance: False))]
 
 
 class Fault(NamedTuple):
@@ -217,3 +231,11 @@ def with_colour(page: Sequence[bytes]) -> list[bytes]:
 CHANGES: dict[str, Callable[[Sequence[bytes]], list[bytes]]] = {
     CHARACTER: with_character, ROW: with_row, COLOUR: with_colour}
 KINDS = (*SAID, EXCHANGED)
+
+
+def planted(case: Case, number: int) -> Programme:
+    """Return a programme with one fault, by a number."""
+    chance = random.Random(number)
+    made = Programme(case, number, chance.choice(INSERTERS))
+    assert made.plant(chance.choice(KINDS))
+    return made

@@ -1,10 +1,18 @@
-"""What a sentence names first: the subtitle and its planted fault, or why nothing can be known."""
+"""What a sentence names first: the subtitle and its planted fault, or why nothing can be known.
+
+The gate plants a fault in 100 programmes. From dev/, `python3 -m developing.tests.test_judging_named
+PROGRAM FIRST LAST` plants some by their numbers, and prints each that is not named.
+"""
 from __future__ import annotations
 
+import collections
+import sys
+
 from subtitles.judging.sentence import WORDS
-from .judged import OfProgramme
-from .planted import FIRST
-from .sent import Sent
+from .bench import BENCH, Case
+from .judged import OfProgramme, judged
+from .planted import FIRST, Programme, planted
+from .sent import Sent, joined
 
 ADVICE = ("--within", "--keeping", "--no-complete", "--allow-lost", "--severity", "--pace")
 
@@ -56,3 +64,47 @@ class Advice(OfProgramme):
         """No clause of a sentence, and nothing to do, names an option that accepts the fault."""
         for number, words in WORDS.items():
             self.check(f"{number}", [one for one in ADVICE if one in words and number != 79], [])
+
+
+COUNT, NAMED = 100, 95  # programmes in the gate, and of how many the fault has to be named
+
+
+def sentence_of(case: Case, made: Programme) -> str:
+    """Return the sentence on a programme, with its clock."""
+    path = case.write("planted.pes", joined(made.sent()))
+    return judged(case, made.stl, path, "--origin", "0",
+                  *made.inserter.options()).verdict.sentence
+
+
+class Planted(Case):
+    """One fault of ten or more subtitles, beyond what is allowed, with a clock."""
+
+    def test_planted_faults_are_named(self) -> None:
+        """The sentence names the subtitle and the kind first, of 95 in 100 at least."""
+        others = list[tuple[int, object, str]]()
+        for number in range(COUNT):
+            made = planted(self, number)
+            sentence = sentence_of(self, made)
+            self.check(f"{number}: refused", sentence[:8], "Refused:")
+            if not made.is_named(sentence):
+                others.append((number, made.fault, sentence))
+        self.must(f"{NAMED} of {COUNT} are named", COUNT - len(others) >= NAMED, others)
+
+
+def main(program: str, first: int, last: int) -> None:
+    """Plants faults, and prints those that are not named, and the counts."""
+    BENCH.chosen = program
+    case, counts = Planted("test_planted_faults_are_named"), collections.Counter[str]()
+    case.setUp()
+    for number in range(first, last):
+        made = planted(case, number)
+        sentence, kind = sentence_of(case, made), made.fault.kind if made.fault else ""
+        is_named = made.is_named(sentence)
+        counts[kind if is_named else f"{kind}, not named"] += 1
+        if not is_named:
+            print(number, made.inserter.name, made.fault, sentence, flush=True)
+    print(dict(sorted(counts.items())), flush=True)
+
+
+if __name__ == "__main__":
+    main(sys.argv[1], int(sys.argv[2]), int(sys.argv[3]))

@@ -21,6 +21,9 @@ from .bench import Case
 from .judged import Judged, OfProgramme, judged
 from .muxed import Carried, NEW, OLD, Programme, VIDEO_PID, in_turn, shown
 from .parts import asked_for
+from .sent import CLOSING, Sent, joined, packets, programme
+from .test_judging_pairs import broken
+from .test_right_recordings import in_stream as in_pcr
 
 PAGE = (0, 0x88)
 ONE, TWO, THREE = 257, 258, 259
@@ -285,3 +288,68 @@ class Judgements(OfProgramme):
         page = self.read("out/one.html").decode()
         self.must("report", "is announced in PID 0x111, never sent" in page and
                   json.loads(self.read("out/one.json"))["status"] == 1, page[:2000])
+
+
+class Dead(OfProgramme):
+    """A source that sends headers of the page, or none, and never a row."""
+
+    words = ("--every", "25")
+
+    def blank(self, first: int = 0, last: int = 1 << 30) -> Sent:
+        """What is sent, from one frame to another one without rows."""
+        return [(pts, [some[0], some[-1]] if first <= pts // TICKS <= last and some else some)
+                for pts, some in self.sent]
+
+    def without(self, last: int) -> Sent:
+        """What is sent, up to a frame without Teletext packets."""
+        return [(pts, some if pts // TICKS > last else []) for pts, some in self.blank()]
+
+    def test_is_refused_where_a_subtitle_is_expected(self) -> None:
+        """By what was sent: without a clock in the whole recording, with one up to the last TCO. A
+        clock by which nothing is expected, a row, or a PES packet that can't be read change that.
+        """
+        end = self.due[-1][1]
+        later = [(pts + TICKS * 2 * end, some) for pts, some in self.sent]
+        count, own = len(self.sent), "is never sent while subtitles are expected: "
+        cut = joined(self.blank())
+        rows: dict[str, tuple[bytes, tuple[str, ...], str]] = {
+            "headers": (cut, (), f"{count} headers, no row"),
+            "headers, with a clock": (cut, ("--origin", "0"), f"{count - 1} headers, no row"),
+            "headers, with a clock before": (cut, ("--origin", f"{TICKS * 2 * end}"), ""),
+            "headers, with a clock behind": (cut, ("--origin", f"{CLOCK - TICKS * 2 * end}"), ""),
+            "the first header at the last TCO": (
+                joined(self.without(end - 1)), ("--origin", "0"), f"{count - 1} PES packets, no "
+                "header"),
+            "a header before it": (joined(self.without(end - 26)), ("--origin", "0"),
+                                   "1 header, no row"),
+            "rows behind the last TCO": (joined([*self.blank(), *later]), ("--origin", "0"),
+                                         f"{count - 1} headers, no row"),
+            "rows behind it, without a clock": (joined([*self.blank(), *later]), (), ""),
+            "a row": (joined(self.blank(0, end - 100)), ("--origin", "0"), ""),
+            "a row when the page is closed": (joined([
+                *self.blank()[:9], (self.sent[9][0], [CLOSING, *self.sent[9][1][1:]]),
+                *self.blank()[10:]]), ("--origin", "0"), ""),
+            "a PES packet that can't be read": (b"".join([broken(one, 37) if at == 3 else one
+                for at, one in enumerate(packets(cut))]), ("--origin", "0"), ""),
+            "some PES packets, by --pes": (cut, ("--pes", f"0-{count}"), "")}
+        for name, (data, words, said) in rows.items():
+            found = judged(self, self.stl, self.write("one.pes", data), *self.words, *words)
+            sentence = f"Refused: page 888 {own}{said}."
+            self.check(name, found.verdict.sentence == sentence, bool(said))
+            if said:
+                self.check(f"{name}: verdict", (found.word, found.verdict.line,
+                                                found.result["parts"]),
+                           ("refused", "refused never sent", []))
+
+    def test_is_refused_in_a_stream(self) -> None:
+        """By its PCR."""
+        found = self.judge_stream(in_pcr(self.blank()))
+        self.check("stream", (found.word, "headers, no row" in found.verdict.sentence),
+                   ("refused", True))
+
+    def test_blank_subtitles_are_sent_by_headers(self) -> None:
+        """Of a file without a letter nothing else is expected."""
+        stl = programme(self, self.due, text=b" ", name="blank.stl")
+        found = judged(self, stl, self.write("one.pes", joined(self.blank())), *self.words,
+                       "--origin", "0")
+        self.check("verdict", "never sent while" in found.verdict.sentence, False)

@@ -51,8 +51,9 @@ class Cause(NamedTuple):
 
     @property
     def is_unseen(self) -> bool:
-        """Whether nobody knows what was sent, since PES packets can't be read."""
-        return self.words == UNSEEN
+        """Return whether nothing is known to be wrong with the subtitle: PES packets can't be read,
+        or it is the last one, and the next programme begins at its TCO."""
+        return self.words in (UNSEEN, NEXT)
 
 
 class Faulty:
@@ -106,7 +107,7 @@ class Namer(Sendings):
         strange = self.strange(place, came)
         if strange is not None:
             return self.differs(place, strange)
-        other = self.other_at(subtitle.begin, place)
+        other = self.other_at(place)
         if other is not None:
             return self.of_other(place, other, self.window(place).last)
         return self.never(place) if came is None else self.moved(place, came)

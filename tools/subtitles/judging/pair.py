@@ -10,12 +10,12 @@ from ..clock.start import Found
 from ..common.command_line import Stop, counted
 from ..common.files import file_of
 from ..common.times import ALL_DAY, Between, FRAMES_OF_A_DAY, pts_of, time_of
-from ..formats.layout import PLAIN, layout_of
+from ..formats.layout import PLAIN, layout_of, letters_of_text
 from ..formats.listing import CONTENT, CONTROL, EMPTY, STL_FAULTS, WITH_CAUSE
 from ..formats.stl import Subtitle, SubtitleFile, subtitles_read
 from ..formats.teletext import BY_WORD
 from ..recording import notices
-from ..recording.notices import NeverSent, Notice, refuse_elsewhere
+from ..recording.notices import NeverSent, Notice, refuse_dead, refuse_elsewhere
 from ..recording.recording import Recording, refuse_files
 from ..request.commands import CommandWords, Listener, Names, again
 from ..request.request import (
@@ -284,6 +284,10 @@ class Pair:
         recording.read(self.is_summed)
         self.verdict.recording = recording.file
         self.refuse_range(recording)
+        if request.pes is None:
+            option = BY_WORD[request.option]
+            refuse_dead(request, recording.survey, recording.packets, [
+                (one.begin, one.end) for one in subtitles if letters_of_text(one.text, option)])
         clocks = parts_of(programme, recording, self.listener)
         first, last = clocks.alignments[0], clocks.alignments[-1]
         refuse_elsewhere(request, recording.survey, pts_of(first.begin, first.origin),

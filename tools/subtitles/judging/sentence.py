@@ -74,8 +74,8 @@ def rank_of(number: int) -> Rank:
 
 
 def rank_of_cause(cause: Cause) -> Rank:
-    """Return how bad a cause is. If PES packets can't be read (33 to 40, 61, 62), their faults come
-    first."""
+    """Return how bad a cause is. Faults that are known come before one of which nothing is, as of
+    PES packets that can't be read (33 to 40, 61, 62)."""
     return Rank.UNSEEN if cause.is_unseen else OF_CAUSE[cause.name]
 
 

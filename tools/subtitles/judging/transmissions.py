@@ -304,6 +304,10 @@ class Sendings:
         number = self.held.number_at(frame)
         if place < 0 or number < 0:
             return max(place, 0)
+        if place and self.is_left_over(number, place, frame):
+            return self.owner(self.subtitles[place].begin - 1)
+        if self.is_ahead(number, place):
+            return place + 1
         page = self.held.pages[number]
         sent = self.programme.of_page(page, self.held.frames[number])
         if sent is None or sent == place or self.sending(sent) != self.held.frames[number]:
@@ -314,11 +318,30 @@ class Sendings:
         return sent
 
     def has_come(self, place: int) -> bool:
-        """Whether the page of a subtitle came at its TCI, or before it."""
+        """Return whether the page of a subtitle came in time, or before that."""
         came = self.sending(place)
         begin = self.subtitles[place].begin
-        return came is not None and came <= begin or \
+        return came is not None and came <= begin + self.held.within or \
             self.held.page_at(begin) == self.pages[place]
+
+    def is_left_over(self, number: int, place: int, frame: int) -> bool:
+        """Return whether a page stays for frames that are allowed to be late, up to a page that
+        comes in the time of a subtitle: what is wrong with it was wrong before."""
+        begin, following = self.subtitles[place].begin, number + 1
+        limit = begin + self.held.within
+        return self.held.frames[number] < begin <= frame < limit and \
+            following < len(self.held.frames) and self.held.frames[following] <= limit and \
+            not self.is_due(begin - 1)
+
+    def is_ahead(self, number: int, place: int) -> bool:
+        """Return whether a page that no subtitle has came behind the page of a subtitle, for the
+        next one: it is held for longer in the time of that."""
+        if place + 1 >= len(self.subtitles) or not self.is_strange(number, place):
+            return False
+        one, following = self.subtitles[place], self.subtitles[place + 1]
+        return one.begin < self.held.frames[number] < one.end and self.has_come(place) and \
+            self.length(number, following.begin, following.end) > \
+            self.length(number, one.begin, one.end)
 
     # What was sent.
 
@@ -330,12 +353,11 @@ class Sendings:
 
     def sending(self, place: int) -> int | None:
         """The frame at which the page of a subtitle came, the nearest one to its TCI. What comes at
-        just the TCI of another subtitle stands in the place of that one, unless both are moved by
-        as many frames."""
-        begin = self.subtitles[place].begin
-        numbers = [frame for frame in self.sendings(place) if frame == begin
-                   or not self.is_begin(frame) or self.are_moved(place, frame)]
-        return nearest(numbers, begin)
+        the TCI of another subtitle, or in time behind it, stands in the place of that one, unless
+        both are moved by as many frames."""
+        numbers = [frame for frame in self.sendings(place) if self.in_place_of(frame)
+                   in (None, place) or self.are_moved(place, frame)]
+        return nearest(numbers, self.subtitles[place].begin)
 
     def sendings(self, place: int) -> list[int]:
         """All frames of those looked at at which the page of a subtitle came as its own."""
@@ -348,17 +370,20 @@ class Sendings:
         return [frame for frame in frames[first:end]
                 if self.programme.of_page(page, frame) == place]
 
-    def is_begin(self, frame: int) -> bool:
-        """Whether a frame is the TCI of a subtitle."""
+    def in_place_of(self, frame: int) -> int | None:
+        """Return the subtitle whose page may come at a frame: at its TCI, or in time behind it."""
         place = self.programme.place_at(frame)
-        return place >= 0 and self.subtitles[place].begin == frame
+        is_in_time = place >= 0 and frame <= self.subtitles[place].begin + self.held.within
+        return place if is_in_time else None
 
     def are_moved(self, place: int, frame: int) -> bool:
-        """Whether the subtitle that is due from a frame on is moved as one is that came then."""
+        """Return whether the subtitle that is expected at a frame is moved as one is that came
+        then, give or take what is allowed."""
         other = self.programme.place_at(frame)
         begin = self.subtitles[other].begin
         came = nearest(self.sendings(other), begin)
-        return came is not None and came - begin == frame - self.subtitles[place].begin
+        moved = frame - self.subtitles[place].begin
+        return came is not None and abs(came - begin - moved) <= self.held.within
 
     def strange(self, place: int, came: int | None) -> int | None:
         """The number of the page, of no subtitle, that is held for longest of the time of one,
@@ -373,9 +398,10 @@ class Sendings:
         return numbers[lengths.index(max(lengths))] if numbers else None
 
     def is_of_its_time(self, number: int, place: int) -> bool:
-        """Whether a page came after the TCO of the subtitle before."""
+        """Return whether a page came after the TCO of the subtitle before, or for this one."""
         begin = min(self.programme.before(place), self.subtitles[place].begin)
-        return self.held.frames[number] >= begin
+        return self.held.frames[number] >= begin or \
+            place > 0 and self.is_ahead(number, place - 1)
 
     def is_strange(self, number: int, place: int) -> bool:
         page = self.held.pages[number]
@@ -387,15 +413,18 @@ class Sendings:
         stretch = self.held.stretch(number)
         return min(stretch.last + 1, end) - max(stretch.first, begin)
 
-    def other_at(self, frame: int, place: int) -> int | None:
-        """Another subtitle whose page came at just this frame, the TCI of one, unless both are
-        moved by as many frames."""
-        number = self.held.number_at(frame)
-        if number < 0 or self.held.frames[number] != frame:
-            return None
-        other = self.programme.of_page(self.held.pages[number], frame)
-        is_other = other not in (None, place) and not self.are_moved(other or 0, frame)
-        return other if is_other else None
+    def other_at(self, place: int) -> int | None:
+        """Return another subtitle whose page came at the TCI of one, or in time behind it, unless
+        both are moved by as many frames."""
+        subtitle = self.subtitles[place]
+        limit = min(subtitle.begin + self.held.within + 1, subtitle.end)
+        for number in self.held.numbers(subtitle.begin, limit):
+            frame = self.held.frames[number]
+            other = self.programme.of_page(self.held.pages[number], frame)
+            if frame >= subtitle.begin and other is not None and other != place and \
+                    not self.are_moved(other, frame):
+                return other
+        return None
 
     def others_in(self, place: int) -> int | None:
         """Another subtitle whose page came in the time of one, but not for its own."""

@@ -10,13 +10,14 @@ from ..clock.start import NoFirst, first_picture, start_frame
 from ..common.command_line import counted, pid_name, shown
 from ..common.files import first_bytes
 from ..common.times import (
-    FRAMES_OF_A_DAY, NO_FRAME, TICKS, frame_in, frames_at, pts_of, ticks_between, time_of, wrapped)
+    FRAMES_OF_A_DAY, NO_FRAME, TICKS, frame_in, frames_at, pts_of, ticks_between, ticks_within,
+    time_of, wrapped)
 from ..formats.listing import NEVER_SENT, NamedFault
 from ..formats.stl import SubtitleFile
 from ..formats.teletext import BY_WORD, OTHER_REGIONS, Page, as_sent, of_track, page_name
 from ..request.request import LC, Request, Unclear
 from ..stream.gaps import SAID, SECOND, edges_of, jumps_of, repeat_distance, strange_of, why_refused
-from ..stream.packets import Packets
+from ..stream.packets import HEADER, PES, Packets
 from ..stream.receiver import FEW, PAUSE
 from ..stream.survey import ANY, Announced, KINDS, ProgramMap, SUBTITLE_KINDS, Survey, names_of
 
@@ -304,6 +305,44 @@ def origin_by(request: Request, survey: Survey, pid: int) -> int | None:
         with contextlib.suppress(NoFirst, Unclear):
             return wrapped(first_picture(survey, pid).pts - TICKS * start_frame(request))
     return request.origin
+
+
+def refuse_dead(request: Request, survey: Survey, packets: Packets,
+                times: Sequence[tuple[int, int]]) -> None:
+    """Raise `NeverSent` if a dead source sends no row of the page up to the last TCO, though a
+    subtitle is expected in the recording. `times` are those of the subtitles with text. Without a
+    clock no row may come in the whole recording. If some PES packets can't be read, return."""
+    origin, clock = origin_by(request, survey, packets.pid), time_of_recording(survey, packets)
+    if not is_all_read(packets) or not is_due_in(clock, times, origin):
+        return
+    begin, end = times[0][0], times[-1][1]
+
+    def is_before_end(pts: int | None) -> bool:
+        return pts is not None and (origin is None or ticks_within(
+            pts_of(begin, origin), TICKS * (end - begin), pts) < TICKS * (end - begin))
+
+    rows = (number for number, texts in [*packets.held, *packets.strays] if texts)
+    if any(is_before_end(packets.pts_at(number)) for number in rows):
+        return
+    headers = sum(map(is_before_end, packets.pts(does=HEADER)))
+    what = f"{headers:,} header{'s' * (headers != 1)}, no row" if headers else \
+        f"{sum(map(is_before_end, packets.pts())):,} PES packets, no header"
+    raise NeverSent(f"page {request.page_name} is never sent while subtitles are expected: {what}")
+
+
+def is_all_read(packets: Packets) -> bool:
+    """Return whether no PES packet is missing or refused."""
+    return not packets.marks and not packets.damage and not packets.refusal and \
+        all(run.pts is not None and not run.fault for run in packets.runs)
+
+
+def time_of_recording(survey: Survey, packets: Packets) -> tuple[int, int] | None:
+    """Return the first and the last PCR, or without these the first and the last PTS."""
+    clock = survey.clock_of(packets.pid) if packets.pid != PES else None
+    if clock or not packets.runs or len(packets.bases()) > 1:
+        return clock
+    first, last = packets.runs[0].pts, packets.runs[-1].last
+    return None if first is None or last is None else (first, last)
 
 
 def refuse_elsewhere(request: Request, survey: Survey, begin: int, end: int) -> None:
