@@ -6,21 +6,25 @@ from collections import Counter
 
 from developing.pes import packet
 from subtitles.cli.measure import (
-    Delays, NAMED, delays_of, keeping_of, late_found, measured, named_lines)
+    Delays, NAMED, delays_of, keeping_of, late_found, measured, named_lines, usual_in)
 from subtitles.common.command_line import MOST_WITHIN
 from subtitles.common.times import TICKS
 from subtitles.formats.stl import Subtitle
 from subtitles.formats.teletext import BY_WORD
 from subtitles.request.commands import CommandWords
+from subtitles.stream.gaps import repeats_in
 from subtitles.stream.packets import Packets
 from subtitles.stream.receiver import BLANK_PAGE, Timeline
 from .bench import Case
+from .judged import judged
 from .parts import asked_for
+from .planted import INSERTERS, LATE, Inserter, Programme
 from .sent import ORIGIN, PAGE, apart, joined, programme, sendings, times
 from .test_judging_reasons import KEEPING_HEADER
 
 ENGLISH = BY_WORD["english"]
 GERMAN_HEADER = packet(0, 0, bytes([8, 8, 0, 8, 0, 8, 1, 8]), b" " * 32)
+GERMAN_KEEPING = packet(0, 0, bytes([8, 8, 0, 0, 0, 8, 1, 8]), b" " * 32)
 KINDS = {"missing": b"", "late": b"", "keeping": KEEPING_HEADER, "german": GERMAN_HEADER}
 # Subtitles by begin, end and text; what is held from a frame on; the first and the last frame that
 # is heard. Then how late begins and ends are, how early cues, and which subtitles never came.
@@ -104,7 +108,7 @@ class Cues(Case):
             one = Delays(Counter(begins), Counter(ends), ["x"], ["y"])
             for some in ([one], [one, Delays(Counter(), Counter(), ["z"], [])],
                          [Delays(Counter(), Counter(), ["z"], []), one]):
-                found = [*late_found(some, True)]
+                found = [*late_found(some, [])]
                 lines = [line for finding in found for line in finding.lines]
                 self.must(f"{begins} {ends}", "|".join(filter(None, (
                     finding.words for finding in found))) == wanted and any(
@@ -117,9 +121,33 @@ class Cues(Case):
                            (NAMED + 2, ", and 2 more")):
             self.must(f"{count} names", named_lines("what", names[:count]) == (
                 [] if end is None else [f"what: {'; '.join(names[:min(count, NAMED)])}{end}"]))
-        for headers, keeping, is_alone in itertools.product((9,), (0, 1), (False, True)):
+        for headers, keeping, is_alone in itertools.product((9, 20, 21), (0, 1), (False, True)):
             found_words = keeping_of(headers, keeping, is_alone).words
-            self.must(f"{keeping} {is_alone}", bool(found_words) == (keeping > 0 and is_alone))
+            self.must(f"{keeping} of {headers}, {is_alone}", bool(found_words) == (
+                keeping > 0 and headers < 21 and is_alone))
+
+    def test_what_is_usual(self) -> None:
+        """A delay, or a longer one, that fewer cues than one in twenty have is no habit."""
+        self.check_each(lambda delays: dict(usual_in(Counter(delays))), {
+            "none": (({},), {}), "one alone": (({5: 1},), {5: 1}),
+            "one of twenty": (({0: 19, 5: 1},), {0: 19, 5: 1}),
+            "one of 21": (({0: 20, 5: 1},), {0: 20}),
+            "two of 40, each alone": (({0: 38, 4: 1, 5: 1},), {0: 38, 4: 1}),
+            "a tail": (({0: 45, 1: 4, 2: 1},), {0: 45, 1: 4})})
+        late = Delays(Counter({0: 89, 5: 1}), Counter({0: 90}), [], [], [(5, "x begins late")])
+        found = [*late_found([late], [])]
+        self.check("one of 90", ("".join(one.words for one in found), found[0].lines[1]), (
+            "", "later than is usual, which this refuses: x begins late"))
+
+    def test_lost_repeats_are_exceptions(self) -> None:
+        """Of 30 repeats one that was lost is named, and does not make the bound longer; where some
+        are always longer they make it."""
+        for name, frames, longest, exceptions in (
+                ("one is lost", [*range(0, 400, 25), *range(425, 900, 25)], 25, [(375, 50)]),
+                ("none is lost", [*range(0, 900, 25)], 25, []),
+                ("some are longer", [at for at in range(0, 900, 25) if at % 100 != 50], 50, [])):
+            found = repeats_in([TICKS * frame for frame in frames], None, 0, [(0, 900)])
+            self.check(name, found and (found.longest, found.exceptions), (longest, exceptions))
 
 
 class Parts(Case):
@@ -145,12 +173,69 @@ class Parts(Case):
             path = self.write("one.pes", joined(apart(changed, 130)))
             found = measured(asked_for(stl, path, "--breaks", "1", "--origin", f"{ORIGIN}"), typed,
                              self.path(f"{number}"))
-            self.must(f"{what} in {part}", ([one.longest for one in found.repeats], found.headers,
+            self.must(f"{what} in {part}", ([(one.longest, len(one.exceptions))
+                                             for one in found.repeats], found.headers,
                       found.is_alone, found.options) == (
-                          [50 if what == "missing" and part == at else 25 for at in (0, 1)],
+                          [(25, int(what == "missing" and part == at)) for at in (0, 1)],
                           (len(changed), 2 * (what == "keeping")), what != "german",
                           {"english", *["german"] * (what == "german")}) and
                       [one.begins[2] for one in found.delays] == [
                           int(what == "late" and part == at) for at in (0, 1)] and
                       not any(one.unseen or one.early for one in found.delays) and
                       len(found.paces) == 2 and len(found.sendings) == 24, found)
+
+
+ACCEPTED = "# By this profile none of these recordings is refused."
+
+
+class Profiles(Case):
+    """A profile that is printed, of recordings that inserters of all kinds make."""
+
+    def profile(self, *made: Programme) -> tuple[list[str], list[str]]:
+        """The lines of a profile of programmes, each with its clock, and their recordings."""
+        paths = [self.write(f"{one.number}.pes", joined(one.sent())) for one in made]
+        lines = [f"{one.stl} {path} --origin 0" for one, path in zip(made, paths)]
+        listed = self.write("list", "\n".join(lines).encode())
+        done = self.tool("qc", "--measure", listed, "-p", self.bench.program)
+        self.check("status", (done.status, done.told), (0, []))
+        self.write("profile", done.out)
+        return done.out.decode().splitlines(), paths
+
+    def test_accepts_what_it_was_measured_on(self) -> None:
+        """Each recording, with its clock; or it says which it does not."""
+        for at, inserter in enumerate(INSERTERS[::13]):
+            made = [Programme(self, 10 * at + number, inserter) for number in (0, 1)]
+            lines, paths = self.profile(*made)
+            refused = [line for line in lines if " is not accepted. " in line]
+            self.check(f"{inserter.name}: last line", lines[-1] == ACCEPTED, not refused)
+            for one, path in zip(made, paths):
+                found = judged(self, one.stl, path, "--profile", self.path("profile"), "--origin",
+                               "0")
+                self.check(f"{inserter.name}: {found.verdict.sentence}", found.word == "accepted",
+                           not any(path in line for line in refused))
+
+    def test_names_what_is_not_usual(self) -> None:
+        """One subtitle of forty is late: it is named, widens nothing, and is refused."""
+        made = Programme(self, 7, Inserter("usual", begins=(0, 0, 1)), 40)
+        self.must("planted", made.plant(LATE))
+        assert made.fault
+        lines, _ = self.profile(made)
+        name = f"subtitle {made.fault.place + 1} at "
+        self.check("within", [line for line in lines if line.startswith("--within")],
+                   ["--within 1"])
+        self.check("named", [name in line for line in lines if "later than is usual" in line],
+                   [True])
+        self.check("refused", "is not accepted. Refused: at " in lines[-1] and name[:-4] in
+                   lines[-1], True)
+
+    def test_reads_by_the_option_that_it_proposes(self) -> None:
+        """A German page whose repeats keep it: both are proposed, and accepted."""
+        stl = programme(self, times(12))
+        sent = [(pts, [GERMAN_KEEPING if pts // TICKS % 100 in (25, 50) else GERMAN_HEADER,
+                       *some[1:]]) for pts, some in sendings(self, stl)]
+        done = self.tool("qc", "--measure", stl, self.write("one.pes", joined(sent)), "-p",
+                         self.bench.program)
+        lines = done.out.decode().splitlines()
+        self.check("profile", [line in lines for line in ("--option german", "--keeping")],
+                   [True, True])
+        self.check("accepted", lines[-1], ACCEPTED)

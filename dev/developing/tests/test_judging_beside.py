@@ -236,7 +236,7 @@ class Beside(Case):
             "refused 50 Character block 3 at 0", "1 faults"] and
             found.result["subtitle_counts"] is None and
             f"the other subtitles were not judged: {empty} is empty" in found.verdict.notes and
-            found.verdict.sentence.startswith("Refused: in block 3 a letter "), found.said)
+            " (block 3), a letter " in found.verdict.sentence, found.said)
         odd, mild = bytearray(self.read("good.stl")), self.write("severity", b"others warning\n")
         odd[11:12] = b"7"  # DSC: nothing of the file is judged then, nor beside it
         rows: list[tuple[str, list[str], str]] = [

@@ -290,6 +290,13 @@ BY_HAND: list[tuple[str, str, list[tuple[int, str, int | None, int | None, str |
     ("100-150 a;300-340 b", "0:- 300:b 340:- 350:a 380:-", [(0, "late", 250, None, "a")]),
     ("100-150 a;300-340 b", "0:- 300:b 340:- 351:a 380:-", [
         (0, "never sent", None, None, None), (1, "unknown", None, None, "a")]),
+    # Two edits that meet: a text that no subtitle has comes early where two adjoin, or after a TCO
+    # that was moved. It is that of the next one, where it stays for longer.
+    ("100-203 a;203-260 b", "0:- 100:a 200:z 260:-", [(1, "wrong text", None, None, "z")]),
+    ("100-190 a;203-260 b", "0:- 100:a 195:- 200:z 260:-", [
+        (0, "not erased", None, None, "a"), (1, "wrong text", None, None, "z")]),
+    ("100-203 a;203-260 b", "0:- 100:a 120:z 210:b 260:-", [
+        (0, "wrong text", None, None, "z"), (1, "late", 7, None, "b")]),
     ("10-20 a;400-450 b", "0:- 10:a 20:- 150:b 160:-", [(1, "early", 250, None, "b")]),
     # Of several pages the one that is held for longest; before its own one came; behind it.
     ("100-150 a", "0:- 100:z 110:y 150:-", [(0, "wrong text", None, None, "y")]),

@@ -428,7 +428,9 @@ class Measured(Case):
         pes = self.write("one.pes", joined(sendings(self, stl)))
         for words, said in (
                 ([stl], f"--measure takes pairs, STL RECORDING: {stl} has no recording"),
-                ([stl, pes, stl, pes, "--origin", "0"], "--origin is the clock of one recording"),
+                ([stl, pes, stl, pes, "--origin", "0"], "--origin and --start are the clock of one "
+                 "recording: give a list"),
+                ([stl, pes, stl, pes, "--start", "00:00:01:00"], "are the clock of one recording"),
                 ([stl, self.write("none.pes", b"")], "none.pes is empty"),
                 ([stl, pes, "--every", "25"], "--every goes with a recording"),
                 ([stl, pes, "--batch", "x"], "are two calls")):

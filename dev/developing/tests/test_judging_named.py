@@ -12,7 +12,7 @@ from subtitles.judging.sentence import WORDS
 from .bench import BENCH, Case
 from .judged import OfProgramme, judged
 from .planted import FIRST, Programme, planted
-from .sent import Sent, joined
+from .sent import Sent, joined, subtitle_file
 
 ADVICE = ("--within", "--keeping", "--no-complete", "--allow-lost", "--severity", "--pace")
 
@@ -55,6 +55,27 @@ class OffGrid(OfProgramme):
         found = self.judge(off_grid(sent, 1000, 2, 9), "--every", "25")
         self.check("sentence", "subtitle 7" in found.verdict.sentence and
                    "was never sent" in found.verdict.sentence, True)
+
+
+class Blocks(Case):
+    """What is refused of a subtitle file alone."""
+
+    def test_names_the_subtitle_of_a_block(self) -> None:
+        """By its place, its SN, its TCI and its text, beside the block."""
+        long = b"A line of thirty-eight letters and a b"
+        rows = {"a letter": (b"To \xe6 morrow\x8a\x8anow", "a letter cannot be shown",
+                             "To \u0132 morrow / now"),
+                "a long line": (long, "a line has more than 40 cells", long.decode()),
+                "an accent": (b"\xc2e\xe6", "a letter cannot be shown", "\u00e9\u0132")}
+        for name, (text, words, shown) in rows.items():
+            stl = subtitle_file(self, [(100, 150, b"One"), (200, 250, text), (300, 350, b"Three")],
+                                first=7)
+            found = judged(self, stl)
+            begin = f'Refused: in subtitle 2 (SN 8) at 00:00:08:00, "{shown}" (block 2), {words}'
+            self.check(name, found.verdict.sentence[:len(begin)], begin)
+        stl = self.write("none.stl", b"no file of subtitles")
+        self.check("of no block", judged(self, stl).verdict.sentence.startswith(
+            "Refused: in block 0 "), True)
 
 
 class Advice(OfProgramme):

@@ -36,7 +36,7 @@ from .test_judging_faults import cause, causes_of
 
 ADD = f"was not checked: {ADD_CLOCK}"
 OF_PACKETS = {3, 4}  # refusals of `normal`, which `check` does not have
-VERB = re.compile(r"\b(is|are|has|have|was|were|does|ends|comes|begin|differs|fall|shows|stands?|"
+VERB = re.compile(r"\b(is|are|has|have|was|were|does|ends|comes|begins?|differs|fall|shows|stands?|"
                   r"cannot)\b")
 
 
@@ -204,7 +204,7 @@ class Ends(OfProgramme):
              "all 10 subtitles are 2 frames early"),
             ("the first one is cut off", 0, (110, 1060), [
                 "63: 1 of 10 subtitles was not recorded completely; --from 00:00:08:00 judges "
-                "the others"], "the recording begins, and the first TCI is before it"),
+                "the others"], "the recording begins after the first subtitle"),
             ("all are late, the first one is cut off", 2, (110, 1060), [
                 "63: 1 of 10 subtitles was not recorded completely; --from 00:00:08:00 judges "
                 "the others"], "all 10 subtitles are 2 frames late"),

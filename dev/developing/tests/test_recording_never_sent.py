@@ -331,6 +331,7 @@ class Dead(OfProgramme):
                 *self.blank()[10:]]), ("--origin", "0"), ""),
             "a PES packet that can't be read": (b"".join([broken(one, 37) if at == 3 else one
                 for at, one in enumerate(packets(cut))]), ("--origin", "0"), ""),
+            "no header at all": (joined(self.without(1 << 30)), ("--origin", "0"), ""),
             "some PES packets, by --pes": (cut, ("--pes", f"0-{count}"), "")}
         for name, (data, words, said) in rows.items():
             found = judged(self, self.stl, self.write("one.pes", data), *self.words, *words)

@@ -229,6 +229,8 @@ class Adjoining(OfProgramme):
         for name, sent in (("another page", other), ("another fault", one_late)):
             told = self.judge(sent, "--to", time_of(250))
             self.must(name, told.word == "refused", told.said)
+        self.check("the fault leads, and not the end", told.verdict.sentence,
+                   'Refused: at 00:00:08:00 subtitle 2, "Number 2", is 1 frame late.')
 
     def test_as_it_is_asked(self) -> None:
         """What is due then is as the call says it: of an open file, by a layout and an option."""

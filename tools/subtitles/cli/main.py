@@ -45,7 +45,7 @@ ASKING = (
            field="collect"),
     Option("--watch", "IN", "judge the pairs that come into a folder", (WATCH,), field="watch"),
     Option("--measure", "STL RECORDING", "print a [profile](#a-profile) of recordings that are "
-           "right, of one pair or more; nothing is judged", (MEASURE,), field="measure", nargs="+"))
+           "right, of one pair or more, or of a list", (MEASURE,), field="measure", nargs="+"))
 OF_CALL = (
     Option("-o", "DIR", "the folder for report and list", CALLS, field="out"),
     Option("--keep", None, "keep in DIR the PES packets of the recording, NAME.recording.pes; of a "

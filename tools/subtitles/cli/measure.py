@@ -1,15 +1,17 @@
-"""--measure: a profile of recordings that are right, by what it rests; nothing here judges."""
+"""--measure: a profile of recordings that are right, what it rests on, and what it refuses."""
 from __future__ import annotations
 
 import argparse
 import collections
+import dataclasses
 import os
 import re
 from typing import Callable, Iterable, Iterator, NamedTuple, Sequence
 
+from ..clock.start import TCP
 from ..common.command_line import (
     Lateness, MOST_WITHIN, Stop, counted, late_text, quoted, say, version)
-from ..common.files import temporary_folder
+from ..common.files import first_bytes, temporary_folder
 from ..common.times import FRAMES_OF_A_DAY, Span, time_of
 from ..formats.layout import (
     PLAIN, Refused, drawn, layout_of, layout_text, letters_of_text, letters_on, page_rows)
@@ -22,10 +24,13 @@ from ..judging.status import Severity
 from ..judging.timing import PartSearch, cut_within, measured_pace
 from ..judging.transmissions import control_words, keeps
 from ..judging.verdict import Verdict
+from ..recording.notices import NeverSent
 from ..recording.recording import refuse_files
 from ..request.commands import CommandWords, Listener, Names, Progress, Speech
+from ..request.lines import pairs_at, profile_at
 from ..request.request import PID_CHOICE, Request, Unclear, request_with
-from ..stream.gaps import Pace, Repeats, repeats_in
+from ..stream.gaps import (
+    BY_EVERY, IRREGULAR, PAUSED, Pace, Repeats, TOO_FEW, UNUSUAL, repeats_in)
 from ..stream.layout import (
     Choice, FEWEST, FLASH, Left, MOST_MOVED, Sent, TENTHS, choices_of, draws, sent_in, taken_from)
 from ..stream.packets import HEADER
@@ -35,6 +40,7 @@ from .single import now
 
 NAMED = 5  # subtitles that speak against something
 APART = 25  # frames before a TCI within which its page may come too early
+GOOD = {0, 3}  # statuses: accepted, and right by a clock that was fitted
 
 
 class Finding(NamedTuple):
@@ -75,13 +81,22 @@ def every_of(several: Sequence[Repeats]) -> Finding:
     worst = max(several, key=lambda one: one.longest)
     usual = [one.usual for one in several if one.usual is not None]
     words = f", and {max(usual)} are usual" if usual else ""
-    return Finding(f"--every {worst.longest}", [
+    lines = [
         f"every: of {counted(sum(repeats.headers for repeats in several), 'header')} of the page "
         f"the next comes within {counted(worst.longest, 'frame')}, the first of these from "
-        f"{time_of(worst.since)} on{words}"])
+        f"{time_of(worst.since)} on{words}"]
+    return Finding(f"--every {worst.longest}", lines + named_lines(
+        "longer without a header, which this refuses", [
+            f"{counted(frames, 'frame')} from {time_of(since)} on" for repeats in several
+            for since, frames in repeats.exceptions if frames > worst.longest]))
 
 
 # How far apart PES packets come.
+
+WHY_NONE = {
+    IRREGULAR: "PES packets come at irregular distances", PAUSED: "PES packets pause",
+    BY_EVERY: "--every shows each loss", TOO_FEW: "PES packets are too few, or "
+    "too close together, for a loss to show"}
 
 
 def pace_found(paces: Sequence[Pace]) -> Finding:
@@ -89,8 +104,9 @@ def pace_found(paces: Sequence[Pace]) -> Finding:
     frames = [one.frames for one in paces]
     known = [one for one in frames if one is not None]
     if not known or len(known) < len(frames):
-        why = ", ".join(dict.fromkeys(one.kind for one, its in zip(paces, frames) if its is None))
-        return Finding("", [f"pace: none, since PES packets are {why or 'none'}"])
+        why = "; ".join(dict.fromkeys(WHY_NONE[one.kind] for one, its in zip(paces, frames)
+                                      if its is None))
+        return Finding("", [f"pace: none, since {why or 'there are no PES packets'}"])
     return Finding(f"--pace {max(known)}", [
         f"pace: a PES packet comes within {counted(max(pace.apart for pace in paces), 'frame')} of "
         "the one before nearly everywhere"])
@@ -101,19 +117,21 @@ def pace_found(paces: Sequence[Pace]) -> Finding:
 
 class Delays(NamedTuple):
     """How many begins, and ends, are so many frames late; in words each cue that is early, and each
-    subtitle whose letters never came."""
+    subtitle whose letters never came; and each cue that is late, by its frames."""
 
     begins: collections.Counter[int]
     ends: collections.Counter[int]
     early: list[str]
     unseen: list[str]
+    late: Sequence[tuple[int, str]] = ()
 
 
 def delays_of(stl: str, subtitles: Sequence[Subtitle], held: Timeline, option: NationalOption) \
         -> Delays:
     """Those of the subtitles of a file, by the letters that are held. Where two adjoin the end of
     one is the begin of the other."""
-    delays = Delays(collections.Counter(), collections.Counter(), [], [])
+    late = list[tuple[int, str]]()
+    delays = Delays(collections.Counter(), collections.Counter(), [], [], late)
     rows = [(one, letters_of_text(one.text, option)) for one in subtitles]
     for place, (subtitle, letters) in enumerate(rows):
         if not letters:
@@ -128,21 +146,35 @@ def delays_of(stl: str, subtitles: Sequence[Subtitle], held: Timeline, option: N
             delays.unseen.append(name)
             continue
         if is_new and first > held.first:
-            take(delays.begins, delays.early, first - subtitle.begin, f"{name} begins")
+            take(delays.begins, delays.early, late, first - subtitle.begin, f"{name} begins")
         if after is None or after.begin > subtitle.end:
             last = ended(held, subtitle, letters, first,
                          FRAMES_OF_A_DAY if after is None else after.begin)
             if last < held.last:
-                take(delays.ends, delays.early, last + 1 - subtitle.end, f"{name} ends")
+                take(delays.ends, delays.early, late, last + 1 - subtitle.end, f"{name} ends")
     return delays
 
 
-def take(counts: collections.Counter[int], early: list[str], delay: int, name: str) -> None:
+def take(counts: collections.Counter[int], early: list[str], late: list[tuple[int, str]],
+         delay: int, name: str) -> None:
     """Takes a delay; one below 0 is early."""
     if delay < 0:
         early.append(f"{name} {counted(-delay, 'frame')} early")
-    else:
-        counts[delay] += 1
+        return
+    counts[delay] += 1
+    if delay:
+        late.append((delay, f"{name} {counted(delay, 'frame')} late"))
+
+
+def usual_in(delays: collections.Counter[int]) -> collections.Counter[int]:
+    """Return the delays without the longest ones that are so few that they are no habit."""
+    usual, rest = collections.Counter(delays), 0
+    for delay in sorted(delays, reverse=True):
+        rest += delays[delay]
+        if rest * UNUSUAL >= delays.total():
+            break
+        del usual[delay]
+    return usual
 
 
 def begun(held: Timeline, subtitle: Subtitle, letters: bytes, earlier: int) -> int | None:
@@ -161,22 +193,27 @@ def ended(held: Timeline, subtitle: Subtitle, letters: bytes, first: int, limit:
                if letters_on(held.pages[number]) == letters)
 
 
-def late_found(several: Sequence[Delays], is_known: bool) -> Iterator[Finding]:
-    """The bound, and the shares of each delay; none where no clock is given."""
-    if not is_known:
-        yield Finding("", ["within, late: no clock is given (--origin, --start), so nobody knows "
-                           "how late cues are"])
+def late_found(several: Sequence[Delays], without: Sequence[str]) -> Iterator[Finding]:
+    """The bound, and the shares of each delay, of the recordings whose clock is given; `without`
+    are the others."""
+    lines = [f"within, late: no clock is given of {name} (--origin, --start), so nobody knows how "
+             "late its cues are" for name in without]
+    if not several:
+        yield Finding("", lines)
         return
     begins, ends = collections.Counter[int](), collections.Counter[int]()
     for delays in several:
         begins, ends = begins + delays.begins, ends + delays.ends
-    lines = [f"within, late: begins {counts_text(begins)}; ends {counts_text(ends)} (frames late: "
-             "how many)"]
+    lines += [f"within, late: begins {counts_text(begins)}; ends {counts_text(ends)} (frames late: "
+              "how many)"]
+    begins, ends = usual_in(begins), usual_in(ends)
     lines += named_lines("early, which nothing accepts", [
         name for one in several for name in one.early])
     lines += named_lines("whose letters were never sent", [
         name for one in several for name in one.unseen])
     longest = max([*begins, *ends], default=0)
+    lines += named_lines("later than is usual, which this refuses", [
+        words for one in several for delay, words in one.late if delay > longest])
     if longest > MOST_WITHIN:
         lines.append(f"within is {MOST_WITHIN} frames at most")
     if not begins or not ends or not longest or longest > MOST_WITHIN:
@@ -206,9 +243,13 @@ def named_lines(what: str, names: Sequence[str]) -> list[str]:
 def keeping_of(headers: int, keeping: int, is_alone: bool) -> Finding:
     """How many headers keep the page, of so many; with nothing else wrong in any."""
     lines = [f"keeping: C4 (erase page) is clear in {keeping} of {counted(headers, 'header')}"]
-    if keeping and not is_alone:
-        lines.append("other control bits of a header are wrong, which no option accepts")
-    return Finding("--keeping" if keeping and is_alone else "", lines)
+    is_habit = keeping > 0 and keeping * UNUSUAL >= headers
+    if keeping and not is_habit:
+        lines.append("keeping: they are too few to be how a site sends, and are refused (67)")
+    if is_habit and not is_alone:
+        lines.append("keeping: other control bits of a header are wrong too, which are refused "
+                     "(67)")
+    return Finding("--keeping" if is_habit and is_alone else "", lines)
 
 
 def option_of(options: Iterable[str], judged: str) -> Finding:
@@ -362,6 +403,7 @@ class Measured(NamedTuple):
     is_alone: bool
     options: set[str]
     sendings: Sequence[Sending]
+    option: str = "english"  # by which its letters were read
 
 
 def measure(words: argparse.Namespace, called: str) -> int:
@@ -370,7 +412,15 @@ def measure(words: argparse.Namespace, called: str) -> int:
     with temporary_folder("subttx-qc-") as folder:
         recordings = [measured(request, typed, os.path.join(folder, str(number)))
                       for number, request in enumerate(requests)]
-    for line in profile_lines(requests, recordings):
+        lines = [*profile_lines(requests, recordings)]
+        path = os.path.join(folder, "profile")
+        with open(path, "w", encoding="utf-8", errors="surrogateescape") as file:
+            file.writelines(f"{line}\n" for line in lines)
+        settings = profile_at(path).settings.values()
+        lines += judged_lines([dataclasses.replace(request, **{
+            setting.field: setting.value for setting in settings}) for request in requests], typed,
+            folder)
+    for line in lines:
         say(line)
     return 0
 
@@ -378,27 +428,72 @@ def measure(words: argparse.Namespace, called: str) -> int:
 def requests_of(words: argparse.Namespace) -> list[Request]:
     """The pairs of a call: a subtitle file and its recording, one after another."""
     names = words.measure
+    if len(names) == 1 and not is_stl(names[0]):
+        return requests_in(names[0], words)
     if len(names) % 2:
         raise Stop(f"--measure takes pairs, STL RECORDING: {names[-1]} has no recording")
     requests = [request_with(stl, recording, words)
                 for stl, recording in zip(names[::2], names[1::2])]
-    if len(requests) > 1 and words.origin is not None:
-        raise Stop("--origin is the clock of one recording: measure it by itself, or give --start")
+    if len(requests) > 1 and (words.origin is not None or words.start not in (None, TCP)):
+        raise Stop("--origin and --start are the clock of one recording: give a list, and in each "
+                   "line a pair with its clock")
     return requests
+
+
+def is_stl(path: str) -> bool:
+    """Return whether a file is a subtitle file, by its name or its first bytes."""
+    return path.lower().endswith(".stl") or first_bytes(path, 6)[3:6] == b"STL"
+
+
+def requests_in(path: str, words: argparse.Namespace) -> list[Request]:
+    """Return the pairs of a list, each with the options of its line; `Stop` if one is none."""
+    items = pairs_at(path, words)
+    for item in items:
+        if item.reason:
+            raise Stop(item.reason)
+    return [item.asked for item in items if item.asked]
 
 
 def measured(request: Request, typed: CommandWords, folder: str) -> Measured:
     """What a recording tells; `Stop` where it can't be measured."""
     os.mkdir(folder)
-    names = Names("measured", folder, None)
-    names.give(request.stl)
-    listener = Listener(Unprinted())
-    pair = Pair(Verdict(request, Severity(None), now()), typed, names, listener, False)
     try:
         refuse_files(request)
-        return of_pair(pair)
+        found = of_pair(pair_of(request, typed, folder))
+        if len(found.options) == 1 and request.option not in found.options:
+            request = dataclasses.replace(request, option=min(found.options))
+            found = of_pair(pair_of(request, typed, folder))
+        return found._replace(option=request.option)
     except Unclear as why:
         raise Stop(f"{request.stl} {request.recording} can't be measured: {why}") from None
+    except NeverSent as why:
+        raise Stop(f"{request.stl} {request.recording} can't be measured: {why}") from None
+
+
+def pair_of(request: Request, typed: CommandWords, folder: str) -> Pair:
+    """Return a pair of which nothing is printed."""
+    names = Names("measured", folder, None)
+    names.give(request.stl)
+    return Pair(Verdict(request, Severity(None), now()), typed, names, Listener(Unprinted()), False)
+
+
+def judged_lines(requests: Sequence[Request], typed: CommandWords, folder: str) -> Iterator[str]:
+    """Yield for each recording that the profile does not accept why not; else that it does."""
+    refused = 0
+    for request in requests:
+        pair = pair_of(request, typed, folder)
+        try:
+            pair.judge()
+            sentence, is_good = pair.verdict.sentence, pair.verdict.status in GOOD
+        except Unclear as why:
+            sentence, is_good = f"Not judged: {why}", False
+        if not is_good:
+            refused += 1
+            first, *more = sentence.splitlines()
+            yield f"# By this profile {request.stl} {request.recording} is not accepted. {first}"
+            yield from (f"# {line}" for line in more)
+    if not refused:
+        yield "# By this profile none of these recordings is refused."
 
 
 def of_pair(pair: Pair) -> Measured:
@@ -410,6 +505,8 @@ def of_pair(pair: Pair) -> Measured:
     times = [(one.begin, one.end) for one in subtitles]
     sent = [(subtitles_of(part, subtitles), held_near(part)) for part in parts]
     headers = [part.headers_sent() for part in parts]
+    sent_options = {word for part in parts for word in part.options_sent()}
+    word = min(sent_options) if len(sent_options) == 1 else request.option
     return Measured(
         *pid_of(pair),
         [repeats for part in parts if (repeats := repeats_in(
@@ -418,8 +515,8 @@ def of_pair(pair: Pair) -> Measured:
         [delays_of(request.stl, *both, option) for both in sent],
         (sum(counts.total() for counts in headers),
          sum(count for counts in headers for header, count in counts.items() if keeps(header))),
-        not any(control_words(header, request.option) for counts in headers for header in counts),
-        {word for part in parts for word in part.options_sent()},
+        not any(control_words(header, word) for counts in headers for header in counts),
+        sent_options,
         [sending for both in sent for sending in sendings_of(request.stl, *both, option)])
 
 
@@ -467,21 +564,24 @@ def profile_lines(requests: Sequence[Request], recordings: Sequence[Measured]) -
     files = " ".join(quoted(name) for request in requests
                      for name in (request.stl, request.recording or ""))
     yield f"# qc {version()} --measure {files}"
-    yield (f"# Measured of {counted(len(requests), 'recording')}, and not judged: what is wrong in "
-           "it is right by this. Read each line, and keep what is true of your house.")
-    is_known = first.origin is not None or first.start is not None
+    yield (f"# Measured of {counted(len(requests), 'recording')}, what is usual there. Read each "
+           "line, and keep what is true of your site.")
+    are_known = [request.origin is not None or request.start is not None for request in requests]
     counts = [one.headers for one in recordings]
     options = {option for one in recordings for option in one.options}
     findings = [
         Finding(f"--page {page_name(*first.page)}", []), pid_found(recordings),
-        option_of(options, first.option),
+        option_of(options, recordings[0].option),
         every_of([repeats for one in recordings for repeats in one.repeats]),
         pace_found([pace for one in recordings for pace in one.paces]),
-        *late_found([delays for one in recordings for delays in one.delays], is_known),
+        *late_found([delays for one, is_known in zip(recordings, are_known) if is_known
+                     for delays in one.delays],
+                    [request.recording or "" for request, is_known in zip(requests, are_known)
+                     if not is_known]),
         keeping_of(sum(count for count, _ in counts), sum(count for _, count in counts),
                    all(one.is_alone for one in recordings)),
         layout_found([sending for one in recordings for sending in one.sendings],
-                     BY_WORD[first.option])]
+                     BY_WORD[recordings[0].option])]
     for finding in findings:
         yield from finding.all()
 

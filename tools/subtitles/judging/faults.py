@@ -12,8 +12,8 @@ from ..formats.listing import (
     BEGIN, CHARACTER, CONTENT, CONTROL, DISPLAY, EMPTY_TIME, END, FaultLine, GAP, LETTERS,
     NamedFault, OFF_FRAME, OUT_OF_ORDER, PARITY, PASSED_OVER, SILENT, STL_FAULTS, WITH_CAUSE,
     meanings, named_meanings, plain)
-from ..formats.stl import NamedSubtitle, SubtitleFile
-from ..formats.teletext import BY_WORD, letters
+from ..formats.stl import NEW_LINE, NamedSubtitle, SubtitleFile, subtitle_name
+from ..formats.teletext import BY_WORD, character_of, letter_at, letters
 from ..request.request import Request
 from ..stream.gaps import edges_of, frame_rows, longest_gap, repeat_distance, why_refused
 from ..stream.packets import HEADER, Packets, Run
@@ -205,6 +205,31 @@ def unrecorded_words(fault: FaultLine, part: Part) -> str:
     words = f"{len(left):,} of {counted(len(subtitles), 'subtitle')} " \
         f"{'was' if len(left) == 1 else 'were'} not recorded completely"
     return f"{words}; {option[0]} judges the others" if option else words
+
+
+def block_words(fault: FaultLine, subtitles: SubtitleFile) -> str:
+    """Return the subtitle of the block that a fault names, with its time and its text; nothing of
+    another block."""
+    subtitle = subtitles.at_block(fault.block) if fault.block else None
+    if subtitle is None or not fault.block:
+        return ""
+    name = subtitle_name(subtitle.position, subtitle.number)
+    return f'{name} at {subtitle.begin}, "{stored_text(subtitles.text(fault.block))}"'
+
+
+def stored_text(text: bytes) -> str:
+    """Return the text of a subtitle file as it is read: its characters, and lines behind a slash.
+    """
+    lines = list[str]()
+    for line in text.split(NEW_LINE):
+        at, characters = 0, ""
+        while at < len(line):
+            letter = letter_at(line, at)
+            characters += (character_of(letter) or "") if line[at] > SPACE else " " * (
+                line[at] == SPACE)
+            at += len(letter)
+        lines += [characters.strip()] * bool(characters.strip())
+    return " / ".join(lines)
 
 
 def open_words(subtitles: SubtitleFile) -> str:

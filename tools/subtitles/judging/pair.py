@@ -23,7 +23,7 @@ from ..request.request import (
 from ..stream.packets import HEADER
 from .causes import Causes
 from .check import Answer, check, check_alone, say_alone
-from .faults import OF_HEADERS, hint_words, lead_words
+from .faults import OF_HEADERS, block_words, hint_words, lead_words
 from .pages import hidden_rows, may_hide, otherwise
 from .part import Part, part_causes, parted, refuse_others, tell_causes
 from .sentence import Lead
@@ -251,7 +251,8 @@ class Pair:
         self.verdict.parts.append(part)
         if answer.first:
             self.verdict.parts[-1] = dataclasses.replace(
-                part, hint=hint_words(answer.first, part, self.verdict))
+                part, hint=hint_words(answer.first, part, self.verdict),
+                of_block=block_words(answer.first, part.subtitle_file()))
 
     def subtitles(self) -> list[Subtitle]:
         """The subtitles that are judged."""

@@ -61,6 +61,7 @@ class Part:
     delays: Sequence[int | None] = ()  # after how many frames each subtitle was whole
     was_read: bool = False  # whether something of its recording was, or it has none
     hint: str = ""  # on the fault that is reported first
+    of_block: str = ""  # the subtitle of its block
     sent_hint: str = ""  # on the first fault of its transmission
     of_header: str = ""  # what is wrong with its PES headers
     otherwise: str = ""  # what is drawn otherwise where all characters are right

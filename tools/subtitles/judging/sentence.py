@@ -171,7 +171,7 @@ WORDS = {
     60: "nothing is read",
     61: "the PTS is no frame of the day at this origin",
     62: "its frame is not after that of the PES packet before",
-    63: "the recording begins, and the first TCI is before it",
+    63: "the recording begins after the first subtitle",
     64: "an address byte has a wrong bit",
     65: "one of the eight coded bytes of a header has a wrong bit",
     66: "C11 (magazine serial) differs from the first header's",
@@ -235,6 +235,7 @@ class Facts(NamedTuple):
     faults: int = 0
     counts: Sequence[Count] = ()
     hint: str = ""
+    of_block: str = ""
     causes: Causes | None = None
     option: str = "english"
     lost: Sequence[str] = ()
@@ -344,8 +345,9 @@ def fault_clause(seen: Facts) -> str:
         more = f", and in {counted(len(seen.lost) - 1, 'more place')}" if len(seen.lost) > 1 else ""
         return f"{seen.lost[0]}{more}; that part was not recorded{also(seen)}"
     words = WORDS.get(fault.number, fault.name)
+    block = f"{seen.of_block} (block {fault.block})," if seen.of_block else f"block {fault.block}"
     place = fault.time or (f"PES packet {fault.pes}" if fault.pes is not None else
-                           f"block {fault.block}" if fault.block is not None else "")
+                           block if fault.block is not None else "")
     if seen.hint and fault.number in OF_ALL:
         words, place = f"from {place} on {seen.hint}", ""
     elif seen.hint:

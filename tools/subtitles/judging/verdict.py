@@ -269,8 +269,8 @@ class Verdict:
         if refused and self.beside:
             said = self.sent_beside(said, self.beside)
         elif refused and not self.first_named:
-            said = with_lead(said._replace(hint=refused.hint, causes=refused.causes),
-                             refused.worst)
+            said = with_lead(said._replace(hint=refused.hint, of_block=refused.of_block,
+                                           causes=refused.causes), refused.worst)
         return sentence_of(said)
 
     def sent_beside(self, said: Facts, beside: JudgedBeside) -> Facts:

@@ -311,9 +311,10 @@ def refuse_dead(request: Request, survey: Survey, packets: Packets,
                 times: Sequence[tuple[int, int]]) -> None:
     """Raise `NeverSent` if a dead source sends no row of the page up to the last TCO, though a
     subtitle is expected in the recording. `times` are those of the subtitles with text. Without a
-    clock no row may come in the whole recording. If some PES packets can't be read, return."""
+    clock no row may come in the whole recording. A page of which no header comes may be the wrong
+    one; and if some PES packets can't be read, nobody knows."""
     origin, clock = origin_by(request, survey, packets.pid), time_of_recording(survey, packets)
-    if not is_all_read(packets) or not is_due_in(clock, times, origin):
+    if not packets.has_page or not is_all_read(packets) or not is_due_in(clock, times, origin):
         return
     begin, end = times[0][0], times[-1][1]
 

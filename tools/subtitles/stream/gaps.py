@@ -246,14 +246,20 @@ def repeat_distance(frames: Iterable[int], edges: Sequence[int]) -> int | None:
     return rising[bisect.bisect_left(totals, -(-totals[-1] // 2))]
 
 
+LONGER = 1.5  # times the usual distance, which a repeat exceeds that was lost
+UNUSUAL = 20  # fewer than one in so many are not how a site sends
+
+
 class Repeats(NamedTuple):
     """Of the headers of a page from the first to the last: how many, the most frames from one to
-    the next, the frame from which on these are, how many frames are usual."""
+    the next, the frame from which on these are, how many frames are usual. `exceptions` are longer,
+    and so few that they are left out, each by its first frame and its length."""
 
     headers: int
     longest: int
     since: int
     usual: int | None
+    exceptions: Sequence[tuple[int, int]] = ()
 
 
 def repeats_in(pts: Sequence[int], last: int | None, origin: int,
@@ -263,12 +269,15 @@ def repeats_in(pts: Sequence[int], last: int | None, origin: int,
     frames = [frame for frame in frames_at(pts, origin, 1) if frame != NO_FRAME]
     ends = [] if last is None else [frame + 1 for frame in frames_at([last], origin, 1)
                                     if frame != NO_FRAME and frames and frame >= frames[-1]]
-    longest = longest_gap([*frames, *ends])
-    if not longest:
-        return None
     known = sorted({*frames, *ends})
-    since = next(frame for frame, other in zip(known, known[1:]) if other - frame == longest)
-    return Repeats(len(frames), longest, since, repeat_distance(frames, edges_of(times)))
+    gaps = [(frame, other - frame) for frame, other in zip(known, known[1:])]
+    if not gaps:
+        return None
+    usual = repeat_distance(frames, edges_of(times))
+    longer = [gap for gap in gaps if usual and gap[1] > LONGER * usual]
+    exceptions = longer if len(longer) * UNUSUAL < len(gaps) else []
+    since, longest = max((gap for gap in gaps if gap not in exceptions), key=lambda gap: gap[1])
+    return Repeats(len(frames), longest, since, usual, exceptions)
 
 
 # How far apart PES packets come, and which pace tells a loss of any length.
