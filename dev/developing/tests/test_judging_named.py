@@ -1,7 +1,8 @@
 """What a sentence names first: the subtitle and its planted fault, or why nothing can be known.
 
-The gate plants a fault in 100 programmes. From dev/, `python3 -m developing.tests.test_judging_named
-PROGRAM FIRST LAST` plants some by their numbers, and prints each that is not named.
+The gate plants a fault in 100 programmes. From dev/,
+`python3 -m developing.tests.test_judging_named PROGRAM FIRST LAST` plants some by their numbers
+and prints each that is not named.
 """
 from __future__ import annotations
 

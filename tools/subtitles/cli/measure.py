@@ -171,7 +171,7 @@ def usual_in(delays: collections.Counter[int]) -> collections.Counter[int]:
     usual, rest = collections.Counter(delays), 0
     for delay in sorted(delays, reverse=True):
         rest += delays[delay]
-        if rest * UNUSUAL >= delays.total():
+        if rest * UNUSUAL >= sum(delays.values()):
             break
         del usual[delay]
     return usual
@@ -513,7 +513,7 @@ def of_pair(pair: Pair) -> Measured:
             part.pts(HEADER), part.pts()[-1], part.origin or 0, times))],
         [measured_pace(part, times)[0] for part in parts],
         [delays_of(request.stl, *both, option) for both in sent],
-        (sum(counts.total() for counts in headers),
+        (sum(sum(counts.values()) for counts in headers),
          sum(count for counts in headers for header, count in counts.items() if keeps(header))),
         not any(control_words(header, word) for counts in headers for header in counts),
         sent_options,

@@ -341,7 +341,7 @@ def settled(base: Base, fit: Fit, late: Lateness | None) -> tuple[Fit, Early | N
     both = begins + ends
     before = {delay: count for delay, count in both.items() if delay < first}
     return base.fit(fit.start - first), Early(
-        sum(before.values()), both.total(), first - min(before))
+        sum(before.values()), sum(both.values()), first - min(before))
 
 
 def delays_of(base: Base, fit: Fit) -> tuple[collections.Counter[int], collections.Counter[int]]:
