@@ -212,7 +212,7 @@ class Calls(Feeds):
     def start_judge(self) -> subprocess.Popen[bytes]:
         """Start the judge."""
         return self.start(subprocess.DEVNULL, *self.judge_call(
-            "--margin", "5", "--pause", "30", "--every-seconds", "1")[1:])
+            "--margin", "120", "--pause", "60", "--every-seconds", "1")[1:])
 
     def test_wrong_words_are_one_line_and_status_2(self) -> None:
         rows: dict[str, str] = {
