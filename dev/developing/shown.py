@@ -42,7 +42,8 @@ def has_status(status: int | None, command: str, output: str) -> bool:
     last = output.rstrip("\n").split("\n")[-1]
     if re.fullmatch(r"\d+ faults", last):
         return status == 1
-    return status == {"refused": 1, "fault": 2, "usage": 2, "relative": 3}.get(last.split(" ")[0], 0)
+    statuses = {"refused": 1, "fault": 2, "usage": 2, "relative": 3}
+    return status == statuses.get(last.split(" ")[0], 0)
 
 
 def printed_by(command: str, folder: str, known: dict[str, str]) -> tuple[str, int | None]:

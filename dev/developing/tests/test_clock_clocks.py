@@ -215,11 +215,11 @@ class Starts(Case):
                     clock)
 
     def test_of_another_time(self) -> None:
-        """The time of day for a file with another clock, however far they differ: nothing is judged,
-        and no other page is named."""
+        """The time of day for a file with another clock, however far they differ: nothing is
+        judged, and no other page is named."""
         data = with_pictures(example_bytes("story.pes"), FIRST_PTS).data
-        ends = f"the recording begins at {STARTED}. TIME is on the subtitle file's own clock, not " \
-            "the time of day"
+        ends = f"the recording begins at {STARTED}. TIME is on the subtitle file's own clock, " \
+            "not the time of day"
         for words, told in (
                 (("--start", "10:00:00:00"), "--start 10:00:00:00 is 10 h 14 min 59 s earlier than "
                  f"the subtitles tell: by these {ends}"),

@@ -266,10 +266,11 @@ class Words(Case):
                         one, ast.Constant) for one in call.args[at:at + 1]))
 
     def test_manual(self) -> None:
-        """A row of which the cure is that of the one before, as it is or with more."""
+        """A row of which the cure is that of the one before, as it is or with more; options that
+        accept it are no part of it."""
         path = self.write("chapter", b"""# Refusals
-| Number | Name | Means | Do |
-|---|---|---|---|
+| Number | Name | Means | Do | Accepted with |
+|---|---|---|---|---|
 | 10 | One | first | mend it |
 | 11 | Two | second | the same |
 | 12 | Three | third | the same, twice | [a](b) |

@@ -46,7 +46,7 @@ class Engines(Case):
     LINES = ["in/one.stl in/one.pes", "'in/a b; touch hit.stl' in/one.pes --page 888",
              "in/$(touch${IFS}hit).stl in/one.pes", "in/one.stl in/bad.pes",
              "in/one.stl in/one.pes -p /bin/true", "-one.stl in/one.pes"]
-    WANTED = {"one": "accepted", "a b; touch hit": "accepted", "$(touch${IFS}hit)": "accepted",
+    WANTED = {"one": "relative", "a b; touch hit": "relative", "$(touch${IFS}hit)": "relative",
               "one~2": "refused", "line 5": "not judged", "line 6": "not judged"}
 
     def setUp(self) -> None:

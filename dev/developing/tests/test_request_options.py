@@ -90,7 +90,8 @@ ROWS: list[tuple[str, str, Any]] = [
     ("--from", "00:00:01:00", "00:00:01:00"), ("--to", "00:00:02:00", "00:00:02:00"),
     ("--layout", "fit,up", "fit,up"), ("--pace", "none", "none"), ("--no-complete", "", False),
     ("--allow-lost", "", True), ("--strict", "", True), ("--open", "", True),
-    ("--keeping", "", True), ("--relative", "", True), ("--late", "0:31,5:69/0:100", "0:31,5:69/0:100")]
+    ("--keeping", "", True), ("--relative", "", True),
+    ("--late", "0:31,5:69/0:100", "0:31,5:69/0:100")]
 BACK = {"--complete", "--no-allow-lost", "--no-keeping"}  # what they say holds without them too
 
 

@@ -47,7 +47,8 @@ BEFORE = (CLOCK - DAY) // 2  # ticks that a PTS of a day may be before its origi
 
 def all_over_the_clock(chance: random.Random) -> Iterator[tuple[int, int]]:
     """Yield origins, each with distances from it over the 26.5 hours of the clock."""
-    for origin in (0, 1, TICKS, CLOCK // 2, CLOCK - 1, *(chance.randrange(CLOCK) for _ in range(9))):
+    for origin in (0, 1, TICKS, CLOCK // 2, CLOCK - 1,
+                   *(chance.randrange(CLOCK) for _ in range(9))):
         for at in (0, TICKS, CLOCK // 2, DAY, CLOCK - BEFORE, CLOCK, *(
                 chance.randrange(CLOCK // TICKS) * TICKS for _ in range(30))):
             for ticks in (at - EARLY - 1, at - EARLY, at - 1, at, at + 1, at + TICKS // 2):

@@ -267,8 +267,8 @@ def is_current(known: dict[str, Any], asked: Request, program: MadeWith) -> bool
         and known["program"]["version"] == program.version
 
 
-# Many pairs and their faults as lines of CSV: one for each pair, then one for each of its faults. Of
-# one pair: a line for the pair, then one for each subtitle.
+# Many pairs and their faults as lines of CSV: one for each pair, then one for each of its faults.
+# Of one pair: a line for the pair, then one for each subtitle.
 
 OF_FAULT = ["part", "number", "name", "severity", "file", "block", "subtitle", "begin", "end",
             "byte", "character", "pes", "pes_time", "packet", "frame", "time", "row", "column",
