@@ -45,6 +45,9 @@ class Clocks(OfProgramme):
                           "delay_frames": None})], found.said)
             found = self.judge(sent, "--origin", "0")
             told = [line for line in found.told if line.startswith("all subtitles")]
+            if by:
+                self.must(f"{by}: the sentence", found.verdict.sentence.startswith(
+                    f"Refused: all 20 subtitles are {words}"), found.verdict.sentence)
             self.must(f"{by}: given", (found.word == "refused") == bool(by) and
                       told == [f"all subtitles are {words}"][:bool(by)] and
                       found.result["parts"][0][clock[0]][clock[1]] == by, found.said)

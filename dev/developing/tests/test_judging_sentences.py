@@ -78,6 +78,13 @@ class Sentences(unittest.TestCase):
                  "faults are named warnings: from 10:00:00:00 on no header."),
                 (Facts(WARNED, 2, warnings=["page", "page", "pause"]), "Not accepted: there are "
                  "warnings, which count (page, pause); what was received is right."),
+                (Facts(REFUSED, 1234, first=fault_of_line("refused 72 Content frame 10:00:00:00"),
+                       faults=2, delay=50, counts=[Count(72, "Content", 1), Count(73, "Gap", 1)]),
+                 "Refused: all 1,234 subtitles are 50 frames late; also 73 Gap."),
+                (Facts(REFUSED, 1, first=fault_of_line("refused 63 Early frame 10:00:00:00"),
+                       faults=1, delay=-1), "Refused: the subtitle is 1 frame early."),
+                (Facts(REFUSED, 2, first=fault, faults=1, hint="no header", delay=50),
+                 "Refused: from 10:00:00:00 on no header."),
                 (Facts(RELATIVE, 40), "All 40 subtitles match relative to each other. No clock was "
                  "given, so a delay that they all share was not checked: add --start TIME (the "
                  "time code of the recording's first picture, on the subtitle file's own clock, or "

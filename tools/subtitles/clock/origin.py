@@ -68,6 +68,7 @@ class Origin:
     breaks: int | None = None
     away: int | None = None
     are_all: bool = True
+    is_each: bool = False  # each cue of the file agrees, with its text
     shifted_from: int | None = None
     shifts: list[str] = dataclasses.field(default_factory=list)
     printed: list[str] = dataclasses.field(default_factory=list)
@@ -155,6 +156,7 @@ def take_one(origin: Origin, sought: Sought, bases: Sequence[Base],
         origin.status = 0
         is_back = len(bases) > 1 and len(parts) == 1
         add(origin, part, part.sent.packets if is_back else None, None, len(edges))
+        origin.is_each = part.best.agree == part.best.letters == len(edges)
     origin.lines += part_lines(part, len(edges))
     measure(origin, sought.origin, part)
     if len(parts) > 1:

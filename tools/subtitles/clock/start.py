@@ -30,14 +30,16 @@ class Clock(NamedTuple):
     """An origin and its `source`: fitted to the recording, given as `--origin`, or as `--start` by
     a time or by the TCP of the GSI block. `delay_frames` is how many frames later than by it the
     edges of the subtitles came, `None` where nothing can tell: a clock that was fitted to the
-    recording has the delay in it. `evidence` is by what this call has fitted it. `away` is by how
-    many frames the clock is later if the time code is that of another picture, where it may be."""
+    recording has the delay in it. `is_delay_of_all`: each cue of the file has that delay.
+    `evidence` is by what this call has fitted it. `away` is by how many frames the clock is later
+    if the time code is that of another picture, where it may be."""
 
     origin: int
     source: str
     delay_frames: int | None = None
     evidence: Selection | None = None
     away: int = 0
+    is_delay_of_all: bool = False
 
     def chosen(self, part: int | None) -> Selection | None:
         """It as what is chosen for a part; `None` where it was given."""

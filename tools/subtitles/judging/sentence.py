@@ -247,6 +247,7 @@ class Facts(NamedTuple):
     named: str = ""
     waived: Sequence[Count] = ()  # if something else is refused
     parts: int = 1  # each with its own clock
+    delay: int = 0  # frames by which all subtitles are later than by the clock that was given
 
 
 def sentence_of(seen: Facts) -> str:
@@ -328,9 +329,17 @@ def what_is_wrong(seen: Facts) -> str:
     if seen.refused:
         return beside_refused(seen)
     words = fault_clause(seen)
+    if seen.delay and seen.first and seen.first.number in WITH_CAUSE:
+        return delay_words(seen.subtitles, seen.delay) + also(seen)
     if seen.is_caused and seen.causes:
         words = of_causes(seen.causes, seen.option) + also(seen)
     return words
+
+
+def delay_words(subtitles: int, delay: int) -> str:
+    """Return by how many frames all subtitles are late, or early."""
+    which = f"all {subtitles:,} subtitles are" if subtitles > 1 else "the subtitle is"
+    return f"{which} {counted(abs(delay), 'frame')} {LATE if delay > 0 else EARLY}"
 
 
 def fault_clause(seen: Facts) -> str:

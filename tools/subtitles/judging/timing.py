@@ -144,7 +144,8 @@ def with_delay(clock: Clock, origin: Origin) -> tuple[Clock, list[str]]:
         return clock, []
     frames, ticks = divmod(abs(origin.away), TICKS)
     sign = -1 if origin.away < 0 else 1
-    clock = clock._replace(delay_frames=sign * round(frames + ticks / TICKS))
+    clock = clock._replace(delay_frames=sign * round(frames + ticks / TICKS),
+                           is_delay_of_all=origin.is_each and not ticks)
     if not origin.away:
         return clock, []
     words = " and ".join([counted(frames, "frame")] * (frames > 0)

@@ -265,13 +265,21 @@ class Verdict:
             lost=[gap.line() for gap in self.gaps if gap.is_judged], warnings=self.seen().warnings,
             reason=self.why_not, named=self.first_named.words if self.first_named else "",
             is_file=self.request.recording is None, within=self.request.within,
-            parts=len(self.parts))
+            parts=len(self.parts), delay=self.delay_of_all)
         if refused and self.beside:
             said = self.sent_beside(said, self.beside)
         elif refused and not self.first_named:
             said = with_lead(said._replace(hint=refused.hint, of_block=refused.of_block,
                                            causes=refused.causes), refused.worst)
         return sentence_of(said)
+
+    @property
+    def delay_of_all(self) -> int:
+        """How many frames all subtitles are later than by the clock that was given; 0 if they have
+        no delay in common, or may be late."""
+        clock = self.parts[0].clock if len(self.parts) == 1 else None
+        is_measured = clock and clock.is_delay_of_all and not self.request.within
+        return clock.delay_frames or 0 if clock and is_measured else 0
 
     def sent_beside(self, said: Facts, beside: JudgedBeside) -> Facts:
         """What the sentence is made of where subtitles are refused: that of the transmission, of
