@@ -252,8 +252,8 @@ class Starts(Case):
             for after in ALL_STARTS if self.bench.is_timed else starts:
                 with subprocess.Popen(
                         [tool_path("qc"), example("story.stl"), example("story.pes"), "--origin",
-                         "0", "-p", self.bench.program], stdin=subprocess.DEVNULL, stdout=subprocess.PIPE,
-                        stderr=subprocess.PIPE) as process:
+                         "0", "-p", self.bench.program], stdin=subprocess.DEVNULL,
+                        stdout=subprocess.PIPE, stderr=subprocess.PIPE) as process:
                     time.sleep(after / 1000)
                     process.send_signal(number)
                     out, told = process.communicate()

@@ -320,6 +320,8 @@ class Times(unittest.TestCase):
              False, 3),
             ("late: with the blank one", "100 he, 200 he, 201 heb, 202 -", late, (0, 2), True,
              True, 4),
+            ("late: with an open one, where none was closed", "100 heo, 200 heob, 201 -", late,
+             (0, 1), True, True, 3),
             ("late: with one that ends, where one before did",
              "100 heo, 101 c, 200 heob, 201 cb, 202 -", late, (0, 3), True, True, 5),
             ("late: what is a little early is of its frame", "74.8 heb, 99.8 he, 199.8 heb, 203 -",
