@@ -131,7 +131,7 @@ class Lines(Case):
             self.check(f"{words[:40]}: status", done.status, 2)
             self.must(f"{words[:40]}: the line", reason in table[1] and "root" not in table[1],
                       table)
-            self.must(f"{words[:40]}: the next", "relative" in table[2], table)
+            self.must(f"{words[:40]}: the next", "accepted" in table[2], table)
 
     def test_byte_order_marks(self) -> None:
         """A list that begins with one is refused: it would be part of the first word."""
@@ -145,12 +145,12 @@ class Lines(Case):
         """None is a recording, and none is waited for."""
         stl = example("hello.stl")
         for words, device in (
-                ([stl, "/dev/zero"], "/dev/zero"), ([stl, "/dev/tty"], "/dev/tty"),
-                ([stl, "-"], "-"), (["--measure", stl, "/dev/zero"], "/dev/zero")):
+                ([stl, "/dev/zero"], "/dev/zero"), ([stl, "-"], "-"),
+                (["--measure", stl, "/dev/zero"], "/dev/zero")):
             done = self.call(["sh", "-c", 'exec "$0" "$@" </dev/zero', tool_path("qc"),
                               *words, "-p", self.bench.program])
-            self.must(f"{words}", done.status == 2 and not done.out and re.match(
-                f"qc: {device} is a (device|socket)", done.told[-1]), done)
+            self.check(f"{words}", done, (2, b"", [
+                f"qc: {device} is a device: give a file or a pipe"]))
         self.write("list", f"{stl} /dev/zero\n".encode())
         self.must("in a list", b"/dev/zero is a device" in self.judged("list").out)
 
