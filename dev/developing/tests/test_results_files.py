@@ -27,7 +27,8 @@ from ..pages import SCHEMA, laid_out
 from .bench import Case, example_bytes
 from .judged import judged
 from .parts import asked_for, defaults
-from .results import FAULT, result, row, schema as read_schema, second_reader, wrong_in
+from .results import (
+    ASKED, FAULT, result, row, schema as read_schema, second_reader, wrong_by_schema, wrong_in)
 
 
 # JSON results: the schema is made of their table, all that is written fits it, and whatever stands
@@ -132,6 +133,22 @@ class Written(Case):
         for room, left in ((size, 0), (size - 1, 1)):
             with mock.patch.object(files, "MOST_BYTES", room):
                 self.must(f"{room}", self.judge()["left_out"]["subtitles"] == left)
+
+    def test_a_clock_and_a_verdict(self) -> None:
+        """Each word with each status and clock: nothing is accepted or waived without a clock, and
+        `relative` has status 0 by --relative alone, for a reader of the schema too."""
+        rows: list[tuple[str, int, dict[str, Any], bool]] = [
+            ("accepted", 0, {"origin": 0}, True), ("accepted", 0, {"start": "tcp"}, True),
+            ("accepted", 0, {}, False), ("accepted", 0, {"relative": True}, False),
+            ("accepted", 0, {"recording": None}, True), ("accepted", 3, {"origin": 0}, False),
+            ("waived", 0, {"origin": 0}, True), ("waived", 0, {}, False),
+            ("relative", 3, {}, True), ("relative", 0, {}, False),
+            ("relative", 0, {"relative": True}, True), ("relative", 1, {}, False),
+            ("refused", 1, {}, True), ("refused", 3, {}, False), ("lost", 1, {}, True)]
+        for word, status, asked, fits in rows:
+            known = result(word, status=status, asked={**ASKED, "origin": None, **asked})
+            self.must(f"{word} {status} {asked}", (misfit(known) is None) == fits and
+                      (not [*wrong_by_schema(known)]) == fits, misfit(known))
 
     def test_longest(self) -> None:
         """A text that is too long is cut."""
