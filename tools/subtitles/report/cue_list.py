@@ -241,7 +241,12 @@ class CueList:
         counts = ", ".join(f"{looks[look]:,} {word}" for word, look in LOOKS.items() if looks[look])
         words = f"{counted(len(self.rows), 'subtitle')}: {counts}. Expected: TCI and TCO. " \
             "Actual: the first frame at whose end a receiver has the page, and the first without."
-        return words + " Into recording: counted from its first PCR." * (self.start is not None)
+        if self.start is not None:
+            words += " Into recording: counted from its first PCR."
+        if self.part.clock and self.part.clock.is_fitted:
+            words += " The clock is estimated: a delay that all subtitles share is not in these " \
+                "times."
+        return words
 
     def first_bad(self) -> Iterator[tuple[str, Subtitle, int]]:
         """Yield each cause with its first subtitle and the first frame at which it is seen; of
