@@ -133,13 +133,13 @@ class Carried(Case):
         done = self.tool("pes2ts", example("story.pes"), "0x101")
         self.check("made", (done.status, done.told), (0, ["pes2ts: 5 PES packets as PID 0x101"]))
         made = [done.out[at:at + 188] for at in range(0, len(done.out), 188)]
-        for name, data, *words in (
-                ("188 bytes", b"".join(made)),
-                ("192 bytes", b"".join(b"TIME" + one for one in made), "--packet-size", "192"),
-                ("204 bytes", b"".join(one + b"\x47" * 16 for one in made), "--packet-size", "204"),
-                ("from the midst of a packet", made[0][77:] + b"".join(made))):
+        for name, data, size in (
+                ("188 bytes", b"".join(made), "188"),
+                ("192 bytes", b"".join(b"TIME" + one for one in made), "192"),
+                ("204 bytes", b"".join(one + b"\x47" * 16 for one in made), "204"),
+                ("from the midst of a packet", made[0][77:] + b"".join(made), "188")):
             done = self.call([self.bench.program, "extract", self.write("one.ts", data),
-                              self.path("back.pes"), "--pid", "0x101", *words])
+                              self.path("back.pes"), "--pid", "0x101", "--packet-size", size])
             self.check(name, (done.status, done.out), (0, b"written 5 pes 0 gaps\n"))
             self.check(f"{name}: bytes", self.read("back.pes") == example_bytes("story.pes"), True)
 
