@@ -63,8 +63,10 @@ def possible(sent: Sent, time: int, lost: Lost, is_deleted: bool) -> set[str]:
         return {"not judged"}
     # What is lost just before or after a programme may hide where a fault comes from.
     is_near = any(first <= sent.end and last >= sent.begin for first, last in lost)
+    # One that ends with its window is known to have ended only if nothing of that is lost.
+    is_last = sent.begin == time + MARGIN and bool(lost)
     deserved = "relative" if sent.is_right else "refused"
-    is_open = is_deleted or is_near and not sent.is_right
+    is_open = is_deleted or (is_near or is_last) and not sent.is_right
     return {deserved, "not judged"} if is_open else {deserved}
 
 
