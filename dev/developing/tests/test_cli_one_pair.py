@@ -76,9 +76,11 @@ class Ends(Case):
             "part 2, from 00:00:00:10 to 00:00:00:19: accepted 10 frames 2 transmissions"], said)
         self.must("estimated", FITTED_LATER in said and said[-1] ==
                   "accepted 20 frames 4 transmissions in 2 parts", said)
-        for lines, last, is_said in (([], "relative 10 frames 2 transmissions", False),
-                                     (REFUSED, REFUSED[0], True)):
-            said = self.said(self.verdict([part_with(0, 9, 0, lines and answer(
+        rows: list[tuple[list[str], str, bool]] = [
+            (["accepted 10 frames 2 transmissions"], "relative 10 frames 2 transmissions", False),
+            (REFUSED, REFUSED[0], True)]
+        for lines, last, is_said in rows:
+            said = self.said(self.verdict([part_with(0, 9, 0, answer(
                 lines, path=self.path("list")), source=RECORDING)]))
             self.must("without a clock", said[-1] == last and (FITTED in said) == is_said, said)
         causes: list[Any] = ["first", None, "third"]

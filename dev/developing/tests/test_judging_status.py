@@ -55,7 +55,7 @@ LOSSES: Sequence[Sequence[bool]] = (
     (), (False,), (True,), (True, False, False), (False, True), (False, False, True), (True, True))
 OUTPUTS: Sequence[Sequence[str]] = ((), ("one.json: full",), ("one.csv: full", "one.xml: full"))
 # With a clock, without one, and with --relative, which changes nothing if there is a clock.
-CLOCKS: Sequence[dict[str, bool]] = (
+CLOCKS: Sequence[dict[str, Any]] = (
     {"has_clock": True}, {"has_clock": False},
     {"has_clock": False, "is_relative_allowed": True},
     {"has_clock": True, "is_relative_allowed": True})
@@ -69,7 +69,7 @@ def severity_of(*lines: str, is_loss_allowed: bool = False) -> Severity:
         return Severity(file.name, is_loss_allowed)
 
 
-def by_clock(word: str, clock: dict[str, bool]) -> tuple[str, int]:
+def by_clock(word: str, clock: dict[str, Any]) -> tuple[str, int]:
     """Return the word and the status of what has a verdict with a clock."""
     if clock["has_clock"] or word not in (ACCEPTED, WAIVED):
         return word, STATUSES[word]
@@ -153,7 +153,7 @@ class Decided(unittest.TestCase):
         self.assertEqual(decide(Grounds([], warned, names=[NEVER_SENT])),
                          Decision(NOT_JUDGED, UNREAD))
 
-    def decides(self, name: str, seen: Grounds, is_allowed: bool, clock: dict[str, bool]) -> None:
+    def decides(self, name: str, seen: Grounds, is_allowed: bool, clock: dict[str, Any]) -> None:
         """One of these: --allow-lost, and a severity file that names 45 a warning, are one rule."""
         found, losses, warnings = decide(seen), seen.losses, seen.warnings
         if name in ("refused", "silent"):
