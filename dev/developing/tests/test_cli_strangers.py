@@ -47,8 +47,10 @@ def is_told(case: Case, what: str, folder: str) -> None:
     verdict = json.loads(read("one.json"))
     case.must(f"{what}: the object", verdict["verdict"] == "relative", verdict["asked"])
     rows = list(csv.reader(read("one.csv").decode().splitlines()))
-    case.must(f"{what}: the lines", len(rows) == 2 and not controls(read("one.csv"))
-              and not any(cell.startswith(("=", "-", "+", "@")) for cell in rows[1]), rows)
+    cells = [cell for one in rows for cell in one]
+    case.must(f"{what}: the lines of the pair and of three subtitles", len(rows) == 5 and not
+              controls(read("one.csv")) and not any(
+                  cell.startswith(("=", "-", "+", "@")) for cell in cells), rows)
     case.must(f"{what}: for a CI", tree.fromstring(read("one.xml")).get("tests") == "1")
     kept = [name for name in os.listdir(os.path.join(case.folder, folder, "out"))]
     report = next((name for name in kept if name.endswith(".html")), "")
