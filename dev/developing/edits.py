@@ -1,4 +1,4 @@
-"""The wrong programs of crates/*/must-fail/ and crates/*/release-edits/, each of which is an edit.
+"""The wrong programs of crates/*/must-fail/, release-edits/ and test-edits/: each is an edit.
 
 A file NAME.edit has lines `file: PATH` and, below each, pairs of lines `old: TEXT` and `new: TEXT`:
 in that file of its crate the old text, which stands there once, gives way to the new one. A line
@@ -18,7 +18,8 @@ from .crates import CRATES
 
 TRIED_BY_GATE = "must-fail"
 TRIED_BEFORE_RELEASE = "release-edits"
-FOLDERS = (TRIED_BY_GATE, TRIED_BEFORE_RELEASE)
+TRIED_BY_TESTS = "test-edits"  # no clause refuses them
+FOLDERS = (TRIED_BY_GATE, TRIED_BEFORE_RELEASE, TRIED_BY_TESTS)
 NAME = re.compile(r"[A-Za-z0-9_-]+\.edit")
 PARTS = ("src/", "specs/", "proofs/")  # of a crate, in which an edit may change a file
 # A test with its body, which ends where a brace begins a line.
@@ -156,7 +157,7 @@ def stored_tests() -> dict[str, tuple[str, str]]:
 
 def count_applying() -> tuple[int, int]:
     """Tells each edit that can't be made, and answers how many can and how many can't."""
-    edits = edits_in(TRIED_BY_GATE) + edits_in(TRIED_BEFORE_RELEASE)
+    edits = [edit for folder in FOLDERS for edit in edits_in(folder)]
     tests = stored_tests()
     failed = 0
     for (crate, name), number in Counter((one.crate, one.name) for one in edits).items():

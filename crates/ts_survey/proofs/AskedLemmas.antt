@@ -1,14 +1,20 @@
 -- The PIDs that are followed: one more that is asked for, one-more-asked; those after a change of
--- one, one_changed; and after a PCR, pids-after-pcr.
-use Rattle.std.proofs.Common.{◌≡◌, ◌<◌, ◌==◌, ◌++◌, ◌∙◌, ◌∷◌, [], ℕ, Bool, List, Option}
-use Rattle.std.proofs.Common.{Some, None, false, true, ap, length, map, refl}
+-- one, one_changed, map-same.
+use Rattle.std.proofs.Common.{◌≡◌, zero, suc, ◌<◌, ◌++◌, ◌∙◌, ◌∷◌, [], ℕ, Bool, List, Option}
+use Rattle.std.proofs.Common.{true, ap, arith, length, map, refl}
 use Rattle.std.proofs.Common.{if◌then◌else◌, slice_index_or, slice_set}
 use Rattle.ts_survey.specs.Asked.{is_asked, not_asked, pid_followed}
-use Rattle.ts_survey.specs.Holes.{after_pcr, after_pcr_of, clock_pid_of}
 use Rattle.ts_survey.specs.declared.carrier.Carrier.{Carrier}
-use Rattle.ts_survey.specs.declared.clock.Strange.{Strange}
-use Rattle.ts_survey.specs.declared.pid_state.Pids.{Pids}
-use Rattle.ts_survey.proofs.EndingsLemmas.{map-same}
+
+-- Of each a value is as it was, where it is that at the place that changes.
+pub map-same : {A V : Type 0} (f : A → V) (xs : List A) (i : ℕ) (x d : A)
+    → i < length xs
+    → f x ≡ f (slice_index_or xs i d)
+    → map f (slice_set xs i x) ≡ map f xs
+map-same f [] i x d below is = refl
+map-same f (y ∷ ys) zero x d below is = ap (λ v. v ∷ map f ys) is
+map-same f (y ∷ ys) (suc i) x d below is =
+    ap (λ vs. f y ∷ vs) (map-same f ys i x d (omega arith) is)
 
 -- One that is asked for is none of the others, wherever it stands.
 passed-over : (is : Bool) (pid : ℕ) (rest : List ℕ)
@@ -56,21 +62,3 @@ others-kept asked carriers i one other below same =
 
 -- For `carry`.
 pub ruleset one_changed = (pids-kept, others-kept)
-
--- ---- after a PCR
-
-pid-after-pcr-if : (is : Bool) (strange : Option Strange) (c : Carrier)
-    → (if is then after_pcr strange c else c).pid ≡ c.pid
-pid-after-pcr-if false strange c = refl
-pid-after-pcr-if true None c = refl
-pid-after-pcr-if true (Some strange) c = refl
-
--- A PCR changes no PID.
-pub pids-after-pcr : (pids : Pids) (clock : ℕ) (strange : Option Strange) (carriers : List Carrier)
-    → map pid_followed (map (after_pcr_of pids clock strange) carriers)
-    ≡ map pid_followed carriers
-pids-after-pcr pids clock strange [] = refl
-pids-after-pcr pids clock strange (c ∷ cs) =
-    ap (λ pid. pid ∷ map pid_followed (map (after_pcr_of pids clock strange) cs))
-    (pid-after-pcr-if (clock_pid_of pids c.pid == clock) strange c)
-    ∙ ap (λ more. c.pid ∷ more) (pids-after-pcr pids clock strange cs)

@@ -17,7 +17,7 @@ use Rattle.ts_survey.specs.declared.recording.Kind.{Kind}
 use Rattle.ts_survey.specs.declared.recording.Kind.TheVariants.{Nothing, Pes, Stream, Unknown}
 use Rattle.ts_survey.specs.declared.recording.Recording.{Recording}
 use Rattle.ts_survey.specs.declared.text.Text.{Text}
-use Rattle.ts_survey.proofs.EndingsLemmas.{adds-none}
+use Rattle.ts_survey.proofs.TextLemmas.{adds-none}
 use Rattle.ts_survey.proofs.TextLemmas.{adds-words}
 
 pub no-items : (xs : List ℕ) → length xs ≡ 0 → xs ≡ []
@@ -149,11 +149,11 @@ pub found-behind-head :
     → mid.has_head ≡ true
     → new.has_head ≡ mid.has_head
     → mid.kind ≡ Unknown
-    → (mid.is_short ≡ false
+    → (mid.out_of_memory ≡ false
     → AddsWords before (head_words (take head_size bytes) ++ kind_words mid.kind) between)
-    → (mid.is_short ≡ false → is_pes mid.kind ≡ begins_pes (take head_size bytes))
-    → (new.is_short ≡ false → mid.is_short ≡ false)
-    → (new.is_short ≡ false → AddsWords between (kind_words new.kind) after)
+    → (mid.out_of_memory ≡ false → is_pes mid.kind ≡ begins_pes (take head_size bytes))
+    → (new.out_of_memory ≡ false → mid.out_of_memory ≡ false)
+    → (new.out_of_memory ≡ false → AddsWords between (kind_words new.kind) after)
     → is_pes new.kind ≡ false
     → FindsKind old bytes before after new
 found-behind-head
@@ -178,7 +178,7 @@ found-behind-head
 pub found-with-head : (old new : Recording) (bytes : List ℕ) (before after : Text)
     → old.has_head ≡ true
     → new.has_head ≡ old.has_head
-    → (new.is_short ≡ false → AddsWords before (kind_words new.kind) after)
+    → (new.out_of_memory ≡ false → AddsWords before (kind_words new.kind) after)
     → is_pes new.kind ≡ false
     → FindsKind old bytes before after new
 found-with-head old new bytes before after has same kind not = record {
@@ -204,7 +204,7 @@ found-pes :
     → IsTold old came listing
     → is_unknown old.kind ≡ true
     → FindsKind old bytes first last new
-    → new.is_short ≡ false
+    → new.out_of_memory ≡ false
     → (old.has_head ≡ true → take head_size all ≡ take head_size came)
     → (old.has_head ≡ false → all ≡ bytes)
     → new.has_head ≡ true
@@ -224,7 +224,7 @@ told-found : (old new : Recording) (came all bytes listing text : List ℕ) (fir
     → IsTold old came listing
     → is_unknown old.kind ≡ true
     → FindsKind old bytes first last new
-    → new.is_short ≡ false
+    → new.out_of_memory ≡ false
     → first.bytes.items ≡ []
     → last.is_lost ≡ false
     → (old.has_head ≡ true → take head_size all ≡ take head_size came)
@@ -269,7 +269,7 @@ told-by : (is : Bool) (old new : Recording) (came all bytes listing text : List 
     → (is_unknown old.kind ≡ true → FindsKind old bytes first last new)
     → (is_unknown old.kind ≡ false
     → (last ≡ first) × (new.has_head ≡ old.has_head) × GoesOn old.kind new.kind)
-    → new.is_short ≡ false
+    → new.out_of_memory ≡ false
     → first.bytes.items ≡ []
     → last.is_lost ≡ false
     → (old.has_head ≡ true → take head_size all ≡ take head_size came)
@@ -295,7 +295,7 @@ pub told-on : (old new : Recording) (came all bytes listing text : List ℕ) (fi
     → (is_unknown old.kind ≡ true → FindsKind old bytes first last new)
     → (is_unknown old.kind ≡ false
     → (last ≡ first) × (new.has_head ≡ old.has_head) × GoesOn old.kind new.kind)
-    → new.is_short ≡ false
+    → new.out_of_memory ≡ false
     → length first.bytes.items ≡ 0
     → last.is_lost ≡ false
     → (old.has_head ≡ true → take head_size all ≡ take head_size came)

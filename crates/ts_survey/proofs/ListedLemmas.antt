@@ -13,7 +13,7 @@ use Rattle.ts_survey.specs.Counted.{StandsAt}
 use Rattle.ts_survey.specs.FirstLines.{head_size, head_so_far, kind_words}
 use Rattle.ts_survey.specs.InStep.{TakesAll}
 use Rattle.ts_survey.specs.Lines.{AddsWords}
-use Rattle.ts_survey.specs.Listed.{GoesOn, IsAsAsked, IsTold, TellsSurvey, TellsEnd, last_words}
+use Rattle.ts_survey.specs.Listed.{GoesOn, IsAsAsked, IsTold, TellsEnd, TellsSurvey}
 use Rattle.ts_survey.specs.Listed.{over_line, packets_in, skipped_of}
 use Rattle.ts_survey.specs.Stream.{is_unknown}
 use Rattle.ts_survey.specs.declared.multiplex.Multiplex.{Multiplex}
@@ -23,8 +23,6 @@ use Rattle.ts_survey.specs.declared.recording.Kind.TheVariants.{Nothing, Pes, St
 use Rattle.ts_survey.specs.declared.recording.Recording.{Recording}
 use Rattle.ts_survey.specs.declared.text.Text.{Text}
 use Rattle.ts_survey.proofs.CountedLemmas.{counted-all, takes-begun}
-use Rattle.ts_survey.proofs.EndingsLemmas.{adds-none}
-use Rattle.ts_survey.proofs.TextLemmas.{adds-words}
 use Rattle.ts_survey.proofs.FirstLinesLemmas.{no-items}
 
 -- ---- what a recording is
@@ -106,9 +104,6 @@ pub ruleset takes_as_asked = (as-asked-as, goes-same, takes-begun)
 
 -- ---- what is told of it
 
--- For `tell_last`: what is no stream and no file of PES packets tells nothing.
-pub ruleset nothing_kept = (adds-none)
-
 pub appends-kept : (old mid new : Option (List ℕ)) (bytes : List ℕ)
     → Appends old mid bytes
     → Keeps mid new
@@ -147,43 +142,43 @@ has-head : (is : Bool) (kind : Kind)
 has-head true kind known none = refl
 has-head false kind known none = let e = sym (none refl) ∙ known in cc
 
--- All that was kept, and then the two numbers.
-pub ends-told : (recording : Recording) (old mid new : Text) (skipped number : ℕ)
-    → AddsWords old (last_words recording.kind) mid
+-- Then the two numbers.
+pub ends-told : (recording : Recording) (mid new : Text) (skipped number : ℕ)
     → skipped ≡ skipped_of recording
     → number ≡ packets_in recording.kind
     → AddsWords mid (over_line skipped number) new
-    → TellsEnd recording old new
-ends-told recording old mid new skipped number kept is are over =
-    let kind = recording.kind in
-    adds-words (last_words kind) (over_line (skipped_of recording) (packets_in kind)) kept
-    (subst (λ n. AddsWords mid (over_line (skipped_of recording) n) new) are
-    (subst (λ n. AddsWords mid (over_line n number) new) is over))
+    → TellsEnd recording new
+ends-told recording mid new skipped number is are over = record {
+  before = mid;
+  over =
+      subst (λ n. AddsWords mid (over_line (skipped_of recording) n) new) are
+      (subst (λ n. AddsWords mid (over_line n number) new) is over);
+}
 
 -- The recording is over.
 pub told-end :
     (options : SurveyOptions) (left end start old out : Option (List ℕ)) (recording : Recording)
-    (first text last : Text) (came held before : List ℕ)
+    (first last : Text) (came held before : List ℕ)
     → Consumes left end came
     → IsAtEnd end
     → StandsAt recording.kind recording.skipped came held true
     → Appends start old before
-    → IsTold recording came (before ++ (first.bytes.items ++ text.bytes.items))
+    → (ends : TellsEnd recording last)
+    → IsTold recording came (before ++ (first.bytes.items ++ ends.before.bytes.items))
     → is_unknown recording.kind ≡ false
     → IsAsAsked options recording.kind
-    → TellsEnd recording text last
     → last.is_lost ≡ false
     → Appends old out (first.bytes.items ++ last.bytes.items)
     → TellsSurvey options left start out
 told-end
-    options left end start old out recording first text last came held before read over stands was
-    told known asked ends whole more =
+    options left end start old out recording first last came held before read over stands was ends
+    told known asked whole more =
     let kind = recording.kind in
     let head = take head_size came in
-    let told_last = last_words kind ++ over_line (skipped_of recording) (packets_in kind) in
-    let words = concat told_last in
+    let mid = ends.before.bytes.items in
+    let words = concat (over_line (skipped_of recording) (packets_in kind)) in
     let is_head = has-head recording.has_head kind known told.none in
-    let same : last.bytes.items ≡ text.bytes.items ++ words = ends.added whole in (
+    let same : last.bytes.items ≡ mid ++ words = ends.over.added whole in (
       before ++ (first.bytes.items ++ last.bytes.items),
       Appends-trans start old out before (first.bytes.items ++ last.bytes.items) was more,
       record {
@@ -197,8 +192,8 @@ told-end
         between = told.more;
         listed =
             ap (λ l. before ++ (first.bytes.items ++ l)) same
-            ∙ ap (λ l. before ++ l) (sym (append_assoc first.bytes.items text.bytes.items words))
-            ∙ sym (append_assoc before (first.bytes.items ++ text.bytes.items) words)
+            ∙ ap (λ l. before ++ l) (sym (append_assoc first.bytes.items mid words))
+            ∙ sym (append_assoc before (first.bytes.items ++ mid) words)
             ∙ ap (λ l. l ++ words)
             (told.told
             ∙ ap (λ has. concat (head_so_far has head ++ kind_words kind) ++ told.more) is_head);

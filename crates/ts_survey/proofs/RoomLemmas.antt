@@ -2,17 +2,12 @@
 -- held_without.
 use Rattle.std.proofs.Common.{◌≡◌, ℕ, ◌+◌, ◌-◌, ◌≤◌, List, ◌++◌, length, take, drop, Option}
 use Rattle.std.proofs.Common.{ap, sym, ◌∙◌, append_assoc, arith, length-drop, length-take-le}
-use Rattle.std.proofs.Common.{true}
 use Rattle.std.specs.Io.KnownBytes.{Consumes}
 use Rattle.std.proofs.Math.Seq.{take-append-add}
 use Rattle.std.proofs.lemmas.List.{drop-take, take-append-le, take-take}
 use Rattle.std.proofs.lemmas.List.Edits.{take-paste}
 use lib.Seq.{paste}
-use Rattle.mpeg_ts.specs.declared.survey_options.SurveyOptions.{SurveyOptions}
 use Rattle.ts_survey.specs.Room.{HoldsMore}
-use Rattle.ts_survey.specs.Stream.{IsAsked, is_unknown}
-use Rattle.ts_survey.specs.declared.recording.Kind.{Kind}
-use Rattle.ts_survey.specs.declared.recording.Kind.TheVariants.{Nothing, Pes, Stream, Unknown}
 
 -- So many bytes of a piece that was put behind others.
 came_behind : (front to post rest : List ℕ) (size n : ℕ)
@@ -68,13 +63,3 @@ held_without items slice moved rest size len count same some within fits long no
     ∙ take-paste items 0 (drop count items) left (omega arith) room
     ∙ sym (drop-take count left items)
     ∙ ap (λ k. drop count (take k items)) whole
-
--- A stream that was begun by what was asked is known.
-pub asked_is_known : (options : SurveyOptions) (distance : ℕ) (kind : Kind)
-    → IsAsked options distance kind
-    → is_unknown kind ≡ true
-    → ⊥
-asked_is_known options distance Unknown begun unknown = begun
-asked_is_known options distance (Pes file) begun unknown = begun
-asked_is_known options distance Nothing begun unknown = begun
-asked_is_known options distance (Stream packets multiplex) begun unknown = absurd cc

@@ -13,6 +13,13 @@ was_whole : (a b : Bool) → (a ≡ true → b ≡ true) → b ≡ false → a �
 was_whole false b stays whole = refl
 was_whole true b stays whole = let e = sym (stays refl) ∙ whole in cc
 
+-- Nothing is told.
+pub adds-none : (text : Text) → AddsWords text [] text
+adds-none text = record {
+  added = λ whole. sym (append-nil text.bytes.items);
+  stays_lost = λ lost. lost;
+}
+
 -- A word, and then others.
 pub adds-word : {old mid new : Text} {word more : List ℕ}
     → Adds old word mid

@@ -1,9 +1,8 @@
 -- The character sets that are told (EN 300 706, packets X/28 and M/29; docs/manual/survey.md).
 use Rattle.std.specs.Prelude.{ℕ, ◌+◌, ◌-◌, ◌*◌, ◌/◌, ◌%◌, ◌^◌, ◌==◌, ◌&&◌, ◌||◌, not, nat_lt}
-use Rattle.std.specs.Prelude.{Bool, false, if◌then◌else◌, List, [], ◌∷◌, bit_and, bit_xor, codes}
-use Rattle.std.specs.Prelude.{count_ones, slice_index, slice_index_or, Option, Some, None}
+use Rattle.std.specs.Prelude.{Bool, if◌then◌else◌, List, bit_and, bit_xor}
+use Rattle.std.specs.Prelude.{count_ones, slice_index, Option, Some, None}
 use Rattle.ttx_packet.specs.Hamming84.{decoded}
-use Rattle.ts_survey.specs.Lines.{line_end, number_word}
 
 -- A set by its seven bits, 128 for one that can't be read.
 abbrev pub set_number : Option ℕ → ℕ
@@ -15,22 +14,6 @@ set_number (Some set) = set % 128
 abbrev pub line_place : ℕ → ℕ → Option ℕ → ℕ
 line_place number designation set =
     (if number == 28 then 0 else 512) + (if designation == 0 then 0 else 256) + set_number set
-
--- The upper four of seven bits say the region, the lower three the national option.
-abbrev pub set_words : Option ℕ → List (List ℕ)
-set_words None = codes " - -\n" ∷ []
-set_words (Some set) = number_word (set / 8 % 16) ∷ number_word (set % 8) ∷ line_end ∷ []
-
--- `set PID NUMBER DESIGNATION REGION OPTION`.
-abbrev pub set_line : ℕ → ℕ → ℕ → Option ℕ → List (List ℕ)
-set_line pid number designation set =
-    codes "set" ∷ number_word pid ∷ number_word number ∷ number_word designation ∷ set_words set
-
--- That of a set, unless it was told.
-abbrev pub words_once : List Bool → ℕ → ℕ → ℕ → Option ℕ → List (List ℕ)
-words_once told pid number designation set =
-    if slice_index_or told (line_place number designation set) false then []
-    else set_line pid number designation set
 
 -- ---- Hamming 24/18 (EN 300 706, 8.3): 24 bits, counted from 1, the lowest of the first byte
 

@@ -76,12 +76,12 @@ head_told before bytes after = if before then [] else head_so_far after (take he
 pub record FindsKind (old : Recording) (bytes : List ℕ) (before after : Text) (new : Recording)
     : Type 0 where
   pub told :
-      new.is_short ≡ false
+      new.out_of_memory ≡ false
       → AddsWords before
       (head_told old.has_head bytes new.has_head ++ kind_words new.kind) after
   pub stays : old.has_head ≡ true → new.has_head ≡ true
   pub none : new.has_head ≡ false → is_unknown new.kind ≡ true
   pub pes :
-      new.is_short ≡ false → old.has_head ≡ false → new.has_head ≡ true
+      new.out_of_memory ≡ false → old.has_head ≡ false → new.has_head ≡ true
       → is_pes new.kind ≡ begins_pes (take head_size bytes)
   pub not_pes : old.has_head ≡ true → is_pes new.kind ≡ false

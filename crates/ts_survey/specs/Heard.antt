@@ -1,14 +1,10 @@
 -- What is heard in a PES packet, whatever else stands in it (EN 300 472, data field syntax): the
 -- Teletext packets of its data units, one after another, each behind the end of the one before.
-use Rattle.std.specs.Prelude.{ℕ, zero, suc, ◌+◌, ◌==◌, ◌&&◌, ◌||◌, nat_lt, Bool}
-use Rattle.std.specs.Prelude.{if◌then◌else◌, List, [], ◌∷◌, ◌++◌, length, take, drop, map}
+use Rattle.std.specs.Prelude.{ℕ, ◌+◌, ◌==◌, ◌&&◌, ◌||◌, nat_lt, Bool}
+use Rattle.std.specs.Prelude.{if◌then◌else◌, List, [], ◌∷◌, length, drop, map}
 use Rattle.std.specs.Prelude.{slice_index, Option, Some, None}
 use Rattle.std.specs.Borrow.{Bor}
 use Rattle.ttx_packet.specs.BitOrder.{mirror}
-
--- The bytes of a data unit with a Teletext packet.
-abbrev pub unit_size : ℕ
-unit_size = 46
 
 -- Where the first data unit stands: behind the header and data_identifier.
 abbrev pub first_place : List ℕ → ℕ
@@ -22,18 +18,6 @@ is_teletext_unit unit =
 -- The packet of a data unit, if it has one: its bits come in the other order.
 unfoldable pub unit_packets : List ℕ → List (List ℕ)
 unit_packets unit = if is_teletext_unit unit then map mirror (drop 4 unit) ∷ [] else []
-
--- Those that begin these bytes, of so many data units at most.
-unfoldable pub packets_from : ℕ → List ℕ → List (List ℕ)
-packets_from zero bytes = []
-packets_from (suc room) bytes =
-    if nat_lt (length bytes) unit_size then []
-    else unit_packets (take unit_size bytes)
-    ++ packets_from room (drop (2 + slice_index bytes 1) bytes)
-
--- Those of a PES packet. No data unit has less than a byte, so there is room for all.
-abbrev pub heard_packets : List ℕ → List (List ℕ)
-heard_packets pes = packets_from (length pes) (drop (first_place pes) pes)
 
 -- A packet that is lent as it is sent, if there is one.
 unfoldable pub lent_packets : Option (Bor (List ℕ)) → List (List ℕ)

@@ -1,5 +1,5 @@
--- What `survey` prints begins with what the recording is, as it was asked, and ends with what is
--- known of it at its end (own; docs/manual/survey.md).
+-- What `survey` prints begins with what the recording is, as it was asked, and ends with how many
+-- packets it has, and bytes that belong to none (own; docs/manual/survey.md).
 use Rattle.std.specs.Prelude.{◌≡◌, ⊤, true, false, ℕ, List, [], ◌∷◌, ◌++◌, Option, IfSome}
 use Rattle.std.specs.Prelude.{codes, take}
 use Rattle.std.specs.Io.KnownBytes.{Appends}
@@ -7,15 +7,12 @@ use Rattle.std.specs.List.{concat}
 use Rattle.mpeg_ts.specs.declared.survey_options.SurveyOptions.{SurveyOptions}
 use Rattle.ts_survey.specs.Asked.{KeepsAsked, others_followed}
 use Rattle.ts_survey.specs.Counted.{CountsRecording}
-use Rattle.ts_survey.specs.Endings.{counts_words, end_words}
 use Rattle.ts_survey.specs.FirstLines.{begins_pes, head_size, head_so_far, head_words, is_pes}
 use Rattle.ts_survey.specs.FirstLines.{kind_words}
-use Rattle.ts_survey.specs.Lines.{AddsWords, line_end, number_word, run_words}
+use Rattle.ts_survey.specs.Lines.{AddsWords, line_end, number_word}
 use Rattle.ts_survey.specs.Stream.{is_unknown}
-use Rattle.ts_survey.specs.Text.{time_word}
 use Rattle.ts_survey.specs.declared.multiplex.Multiplex.{Multiplex}
 use Rattle.ts_survey.specs.declared.packets_in_step.PacketsInStep.{PacketsInStep}
-use Rattle.ts_survey.specs.declared.pes_file.PesFile.{PesFile}
 use Rattle.ts_survey.specs.declared.recording.Kind.{Kind}
 use Rattle.ts_survey.specs.declared.recording.Kind.TheVariants.{Nothing, Pes, Stream, Unknown}
 use Rattle.ts_survey.specs.declared.recording.Recording.{Recording}
@@ -50,25 +47,6 @@ GoesOn _ _ = ⊥
 
 -- ---- the end
 
--- `end` of a file of PES packets.
-abbrev pub file_end : PesFile → List (List ℕ)
-file_end f =
-    codes "end 0" ∷ number_word f.lines.count ∷ number_word f.lines.marks
-    ∷ codes " 0 0 0 0" ∷ time_word f.last ∷ line_end ∷ []
-
--- What a file of PES packets tells: what is kept back, and `end`.
-abbrev pub file_words : PesFile → List (List ℕ)
-file_words f =
-    (run_words f.lines.pid f.lines.run
-    ++ counts_words f.lines.pid 0 f.lines.page.notes.subtitles.items)
-    ++ file_end f
-
--- What is told at the end of a recording.
-abbrev pub last_words : Kind → List (List ℕ)
-last_words (Pes file) = file_words file
-last_words (Stream packets multiplex) = end_words multiplex
-last_words _ = []
-
 -- The packets that came: none of what is no stream.
 abbrev pub packets_in : Kind → ℕ
 packets_in (Stream packets multiplex) = packets.number
@@ -89,10 +67,10 @@ over_line skipped number =
 abbrev pub skipped_of : Recording → ℕ
 skipped_of r = skipped_by r.kind r.skipped
 
--- All that was told, and then that the recording is over.
-abbrev pub TellsEnd : Recording → Text → Text → Type 0
-TellsEnd r old new =
-    AddsWords old (last_words r.kind ++ over_line (skipped_of r) (packets_in r.kind)) new
+-- Whatever was told, the last line is that the recording is over.
+pub record TellsEnd (r : Recording) (new : Text) : Type 0 where
+  pub before : Text
+  pub over : AddsWords before (over_line (skipped_of r) (packets_in r.kind)) new
 
 -- ---- the lines of a recording
 
@@ -108,7 +86,7 @@ pub record IsTold (recording : Recording) (came listing : List ℕ) : Type 0 whe
       recording.has_head ≡ true → is_pes recording.kind ≡ begins_pes (take head_size came)
 
 -- The lines of a recording of which all bytes came: the first of them; what it is, as it was asked;
--- what is in it; and what is known at its end, with its packets and the bytes that belong to none.
+-- others; and at its end how many bytes belong to no packet, and its packets.
 pub record IsSurveyed
     (options : SurveyOptions) (recording : Option (List ℕ)) (listing : List ℕ) : Type 0 where
   pub came : List ℕ
@@ -121,7 +99,7 @@ pub record IsSurveyed
   pub between : List ℕ
   pub listed :
       listing ≡ concat (head_words (take head_size came) ++ kind_words last.kind) ++ between
-      ++ concat (last_words last.kind ++ over_line (skipped_of last) (packets_in last.kind))
+      ++ concat (over_line (skipped_of last) (packets_in last.kind))
 
 -- They were told behind what was there.
 abbrev pub TellsSurvey :

@@ -1,10 +1,5 @@
 //! What is told of a PMT: its programme, its streams, and the pages that they announce.
-ghost use Rattle.std.specs.Prelude.{◌≡◌, ◌≤◌, length};
-ghost use Rattle.ts_survey.specs.Announcements.{announce_line, has_any, pages_from, pages_named};
-ghost use Rattle.ts_survey.specs.Announcements.{pages_of_stream};
-ghost use Rattle.ts_survey.specs.Endings.{words_of};
-ghost use Rattle.ts_survey.specs.Lines.{AddsWords};
-ghost use Rattle.ts_survey.specs.Programmes.{programme_line, stream_line};
+ghost use Rattle.std.specs.Prelude.{◌≤◌, length};
 
 use crate::section::{
     Announced, Descriptor, Programme, Stream, descriptor_at, names_pages, page_at,
@@ -12,9 +7,7 @@ use crate::section::{
 use crate::text::Text;
 
 /// Tells a programme.
-pub fn tell_programme(programme: &Programme, text: &mut Text)
-    ensures { AddsWords text.old (programme_line programme.now) text.new }
-{
+pub fn tell_programme(programme: &Programme, text: &mut Text) {
     text.put(b"programme");
     text.number(programme.number as u64);
     text.number(programme.clock_pid as u64);
@@ -22,9 +15,7 @@ pub fn tell_programme(programme: &Programme, text: &mut Text)
 }
 
 /// Tells a stream of a programme.
-pub fn tell_stream(stream: &Stream, text: &mut Text)
-    ensures { AddsWords text.old (stream_line stream.now) text.new }
-{
+pub fn tell_stream(stream: &Stream, text: &mut Text) {
     text.put(b"stream");
     text.number(stream.pid as u64);
     text.number(stream.kind as u64);
@@ -33,13 +24,7 @@ pub fn tell_stream(stream: &Stream, text: &mut Text)
 
 /// Tells the pages that a stream announces; whether there are any. A section has 4,098 bytes at
 /// most.
-pub fn tell_pages(section: &[u8], stream: &Stream, text: &mut Text) -> bool
-    ensures told { length section.now ≤ 0xFFFF → AddsWords text.old
-        (words_of (announce_line stream.now.pid) (pages_of_stream section.now stream.now))
-        text.new }
-    ensures any { length section.now ≤ 0xFFFF
-        → result ≡ has_any (pages_of_stream section.now stream.now) }
-{
+pub fn tell_pages(section: &[u8], stream: &Stream, text: &mut Text) -> bool {
     let end = stream.end.min(section.len());
     let mut has_pages = false;
     let mut place = stream.first;
@@ -57,10 +42,6 @@ pub fn tell_pages(section: &[u8], stream: &Stream, text: &mut Text) -> bool
 // Tells the pages that a descriptor names; whether there are any.
 fn tell_named(section: &[u8], descriptor: &Descriptor, pid: u16, text: &mut Text) -> bool
     requires { descriptor.now.end ≤ length section.now }
-    ensures told { length section.now ≤ 0xFFFF → AddsWords text.old
-        (words_of (announce_line pid) (pages_named section.now descriptor.now)) text.new }
-    ensures any { length section.now ≤ 0xFFFF
-        → result ≡ has_any (pages_named section.now descriptor.now) }
 {
     if !names_pages(descriptor) {
         return false;
@@ -71,10 +52,6 @@ fn tell_named(section: &[u8], descriptor: &Descriptor, pid: u16, text: &mut Text
 // Tells the pages that stand between two places; whether there are any.
 fn tell_from(section: &[u8], first: usize, end: usize, pid: u16, text: &mut Text) -> bool
     requires { end ≤ length section.now }
-    ensures told { length section.now ≤ 0xFFFF → AddsWords text.old
-        (words_of (announce_line pid) (pages_from 64 section.now first end)) text.new }
-    ensures any { length section.now ≤ 0xFFFF
-        → result ≡ has_any (pages_from 64 section.now first end) }
 {
     let mut has_pages = false;
     let mut at = first;
@@ -90,9 +67,7 @@ fn tell_from(section: &[u8], first: usize, end: usize, pid: u16, text: &mut Text
 }
 
 // Tells a page that is announced.
-fn tell_page(pid: u16, page: &Announced, text: &mut Text)
-    ensures { AddsWords text.old (announce_line pid page.now) text.new }
-{
+fn tell_page(pid: u16, page: &Announced, text: &mut Text) {
     text.put(b"announce");
     text.number(pid as u64);
     text.page(page.magazine % 8, page.page);

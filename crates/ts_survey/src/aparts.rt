@@ -1,9 +1,4 @@
 //! How far PES packets of Teletext are ahead of the pictures: those near a step of these are told.
-ghost use Rattle.std.specs.Prelude.{◌≡◌, [], ◌∷◌, ◌++◌, None, Some};
-ghost use Rattle.ts_survey.specs.Aparts.{TakesApart, TakesStep, apart_line, apart_of, aparts_words};
-ghost use Rattle.ts_survey.specs.Aparts.{due_beside, is_beside, kept_beside, last_fifty};
-ghost use Rattle.ts_survey.specs.Aparts.{told_at_once, told_at_step};
-ghost use Rattle.ts_survey.specs.Lines.{AddsWords};
 
 use crate::text::{Text, forward};
 use arrayvec::ArrayVec;
@@ -31,11 +26,7 @@ pub struct Aparts {
 
 impl Aparts {
     /// None.
-    pub fn new() -> Aparts
-        ensures video { result.video ≡ None }
-        ensures kept { result.kept.items ≡ [] }
-        ensures due { result.due ≡ 0 }
-    {
+    pub fn new() -> Aparts {
         Aparts {
             video: None,
             kept: ArrayVec::new(),
@@ -44,11 +35,7 @@ impl Aparts {
     }
 
     /// A PES packet of the PID began, with that PTS, behind a decoding time of the video PID.
-    pub fn take(&mut self, pid: u16, pts: u64, video: u16, time: u64, text: &mut Text)
-        ensures told { AddsWords text.old
-            (told_at_once pid video (apart_of pts time) self.old) text.new }
-        ensures state { TakesApart video (apart_of pts time) self.old self.new }
-    {
+    pub fn take(&mut self, pid: u16, pts: u64, video: u16, time: u64, text: &mut Text) {
         self.go_to(video);
         let one = Apart {
             pts,
@@ -63,11 +50,7 @@ impl Aparts {
     }
 
     // The pictures are those of that PID.
-    fn go_to(&mut self, video: u16)
-        ensures video { self.new.video ≡ Some video }
-        ensures kept { self.new.kept.items ≡ kept_beside video self.old }
-        ensures due { self.new.due ≡ due_beside video self.old }
-    {
+    fn go_to(&mut self, video: u16) {
         if self.is_beside(video) {
             return;
         }
@@ -77,9 +60,7 @@ impl Aparts {
     }
 
     // Whether the pictures before were those of that PID.
-    fn is_beside(&self, video: u16) -> bool
-        ensures { result ≡ is_beside video self.now.video }
-    {
+    fn is_beside(&self, video: u16) -> bool {
         match self.video {
             Some(last) => last == video,
             None => false,
@@ -87,12 +68,7 @@ impl Aparts {
     }
 
     // Keeps one more: the last fifty.
-    #[tactic(auto, using(crate::proofs::ApartLemmas::keeping))]
-    fn keep(&mut self, one: Apart)
-        ensures kept { self.new.kept.items ≡ last_fifty (self.old.kept.items ++ one ∷ []) }
-        ensures video { self.new.video ≡ self.old.video }
-        ensures due { self.new.due ≡ self.old.due }
-    {
+    fn keep(&mut self, one: Apart) {
         if self.kept.len() == KEPT {
             let _ = self.kept.remove(0);
         }
@@ -101,10 +77,7 @@ impl Aparts {
 
     /// A step of a video PID came: what was not told before it is told, and the next are as they
     /// come.
-    pub fn note_step(&mut self, pid: u16, video: u16, text: &mut Text)
-        ensures told { AddsWords text.old (told_at_step pid video self.old) text.new }
-        ensures state { TakesStep video self.old self.new }
-    {
+    pub fn note_step(&mut self, pid: u16, video: u16, text: &mut Text) {
         if !self.is_beside(video) {
             return;
         }
@@ -114,9 +87,7 @@ impl Aparts {
     }
 
     // Tells those that were not told.
-    fn tell(&self, pid: u16, video: u16, text: &mut Text)
-        ensures { AddsWords text.old (aparts_words pid video self.now.kept.items) text.new }
-    {
+    fn tell(&self, pid: u16, video: u16, text: &mut Text) {
         for one in self.kept.as_slice().iter() {
             tell_apart(pid, video, one, text);
         }
@@ -124,9 +95,7 @@ impl Aparts {
 }
 
 // Tells how far a PES packet is ahead.
-fn tell_apart(pid: u16, video: u16, one: &Apart, text: &mut Text)
-    ensures { AddsWords text.old (apart_line pid video one.now) text.new }
-{
+fn tell_apart(pid: u16, video: u16, one: &Apart, text: &mut Text) {
     text.put(b"apart");
     text.number(pid as u64);
     text.number(one.pts);

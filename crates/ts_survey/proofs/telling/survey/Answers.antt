@@ -26,10 +26,12 @@ returns-then-came-clause-listed g c =
     let given = c.reads.invariant in
     let taken = c.take-used in
     let came = c.in-Ok.ensures.held in
+    let ends = c.pause.ensures.end (search rules) in
+    let known = taken.ensures.known (search rules) (search rules) in
     told-end c.args.options (g.S.Source.remaining c.args.source.now)
     (g.S.Source.remaining c.pull.new.source) (g.K.Sink.contents c.args.out.now)
     (g.K.Sink.contents c.reads.out) (g.K.Sink.contents c.hand_on.new.out) taken.new.self
-    taken.new.first taken.new.text c.pause.new.text (given.read.0 ++ came.came)
+    taken.new.first c.pause.new.text (given.read.0 ++ came.came)
     (take c.pass.new.self.len c.pass.new.self.bytes.items) given.grows.0
     (Consumes-trans (g.S.Source.remaining c.args.source.now)
     (g.S.Source.remaining c.reads.source) (g.S.Source.remaining c.pull.new.source) given.read.0
@@ -47,20 +49,19 @@ returns-then-came-clause-listed g c =
     taken.ensures.passed taken.ensures.begun (λ known. (taken.ensures.goes_on known).2)
     taken.ensures.taken))
     given.grows.1
+    ends
     (told-on c.reads.recording taken.new.self given.read.0 (given.read.0 ++ came.came)
-    c.held.result.now given.grows.0 taken.new.text.bytes.items c.reads.first taken.new.first
+    c.held.result.now given.grows.0 ends.before.bytes.items c.reads.first taken.new.first
     given.told taken.ensures.finds taken.ensures.goes_on (search rules) given.first (search rules)
     (begins-as c.reads.recording.has_head given.read.0 came.came given.long)
     (λ not. came-all given.read.0 (take c.reads.room.len c.reads.room.bytes.items)
     (take c.pull.new.self.len c.pull.new.self.bytes.items) c.held.result.now came.came
     (given.held not) came.held c.held.ensures.bytes)
-    (λ unknown. ap (λ t. t.bytes.items) (taken.ensures.unknown unknown)
-    ∙ no-items c.reads.text.bytes.items given.none))
-    (taken.ensures.known (search rules) (search rules))
+    (λ unknown. let e = sym known ∙ unknown in cc))
+    known
     (subst (λ (options : SurveyOptions). IsAsAsked options taken.new.self.kind)
     (taken.ensures.asked ∙ given.asked) (taken.ensures.as_asked given.as_asked))
-    (c.pause.ensures.end (search rules)) (search rules)
-    (search rules)
+    (search rules) (search rules)
 
 pub reads-preserved : goal.reads-preserved
 reads-preserved g c =

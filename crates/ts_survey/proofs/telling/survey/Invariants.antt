@@ -22,7 +22,7 @@ invariant-reads g l = record {
       StandsAt l.recording.kind l.recording.skipped read.0
       (take l.room.len l.room.bytes.items) false;
   long : l.recording.has_head ≡ true → head_size ≤ length read.0;
-  enough : l.recording.is_short ≡ false;
+  enough : l.recording.out_of_memory ≡ false;
   asked : l.recording.asked ≡ l.fn.options;
   as_asked : IsAsAsked l.recording.asked l.recording.kind;
   first : length l.first.bytes.items ≡ 0;

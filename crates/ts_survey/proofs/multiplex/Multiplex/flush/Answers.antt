@@ -1,7 +1,7 @@
 -- One more has its PID: map-same.
 use Rattle.std.proofs.Common.{◌<◌, ◌∙◌, length, rules}
 use Rattle.ts_survey.specs.Asked.{pid_followed}
-use Rattle.ts_survey.proofs.EndingsLemmas.{map-same}
+use Rattle.ts_survey.proofs.AskedLemmas.{map-same}
 use Rattle.ts_survey.proofs.multiplex.Multiplex.flush.Goals as goal
 
 pub loop-carrier-preserved : goal.loop-carrier-preserved
@@ -9,6 +9,5 @@ loop-carrier-preserved c =
     let items = c.loop-carrier.carrier-items in
     let at = c.loop-carrier.carrier-index in
     let below : at < length items = search rules in
-    map-same pid_followed items at c.flush.new.self c.carrier-item.result below
-    (c.flush.ensures.pid)
+    map-same pid_followed items at c.flush.new.self c.carrier-item.result below c.flush.ensures
     ∙ c.loop-carrier.invariant

@@ -1,8 +1,7 @@
 -- One more has its PID: map-same.
-use Rattle.std.proofs.Common.{◌≡◌, ◌<◌, ◌∙◌, ap, length, map, rules, slice_set}
+use Rattle.std.proofs.Common.{◌≡◌, ◌<◌, ◌∙◌, length, map, rules, slice_set}
 use Rattle.ts_survey.specs.Asked.{pid_followed}
-use Rattle.ts_survey.specs.declared.carrier.Carrier.{Carrier}
-use Rattle.ts_survey.proofs.EndingsLemmas.{map-same}
+use Rattle.ts_survey.proofs.AskedLemmas.{map-same}
 use Rattle.ts_survey.proofs.multiplex.Multiplex.settle.Goals as goal
 
 pub loop-carrier-preserved : goal.loop-carrier-preserved
@@ -14,6 +13,6 @@ loop-carrier-preserved c =
     map pid_followed (slice_set items at c.settle.new.self)
     ≡ map pid_followed c.args.self.now.carriers.items =
     map-same pid_followed items at c.settle.new.self c.carrier-item.result below
-    (ap (λ (one : Carrier). one.pid) c.settle.ensures.same)
+    c.settle.ensures
     ∙ c.loop-carrier.invariant in
     search rules

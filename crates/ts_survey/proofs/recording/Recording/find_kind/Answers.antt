@@ -21,7 +21,7 @@ returns-in-Unknown-clause-finds c = λ unknown.
       | else-not-self w ↦
           found-with-head old c.look.new.self _ _ _ w.if-not-self.false
           (c.look.ensures.has_head ∙ ap (λ r. r.has_head) w.self-is)
-          (subst (λ text. c.look.new.self.is_short ≡ false
+          (subst (λ text. c.look.new.self.out_of_memory ≡ false
           → AddsWords text (kind_words c.look.new.self.kind) c.look.new.first)
           w.first-is seen)
           not
