@@ -11,6 +11,8 @@ import re
 
 from subtitles.common.program import read
 
+from .graph import Graph
+
 KINDS = ("code", "contracts", "specs", "proofs", "tests")
 TESTS = ("tests", "check_tests", "word_tests", "file_tests", "program_tests", "fixtures",
          "answer_fixtures")  # crates
@@ -51,3 +53,11 @@ def counted(top: str) -> dict[str, collections.Counter[str]]:
 def total(sizes: dict[str, collections.Counter[str]]) -> collections.Counter[str]:
     """The sizes of all crates."""
     return sum(sizes.values(), collections.Counter())
+
+
+def promised(graph: Graph) -> collections.Counter[str]:
+    """Return the lines of each crate's definitions that public contracts and laws rest on."""
+    lines: collections.Counter[str] = collections.Counter()
+    for definition in graph.promised():
+        lines[definition.file.crate] += definition.lines
+    return lines

@@ -15,6 +15,8 @@ from unittest import mock
 from subtitles.common.command_line import Stop
 from subtitles.common.program import TOP
 from subtitles.common.times import CLOCK, ticks_between, wrapped
+from ..graph import Graph
+from ..sources import named_at_head
 from .bench import Case, SECONDS, script
 
 
@@ -423,7 +425,7 @@ class GraphTest(unittest.TestCase):
             os.makedirs(os.path.dirname(place), exist_ok=True)
             with open(place, "w", encoding="utf-8") as file:
                 file.write(text)
-        cls.graph = graph.Graph(cls.folder.name)
+        cls.graph = Graph(cls.folder.name)
 
     def one(self, name: str) -> Any:
         found = self.graph.matching(name)
@@ -463,6 +465,10 @@ class GraphTest(unittest.TestCase):
         }.items():
             self.assertEqual(self.serves(name), wanted, name)
 
+    def test_promised_definitions_are_those_of_public_clauses_and_laws(self) -> None:
+        self.assertEqual({it.name for it in self.graph.promised()},
+                         {"Word", "size", "LawOfWords", "◌>>=◌"})
+
     def test_what_nothing_reaches(self) -> None:
         self.assertEqual({it.name for it in self.graph.unreached()}, {"unused", "dead"})
 
@@ -478,7 +484,7 @@ class GraphTest(unittest.TestCase):
             ("-- What `check --all` tells.\n\n-- `later`", set()),
             ("use A\n-- `later`", set()),
         ):
-            self.assertEqual(graph.named_at_head(text), wanted, text)
+            self.assertEqual(named_at_head(text), wanted, text)
         wrong = self.graph.wrong_heads()
         self.assertEqual({name for names in wrong.values() for name in names}, {"renamed"})
 
