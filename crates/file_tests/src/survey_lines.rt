@@ -211,7 +211,7 @@ const SHOWN_LATE: [u8; 18] = [
 ];
 
 #[test]
-fn tells_a_step_of_the_pictures_and_how_far_the_teletext_is_ahead(rt: HostRuntime) {
+fn prints_the_lead_of_the_teletext_over_the_pictures(rt: HostRuntime) {
     let fill = &FILL[..170];
     let stream: [&[u8]; 22] = [
         &PAT,
@@ -241,11 +241,10 @@ fn tells_a_step_of_the_pictures_and_how_far_the_teletext_is_ahead(rt: HostRuntim
         programme 1 8176\nstream 272 2\nstream 257 6\n\
         video 272 0\npicture 272 3239907200\npicture 272 3239903600\npicture 272 3239907200\n\
         picture 272 3239910800\npicture 272 3239914400\npicture 272 3239918000\n\
-        teletext 257\nsub 257 888\npicture 272 3239928800\n\
-        apart 257 3240000000 82000 272\nstep 272 3239918000 3239928800 3600\n\
-        pes 257 0 1 3240000000 0 b/ 3 0\napart 257 3240180000 251200 272\n\
+        teletext 257\nsub 257 888\nlead 257 3240000000 82000 272 6\npicture 272 3239928800\n\
+        pes 257 0 1 3240000000 0 b/ 3 0\nlead 257 3240180000 251200 272 7\n\
         pes 257 1 1 3240180000 0 b/ 2 0\n\
-        group 272 3239907200 3239903600 unknown\npictures 272 0 0 0 1\nsteps 272 1 3600\n\
+        group 272 3239907200 3239903600 unknown\npictures 272 0 0 0 1\n\
         subs 257 888 2\n\
         end 257 2 0 2 0 0 0 3240180000\nover 0 11\n";
     assert_prints(&rt, &SURVEY, &stream, want);
@@ -265,7 +264,7 @@ fn tells_whether_the_group_of_the_first_picture_is_closed(rt: HostRuntime) {
     let want = "survey 1\nhead 474000100000b00d0001c1\nsize 188\n\
         programme 1 8176\nstream 272 2\nstream 257 6\n\
         video 272 0\npicture 272 3239907200\ngroup 272 3239907200 3239907200 closed\n\
-        pictures 272 0 0 0 1\nsteps 272 0 -\nover 0 3\n";
+        pictures 272 0 0 0 1\nover 0 3\n";
     assert_prints(&rt, &SURVEY, &closed, want);
     let open: [&[u8]; 7] = [
         &PAT,
@@ -279,7 +278,7 @@ fn tells_whether_the_group_of_the_first_picture_is_closed(rt: HostRuntime) {
     let want = "survey 1\nhead 474000100000b00d0001c1\nsize 188\n\
         programme 1 8176\nstream 272 2\nstream 257 6\n\
         video 272 0\npicture 272 3239907200\ngroup 272 3239907200 3239907200 open\n\
-        pictures 272 0 0 0 1\nsteps 272 0 -\nover 0 3\n";
+        pictures 272 0 0 0 1\nover 0 3\n";
     assert_prints(&rt, &SURVEY, &open, want);
 }
 
@@ -297,7 +296,7 @@ fn tells_whether_a_group_of_hevc_is_closed(rt: HostRuntime) {
     let want = "survey 1\nhead 474000100000b00d0001c1\nsize 188\n\
         programme 1 8176\nstream 272 36\nstream 257 6\n\
         video 272 0\npicture 272 3239907200\ngroup 272 3239907200 3239907200 closed\n\
-        pictures 272 0 0 0 1\nsteps 272 0 -\nover 0 3\n";
+        pictures 272 0 0 0 1\nover 0 3\n";
     assert_prints(&rt, &SURVEY, &closed, want);
     let open: [&[u8]; 7] = [
         &PAT,
@@ -311,7 +310,7 @@ fn tells_whether_a_group_of_hevc_is_closed(rt: HostRuntime) {
     let want = "survey 1\nhead 474000100000b00d0001c1\nsize 188\n\
         programme 1 8176\nstream 272 36\nstream 257 6\n\
         video 272 0\npicture 272 3239907200\ngroup 272 3239907200 3239907200 open\n\
-        pictures 272 0 0 0 1\nsteps 272 0 -\nover 0 3\n";
+        pictures 272 0 0 0 1\nover 0 3\n";
     assert_prints(&rt, &SURVEY, &open, want);
 }
 
@@ -334,7 +333,7 @@ fn reads_the_header_of_a_group_over_two_packets(rt: HostRuntime) {
     let want = "survey 1\nhead 474000100000b00d0001c1\nsize 188\n\
         programme 1 8176\nstream 272 2\nstream 257 6\n\
         video 272 0\npicture 272 3239907200\ngroup 272 3239907200 3239907200 closed\n\
-        pictures 272 0 0 0 1\nsteps 272 0 -\nover 0 4\n";
+        pictures 272 0 0 0 1\nover 0 4\n";
     assert_prints(&rt, &SURVEY, &stream, want);
 }
 

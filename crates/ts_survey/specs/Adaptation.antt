@@ -64,7 +64,3 @@ time_beside pes (Some pts) =
 -- So of a PES packet: none where it says no PTS.
 abbrev pub decoding_time : List ℕ → Option ℕ
 decoding_time pes = time_beside pes (pts_said pes)
-
--- What follows the header of a PES packet: nothing where these bytes end within it.
-abbrev pub behind_header : List ℕ → List ℕ
-behind_header pes = if nat_lt (length pes) 9 then [] else drop (9 + slice_index pes 8) pes

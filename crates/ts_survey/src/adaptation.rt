@@ -1,7 +1,7 @@
 //! What an adaptation field says (ISO/IEC 13818-1, adaptation_field), and the PTS of a PES packet
 //! that begins.
 ghost use Rattle.std.specs.Prelude.{◌≡◌, ◌<◌, ◌^◌, IfSome};
-ghost use Rattle.ts_survey.specs.Adaptation.{begins_access, behind_header, decoding_time};
+ghost use Rattle.ts_survey.specs.Adaptation.{begins_access, decoding_time};
 ghost use Rattle.ts_survey.specs.Adaptation.{is_scrambled, payload_in, pcr_base, pts_said};
 
 use mpeg_ts::{PACKET, has_adaptation, has_payload, is_wrong, payload_of};
@@ -86,16 +86,4 @@ pub fn decoding_time(pes: &[u8]) -> Option<u64>
             + pes[17] as u64 * 0x80
             + (pes[18] / 2) as u64,
     )
-}
-
-/// What follows the header of a PES packet that begins; nothing where the header does not end in
-/// these bytes.
-pub fn behind_header(pes: &[u8]) -> &[u8]
-    ensures { result.now ≡ behind_header pes.now }
-{
-    if pes.len() < 9 {
-        return &[];
-    }
-    let (_, behind) = pes.split_at(pes.len().min(9 + pes[8] as usize));
-    behind
 }

@@ -1,15 +1,14 @@
 //! A PID with Teletext that is followed: what its packets carry, and what is missing.
 ghost use Rattle.std.specs.Prelude.{◌≡◌, IfSome};
-ghost use Rattle.std.specs.Prelude.{false, true};
-ghost use Rattle.mpeg_ts.specs.TransportPacket.{has_payload, is_wrong};
 
-use crate::adaptation::{is_scrambled, pts_said};
-use crate::aparts::Aparts;
+use crate::adaptation::is_scrambled;
 use crate::clock::{SECOND, Strange};
 use crate::given::Given;
+use crate::lead::{Lead, Picture};
+use crate::pes_header::PesHeader;
 use crate::pes_lines::PesLines;
 use crate::pid_packets::PidPackets;
-use crate::pid_state::Pids;
+use crate::pid_state::{Pids, missing_between};
 use crate::text::{Text, forward};
 use arrayvec::ArrayVec;
 use mpeg_ts::{PACKET, announces_jump, begins, counter_of, has_payload, is_wrong, payload_of};
@@ -40,13 +39,14 @@ pub struct Carrier {
     has_jump: bool,
     packets: u64,
     scrambled: u64,
+    header: PesHeader,
     // PTS: of the last PES packet that began, of the last that was held against the clock, and of
     // the one that had begun before the last PCR.
     begun: Option<u64>,
     sampled: Option<u64>,
     before_pcr: Option<u64>,
     pending: ArrayVec<Pending, PENDING>,
-    aparts: Aparts,
+    lead: Lead,
 }
 
 impl Carrier {
@@ -62,11 +62,12 @@ impl Carrier {
             has_jump: false,
             packets: 0,
             scrambled: 0,
+            header: PesHeader::new(),
             begun: None,
             sampled: None,
             before_pcr: None,
             pending: ArrayVec::new(),
-            aparts: Aparts::new(),
+            lead: Lead::new(),
         })
     }
 
@@ -97,8 +98,8 @@ impl Carrier {
         }
     }
 
-    // Counts what is lost before a packet, and notes a seam before it, and the PTS that begins in
-    // it.
+    // Counts what is lost before a packet, and notes a seam before it. Returns the PTS whose PES
+    // header is complete with the packet. A repeat of the last good packet is nothing new.
     fn note(&mut self, packet: &[u8; PACKET]) -> Option<u64>
         ensures { self.new.pid ≡ self.old.pid }
     {
@@ -109,38 +110,42 @@ impl Carrier {
             self.has_jump = self.has_jump || announces_jump(packet);
             return None;
         }
-        self.note_good(packet);
-        if !begins(packet) {
+        if self.packets_of.is_repeat(packet) {
             return None;
         }
-        let pts = pts_said(payload_of(packet))?;
+        let is_seam = self.packets_of.is_behind_seam(packet);
+        self.packets_of.to.note_seam(is_seam);
+        let follows = self.count_lost(packet);
+        if self.header.take(payload_of(packet), begins(packet), follows) {
+            self.begin()
+        } else {
+            None
+        }
+    }
+
+    // A PES packet began: its PTS, if it has one and is of private_stream_1.
+    fn begin(&mut self) -> Option<u64>
+        ensures { self.new.pid ≡ self.old.pid }
+    {
+        let Some(0xBD) = self.header.stream_id() else {
+            return None;
+        };
+        let pts = self.header.pts()?;
         self.begun = Some(pts);
         Some(pts)
     }
 
-    // Counts what is lost before a packet with a payload, and notes a seam before it, where it does
-    // not repeat the last good one.
-    fn note_good(&mut self, packet: &[u8; PACKET])
-        requires payload { has_payload packet.now ≡ true }
-        requires valid { is_wrong packet.now ≡ false }
+    // Counts what is lost before a good packet, by its counter. Returns whether the packet follows
+    // the last one.
+    fn count_lost(&mut self, packet: &[u8; PACKET]) -> bool
         ensures { self.new.pid ≡ self.old.pid }
     {
-        if self.packets_of.is_repeat(packet) {
-            return;
-        }
-        let is_seam = self.packets_of.is_behind_seam(packet);
-        self.packets_of.to.note_seam(is_seam);
-        self.count_lost(packet);
-    }
-
-    // Counts what is lost before a good packet, by its counter.
-    fn count_lost(&mut self, packet: &[u8; PACKET])
-        ensures { self.new.pid ≡ self.old.pid }
-    {
-        let lost = lost_before(self.counter, self.has_jump, packet);
+        let is_jump = self.has_jump || announces_jump(packet);
+        let lost = lost_before(self.counter, is_jump, packet);
         self.packets_of.to.add_lost(lost as u64);
         self.counter = Some(counter_of(packet));
         self.has_jump = false;
+        lost == 0 && !is_jump
     }
 
     /// So many bytes were skipped that packets may be missing.
@@ -203,18 +208,11 @@ impl Carrier {
         }
     }
 
-    /// A PTS began in a packet, behind a decoding time of the pictures of its programme.
-    pub fn hold_against(&mut self, pts: u64, video: u16, time: u64, text: &mut Text)
+    /// A PTS began in a packet, behind a picture of its programme.
+    pub fn take_lead(&mut self, pts: u64, picture: &Picture, text: &mut Text)
         ensures { self.new.pid ≡ self.old.pid }
     {
-        self.aparts.take(self.pid, pts, video, time, text);
-    }
-
-    /// The decoding times of a video PID stepped otherwise than they do.
-    pub fn note_step(&mut self, video: u16, text: &mut Text)
-        ensures { self.new.pid ≡ self.old.pid }
-    {
-        self.aparts.note_step(self.pid, video, text);
+        self.lead.take(self.pid, pts, picture, text);
     }
 
     /// Tells the strange PCR of which all is known, by the number of the last packet; or all.
@@ -292,14 +290,11 @@ impl Carrier {
     }
 }
 
-// How many packets are lost before a good one: at least, since counters come again.
-fn lost_before(counter: Option<u8>, has_jump: bool, packet: &[u8; PACKET]) -> u8 {
-    if has_jump || announces_jump(packet) {
-        return 0;
-    }
+// How many packets are lost before a good one that is no repeat.
+fn lost_before(counter: Option<u8>, is_jump: bool, packet: &[u8; PACKET]) -> u8 {
     match counter {
-        Some(last) => (counter_of(packet) + 0x1F - last % 0x10) % 0x10,
-        None => 0,
+        Some(last) if !is_jump => missing_between(last, counter_of(packet)),
+        _ => 0,
     }
 }
 

@@ -12,7 +12,6 @@
 
 mod adaptation;
 mod announcements;
-mod aparts;
 mod begun;
 mod carrier;
 mod character_set;
@@ -21,12 +20,14 @@ mod forms;
 mod given;
 mod heard;
 mod laws;
+mod lead;
 mod multiplex;
 mod notes;
 mod packet_sizes;
 mod packets_in_step;
 mod page;
 mod pes_file;
+mod pes_header;
 mod pes_lines;
 mod pictures;
 mod pid_packets;
@@ -35,12 +36,10 @@ mod recording;
 mod room;
 mod rows;
 mod section;
-mod steps;
 mod tables;
 mod telling;
 mod text;
 mod units;
-mod video_steps;
 
 pub use laws::{law_of_following, law_of_two_calls};
 pub use pid_packets::{PidPackets, TakesPieces};

@@ -11,14 +11,14 @@ use crate::announcements::{tell_pages, tell_programme, tell_stream};
 use crate::begun::begin_beside;
 use crate::carrier::{Carrier, LOOKED_AT};
 use crate::clock::{Clock, Strange};
+use crate::lead::Picture;
 use crate::packets_in_step::TakesPackets;
+use crate::pes_header::stream_id_in;
 use crate::pictures::Pictures;
-use crate::pid_state::{NONE, NULL_PID, PidState, Pids};
+use crate::pid_state::{Link, NONE, NULL_PID, PidState, Pids};
 use crate::section::{FIRST_PMT, Stream, pmt_pid_at, programme_of, stream_at};
-use crate::steps::Step;
 use crate::tables::{SECTION_ROOM, Section, Tables, parts_of};
 use crate::text::Text;
-use crate::video_steps::{note_step_of, take_pictures, tell_step, time_of};
 use mpeg_ts::{PACKET, announces_jump, begins, pid_of};
 use std::alloc::Global;
 use ttx_packet::PageId;
@@ -192,14 +192,14 @@ impl Multiplex {
         ensures asked { KeepsAsked self.old self.new }
     {
         let number = self.number;
-        let shown = self.last_time(state.clock_pid);
+        let picture = self.last_picture(state.clock_pid);
         let clock = self.pids.get(state.clock_pid).clock;
         let Some(carrier) = self.carriers.get_mut(state.carrier as usize) else {
             return;
         };
         begin_beside(
             carrier,
-            shown,
+            picture,
             self.clocks.as_slice(),
             clock,
             number,
@@ -216,60 +216,38 @@ impl Multiplex {
         let Some(pictures) = self.videos.get(state.video as usize) else {
             return;
         };
-        if begins(packet) || !pictures.is_over() {
-            self.show_on(state.video, state.kind, packet, text);
+        if begins(packet) || pictures.needs_each() {
+            self.show_on(state.video, state.kind, state.link, packet, text);
         }
     }
 
     // So of a packet that is of interest: few are, and what is done for them out of line takes no
     // registers of the walk over all packets.
     #[inline(never)]
-    fn show_on(&mut self, place: u8, kind: u8, packet: &[u8; PACKET], text: &mut Text)
+    fn show_on(
+        &mut self,
+        place: u8,
+        kind: u8,
+        link: Link,
+        packet: &[u8; PACKET],
+        text: &mut Text,
+    )
         ensures asked { KeepsAsked self.old self.new }
     {
         let Some(pictures) = self.videos.get_mut(place as usize) else {
             return;
         };
-        let step = take_pictures(pictures, kind, packet, text);
-        let video = pictures.pid();
-        self.tell_if(video, step, text);
+        pictures.take(packet, kind, link, text);
     }
 
-    // Tells a step of the decoding times of a video PID, if there is one.
-    fn tell_if(&mut self, video: u16, step: Option<Step>, text: &mut Text)
-        ensures asked { KeepsAsked self.old self.new }
-    {
-        if let Some(step) = step {
-            self.tell_step(video, &step, text);
-        }
-    }
-
-    // Tells a step of the decoding times of a video PID, and before it how far the PES packets of
-    // Teletext before it are ahead.
-    fn tell_step(&mut self, video: u16, step: &Step, text: &mut Text)
-        ensures asked { KeepsAsked self.old self.new }
-    {
-        self.note_step(video, text);
-        tell_step(video, step, text);
-    }
-
-    // Each PID with Teletext tells how far its PES packets before a step are ahead.
-    fn note_step(&mut self, video: u16, text: &mut Text)
-        ensures asked { KeepsAsked self.old self.new }
-    {
-        for carrier in self.carriers.iter_mut() {
-            note_step_of(carrier, video, text);
-        }
-    }
-
-    // The first PID of pictures of the programme with that PCR_PID, and their last decoding time.
-    fn last_time(&self, clock_pid: u16) -> Option<(u16, u64)> {
+    // The last picture of the programme with that PCR_PID: of its PID of video that began first.
+    fn last_picture(&self, clock_pid: u16) -> Option<Picture> {
         if clock_pid == NULL_PID {
             return None;
         }
         for video in self.videos.iter() {
             if self.pids.get(video.pid()).clock_pid == clock_pid {
-                return time_of(video);
+                return video.last();
             }
         }
         None
@@ -359,18 +337,22 @@ impl Multiplex {
         }
     }
 
-    // Looks at what begins in a PID of which nothing is known.
+    // Looks at what begins in a PID of which nothing is known. Where a PES packet does not show
+    // its data_identifier, a later one may.
     fn look(&mut self, pid: u16, packet: &[u8; PACKET], text: &mut Text)
         ensures asked { KeepsAsked self.old self.new }
     {
         let payload = payload_in(packet);
+        let Some(stream_id) = stream_id_in(payload) else {
+            return;
+        };
         if begins_teletext(payload) {
             self.follow(pid, text);
-        } else if payload.len() > 3 && payload[0] == 0 && payload[1] == 0 && payload[2] == 1 {
+        } else if stream_id != 0xBD || has_data_identifier(payload) {
             let mut state = self.pids.get(pid);
             state.is_other = true;
             self.pids.set(pid, state);
-            if payload[3] / 0x10 == 0xE {
+            if stream_id / 0x10 == 0xE {
                 self.add_video(pid);
             }
         }
@@ -571,6 +553,11 @@ fn note_pcr_of(
 // Whether nothing is known of what a PID carries.
 fn is_unknown(state: &PidState) -> bool {
     state.carrier == NONE && state.table == NONE && !state.is_other
+}
+
+// Whether the first data byte of a PES packet is in the payload in which it begins.
+fn has_data_identifier(payload: &[u8]) -> bool {
+    payload.len() > 9 && 9 + (payload[8] as usize) < payload.len()
 }
 
 // Whether a payload begins with a PES packet of Teletext: private_stream_1, whose first data byte

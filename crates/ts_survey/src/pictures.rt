@@ -1,16 +1,15 @@
 //! The pictures of a video PID: the first ones, from one that can be shown alone to the next such
-//! one, and the steps of all their decoding times.
+//! one, and the decoding time of the last one.
 // What the reader keeps, not the standard's.
 
-use crate::adaptation::{
-    begins_access, behind_header, decoding_time, is_scrambled, payload_in, pts_said,
-};
+use crate::adaptation::{begins_access, is_scrambled, payload_in};
 use crate::clock::SECOND;
 use crate::forms::{Form, FormReader};
-use crate::pid_state::continues_counter;
-use crate::steps::{Step, Steps};
+use crate::lead::Picture;
+use crate::pes_header::PesHeader;
+use crate::pid_state::Link;
 use crate::text::{CLOCK, Text, forward};
-use mpeg_ts::{PACKET, begins, counter_of, has_payload};
+use mpeg_ts::{PACKET, announces_jump, begins, has_adaptation, has_payload, is_wrong};
 
 /// How far it has come.
 #[derive(Clone, Copy, PartialEq, Eq)]
@@ -28,18 +27,29 @@ enum Reach {
 pub struct Pictures {
     pid: u16,
     reach: Reach,
+    // Whether each packet is of interest, not only one in which a PES packet begins.
+    needs_each: bool,
+    // The last packet that was taken, and whether it was sent twice.
+    packet: [u8; PACKET],
+    has_repeat: bool,
+    // Of the PES packet that began last: its header, and whether random_access_indicator was set;
+    // and whether a packet without a payload has set it for the next one.
+    header: PesHeader,
     is_flagged: bool,
-    // Whether the flagged picture goes on.
+    flags_next: bool,
+    // PES packets that began, and the last one with a decoding time.
+    count: u64,
+    last: Option<Picture>,
+    // Whether the flagged picture goes on, and the bytes up to the end of its header.
     is_first: bool,
+    header_left: usize,
     passed: u64,
     lost: u64,
     scrambled: u64,
-    counter: Option<u8>,
     // Of the group: the PTS of the flagged picture, the least one, and what its bytes say.
     flagged: Option<u64>,
     first: Option<u64>,
     reader: FormReader,
-    steps: Steps,
 }
 
 impl Pictures {
@@ -48,16 +58,22 @@ impl Pictures {
         Pictures {
             pid,
             reach: Reach::Before,
+            needs_each: true,
+            packet: [0; PACKET],
+            has_repeat: false,
+            header: PesHeader::new(),
             is_flagged: false,
+            flags_next: false,
+            count: 0,
+            last: None,
             is_first: false,
+            header_left: 0,
             passed: 0,
             lost: 0,
             scrambled: 0,
-            counter: None,
             flagged: None,
             first: None,
             reader: FormReader::new(0),
-            steps: Steps::new(),
         }
     }
 
@@ -66,67 +82,119 @@ impl Pictures {
         self.pid
     }
 
-    /// The last decoding time.
-    pub fn last_time(&self) -> Option<u64> {
-        self.steps.last()
+    /// The last one with a decoding time.
+    pub fn last(&self) -> Option<Picture> {
+        self.last
     }
 
-    /// Whether the first ones are over: only the steps of decoding times are followed then.
+    /// Whether each packet is of interest. Once the first ones are over, only the headers of PES
+    /// packets are.
     #[inline(always)]
-    pub fn is_over(&self) -> bool {
+    pub fn needs_each(&self) -> bool {
+        self.needs_each
+    }
+
+    /// A packet of the PID came that is of interest, which the PMT says is of that stream_type.
+    pub fn take(&mut self, packet: &[u8; PACKET], kind: u8, link: Link, text: &mut Text) {
+        if packet[1] >= 0x80 {
+            return;
+        }
+        if has_payload(packet) {
+            self.take_once(packet, kind, link, text);
+        } else if begins_access(packet) {
+            self.flags_next = true;
+        }
+    }
+
+    // A packet with a payload came, perhaps a second time.
+    fn take_once(&mut self, packet: &[u8; PACKET], kind: u8, link: Link, text: &mut Text) {
+        if self.is_repeat(packet, link) {
+            self.has_repeat = true;
+            return;
+        }
+        self.packet = *packet;
+        self.has_repeat = false;
+        self.count_lost(packet, link);
+        self.go_on(packet, kind, link, text);
+        self.needs_each = !is_over(self.reach) || self.header.is_open();
+    }
+
+    // Whether a packet repeats the last one.
+    fn is_repeat(&self, packet: &[u8; PACKET], link: Link) -> bool {
+        match link {
+            Link::Same => {}
+            _ => return false,
+        }
+        let (old_header, _) = self.packet.split_at(4);
+        let (header, _) = packet.split_at(4);
+        !self.has_repeat
+            && (!announces_jump(packet) || announces_jump(&self.packet))
+            && header == old_header
+            && behind_adaptation(packet) == behind_adaptation(&self.packet)
+    }
+
+    // Counts what is lost by its counter, and what is scrambled, among the pictures.
+    fn count_lost(&mut self, packet: &[u8; PACKET], link: Link) {
         match self.reach {
-            Reach::Over => true,
-            _ => false,
-        }
-    }
-
-    /// A packet of the PID came, which the PMT says is of that stream_type.
-    #[inline(always)]
-    pub fn take(&mut self, packet: &[u8; PACKET], kind: u8, text: &mut Text) {
-        match self.reach {
-            Reach::Over => {}
-            _ => self.follow(packet, kind, text),
-        }
-    }
-
-    /// A packet came in which a PES packet begins. The step of the decoding times, where it is to
-    /// be told.
-    pub fn step(&mut self, packet: &[u8; PACKET]) -> Option<Step> {
-        let time = decoding_time(payload_in(packet))?;
-        self.steps.take(time)
-    }
-
-    // A packet came that is of interest.
-    fn follow(&mut self, packet: &[u8; PACKET], kind: u8, text: &mut Text) {
-        self.note_flag(packet);
-        if has_payload(packet) && packet[1] < 0x80 {
-            self.count(packet);
-            self.go_on(packet, kind, text);
-        }
-    }
-
-    // Whether the next picture can be shown alone.
-    fn note_flag(&mut self, packet: &[u8; PACKET]) {
-        if begins_access(packet) && (begins(packet) || !has_payload(packet)) {
-            self.is_flagged = true;
+            Reach::Within => {
+                self.lost = counted_if(is_behind_loss(packet, link), self.lost);
+                self.scrambled = counted_if(is_scrambled(packet), self.scrambled);
+            }
+            _ => {}
         }
     }
 
     // A packet goes on with a picture, or begins one.
-    fn go_on(&mut self, packet: &[u8; PACKET], kind: u8, text: &mut Text) {
+    fn go_on(&mut self, packet: &[u8; PACKET], kind: u8, link: Link, text: &mut Text) {
         if begins(packet) {
-            self.begin_picture(packet, kind, text);
+            self.is_flagged = self.flags_next || begins_access(packet);
+            self.flags_next = false;
+            self.is_first = false;
+        }
+        if is_wrong(packet) {
+            self.go_on_unread(packet, kind, text);
         } else {
-            self.read_on(packet);
+            self.read_header(packet, kind, link, text);
         }
     }
 
+    // The payload can't be read. If it is scrambled, a picture may begin in it, without a time.
+    fn go_on_unread(&mut self, packet: &[u8; PACKET], kind: u8, text: &mut Text) {
+        self.header.clear();
+        self.header_left = 0;
+        if begins(packet) && is_scrambled(packet) {
+            self.begin_picture(kind, text);
+        }
+    }
+
+    // A picture begins once the header of its PES packet is complete.
+    fn read_header(&mut self, packet: &[u8; PACKET], kind: u8, link: Link, text: &mut Text) {
+        let payload = payload_in(packet);
+        let before = if begins(packet) { 0 } else { self.header.len() };
+        if self.header.take(payload, begins(packet), follows(link)) {
+            if !is_video(self.header.stream_id()) {
+                return;
+            }
+            self.header_left = self.header.size().saturating_sub(before);
+            self.begin_picture(kind, text);
+        }
+        self.read_on(payload);
+    }
+
     // A picture begins.
-    fn begin_picture(&mut self, packet: &[u8; PACKET], kind: u8, text: &mut Text) {
+    fn begin_picture(&mut self, kind: u8, text: &mut Text) {
+        self.count = self.count.saturating_add(1);
+        if let Some(time) = self.header.decoding_time() {
+            self.last = Some(Picture {
+                video: self.pid,
+                time,
+                number: self.count,
+            });
+        }
         match self.reach {
             Reach::Before => {
                 if self.is_flagged {
-                    self.begin(packet, kind, text);
+                    self.begin(kind, text);
                 } else {
                     self.passed = self.passed.saturating_add(1);
                 }
@@ -135,28 +203,29 @@ impl Pictures {
                 if self.is_flagged {
                     self.close(text);
                 } else {
-                    self.show(packet, text);
+                    self.show(text);
                 }
             }
-            Reach::Over => self.show(packet, text),
+            Reach::Over => {}
         }
     }
 
-    // The flagged picture goes on in a packet, where no other one has begun.
-    fn read_on(&mut self, packet: &[u8; PACKET]) {
-        if self.is_first {
-            self.reader.read(payload_in(packet));
+    // The flagged picture goes on in a payload, where no other one has begun.
+    fn read_on(&mut self, payload: &[u8]) {
+        if !self.is_first {
+            return;
         }
+        let (header, picture) = payload.split_at(payload.len().min(self.header_left));
+        self.header_left -= header.len();
+        self.reader.read(picture);
     }
 
     // The flagged picture begins: it is told.
-    fn begin(&mut self, packet: &[u8; PACKET], kind: u8, text: &mut Text) {
-        let payload = payload_in(packet);
+    fn begin(&mut self, kind: u8, text: &mut Text) {
         self.tell_video(text);
-        self.show(packet, text);
-        self.flagged = pts_said(payload);
+        self.show(text);
+        self.flagged = self.header.pts();
         self.reader = FormReader::new(kind);
-        self.reader.read(behind_header(payload));
         self.is_first = true;
     }
 
@@ -167,29 +236,10 @@ impl Pictures {
         text.put(b"\n");
     }
 
-    // Counts what is lost by its counter, and what is scrambled, among the pictures.
-    fn count(&mut self, packet: &[u8; PACKET]) {
-        let (last, counter) = (self.counter, counter_of(packet));
-        self.counter = Some(counter);
-        match self.reach {
-            Reach::Within => {
-                let is_lost = match last {
-                    Some(last) => !continues_counter(last, counter),
-                    None => false,
-                };
-                self.lost = counted_if(is_lost, self.lost);
-                self.scrambled = counted_if(is_scrambled(packet), self.scrambled);
-            }
-            _ => {}
-        }
-    }
-
     // A picture begins: it is told.
-    fn show(&mut self, packet: &[u8; PACKET], text: &mut Text) {
+    fn show(&mut self, text: &mut Text) {
         self.reach = Reach::Within;
-        self.is_flagged = false;
-        self.is_first = false;
-        let pts = pts_said(payload_in(packet));
+        let pts = self.header.pts();
         self.tell_picture(pts, text);
         if let Some(now) = pts {
             self.move_to(now, text);
@@ -216,10 +266,6 @@ impl Pictures {
     fn close(&mut self, text: &mut Text) {
         self.reach = Reach::Over;
         self.tell_group(text);
-        self.tell_over(text);
-    }
-
-    fn tell_over(&self, text: &mut Text) {
         self.tell_counts(text);
         text.put(b"\n");
     }
@@ -241,14 +287,8 @@ impl Pictures {
         text.put(form_word(self.reader.form()));
     }
 
-    /// The recording is over: what is not over is told, and what the steps were like.
+    /// The recording is over: what is not over is told.
     pub fn end(&self, text: &mut Text) {
-        self.end_group(text);
-        self.end_steps(text);
-    }
-
-    // Tells what is not over of the group.
-    fn end_group(&self, text: &mut Text) {
         match self.reach {
             Reach::Over => {}
             Reach::Before => self.tell_end(b" 0\n", text),
@@ -259,27 +299,54 @@ impl Pictures {
         }
     }
 
-    // Tells what the steps were like, where there are decoding times.
-    fn end_steps(&self, text: &mut Text) {
-        if self.steps.last().is_none() {
-            return;
-        }
-        self.tell_steps(text);
-    }
-
-    fn tell_steps(&self, text: &mut Text) {
-        text.put(b"steps");
-        text.number(self.pid as u64);
-        text.number(self.steps.strange());
-        text.time(self.steps.usual());
-        text.put(b"\n");
-    }
-
     fn tell_end(&self, begun: &[u8], text: &mut Text) {
         self.tell_counts(text);
         text.number(self.passed);
         text.put(begun);
     }
+}
+
+fn is_over(reach: Reach) -> bool {
+    match reach {
+        Reach::Over => true,
+        _ => false,
+    }
+}
+
+// Whether a packet is known to be the next one of its PID.
+fn follows(link: Link) -> bool {
+    match link {
+        Link::Next => true,
+        _ => false,
+    }
+}
+
+// Whether something is lost before a packet that is no repeat.
+fn is_behind_loss(packet: &[u8; PACKET], link: Link) -> bool {
+    match link {
+        Link::Broken => true,
+        Link::Same => !announces_jump(packet),
+        _ => false,
+    }
+}
+
+// Whether stream_id is that of video: E0 to EF.
+fn is_video(stream_id: Option<u8>) -> bool {
+    match stream_id {
+        Some(id) => id / 0x10 == 0xE,
+        None => false,
+    }
+}
+
+// The bytes of a packet behind its adaptation field, scrambled or not.
+fn behind_adaptation(packet: &[u8; PACKET]) -> &[u8] {
+    let place = if has_adaptation(packet) {
+        5 + packet[4] as usize
+    } else {
+        4
+    };
+    let (_, behind) = packet.split_at(place.min(PACKET));
+    behind
 }
 
 // One more where that is so.

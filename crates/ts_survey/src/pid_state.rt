@@ -12,12 +12,29 @@ pub const NULL_PID: u16 = 0x1FFF;
 /// In place of the place of something of which there is none.
 pub const NONE: u8 = 0xFF;
 
+/// How a packet follows the one before it in its PID, by continuity_counter.
+#[derive(Clone, Copy, PartialEq, Eq)]
+pub enum Link {
+    /// The counter goes on, or nothing came before.
+    Next,
+    /// A jump of the counter is announced (discontinuity_indicator), here or since the one before.
+    Announced,
+    /// The counter is the same: a repeat, or 15 packets are missing.
+    Same,
+    /// Packets are missing.
+    Broken,
+}
+
 /// What is kept of a PID.
 #[derive(Clone, Copy)]
 pub struct PidState {
     /// The last counter, and the numbers of the first packet with a payload and of the last: 0 for
     /// none.
     pub counter: u8,
+    /// How the last packet with a payload followed, and whether a packet without one announced a
+    /// jump of the counter since.
+    pub link: Link,
+    pub has_jump: bool,
     pub first: u64,
     pub last: u64,
     /// The PCR_PID of the programme that names it last, and stream_type there: 0 for none.
@@ -55,6 +72,8 @@ pub struct Pids {
 fn unknown() -> PidState {
     PidState {
         counter: 0,
+        link: Link::Next,
+        has_jump: false,
         first: 0,
         last: 0,
         clock_pid: NULL_PID,
@@ -89,38 +108,51 @@ fn no_breaks() -> [Break; BREAKS] {
     [none; BREAKS]
 }
 
-// Notes a packet of a PID with that number: in place, since each packet of a recording comes here.
+/// How many packets are missing between two counters of a PID: at least, since counters come again.
 #[inline(always)]
-fn note_packet(state: &mut PidState, packet: &[u8; PACKET], number: u64) {
-    if !is_counted(packet) {
-        return;
+pub fn missing_between(last: u8, next: u8) -> u8 {
+    (next % 0x10 + 0x1F - last % 0x10) % 0x10
+}
+
+// How a packet with a payload follows what was known of its PID before it.
+#[inline(always)]
+fn link_of(before: &PidState, packet: &[u8; PACKET]) -> Link {
+    let missing = missing_between(before.counter, counter_of(packet));
+    if before.last == 0 {
+        Link::Next
+    } else if before.has_jump {
+        Link::Announced
+    } else if missing == 15 {
+        Link::Same
+    } else if announces_jump(packet) {
+        Link::Announced
+    } else if missing == 0 {
+        Link::Next
+    } else {
+        Link::Broken
     }
+}
+
+// What is known of a PID behind a packet with that number. Nothing is taken from one that is
+// damaged.
+#[inline(always)]
+fn state_behind(before: PidState, packet: &[u8; PACKET], number: u64) -> PidState {
+    let mut state = before;
+    if packet[1] >= 0x80 {
+        return state;
+    }
+    if !has_payload(packet) {
+        state.has_jump = state.has_jump || announces_jump(packet);
+        return state;
+    }
+    state.link = link_of(&before, packet);
+    state.has_jump = false;
+    state.counter = counter_of(packet);
     if state.last == 0 {
         state.first = number;
     }
-    state.counter = counter_of(packet);
     state.last = number;
-}
-
-// Whether the counter of a packet counts: it is not damaged, and has a payload.
-#[inline(always)]
-fn is_counted(packet: &[u8; PACKET]) -> bool {
-    packet[1] < 0x80 && has_payload(packet)
-}
-
-/// Whether a counter goes on, or is that of a repeat.
-#[inline(always)]
-pub fn continues_counter(last: u8, next: u8) -> bool {
-    next == last || next == (last % 0x10 + 1) % 0x10
-}
-
-// Whether the counter of a PID breaks at a packet, by what was known before it.
-#[inline(always)]
-fn is_break(state: PidState, packet: &[u8; PACKET]) -> bool {
-    is_counted(packet)
-        && state.last != 0
-        && !continues_counter(state.counter, counter_of(packet))
-        && !announces_jump(packet)
+    state
 }
 
 impl Pids {
@@ -164,15 +196,12 @@ impl Pids {
     #[inline(always)]
     pub fn count(&mut self, pid: u16, packet: &[u8; PACKET], number: u64) -> PidState {
         let Some(state) = self.states.get_mut(pid as usize) else {
-            let mut state = unknown();
-            note_packet(&mut state, packet, number);
-            return state;
+            return state_behind(unknown(), packet, number);
         };
         let before = *state;
-        let is_broken = is_break(before, packet);
-        note_packet(state, packet, number);
-        let behind = *state;
-        if is_broken {
+        let behind = state_behind(before, packet, number);
+        *state = behind;
+        if is_broken(behind.link) && behind.last != before.last {
             self.add_break(Break {
                 pid,
                 before: before.last,
@@ -199,6 +228,14 @@ impl Pids {
             return b" whole";
         }
         b" unknown"
+    }
+}
+
+#[inline(always)]
+fn is_broken(link: Link) -> bool {
+    match link {
+        Link::Broken => true,
+        _ => false,
     }
 }
 

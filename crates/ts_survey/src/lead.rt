@@ -1,0 +1,74 @@
+//! How far the Teletext of a PID leads the pictures of its programme, once a second.
+
+use crate::clock::SECOND;
+use crate::text::{Text, forward};
+
+/// The last picture of a video PID that has a decoding time, and the number of its PES packet.
+#[derive(Clone, Copy)]
+pub struct Picture {
+    pub video: u16,
+    pub time: u64,
+    pub number: u64,
+}
+
+/// What was printed of the lead of a PID.
+#[derive(Drop)]
+pub struct Lead {
+    // The video PID, and the PES packet of it behind which one with Teletext began last.
+    behind: Option<(u16, u64)>,
+    // The PTS of the last line.
+    last: Option<u64>,
+}
+
+impl Lead {
+    /// Nothing was printed.
+    pub fn new() -> Lead {
+        Lead {
+            behind: None,
+            last: None,
+        }
+    }
+
+    /// A PES packet of the PID began, with that PTS, behind a picture. It is printed if it is the
+    /// first one behind that picture, and a second from the last line.
+    pub fn take(&mut self, pid: u16, pts: u64, picture: &Picture, text: &mut Text) {
+        if !self.go_to(picture) || !self.is_due(pts) {
+            return;
+        }
+        self.last = Some(pts);
+        put_lead(pid, pts, picture, text);
+    }
+
+    // Goes to a picture, and returns whether it is another one than before. Another PID of video
+    // is printed at once.
+    fn go_to(&mut self, picture: &Picture) -> bool {
+        let before = self.behind;
+        self.behind = Some((picture.video, picture.number));
+        match before {
+            Some((video, number)) if video == picture.video => number != picture.number,
+            _ => {
+                self.last = None;
+                true
+            }
+        }
+    }
+
+    // Whether a PTS is a second or more from the last line, or before it.
+    fn is_due(&self, pts: u64) -> bool {
+        match self.last {
+            Some(last) => forward(last, pts) >= SECOND,
+            None => true,
+        }
+    }
+}
+
+// Prints how far a PES packet of Teletext leads a picture.
+fn put_lead(pid: u16, pts: u64, picture: &Picture, text: &mut Text) {
+    text.put(b"lead");
+    text.number(pid as u64);
+    text.number(pts);
+    text.ticks(forward(picture.time, pts));
+    text.number(picture.video as u64);
+    text.number(picture.number);
+    text.put(b"\n");
+}
