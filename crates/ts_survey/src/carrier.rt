@@ -116,7 +116,10 @@ impl Carrier {
         let is_seam = self.packets_of.is_behind_seam(packet);
         self.packets_of.to.note_seam(is_seam);
         let follows = self.count_lost(packet);
-        if self.header.take(payload_of(packet), begins(packet), follows) {
+        if self
+            .header
+            .take(payload_of(packet), begins(packet), follows)
+        {
             self.begin()
         } else {
             None

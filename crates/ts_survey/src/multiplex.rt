@@ -224,14 +224,7 @@ impl Multiplex {
     // So of a packet that is of interest: few are, and what is done for them out of line takes no
     // registers of the walk over all packets.
     #[inline(never)]
-    fn show_on(
-        &mut self,
-        place: u8,
-        kind: u8,
-        link: Link,
-        packet: &[u8; PACKET],
-        text: &mut Text,
-    )
+    fn show_on(&mut self, place: u8, kind: u8, link: Link, packet: &[u8; PACKET], text: &mut Text)
         ensures asked { KeepsAsked self.old self.new }
     {
         let Some(pictures) = self.videos.get_mut(place as usize) else {
