@@ -13,7 +13,7 @@
 --   9..13  four bits, PTS 32..30, a marker bit, PTS 29..15, a marker bit, PTS 14..0, a marker bit
 --   14..18 the DTS, in the same way
 use Rattle.std.specs.Prelude.{ℕ, ◌+◌, ◌*◌, ◌/◌, ◌%◌, ◌==◌, ◌&&◌, ◌||◌, not, nat_lt, Bool}
-use Rattle.std.specs.Prelude.{if◌then◌else◌, List, [], drop, length, slice_index, Option, Some}
+use Rattle.std.specs.Prelude.{if◌then◌else◌, List, [], length, slice_index, Option, Some}
 use Rattle.std.specs.Prelude.{None}
 use Rattle.mpeg_ts.specs.TransportPacket.{has_adaptation, has_payload, is_wrong, payload}
 
@@ -38,19 +38,19 @@ pcr_base p =
 abbrev pub payload_in : List ℕ → List ℕ
 payload_in p = if has_payload p && not (is_wrong p) then payload p else []
 
+-- The time at a place of a PES header, 33 bits of a clock of 90 kHz.
+abbrev pub time_at : List ℕ → ℕ → ℕ
+time_at pes n =
+    slice_index pes n / 2 % 8 * 0x4000_0000 + slice_index pes (n + 1) * 0x40_0000
+    + slice_index pes (n + 2) / 2 * 0x8000 + slice_index pes (n + 3) * 0x80
+    + slice_index pes (n + 4) / 2
+
 -- The PTS that a PES packet says. In a mark byte 6 is FF.
 abbrev pub pts_said : List ℕ → Option ℕ
 pts_said pes =
     if nat_lt (length pes) 14 || nat_lt (slice_index pes 7) 0x80 || (slice_index pes 6 == 0xFF)
     then None
-    else Some (slice_index pes 9 / 2 % 8 * 0x4000_0000 + slice_index pes 10 * 0x40_0000
-    + slice_index pes 11 / 2 * 0x8000 + slice_index pes 12 * 0x80 + slice_index pes 13 / 2)
-
--- DTS (decoding_time_stamp, ISO/IEC 13818-1, PES_packet): 33 bits of a clock of 90 kHz.
-abbrev pub dts_said : List ℕ → ℕ
-dts_said pes =
-    slice_index pes 14 / 2 % 8 * 0x4000_0000 + slice_index pes 15 * 0x40_0000
-    + slice_index pes 16 / 2 * 0x8000 + slice_index pes 17 * 0x80 + slice_index pes 18 / 2
+    else Some (time_at pes 9)
 
 -- When the first picture of a PES packet with that PTS is decoded: its DTS, or its PTS where
 -- PTS_DTS_flags tell of none (ISO/IEC 13818-1). None where its bytes end within the DTS.
@@ -59,7 +59,7 @@ time_beside pes None = None
 time_beside pes (Some pts) =
     if nat_lt (slice_index pes 7) 0xC0 then Some pts
     else if nat_lt (length pes) 19 then None
-    else Some (dts_said pes)
+    else Some (time_at pes 14)
 
 -- So of a PES packet: none where it says no PTS.
 abbrev pub decoding_time : List ℕ → Option ℕ

@@ -1,8 +1,8 @@
 //! What an adaptation field says (ISO/IEC 13818-1, adaptation_field), and the PTS of a PES packet
 //! that begins.
-ghost use Rattle.std.specs.Prelude.{◌≡◌, ◌<◌, ◌^◌, IfSome};
+ghost use Rattle.std.specs.Prelude.{◌≡◌, ◌≤◌, ◌<◌, ◌+◌, ◌^◌, length, IfSome};
 ghost use Rattle.ts_survey.specs.Adaptation.{begins_access, decoding_time};
-ghost use Rattle.ts_survey.specs.Adaptation.{is_scrambled, payload_in, pcr_base, pts_said};
+ghost use Rattle.ts_survey.specs.Adaptation.{is_scrambled, payload_in, pcr_base, pts_said, time_at};
 
 use mpeg_ts::{PACKET, has_adaptation, has_payload, is_wrong, payload_of};
 
@@ -57,13 +57,20 @@ pub fn pts_said(pes: &[u8]) -> Option<u64>
     if pes.len() < 14 || pes[7] < 0x80 || pes[6] == 0xFF {
         return None;
     }
-    Some(
-        (pes[9] / 2 % 8) as u64 * 0x4000_0000
-            + pes[10] as u64 * 0x40_0000
-            + (pes[11] / 2) as u64 * 0x8000
-            + pes[12] as u64 * 0x80
-            + (pes[13] / 2) as u64,
-    )
+    Some(time_at(pes, 9))
+}
+
+// The time at a place of a PES header, 33 bits of a clock of 90 kHz.
+fn time_at(pes: &[u8], place: usize) -> u64
+    requires { place + 5 ≤ length pes.now }
+    ensures value { result ≡ time_at pes.now place }
+    ensures range { result < 2 ^ 33 }
+{
+    (pes[place] / 2 % 8) as u64 * 0x4000_0000
+        + pes[place + 1] as u64 * 0x40_0000
+        + (pes[place + 2] / 2) as u64 * 0x8000
+        + pes[place + 3] as u64 * 0x80
+        + (pes[place + 4] / 2) as u64
 }
 
 /// When the first picture of a PES packet is decoded: its DTS, or its PTS where it has no DTS.
@@ -79,11 +86,5 @@ pub fn decoding_time(pes: &[u8]) -> Option<u64>
     if pes.len() < 19 {
         return None;
     }
-    Some(
-        (pes[14] / 2 % 8) as u64 * 0x4000_0000
-            + pes[15] as u64 * 0x40_0000
-            + (pes[16] / 2) as u64 * 0x8000
-            + pes[17] as u64 * 0x80
-            + (pes[18] / 2) as u64,
-    )
+    Some(time_at(pes, 14))
 }

@@ -8,7 +8,7 @@ use crate::lead::{Lead, Picture};
 use crate::pes_header::PesHeader;
 use crate::pes_lines::PesLines;
 use crate::pid_packets::PidPackets;
-use crate::pid_state::{Pids, missing_between};
+use crate::pid_state::{Pids, counter_distance};
 use crate::text::{Text, forward};
 use arrayvec::ArrayVec;
 use mpeg_ts::{PACKET, announces_jump, begins, counter_of, has_payload, is_wrong, payload_of};
@@ -296,7 +296,7 @@ impl Carrier {
 // How many packets are lost before a good one that is no repeat.
 fn lost_before(counter: Option<u8>, is_jump: bool, packet: &[u8; PACKET]) -> u8 {
     match counter {
-        Some(last) if !is_jump => missing_between(last, counter_of(packet)),
+        Some(last) if !is_jump => (counter_distance(last, counter_of(packet)) + 0xF) % 0x10,
         _ => 0,
     }
 }

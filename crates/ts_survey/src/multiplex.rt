@@ -15,7 +15,7 @@ use crate::lead::Picture;
 use crate::packets_in_step::TakesPackets;
 use crate::pes_header::stream_id_in;
 use crate::pictures::Pictures;
-use crate::pid_state::{Link, NONE, NULL_PID, PidState, Pids};
+use crate::pid_state::{Link, NONE, NULL_PID, PidState, Pids, link_of};
 use crate::section::{FIRST_PMT, Stream, pmt_pid_at, programme_of, stream_at};
 use crate::tables::{SECTION_ROOM, Section, Tables, parts_of};
 use crate::text::Text;
@@ -217,7 +217,13 @@ impl Multiplex {
             return;
         };
         if begins(packet) || pictures.needs_each() {
-            self.show_on(state.video, state.kind, state.link, packet, text);
+            self.show_on(
+                state.video,
+                state.kind,
+                link_of(state, packet),
+                packet,
+                text,
+            );
         }
     }
 

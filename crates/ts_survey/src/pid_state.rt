@@ -12,12 +12,16 @@ pub const NULL_PID: u16 = 0x1FFF;
 /// In place of the place of something of which there is none.
 pub const NONE: u8 = 0xFF;
 
+/// In a counter: a jump was announced behind its packet (discontinuity_indicator), by one without a
+/// payload.
+const JUMP: u8 = 0x80;
+
 /// How a packet follows the one before it in its PID, by continuity_counter.
 #[derive(Clone, Copy, PartialEq, Eq)]
 pub enum Link {
     /// The counter goes on, or nothing came before.
     Next,
-    /// A jump of the counter is announced (discontinuity_indicator), here or since the one before.
+    /// A jump of the counter is announced, here or since the one before.
     Announced,
     /// The counter is the same: a repeat, or 15 packets are missing.
     Same,
@@ -28,13 +32,10 @@ pub enum Link {
 /// What is kept of a PID.
 #[derive(Clone, Copy)]
 pub struct PidState {
-    /// The last counter, and the numbers of the first packet with a payload and of the last: 0 for
-    /// none.
+    /// The counter of the last packet with a payload, perhaps with `JUMP`, and of the one before.
     pub counter: u8,
-    /// How the last packet with a payload followed, and whether a packet without one announced a
-    /// jump of the counter since.
-    pub link: Link,
-    pub has_jump: bool,
+    pub before: u8,
+    /// The numbers of the first packet with a payload and of the last: 0 for none.
     pub first: u64,
     pub last: u64,
     /// The PCR_PID of the programme that names it last, and stream_type there: 0 for none.
@@ -72,8 +73,7 @@ pub struct Pids {
 fn unknown() -> PidState {
     PidState {
         counter: 0,
-        link: Link::Next,
-        has_jump: false,
+        before: 0,
         first: 0,
         last: 0,
         clock_pid: NULL_PID,
@@ -108,51 +108,62 @@ fn no_breaks() -> [Break; BREAKS] {
     [none; BREAKS]
 }
 
-/// How many packets are missing between two counters of a PID: at least, since counters come again.
+// Notes a packet of a PID with that number: in place, since each packet of a recording comes here.
 #[inline(always)]
-pub fn missing_between(last: u8, next: u8) -> u8 {
-    (next % 0x10 + 0x1F - last % 0x10) % 0x10
+fn note_packet(state: &mut PidState, packet: &[u8; PACKET], number: u64) {
+    if !is_counted(packet) {
+        if packet[1] < 0x80 && announces_jump(packet) {
+            state.counter |= JUMP;
+        }
+        return;
+    }
+    if state.last == 0 {
+        state.first = number;
+    }
+    state.before = state.counter;
+    state.counter = counter_of(packet);
+    state.last = number;
 }
 
-// How a packet with a payload follows what was known of its PID before it.
+// Whether the counter of a packet counts: it is not damaged, and has a payload.
 #[inline(always)]
-fn link_of(before: &PidState, packet: &[u8; PACKET]) -> Link {
-    let missing = missing_between(before.counter, counter_of(packet));
-    if before.last == 0 {
+fn is_counted(packet: &[u8; PACKET]) -> bool {
+    packet[1] < 0x80 && has_payload(packet)
+}
+
+/// How far the counter of a PID went from one packet to the next: 1 if it goes on, 0 if it is the
+/// same; else packets are missing.
+#[inline(always)]
+pub fn counter_distance(last: u8, next: u8) -> u8 {
+    (next % 0x10 + 0x10 - last % 0x10) % 0x10
+}
+
+// Whether the counter of a PID breaks at a packet, by what was known before it.
+#[inline(always)]
+fn is_break(state: PidState, packet: &[u8; PACKET]) -> bool {
+    is_counted(packet)
+        && state.last != 0
+        && counter_distance(state.counter, counter_of(packet)) > 1
+        && state.counter < JUMP
+        && !announces_jump(packet)
+}
+
+/// How the last packet with a payload, which is this one, follows the one before.
+pub fn link_of(state: &PidState, packet: &[u8; PACKET]) -> Link {
+    let distance = counter_distance(state.before, state.counter);
+    if state.first == state.last {
         Link::Next
-    } else if before.has_jump {
+    } else if state.before >= JUMP {
         Link::Announced
-    } else if missing == 15 {
+    } else if distance == 0 {
         Link::Same
     } else if announces_jump(packet) {
         Link::Announced
-    } else if missing == 0 {
+    } else if distance == 1 {
         Link::Next
     } else {
         Link::Broken
     }
-}
-
-// What is known of a PID behind a packet with that number. Nothing is taken from one that is
-// damaged.
-#[inline(always)]
-fn state_behind(before: PidState, packet: &[u8; PACKET], number: u64) -> PidState {
-    let mut state = before;
-    if packet[1] >= 0x80 {
-        return state;
-    }
-    if !has_payload(packet) {
-        state.has_jump = state.has_jump || announces_jump(packet);
-        return state;
-    }
-    state.link = link_of(&before, packet);
-    state.has_jump = false;
-    state.counter = counter_of(packet);
-    if state.last == 0 {
-        state.first = number;
-    }
-    state.last = number;
-    state
 }
 
 impl Pids {
@@ -196,12 +207,15 @@ impl Pids {
     #[inline(always)]
     pub fn count(&mut self, pid: u16, packet: &[u8; PACKET], number: u64) -> PidState {
         let Some(state) = self.states.get_mut(pid as usize) else {
-            return state_behind(unknown(), packet, number);
+            let mut state = unknown();
+            note_packet(&mut state, packet, number);
+            return state;
         };
         let before = *state;
-        let behind = state_behind(before, packet, number);
-        *state = behind;
-        if is_broken(behind.link) && behind.last != before.last {
+        let is_broken = is_break(before, packet);
+        note_packet(state, packet, number);
+        let behind = *state;
+        if is_broken {
             self.add_break(Break {
                 pid,
                 before: before.last,
@@ -228,14 +242,6 @@ impl Pids {
             return b" whole";
         }
         b" unknown"
-    }
-}
-
-#[inline(always)]
-fn is_broken(link: Link) -> bool {
-    match link {
-        Link::Broken => true,
-        _ => false,
     }
 }
 
