@@ -296,7 +296,9 @@ impl Carrier {
 // How many packets are lost before a good one that is no repeat.
 fn lost_before(counter: Option<u8>, is_jump: bool, packet: &[u8; PACKET]) -> u8 {
     match counter {
-        Some(last) if !is_jump => (counter_distance(last, counter_of(packet)) + 0xF) % 0x10,
+        Some(last) if !is_jump => {
+            counter_distance(last, counter_of(packet)).wrapping_sub(1) % 0x10
+        }
         _ => 0,
     }
 }

@@ -108,21 +108,24 @@ fn no_breaks() -> [Break; BREAKS] {
     [none; BREAKS]
 }
 
-// Notes a packet of a PID with that number: in place, since each packet of a recording comes here.
+// Notes a packet with a payload and that number: in place, since most packets of a recording come
+// here.
 #[inline(always)]
 fn note_packet(state: &mut PidState, packet: &[u8; PACKET], number: u64) {
-    if !is_counted(packet) {
-        if packet[1] < 0x80 && announces_jump(packet) {
-            state.counter |= JUMP;
-        }
-        return;
-    }
     if state.last == 0 {
         state.first = number;
     }
     state.before = state.counter;
     state.counter = counter_of(packet);
     state.last = number;
+}
+
+// Notes a packet of which no counter counts: it may announce a jump.
+#[inline(never)]
+fn note_jump(state: &mut PidState, packet: &[u8; PACKET]) {
+    if packet[1] < 0x80 && announces_jump(packet) {
+        state.counter |= JUMP;
+    }
 }
 
 // Whether the counter of a packet counts: it is not damaged, and has a payload.
@@ -138,13 +141,12 @@ pub fn counter_distance(last: u8, next: u8) -> u8 {
     (next % 0x10 + 0x10 - last % 0x10) % 0x10
 }
 
-// Whether the counter of a PID breaks at a packet, by what was known before it.
+// Whether the counter of a PID breaks at a packet with a payload, by what was known before it.
 #[inline(always)]
-fn is_break(state: PidState, packet: &[u8; PACKET]) -> bool {
-    is_counted(packet)
-        && state.last != 0
-        && counter_distance(state.counter, counter_of(packet)) > 1
-        && state.counter < JUMP
+fn is_break(before: &PidState, packet: &[u8; PACKET]) -> bool {
+    counter_distance(before.counter, counter_of(packet)) > 1
+        && before.last != 0
+        && before.counter < JUMP
         && !announces_jump(packet)
 }
 
@@ -207,22 +209,31 @@ impl Pids {
     #[inline(always)]
     pub fn count(&mut self, pid: u16, packet: &[u8; PACKET], number: u64) -> PidState {
         let Some(state) = self.states.get_mut(pid as usize) else {
-            let mut state = unknown();
-            note_packet(&mut state, packet, number);
-            return state;
+            return unknown();
         };
-        let before = *state;
-        let is_broken = is_break(before, packet);
-        note_packet(state, packet, number);
-        let behind = *state;
-        if is_broken {
-            self.add_break(Break {
-                pid,
-                before: before.last,
-                at: number,
-            });
+        if !is_counted(packet) {
+            note_jump(state, packet);
+            return *state;
         }
-        behind
+        if is_break(state, packet) {
+            return self.count_break(pid, packet, number);
+        }
+        note_packet(state, packet, number);
+        *state
+    }
+
+    // So of a packet before which others are missing: out of line, since few are.
+    #[inline(never)]
+    fn count_break(&mut self, pid: u16, packet: &[u8; PACKET], number: u64) -> PidState {
+        let mut state = self.get(pid);
+        self.add_break(Break {
+            pid,
+            before: state.last,
+            at: number,
+        });
+        note_packet(&mut state, packet, number);
+        self.set(pid, state);
+        state
     }
 
     // Keeps a break, in place of the oldest.
