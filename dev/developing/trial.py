@@ -24,6 +24,9 @@ CALLS = "trace=openat,read,write,fsync,close,statx,mmap,brk,rt_sigaction"
 STRACE = ["strace", "-f", "--seccomp-bpf", "-y", "-s", "0", "-e", CALLS]
 # What others say on standard error: the shell that starts a run, and strace.
 OTHERS = re.compile(r"(sh|strace): ")
+# What is printed for a fault that is explained on standard error, and how the explanation begins.
+EXPLAINED = [(re.compile(rb"^fault \d+ (Open|Read|Write)\b", re.MULTILINE), "subttx: "),
+             (re.compile(rb"^usage 0 Words$", re.MULTILINE), "error: ")]
 # How many faults `check --all` tells of each PES packet, but the last, of an input.
 TOLD_OF_EACH = {"long.pes": 0, "even.pes": 2, "unread.pes": 1}
 
@@ -61,6 +64,39 @@ void *realloc(void *old, size_t size) {
     if (!real)
         real = dlsym(RTLD_NEXT, "realloc");
     return is_refused() ? NULL : real(old, size);
+}
+"""
+
+# Closes a file that was written as a file system does that stores it then, and fails: of the file
+# KEPT bytes are left, or it is removed where KEPT is below 0.
+UPLOADER = rb"""
+#define _GNU_SOURCE
+#include <dlfcn.h>
+#include <errno.h>
+#include <fcntl.h>
+#include <stdio.h>
+#include <stdlib.h>
+#include <sys/stat.h>
+#include <unistd.h>
+
+int close(int fd) {
+    static int (*real)(int);
+    struct stat there;
+    char way[64], name[4096];
+    long kept = atol(getenv("KEPT"));
+    if (!real)
+        real = dlsym(RTLD_NEXT, "close");
+    if ((fcntl(fd, F_GETFL) & O_ACCMODE) != O_WRONLY || fstat(fd, &there)
+        || !S_ISREG(there.st_mode))
+        return real(fd);
+    snprintf(way, sizeof way, "/proc/self/fd/%d", fd);
+    ssize_t length = readlink(way, name, sizeof name - 1);
+    name[length < 0 ? 0 : length] = 0;
+    if (kept < 0 ? unlink(name) : ftruncate(fd, kept))
+        abort();
+    real(fd);
+    errno = ENOSPC;
+    return -1;
 }
 """
 
@@ -202,6 +238,18 @@ class Trial:
         with open(os.path.join(self.folder, name), "wb") as file:
             file.write(data)
 
+    def library(self, name: str, source: bytes) -> str | None:
+        """A library to be loaded before the C library's; `None` where there is no C compiler."""
+        if not shutil.which("cc"):
+            self.over.append(f"{name}: there is no C compiler (cc)")
+            return None
+        file = name.replace(" ", "-")  # LD_PRELOAD is a list of words
+        self.give(f"{file}.c", source)
+        path = os.path.join(self.folder, file)
+        subprocess.run(["cc", "-O2", "-shared", "-fPIC", "-o", f"{path}.so", f"{path}.c", "-ldl"],
+                       check=True)
+        return f"{path}.so"
+
     def command(self, name: str, words: list[str]) -> Command:
         """A command, and what it does where nothing fails."""
         out = words[2] if words[0] in ("normal", "schedule", "extract") else None
@@ -271,9 +319,18 @@ def wrong(ran: Ran, status: int | str, printed: bytes, written: bytes | None) ->
         faults.append(f"wrote {size(ran.written)}, and not {size(written)}")
     if ran.changed:
         faults.append(f"changed {', '.join(ran.changed)}")
-    if ran.told and ran.status in (0, 1, 2):
-        faults.append(f"told {ran.told!r} on standard error")
-    return faults
+    return faults + wrongly_explained(ran, printed)
+
+
+def wrongly_explained(ran: Ran, printed: bytes) -> list[str]:
+    """What is wrong with standard error: it explains each fault of a file and of the words, and
+    nothing where the run was answered."""
+    if ran.status in (0, 1) and ran.told:
+        return [f"told {ran.told!r} on standard error"]
+    begins = [begin for sign, begin in EXPLAINED if sign.search(printed)]
+    return [f"standard error has no line {begin!r}, but {ran.told!r}" for begin in begins
+            if ran.status == 2 and not any(line.startswith(begin)
+                                           for line in ran.told.splitlines())]
 
 
 def shown(text: bytes) -> str:
@@ -290,9 +347,12 @@ def as_before(command: Command, ran: Ran) -> list[str]:
 
 
 def whole_or_no_memory(command: Command, ran: Ran) -> list[str]:
-    """The run has to be the one in which nothing fails, or to tell want of memory."""
+    """The run has to be the one in which nothing fails, or to tell want of memory. There may be
+    none to explain wrong arguments."""
     found = NO_MEMORY.search(ran.printed or b"")
     if not found or ran.printed is None:
+        if command.status == 2 and not ran.told:
+            ran = ran._replace(told="error: ")
         return as_before(command, ran)
     before = ran.printed[:found.start()]
     faults = wrong(ran, 2, before + found[0], ran.written)
@@ -355,6 +415,12 @@ def handed(calls: list[Call], call: Call) -> int:
                if (it.name, it.on, it.file) == (call.name, call.on, call.file))
 
 
+def is_second_look(calls: list[Call], call: Call) -> bool:
+    """Whether a call comes once the output was stored: it is opened again, and its folder."""
+    return call.name != "write" and any(
+        it.name == "fsync" for it in calls[:calls.index(call)])
+
+
 def judge(trial: Trial, command: Command, ran: Ran) -> list[str]:
     """What is wrong with a run under strace, by the calls that were made to fail in it."""
     failed = {(call.name, call.on): call for call in reversed(ran.calls) if call.is_injected}
@@ -362,7 +428,9 @@ def judge(trial: Trial, command: Command, ran: Ran) -> list[str]:
         return ["no call failed"] + as_before(command, ran)
     first = [call for call in ran.calls if call.is_injected][0]
     text, written = command.printed, command.written
-    if first.name in ("openat", "statx"):
+    if is_second_look(ran.calls, first):
+        text = fault_of_write(command)
+    elif first.name in ("openat", "statx"):
         text, written = b"fault 90 Open\n", None
     elif first.name == "read":
         text = text_of_read(trial, command, first.file, handed(ran.calls, first))

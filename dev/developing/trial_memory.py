@@ -4,8 +4,6 @@ from __future__ import annotations
 
 import itertools
 import os
-import shutil
-import subprocess
 from functools import partial
 from typing import Callable, Iterable, Iterator
 
@@ -93,13 +91,9 @@ def small_stack(trial: Trial) -> Iterator[Case]:
 
 
 def refused_memory(trial: Trial) -> Iterator[Case]:
-    library = os.path.join(trial.folder, "refuser.so")
-    if not shutil.which("cc"):
-        trial.over.append("refused memory, no C compiler (cc)")
+    library = trial.library("refused memory", REFUSER)
+    if not library:
         return
-    trial.give("refuser.c", REFUSER)
-    subprocess.run(["cc", "-O2", "-shared", "-fPIC", "-o", library, library[:-2] + "c", "-ldl"],
-                   check=True)
 
     def refused(number: int, words: list[str]) -> list[Found]:
         name, mark = " ".join(words)[:60], os.path.join(trial.folder, f"refused-{number}")

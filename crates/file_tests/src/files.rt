@@ -1,6 +1,6 @@
 //! The files of a request: which calls are made for them, and what is answered over them.
 use crate::asserting::{assert_same, assert_same_in};
-use crate::files_in_memory::{Entry, FilesInMemory};
+use crate::files_in_memory::{Entry, FilesInMemory, STANDARD_OUTPUT};
 use answer_fixtures::ACCEPTED;
 use fixtures::{commented, file_of_hi, normal_form, schedule_of_hi};
 use std::alloc::Global;
@@ -78,11 +78,11 @@ fn opens_two_files_in_the_order_of_the_words(rt: HostRuntime) {
 #[test]
 fn creates_a_file_once_the_input_is_opened_and_both_are_looked_up(rt: HostRuntime) {
     let there = [INPUT, second(Found::Nothing)];
-    assert_asks(&rt, &NORMAL, &there, &mut [0], "o0l0l1c1", true);
+    assert_asks(&rt, &NORMAL, &there, &mut [0], "o0l0l1p?c1", true);
     let other = [INPUT, second(Found::At(1, 2))];
-    assert_asks(&rt, &NORMAL, &other, &mut [0], "o0l0l1c1", true);
+    assert_asks(&rt, &NORMAL, &other, &mut [0], "o0l0l1p?c1", true);
     // It can't be created; the input can't be opened.
-    assert_asks(&rt, &NORMAL, &there, &mut [], "o0l0l1c1", false);
+    assert_asks(&rt, &NORMAL, &there, &mut [], "o0l0l1p?c1", false);
     assert_asks(&rt, &NORMAL, &[NOTHING], &mut [0], "o?", false);
 }
 
@@ -90,34 +90,54 @@ fn creates_a_file_once_the_input_is_opened_and_both_are_looked_up(rt: HostRuntim
 fn creates_no_file_over_the_input(rt: HostRuntime) {
     // The output is the input by another name, or can't be looked up; or the input can't be.
     let link = [INPUT, second(Found::At(1, 1))];
-    assert_asks(&rt, &NORMAL, &link, &mut [0], "o0l0l1", false);
+    assert_asks(&rt, &NORMAL, &link, &mut [0], "o0l0l1p?", false);
     let unknown = [INPUT, second(Found::Unknown)];
-    assert_asks(&rt, &NORMAL, &unknown, &mut [0], "o0l0l1", false);
+    assert_asks(&rt, &NORMAL, &unknown, &mut [0], "o0l0l1p?", false);
     let lost = Entry {
         found: Found::Unknown,
         ..INPUT
     };
     let there = [lost, second(Found::At(1, 2))];
-    assert_asks(&rt, &NORMAL, &there, &mut [0], "o0l0l1", false);
+    assert_asks(&rt, &NORMAL, &there, &mut [0], "o0l0l1p?", false);
 }
 
 #[test]
 fn creates_the_file_of_a_recording_as_that_of_a_subtitle_file(rt: HostRuntime) {
     let there = [INPUT, second(Found::Nothing)];
-    assert_asks(&rt, &EXTRACT, &there, &mut [0], "o0l0l1c1", true);
+    assert_asks(&rt, &EXTRACT, &there, &mut [0], "o0l0l1p?c1", true);
     let other = [INPUT, second(Found::At(1, 2))];
-    assert_asks(&rt, &EXTRACT, &other, &mut [0], "o0l0l1c1", true);
+    assert_asks(&rt, &EXTRACT, &other, &mut [0], "o0l0l1p?c1", true);
     // It can't be created; the recording can't be opened.
-    assert_asks(&rt, &EXTRACT, &there, &mut [], "o0l0l1c1", false);
+    assert_asks(&rt, &EXTRACT, &there, &mut [], "o0l0l1p?c1", false);
     assert_asks(&rt, &EXTRACT, &[NOTHING], &mut [0], "o?", false);
 }
 
 #[test]
 fn creates_no_file_over_the_recording(rt: HostRuntime) {
     let link = [INPUT, second(Found::At(1, 1))];
-    assert_asks(&rt, &EXTRACT, &link, &mut [0], "o0l0l1", false);
+    assert_asks(&rt, &EXTRACT, &link, &mut [0], "o0l0l1p?", false);
     let unknown = [INPUT, second(Found::Unknown)];
-    assert_asks(&rt, &EXTRACT, &unknown, &mut [0], "o0l0l1", false);
+    assert_asks(&rt, &EXTRACT, &unknown, &mut [0], "o0l0l1p?", false);
+}
+
+#[test]
+fn creates_no_file_that_standard_output_goes_into(rt: HostRuntime) {
+    let printed = Entry {
+        name: STANDARD_OUTPUT,
+        found: Found::At(1, 2),
+        ..INPUT
+    };
+    let same = [INPUT, second(Found::At(1, 2)), printed];
+    assert_asks(&rt, &NORMAL, &same, &mut [0], "o0l0l1p2", false);
+    assert_asks(&rt, &EXTRACT, &same, &mut [0], "o0l0l1p2", false);
+    // It goes into another file: of the same device, of the same inode, or into one of which the
+    // output's name has none.
+    let inode = [INPUT, second(Found::At(1, 3)), printed];
+    assert_asks(&rt, &NORMAL, &inode, &mut [0], "o0l0l1p2c1", true);
+    let device = [INPUT, second(Found::At(2, 2)), printed];
+    assert_asks(&rt, &NORMAL, &device, &mut [0], "o0l0l1p2c1", true);
+    let nothing = [INPUT, second(Found::Nothing), printed];
+    assert_asks(&rt, &NORMAL, &nothing, &mut [0], "o0l0l1p2c1", true);
 }
 
 // Whether words are answered over files, and what is printed.

@@ -6,6 +6,9 @@ use std::io::{self, ErrorKind, Read, Write};
 use sub_files::{FileSystem, Found};
 use sub_io::{FromRead, IntoFile};
 
+/// The name of the entry for what standard output goes into.
+pub const STANDARD_OUTPUT: &str = "standard output";
+
 /// What is at a name.
 #[derive(Clone, Copy)]
 pub struct Entry<'a> {
@@ -49,8 +52,8 @@ impl<'a> FilesInMemory<'a> {
         }
     }
 
-    /// The calls that were made, two bytes for each: `l`, `o` or `c` for a look-up, an open or a
-    /// create, and the number of the file in the list, or `?`.
+    /// The calls that were made, two bytes for each: `l`, `p`, `o` or `c` for a look-up, a look-up
+    /// of standard output, an open or a create, and the number of the file in the list, or `?`.
     pub fn calls(&self) -> &[u8] {
         &self.calls[..self.len.min(10)]
     }
@@ -86,6 +89,13 @@ impl<'a> FileSystem for FilesInMemory<'a> {
         match self.ask(b'l', name) {
             Some(entry) => entry.found,
             None => Found::Unknown,
+        }
+    }
+
+    fn look_up_standard_output(&mut self) -> Found {
+        match self.ask(b'p', STANDARD_OUTPUT) {
+            Some(entry) => entry.found,
+            None => Found::Nothing,
         }
     }
 

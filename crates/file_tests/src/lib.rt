@@ -7,6 +7,8 @@
 #[cfg(test)]
 mod asserting;
 #[cfg(test)]
+mod checked_files;
+#[cfg(test)]
 mod failing_recordings;
 #[cfg(test)]
 mod files;

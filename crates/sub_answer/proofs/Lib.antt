@@ -4,6 +4,7 @@ pub mod BothFilesLemmas
 pub mod EndingLemmas
 pub mod EveryFaultLemmas
 pub mod FailedReadLemmas
+pub mod FittingLemmas
 pub mod ListenListingLemmas
 pub mod MemoryLemmas
 pub mod PartLemmas

@@ -2,47 +2,69 @@
 -- `open_and_extract`.
 use Rattle.std.proofs.Common.{◌≡◌, ℕ, Bool, true, false, List, [], ◌∷◌, Option, Some, None}
 use Rattle.std.proofs.Common.{option_map, refl, ◌∙◌}
-use Rattle.sub_files.specs.Apart.{is_apart}
+use Rattle.sub_files.specs.Apart.{may_create}
 use Rattle.sub_files.specs.FileCalls.{CallsInTurn, FileCall}
-use Rattle.sub_files.specs.FileCalls.FileCall.{Create, LookUp, Open}
+use Rattle.sub_files.specs.FileCalls.FileCall.{Create, LookUp, LookUpStandardOutput, Open}
 use Rattle.sub_files.specs.Opening.{OpensAndCreates}
-use Rattle.sub_files.specs.declared.apart.Found.{Found}
+use Rattle.sub_files.specs.declared.files.LookedUp.{LookedUp}
 use Rattle.sub_files.specs.declared.opening.Opened.{Opened}
 
--- Both names were looked up, and then the output was created, or nothing more was asked for.
+-- Both names and standard output were looked up, and then the output was created, or nothing more
+-- was asked for.
 pub creates :
     {I O D : Type 0} (IsCall : D → FileCall I O → D → Type 0) (made : I → O → Opened I O)
     (start opened looked_up end : D)
-    (name output : List ℕ) (input : I) (here there : Found) (file : Option O)
+    (name output : List ℕ) (input : I) (found : LookedUp) (file : Option O)
     → IsCall start (Open name (Some input)) opened
-    → CallsInTurn IsCall opened looked_up (LookUp name here ∷ LookUp output there ∷ [])
-    → (is_apart here there ≡ true → IsCall looked_up (Create output file) end)
-    → (is_apart here there ≡ false → (file ≡ None) × (end ≡ looked_up))
+    → CallsInTurn IsCall opened looked_up
+    (LookUp name found.input ∷ LookUp output found.output
+    ∷ LookUpStandardOutput found.standard_output ∷ [])
+    → (may_create found.input found.standard_output found.output ≡ true
+    → IsCall looked_up (Create output file) end)
+    → (may_create found.input found.standard_output found.output ≡ false
+    → (file ≡ None) × (end ≡ looked_up))
     → (calls : List (FileCall I O))
     × CallsInTurn IsCall start end calls
     × OpensAndCreates made name output calls (option_map (made input) file)
 creates
-    {I} {O} {D} IsCall made start opened looked_up end name output input here there file opens
-    (found, first, (last, second, looked_up_is)) apart over =
-    go (is_apart here there) refl
+    {I} {O} {D} IsCall made start opened looked_up end name output input found file opens
+    (mid, first, (last, second, (here, third, looked_up_is))) apart over =
+    go (may_create found.input found.standard_output found.output) refl
   where
     go :
         (b : Bool)
-        → is_apart here there ≡ b
+        → may_create found.input found.standard_output found.output ≡ b
         → (calls : List (FileCall I O))
         × CallsInTurn IsCall start end calls
         × OpensAndCreates made name output calls (option_map (made input) file)
     go true is = (
-      Open name (Some input) ∷ LookUp name here ∷ LookUp output there ∷ Create output file ∷ [],
+      Open name (Some input)
+          ∷ LookUp name found.input
+          ∷ LookUp output found.output
+          ∷ LookUpStandardOutput found.standard_output
+          ∷ Create output file
+          ∷ [],
       (
         opened,
         opens,
-        (found, first, (last, second, (end, rw looked_up_is at (apart is), refl))),
+        (
+          mid,
+          first,
+          (last, second, (here, third, (end, rw looked_up_is at (apart is), refl))),
+        ),
       ),
       (refl, refl, refl, rw is (refl, refl)),
     )
     go false is = (
-      Open name (Some input) ∷ LookUp name here ∷ LookUp output there ∷ [],
-      (opened, opens, (found, first, (last, second, (over is).1 ∙ looked_up_is))),
+      Open name (Some input)
+          ∷ LookUp name found.input
+          ∷ LookUp output found.output
+          ∷ LookUpStandardOutput found.standard_output
+          ∷ [],
+      (
+        opened,
+        opens,
+        (mid, first, (last, second, (here, third, (over is).1 ∙ looked_up_is))),
+      ),
       (refl, refl, refl, rw (is, (over is).0) refl),
     )

@@ -8,6 +8,8 @@ use Rattle.sub_files.specs.declared.apart.Found.{Found}
 pub data FileCall (I O : Type 0) : Type 0 where
   -- What is at a name.
   LookUp : (name : List ℕ) → Found → FileCall I O
+  -- Which file standard output goes into.
+  LookUpStandardOutput : Found → FileCall I O
   -- A file is opened by its name, to be read; none where it can't be.
   Open : (name : List ℕ) → Option I → FileCall I O
   -- A file is created by its name, to be written; none where it can't be.

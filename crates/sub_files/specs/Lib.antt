@@ -1,4 +1,5 @@
 pub mod Apart
+pub mod Checked
 pub mod FileCalls
 pub mod MemoryFiles
 pub mod Opening

@@ -3,7 +3,8 @@ use Rattle.std.specs.Prelude.{◌≡◌, ℕ, List, [], Option, Some, None, opti
 use Rattle.std.specs.Prelude.{bytes_eq, if◌then◌else◌}
 use Rattle.sub_io.specs.Memory.{Written}
 use Rattle.sub_files.specs.FileCalls.{FileCall}
-use Rattle.sub_files.specs.FileCalls.FileCall.{Create, LetGoInput, LetGoOutput, LookUp, Open}
+use Rattle.sub_files.specs.FileCalls.FileCall.{Create, LetGoInput, LetGoOutput, LookUp}
+use Rattle.sub_files.specs.FileCalls.FileCall.{LookUpStandardOutput, Open}
 use Rattle.sub_files.specs.declared.apart.Found.{Found}
 use Rattle.sub_files.specs.declared.apart.Found.TheVariants.{At, Nothing}
 use Rattle.sub_files.specs.declared.memory.MemFile.{MemFile}
@@ -36,6 +37,7 @@ created_with room = record { bytes = []; room = room; failure_count = 0 }
 -- is created.
 abbrev pub IsMemoryCall : MemFilesValue → FileCall (List ℕ) Written → MemFilesValue → Type 0
 IsMemoryCall old (LookUp name found) new = (new ≡ old) × (found ≡ found_where (bytes_at name old))
+IsMemoryCall old (LookUpStandardOutput found) new = (new ≡ old) × (found ≡ Nothing)
 IsMemoryCall old (Open name file) new = (new ≡ old) × (file ≡ bytes_at name old)
 IsMemoryCall old (Create name file) new =
     (new ≡ record old { room = None }) × (file ≡ option_map created_with old.room)

@@ -5,9 +5,9 @@ use Rattle.sub_request.specs.declared.files.FileNames.{FileNames}
 use Rattle.sub_request.specs.declared.files.FileNames.TheVariants as names
 use Rattle.sub_request.specs.declared.request.UsageFault.{UsageFault}
 use Rattle.sub_request.specs.declared.request.UsageFault.TheVariants as usage
-use Rattle.sub_files.specs.Apart.{is_apart}
+use Rattle.sub_files.specs.Apart.{may_create}
 use Rattle.sub_files.specs.FileCalls.{FileCall}
-use Rattle.sub_files.specs.FileCalls.FileCall.{Create, LookUp, Open}
+use Rattle.sub_files.specs.FileCalls.FileCall.{Create, LookUp, LookUpStandardOutput, Open}
 use Rattle.sub_files.specs.declared.opening.Opened.{Opened}
 use Rattle.sub_files.specs.declared.opening.Opened.TheVariants.{Nothing, ReadBoth, ReadPes, ReadStl}
 use Rattle.sub_files.specs.declared.opening.Opened.TheVariants.{Extract, Write}
@@ -25,7 +25,8 @@ CreatesApart opened false output [] result = result ≡ None
 CreatesApart opened are_apart output calls result = ⊥
 
 -- A file to be read is opened by its name. Then, since another one is to be written, both names are
--- looked up, and that is created only where by what was found it is another file.
+-- looked up and what standard output goes into, and that is created only where by what was found it
+-- is another file.
 abbrev pub OpensAndCreates :
     {I O : Type 0}
     → (I → O → Opened I O) → (input output : List ℕ) → List (FileCall I O) → Option (Opened I O)
@@ -34,9 +35,11 @@ OpensAndCreates opened input output (Open name None ∷ []) result =
     (name ≡ input) × (result ≡ None)
 OpensAndCreates
     opened input output
-    (Open name (Some file) ∷ LookUp first found ∷ LookUp other there ∷ calls) result =
+    (Open name (Some file)
+    ∷ LookUp first found ∷ LookUp other there ∷ LookUpStandardOutput own ∷ calls)
+    result =
     (name ≡ input) × (first ≡ input) × (other ≡ output)
-    × CreatesApart (opened file) (is_apart found there) output calls result
+    × CreatesApart (opened file) (may_create found own there) output calls result
 OpensAndCreates _ _ _ _ _ = ⊥
 
 -- The calls for the files of a request, and what is opened by them. Files to be read are opened by

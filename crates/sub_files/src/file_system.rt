@@ -4,18 +4,11 @@
 //! `FileSystem`, their names and their order. What is done to a file after the answer shows in no
 //! byte: so each is given back (`into_inner` of buffers and readers) and let go as the answer left
 //! it.
-ghost use Rattle.std.specs.Prelude.{◌≡◌, ◌≢◌, IfErr, IfOk, IfSome, Option, true};
-ghost use Rattle.std.specs.IoError.{error_kind};
-ghost use Rattle.sub_files.specs.Apart.{was_found};
+ghost use Rattle.std.specs.Prelude.{◌≡◌, IfSome, Option};
 ghost use Rattle.sub_files.specs.FileCalls.{FileCall, any_file_call};
 
 use crate::apart::Found;
-use std::fs::Metadata;
-use std::io::ErrorKind;
-use std::os::unix::fs::MetadataExt;
-use std::rt::Files;
-use std::{fs, io};
-use sub_io::{Close, FromRead, IntoFile, Sink, Source};
+use sub_io::{Close, Sink, Source};
 
 /// A device that is asked for files by their names.
 pub trait FileSystem {
@@ -32,6 +25,11 @@ pub trait FileSystem {
     /// What is at a name.
     fn look_up(&mut self, name: &str) -> Found
         ensures { is_call self.old (FileCall.LookUp name.now result) self.new };
+
+    /// The file that standard output goes into. `Nothing` if that is a pipe, a terminal or a
+    /// device, or is not known.
+    fn look_up_standard_output(&mut self) -> Found
+        ensures { is_call self.old (FileCall.LookUpStandardOutput result) self.new };
 
     /// Opens a file to be read. `None` where it can't be opened.
     fn open(&mut self, name: &str) -> Option<Self::Input>
@@ -51,64 +49,7 @@ pub trait FileSystem {
     /// Takes back a file that it created, which ends it.
     fn let_go_output(&mut self, file: Self::Output)
         ensures { is_call self.old (FileCall.LetGoOutput file) self.new };
-}
 
-/// The files of the system. No contract says what it answers, so each call is one of `std::fs`
-/// with the same name, and no more.
-#[derive(Drop)]
-pub struct SystemFiles<'a, R> {
-    rt: &'a R,
-}
-
-impl<'a, R: Files> SystemFiles<'a, R> {
-    /// The files that this runtime opens.
-    pub fn new(rt: &'a R) -> Self {
-        SystemFiles { rt }
-    }
-}
-
-impl<R: Files> FileSystem for SystemFiles<'_, R> {
-    type Input = FromRead<R::File>;
-
-    type Output = IntoFile<R::File>;
-
-    fn look_up(&mut self, name: &str) -> Found {
-        found_by(fs::metadata(self.rt, name))
-    }
-
-    fn open(&mut self, name: &str) -> Option<FromRead<R::File>> {
-        match fs::open(self.rt, name) {
-            Ok(file) => Some(FromRead::new(file)),
-            Err(_) => None,
-        }
-    }
-
-    fn create(&mut self, name: &str) -> Option<IntoFile<R::File>> {
-        match fs::create(self.rt, name) {
-            Ok(file) => Some(IntoFile::new(file)),
-            Err(_) => None,
-        }
-    }
-
-    fn let_go_input(&mut self, _file: FromRead<R::File>) {}
-
-    fn let_go_output(&mut self, _file: IntoFile<R::File>) {}
-}
-
-// What is at a name that was looked up so. One that can't be looked up is never taken for one at
-// which nothing is.
-fn found_by(looked_up: io::Result<Metadata>) -> Found
-    ensures there { IfOk looked_up (λ _. was_found result ≡ true) }
-    ensures nothing { IfErr looked_up (λ error.
-        error_kind error ≡ ErrorKind.NotFound → result ≡ Found.Nothing) }
-    ensures unknown { IfErr looked_up (λ error.
-        error_kind error ≢ ErrorKind.NotFound → result ≡ Found.Unknown) }
-{
-    match looked_up {
-        Ok(there) => Found::At(there.dev(), there.ino()),
-        Err(error) => match error.kind() {
-            ErrorKind::NotFound => Found::Nothing,
-            _ => Found::Unknown,
-        },
-    }
+    /// Says for people why a file is not created, where it can.
+    fn refuse(&self, _name: &str, _reason: &str) {}
 }

@@ -4,10 +4,10 @@
 //! made here alone, by the names that a request has for each: so none of them can be taken for
 //! another.
 ghost use Rattle.std.specs.Prelude.{◌≡◌, IfSome, None, false, true};
-ghost use Rattle.sub_files.specs.Apart.{is_apart};
+ghost use Rattle.sub_files.specs.Apart.{may_create};
 ghost use Rattle.sub_files.specs.FileCalls.{FileCall};
 
-use crate::apart::{Found, is_apart};
+use crate::apart::{Found, are_other_files, is_apart};
 use crate::file_system::FileSystem;
 use std::marker::Model;
 use sub_request::{Output, PesInput, StlInput};
@@ -100,20 +100,36 @@ pub fn open_pes<D: FileSystem>(files: &mut D, pes: &PesInput<'_>) -> Option<PesF
     }
 }
 
-/// Creates a file to be written, where by what was found at both names that can't empty the one
-/// that is read; else nothing is asked for.
+/// What was looked up before a file is created.
+#[derive(Clone, Copy)]
+pub struct LookedUp {
+    /// At the name of the file that is read.
+    pub input: Found,
+    /// At the name of the file that is to be created.
+    pub output: Found,
+    /// What standard output goes into.
+    pub standard_output: Found,
+}
+
+/// Creates a file to be written, where by what was looked up that can't empty the one that is read
+/// or the one that standard output goes into; else nothing is asked for.
 pub fn create_apart<D: FileSystem>(
     files: &mut D,
     output: &Output<'_>,
-    input: Found,
-    there: Found,
+    found: LookedUp,
 ) -> Option<CreatedFile<D::Output>>
     ensures unused { IfSome result (λ file. D.Output.failure_count file ≡ 0) }
-    ensures apart { is_apart input there ≡ true
+    ensures apart { may_create found.input found.standard_output found.output ≡ true
         → D.is_call files.old (FileCall.Create output.now result) files.new }
-    ensures over { is_apart input there ≡ false → (result ≡ None) × (files.new ≡ files.old) }
+    ensures over { may_create found.input found.standard_output found.output ≡ false
+        → (result ≡ None) × (files.new ≡ files.old) }
 {
-    if !is_apart(input, there) {
+    if !is_apart(found.input, found.output) {
+        files.refuse(output.name(), "it is the file that is read");
+        return None;
+    }
+    if !are_other_files(found.standard_output, found.output) {
+        files.refuse(output.name(), "standard output goes into it");
         return None;
     }
     match files.create(output.name()) {

@@ -88,6 +88,10 @@ impl<'a> FileSystem for MemFiles<'a> {
         }
     }
 
+    fn look_up_standard_output(&mut self) -> Found {
+        Found::Nothing
+    }
+
     fn open(&mut self, name: &str) -> Option<MemSource<'a>> {
         match self.bytes_at(name) {
             Some(bytes) => Some(MemSource::new(bytes)),

@@ -6,9 +6,8 @@ ghost use Rattle.std.specs.Prelude.{◌≡◌, ◌≤◌, [], ◌∷◌, IfSome,
 ghost use Rattle.sub_files.specs.FileCalls.{CallsInTurn, FileCall};
 ghost use Rattle.sub_files.specs.Opening.{AreUnused, OpensBy, rooms_size};
 
-use crate::apart::Found;
 use crate::file_system::FileSystem;
-use crate::files::{CreatedFile, PesFile, StlFile, create_apart, open_pes, open_stl};
+use crate::files::{CreatedFile, LookedUp, PesFile, StlFile, create_apart, open_pes, open_stl};
 use std::alloc::Global;
 use sub_request::{FileNames, Output, PesInput, StlInput};
 
@@ -107,8 +106,8 @@ fn open_and_create<D: FileSystem>(
     let Some(input) = open_stl(files, stl) else {
         return None;
     };
-    let (here, there) = look_up_both(files, stl.name(), output);
-    match create_apart(files, output, here, there) {
+    let found = look_up_all(files, stl.name(), output);
+    match create_apart(files, output, found) {
         Some(created) => Some(Opened::Write(input, created)),
         None => None,
     }
@@ -127,19 +126,24 @@ fn open_and_extract<D: FileSystem>(
     let Some(input) = open_pes(files, recording) else {
         return None;
     };
-    let (here, there) = look_up_both(files, recording.name(), output);
-    match create_apart(files, output, here, there) {
+    let found = look_up_all(files, recording.name(), output);
+    match create_apart(files, output, found) {
         Some(created) => Some(Opened::Extract(input, created)),
         None => None,
     }
 }
 
-// What is at both names.
-fn look_up_both<D: FileSystem>(files: &mut D, input: &str, output: &Output<'_>) -> (Found, Found)
+// What is at both names, and what standard output goes into.
+fn look_up_all<D: FileSystem>(files: &mut D, name: &str, output: &Output<'_>) -> LookedUp
     ensures { CallsInTurn D.is_call files.old files.new
-        (FileCall.LookUp input.now result.0 ∷ FileCall.LookUp output.now result.1 ∷ []) }
+        (FileCall.LookUp name.now result.input ∷ FileCall.LookUp output.now result.output
+        ∷ FileCall.LookUpStandardOutput result.standard_output ∷ []) }
 {
-    let here = files.look_up(input);
+    let input = files.look_up(name);
     let there = files.look_up(output.name());
-    (here, there)
+    LookedUp {
+        input,
+        output: there,
+        standard_output: files.look_up_standard_output(),
+    }
 }

@@ -10,6 +10,7 @@
 
 mod arguments;
 mod command;
+mod explaining;
 mod flips;
 mod help;
 mod laws;
@@ -20,6 +21,7 @@ mod pes_packets;
 mod reading;
 mod times;
 
+pub use explaining::explain_words;
 pub use laws::law_of_flips;
 pub use lists::{Item, parse_list};
 pub use numbers::parse_number;

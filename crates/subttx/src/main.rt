@@ -20,23 +20,45 @@ use std::env::Args;
 use std::process::ExitCode;
 use std::{env, io};
 use sub_answer::{Status, open_and_answer, say_and_hand_on};
-use sub_files::{BUFFER, FileSystem, SystemFiles, room};
+use sub_files::{BUFFER, Explained, FileSystem, NAMES, SystemFiles, room};
 use sub_io::{BufferedSink, IntoWrite, Sink};
 use sub_request::{Request, UsageFault};
-use sub_words::ParseWords;
+use sub_words::{ParseWords, explain_words};
 
 // Room for the line that tells that memory ran out.
 const LITTLE: usize = 64;
 
 fn main(rt: HostRuntime) -> ExitCode {
-    let standard_output = IntoWrite::new(io::writer(&rt));
+    let printer = Explained::standard_output(io::writer(&rt), &rt);
+    let mut names = [0; NAMES];
     let run = run(
         rt.alloc(),
         env::args(&rt),
-        &mut SystemFiles::new(&rt),
-        standard_output,
+        &mut SystemFiles::new(&rt, &mut names),
+        IntoWrite::new(printer),
     );
+    if run.code == Status::Fault.code() {
+        explain_arguments(&rt);
+    }
     ExitCode::from(run.code)
+}
+
+// Says on standard error, for people, why the words that the system gave are no command, if they
+// are none.
+fn explain_arguments(rt: &HostRuntime) {
+    match env::args(rt) {
+        Ok(words) => {
+            let Ok(words) = words.collect::<Vec<String>>(rt.alloc()) else {
+                return;
+            };
+            if let Some(texts) = texts_of(rt.alloc(), words.as_slice()) {
+                explain_words(rt.alloc(), texts.as_slice(), rt);
+            }
+        }
+        Err(error) => {
+            let _ = eprintln!(rt; "subttx: cannot read the command line: {error}");
+        }
+    }
 }
 
 /// How the program ended.

@@ -155,14 +155,16 @@ class Clones(Case):
         self.must("its path", clone.tool("program") == [clone.path("dist", "subttx")])
 
     def test_helps_who_asks(self) -> None:
-        """Without words the script tells how it is called, and the program refuses them; asked for
-        help the program tells it, in the same words, and the script where there is none, which then
-        proves nothing; with other words the script tells nothing."""
+        """Without words the script prints the help on standard error, and the program refuses them;
+        asked for help the program prints the same, and the script does where there is none, which
+        then proves nothing; of other words the program alone says what is wrong."""
         clone = Clone(self)
-        none = clone.run()
+        text = clone.run("--help").out
+        none, lines = clone.run(), text.decode().splitlines()
         self.must("no words", none.status == 2 and none.out == b"usage 0 Words\n"
-                  and none.told[0] == "usage: subttx COMMAND FILES [options]", none)
-        text = "".join(f"{line}\n" for line in none.told).encode()
+                  and lines[0] == "usage: subttx COMMAND FILES [options]"
+                  and none.told[:len(lines)] == lines
+                  and none.told[len(lines)].startswith("error: "), none)
         helping = [["--help"], ["-h"], ["help"], ["help", "check"], ["check", "--help"],
                    ["-h", "survey"]]
         for words in helping:
@@ -170,7 +172,9 @@ class Clones(Case):
         for words in [["check"], ["chec"], ["help", "me", "please"], ["help", "me"],
                       ["check", "a.stl", "b.pes", "-h"],
                       ["check", "a.stl", "b.pes", "--page", "-h"]]:
-            self.must(f"{words}", clone.run(*words) == Done(2, b"usage 0 Words\n", []))
+            done = clone.run(*words)
+            self.must(f"{words}", (done.status, done.out) == (2, b"usage 0 Words\n")
+                      and done.told[0].startswith("error: "), done)
         os.remove(clone.path("dist", "PROVED"))
         for words in helping:
             done = clone.run(*words)

@@ -300,9 +300,16 @@ STORED = "dev/bodies-to-read.txt"
 # What asks the system, and what hands it on, by the first words of each body.
 HELD = [
     "fn main(rt: HostRuntime)",
-    "impl<R: Files> FileSystem for SystemFiles<'_, R>",
+    "impl<'a, R: Files + Eprint> FileSystem for SystemFiles<'a, R>",
     "fn found_by(looked_up: io::Result<Metadata>)",
-    "impl<'a, R: Files> SystemFiles<'a, R>",
+    "impl<'a, R: Files + Eprint> SystemFiles<'a, R>",
+    "impl<R: Files + Eprint> SecondLook for SystemLook<'_, R>",
+    "fn length_of<R: Files>(rt: &R, name: &str)",
+    "fn is_folder_stored<R: Files + Eprint>(rt: &R, name: &str)",
+    "impl<T: Read, E: Eprint> Read for Explained<'_, T, E>",
+    "impl<T: Write, E: Eprint> Write for Explained<'_, T, E>",
+    "impl<T: OpenFile, E: Eprint> OpenFile for Explained<'_, T, E>",
+    "impl<W: Write + LetGo + Store, L: SecondLook> Close for CheckedFile<W, L>",
     "impl<R: Read> FromRead<R>",
     "impl<R: Read> Source for FromRead<R>",
     "impl<W: Write> IntoWrite<W>",

@@ -1,7 +1,14 @@
--- The files were opened, and then let go: calls_go_on.
+-- The files were opened, as fits says, and then let go: calls_go_on.
+use Rattle.sub_request.specs.Files.{files_of}
 use Rattle.sub_answer.specs.Ending.{let_go}
 use Rattle.sub_answer.proofs.EndingLemmas.{calls_go_on}
+use Rattle.sub_answer.proofs.FittingLemmas.{fits}
 use Rattle.sub_answer.proofs.over_files.open_and_answer.Goals as goal
+
+pub answer_opened-requires-clause-fits : goal.answer_opened-requires-clause-fits
+answer_opened-requires-clause-fits g c =
+    let opened = rw (c.in-Some-open.is, c.files-names.ensures) at c.open.ensures.calls in
+    fits (files_of c.args.request.now) opened.calls c.in-Some-open.opened opened.opens
 
 pub returns-in-Some-open-clause-ends : goal.returns-in-Some-open-clause-ends
 returns-in-Some-open-clause-ends g c =

@@ -1,0 +1,70 @@
+//! Files that are looked at again once they are closed.
+ghost use Rattle.std.specs.Prelude.{◌<◌};
+ghost use Rattle.sub_io.specs.Device.{CanFail};
+
+use crate::asserting::{assert_same, assert_same_in};
+use crate::files_in_memory::MemoryFile;
+use std::io::Write;
+use std::process::Abort;
+use sub_files::{CheckedFile, SecondLook};
+use sub_io::{Close, Failed, IntoFile, Sink};
+
+// Finds so many bytes.
+#[derive(Clone, Copy)]
+struct Finding(u64);
+
+impl SecondLook for Finding {
+    ghost is_look = { λ _ _ _. Unit {0} };
+
+    fn has_all<W: Write>(&self, _file: &IntoFile<W>, length: u64) -> bool {
+        self.0 == length
+    }
+}
+
+// Asserts what a push answers.
+fn assert_pushes<K: Sink>(
+    rt: &impl Abort,
+    sink: &mut K,
+    bytes: &[u8],
+    answer: Result<usize, Failed>,
+    failures: u64,
+)
+    requires { CanFail (K.failure_count sink.old) }
+    ensures { CanFail (K.failure_count sink.new) }
+{
+    assert!(rt; !bytes.is_empty());
+    assert_same(rt, &sink.push(bytes), &answer);
+    assert!(rt; sink.failures() == failures && failures < 9);
+}
+
+// Asserts what a store answers, and that a push fails then.
+fn assert_stores<K: Close>(
+    rt: &impl Abort,
+    sink: &mut K,
+    found: u64,
+    answer: Result<(), Failed>,
+    failures: u64,
+)
+    requires { CanFail (K.failure_count sink.old) }
+{
+    assert_same_in(rt, &sink.store(), &answer, &found);
+    assert!(rt; sink.failures() == failures && failures < 9);
+    assert_pushes(rt, sink, b"!", Err(Failed), failures + 1);
+}
+
+// Asserts what a store of six bytes answers where so many are found once the file is closed.
+fn assert_finds(rt: &impl Abort, found: u64, answer: Result<(), Failed>, failures: u64) {
+    let mut room = [0; 8];
+    let mut file = CheckedFile::new(MemoryFile::Created(&mut room, 0), Finding(found));
+    assert_pushes(rt, &mut file, b"sub", Ok(3), 0);
+    assert_pushes(rt, &mut file, b"ttx", Ok(3), 0);
+    assert_stores(rt, &mut file, found, answer, failures);
+}
+
+#[test]
+fn a_file_is_stored_where_all_of_it_is_found(rt: HostRuntime) {
+    assert_finds(&rt, 6, Ok(()), 0);
+    for found in [0, 3, 5, 7, u64::MAX] {
+        assert_finds(&rt, found, Err(Failed), 1);
+    }
+}

@@ -1,0 +1,209 @@
+//! The files of the system.
+ghost use Rattle.std.specs.Prelude.{◌≡◌, ◌≢◌, IfErr, IfOk, true};
+ghost use Rattle.std.specs.IoError.{error_kind};
+ghost use Rattle.sub_files.specs.Apart.{was_found};
+
+use crate::apart::Found;
+use crate::checked_file::{CheckedFile, SecondLook};
+use crate::explained::{Explained, explain};
+use crate::file_system::FileSystem;
+use std::fs::{Metadata, OpenFile};
+use std::io::{ErrorKind, Write};
+use std::os::unix::fs::MetadataExt;
+use std::path::Path;
+use std::rt::Files;
+use std::{fs, io, str};
+use sub_io::{FromRead, IntoFile, Store};
+
+/// Bytes of the room for the names of the files of a request: Linux opens no longer ones.
+pub const NAMES: usize = 2 * 4096;
+
+// What standard output goes into.
+const STANDARD_OUTPUT: &str = "/proc/self/fd/1";
+
+/// The files of the system. No contract says what it answers, so each call is the one of `std::fs`
+/// with the same name, and prints on standard error why it failed.
+#[derive(Drop)]
+pub struct SystemFiles<'a, R> {
+    rt: &'a R,
+    // Room for the names of files that are open.
+    names: Option<&'a mut [u8]>,
+}
+
+impl<'a, R: Files + Eprint> SystemFiles<'a, R> {
+    /// The files that this runtime opens; `names` has room for their names, `NAMES` bytes.
+    pub fn new(rt: &'a R, names: &'a mut [u8]) -> Self {
+        SystemFiles {
+            rt,
+            names: Some(names),
+        }
+    }
+
+    // Keeps a name as long as the file may be open. `None` where it has no room.
+    fn keep(&mut self, name: &str) -> Option<&'a str> {
+        let room = self.names.take()?;
+        let length = name.len();
+        if room.len() < length {
+            return None;
+        }
+        let (mine, others) = room.split_at_mut(length);
+        self.names = Some(others);
+        mine.copy_from_slice(name.as_bytes());
+        str::from_utf8(mine).ok()
+    }
+}
+
+impl<'a, R: Files + Eprint> FileSystem for SystemFiles<'a, R> {
+    type Input = FromRead<Explained<'a, R::File, R>>;
+
+    type Output = CheckedFile<Explained<'a, R::File, R>, SystemLook<'a, R>>;
+
+    fn look_up(&mut self, name: &str) -> Found {
+        let there = fs::metadata(self.rt, name);
+        if let Err(error) = &there {
+            if error.kind() != ErrorKind::NotFound {
+                explain(self.rt, "look up", name, error);
+            }
+        }
+        found_by(there)
+    }
+
+    fn look_up_standard_output(&mut self) -> Found {
+        match fs::metadata(self.rt, STANDARD_OUTPUT) {
+            Ok(there) if there.is_file() => Found::At(there.dev(), there.ino()),
+            _ => Found::Nothing,
+        }
+    }
+
+    fn open(&mut self, name: &str) -> Option<FromRead<Explained<'a, R::File, R>>> {
+        match fs::open(self.rt, name) {
+            Ok(file) => {
+                let name = self.keep(name)?;
+                let rt = self.rt;
+                Some(FromRead::new(Explained::new(file, name, rt)))
+            }
+            Err(error) => {
+                explain(self.rt, "open", name, &error);
+                None
+            }
+        }
+    }
+
+    fn create(
+        &mut self,
+        name: &str,
+    ) -> Option<CheckedFile<Explained<'a, R::File, R>, SystemLook<'a, R>>> {
+        let Some(name) = self.keep(name) else {
+            self.refuse(name, "its name is too long");
+            return None;
+        };
+        let rt = self.rt;
+        match fs::create(rt, name) {
+            Ok(file) => {
+                let is_file = match file.metadata() {
+                    Ok(there) => there.is_file(),
+                    Err(_) => true,
+                };
+                let look = SystemLook { rt, name, is_file };
+                Some(CheckedFile::new(Explained::new(file, name, rt), look))
+            }
+            Err(error) => {
+                explain(rt, "create", name, &error);
+                None
+            }
+        }
+    }
+
+    fn let_go_input(&mut self, _file: FromRead<Explained<'a, R::File, R>>) {}
+
+    fn let_go_output(&mut self, _file: CheckedFile<Explained<'a, R::File, R>, SystemLook<'a, R>>) {}
+
+    fn refuse(&self, name: &str, reason: &str) {
+        let _ = eprintln!(self.rt; "subttx: {name:?} is not written: {reason}");
+    }
+}
+
+// What is at a name that was looked up so. One that can't be looked up is never taken for one at
+// which nothing is.
+fn found_by(looked_up: io::Result<Metadata>) -> Found
+    ensures there { IfOk looked_up (λ _. was_found result ≡ true) }
+    ensures nothing { IfErr looked_up (λ error.
+        error_kind error ≡ ErrorKind.NotFound → result ≡ Found.Nothing) }
+    ensures unknown { IfErr looked_up (λ error.
+        error_kind error ≢ ErrorKind.NotFound → result ≡ Found.Unknown) }
+{
+    match looked_up {
+        Ok(there) => Found::At(there.dev(), there.ino()),
+        Err(error) => match error.kind() {
+            ErrorKind::NotFound => Found::Nothing,
+            _ => Found::Unknown,
+        },
+    }
+}
+
+/// Looks at a file of the system once it is closed.
+#[derive(Drop)]
+pub struct SystemLook<'a, R> {
+    rt: &'a R,
+    name: &'a str,
+    // Whether it was a file as it was created: no pipe, terminal or device.
+    is_file: bool,
+}
+
+impl<R: Files + Eprint> SecondLook for SystemLook<'_, R> {
+    ghost is_look = { λ _ _ _. Unit {0} };
+
+    /// The folder is stored, too, where it can be opened: by it a new file is found.
+    fn has_all<W: Write>(&self, _file: &IntoFile<W>, length: u64) -> bool {
+        if !self.is_file {
+            return true;
+        }
+        match length_of(self.rt, self.name) {
+            Ok(found) if found == length => is_folder_stored(self.rt, self.name),
+            Ok(found) => {
+                let name = self.name;
+                let _ = eprintln!(self.rt;
+                    "subttx: cannot store {name:?}: of {length} bytes written it has {found}"
+                );
+                false
+            }
+            Err(error) => {
+                explain(self.rt, "open again", self.name, &error);
+                false
+            }
+        }
+    }
+}
+
+// How many bytes a file has, as it is opened again; or by its name, where it may not be read.
+fn length_of<R: Files>(rt: &R, name: &str) -> io::Result<u64> {
+    let there = match fs::open(rt, name) {
+        Ok(file) => file.metadata(),
+        Err(error) => match error.kind() {
+            ErrorKind::PermissionDenied => fs::metadata(rt, name),
+            _ => Err(error),
+        },
+    };
+    match there {
+        Ok(there) => Ok(there.len()),
+        Err(error) => Err(error),
+    }
+}
+
+// Stores the folder of a file. One that may not be read can't be stored.
+fn is_folder_stored<R: Files + Eprint>(rt: &R, name: &str) -> bool {
+    let folder = match Path::new(name).parent() {
+        Some(folder) if !folder.as_str().is_empty() => folder.as_str(),
+        _ => ".",
+    };
+    match fs::open(rt, folder) {
+        Ok(file) => Explained::new(file, folder, rt).store(),
+        Err(error) => {
+            let may_not = error.kind() == ErrorKind::PermissionDenied;
+            if !may_not {
+                explain(rt, "open", folder, &error);
+            }
+            may_not
+        }
+    }
+}
