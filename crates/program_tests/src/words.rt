@@ -27,7 +27,7 @@ fn prints_the_line_of_refused_words_into_any_output(rt: HostRuntime) {
 
 // Words that are no command.
 #[rattlefmt::skip]
-const NO_WORDS: [&[&str]; 64] = [
+const NO_WORDS: [&[&str]; 65] = [
     &[], // not even the program's name
     &["subttx"],
     &["subttx", "help", "packet", "15"],
@@ -41,8 +41,9 @@ const NO_WORDS: [&[&str]; 64] = [
     &["subttx", "check", "a.stl", "b.pes", "--page", "-h"],
     &["subttx", "check", "a.stl", "-h"],
     &["subttx", "-h", "check", "a.stl", "b.pes"],
-    &["subttx", "--version"],
-    &["subttx", "-V"],
+    &["subttx", "--version", "check"],
+    &["subttx", "-V", "--help"],
+    &["subttx", "packet", "--version"],
     &["subttx", "packet"],
     &["subttx", "packet", "--", "--help", "15"],
     &["subttx", "packet", "15", "15"],

@@ -95,6 +95,8 @@ any_second (ask.Listen pes listening) first second other U V file out status rea
 any_second (ask.Extract recording pes stream) first second other U V file out status reads is = is
 any_second ask.Help first second other U V file out status reads is =
     absurd (true≢false (sym reads))
+any_second ask.Version first second other U V file out status reads is =
+    absurd (true≢false (sym reads))
 any_second (ask.Packet bytes) first second other U V file out status reads is =
     absurd (true≢false (sym reads))
 any_second (ask.Show stl) first second other U V file out status reads is =
@@ -122,6 +124,7 @@ any_second_followed (ask.Packets pes) First Second Other IsAlone reads is = is
 any_second_followed (ask.Listen pes listening) First Second Other IsAlone reads is = tt
 any_second_followed (ask.Extract recording pes stream) First Second Other IsAlone reads is = tt
 any_second_followed ask.Help First Second Other IsAlone reads is = tt
+any_second_followed ask.Version First Second Other IsAlone reads is = tt
 any_second_followed (ask.Packet bytes) First Second Other IsAlone reads is = tt
 any_second_followed (ask.Show stl) First Second Other IsAlone reads is = tt
 any_second_followed (ask.Normal input output) First Second Other IsAlone reads is = tt
@@ -217,6 +220,7 @@ hands_on_so
     (ask.Check stl pes options national layout scope false) F F' S S' A A' first second alone is =
     tt
 hands_on_so ask.Help F F' S S' A A' first second alone is = tt
+hands_on_so ask.Version F F' S S' A A' first second alone is = tt
 hands_on_so (ask.Packet bytes) F F' S S' A A' first second alone is = tt
 hands_on_so (ask.Show stl) F F' S S' A A' first second alone is = tt
 hands_on_so (ask.Normal input output) F F' S S' A A' first second alone is = tt
@@ -237,6 +241,7 @@ writes_so :
 writes_so (ask.Extract recording pes stream) F F' N N' first none is =
     λ fails. none (is (first fails))
 writes_so ask.Help F F' N N' first none is = tt
+writes_so ask.Version F F' N N' first none is = tt
 writes_so (ask.Packet bytes) F F' N N' first none is = tt
 writes_so (ask.Packets pes) F F' N N' first none is = tt
 writes_so (ask.Show stl) F F' N N' first none is = tt

@@ -97,6 +97,7 @@ tells
     (e.answers.ends.done_by file (read_told whole_file file stl_left e.first e.first_is) read
     (read_told _ bytes pes_left e.second e.second_is ∙ read_is) (λ fails. runs (same ∙ fails)))
 tells ask.Help _ _ _ _ _ _ _ _ _ _ _ _ = tt
+tells ask.Version _ _ _ _ _ _ _ _ _ _ _ _ = tt
 tells (ask.Packet packet) _ _ _ _ _ _ _ _ _ _ _ _ = tt
 tells (ask.Packets pes) _ _ _ _ _ _ _ _ _ _ _ _ = tt
 tells (ask.Show stl) _ _ _ _ _ _ _ _ _ _ _ _ = tt
@@ -142,6 +143,7 @@ law_of_files_in_memory IsAlone
     (same_bytes _ o.second bytes o.second_is bytes_is)
     ∙ read_is))
 law_of_files_in_memory IsAlone ask.Help before after old new status h runs = tt
+law_of_files_in_memory IsAlone ask.Version before after old new status h runs = tt
 law_of_files_in_memory IsAlone (ask.Packet packet) before after old new status h runs = tt
 law_of_files_in_memory IsAlone (ask.Packets pes) before after old new status h runs = tt
 law_of_files_in_memory IsAlone (ask.Show stl) before after old new status h runs = tt

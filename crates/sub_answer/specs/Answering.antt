@@ -29,6 +29,7 @@ use Rattle.sub_answer.specs.EveryFault.{AnswersAll}
 use Rattle.sub_answer.specs.FaultListing.{accepted_line}
 use Rattle.sub_listing.specs.Faults.{check_line}
 use Rattle.sub_listing.specs.Help.{help_text}
+use Rattle.sub_listing.specs.Version.{version_text}
 use Rattle.sub_answer.specs.ListenListing.{listen_line, Listens}
 use Rattle.sub_listing.specs.Listing.{Listing, PrintsListing, PrintsOrFails, done, packet_listing}
 use Rattle.sub_listing.specs.Listing.{fault_listing}
@@ -190,6 +191,8 @@ first_input request source pieces = if reads_pieces request then pieces else sou
 abbrev pub Answers :
     Request → InputCall → InputCall → Type 0 → SinkCall → SinkCall → Status → Type 0
 Answers ask.Help first second Untouched file out status = PrintsOrFails out (done help_text) status
+Answers ask.Version first second Untouched file out status =
+    PrintsOrFails out (done version_text) status
 Answers (ask.Packet bytes) first second Untouched file out status =
     PrintsOrFails out (packet_listing bytes) status
 Answers (ask.Packets pes) first second Untouched file out status =

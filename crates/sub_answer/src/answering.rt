@@ -29,7 +29,7 @@ use stl_rows::{Drawing, Layout, National};
 use sub_io::{Close, Flush, MemSource, Sink, Source};
 use sub_listing::{
     Status, extract_packets, line_of_usage, list_packets, list_subtitles, print_fault_line,
-    print_help, show_packet, write_normal, write_schedule,
+    print_help, print_version, show_packet, write_normal, write_schedule,
 };
 use sub_request::{Request, UsageFault};
 use survey::print_survey;
@@ -161,6 +161,7 @@ pub fn answer_over<S: Source, P: NumberedPieces, F: Close, K: Flush>(
     let drawing = drawing_of(request);
     match request {
         Request::Help => print_help(out),
+        Request::Version => print_version(out),
         Request::Packet { bytes } => show_packet(bytes, out),
         Request::Packets { .. } => list_packets(pes, out),
         Request::Show { .. } => list_subtitles(first, out),

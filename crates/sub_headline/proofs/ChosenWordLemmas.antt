@@ -30,6 +30,7 @@ use Rattle.std.specs.Prelude.{map}
 use Rattle.sub_words.specs.PesTexts.{packet_size_of_text, pid_of_text, range_of_text}
 use Rattle.sub_words.specs.Requests.{Asked, AsksFor, asked_by, asked_for, asked_in, check_asked}
 use Rattle.sub_words.specs.Texts.{frame_of_text, number_of_text}
+use Rattle.sub_words.specs.Version.{asks_version}
 use Rattle.sub_headline.specs.PlainOptions.{Choice, LawOfChosenWords, with_choice, choice_words}
 use Rattle.sub_headline.specs.RecordingOptions.{LawOfPartWords, Portion, Reading, read_by}
 use Rattle.sub_headline.specs.RecordingOptions.{reading_of}
@@ -614,6 +615,11 @@ no_help : (program stl pes : Text) (more : List Text)
 unfolding asks_help
 no_help program stl pes more = refl
 
+no_version : (program stl pes : Text) (more : List Text)
+    → asks_version (program ∷ codes "check" ∷ stl ∷ pes ∷ more) ≡ false
+unfolding asks_version
+no_version program stl pes more = refl
+
 -- The arguments ask for what the words do.
 asked_so : (words : List Text) (rows : List Row) (asked : Asked)
     → command_in words ≡ Some (codes "check", rows)
@@ -648,14 +654,16 @@ look_rows stl recording parts asked is =
     )
 
 pub law_of_look_words : LawOfLookWords
-law_of_look_words program stl pes parts request is_stl is_pes (inl help) =
-    let e = sym (no_help program stl pes (flat_map words_for parts)) ∙ help.0 in cc
-law_of_look_words program stl pes parts request is_stl is_pes (inr asks) =
+law_of_look_words program stl pes parts request is_stl is_pes (inl version) =
+    let e = sym (no_version program stl pes (flat_map words_for parts)) ∙ version.0 in cc
+law_of_look_words program stl pes parts request is_stl is_pes (inr (inl help)) =
+    let e = sym (no_help program stl pes (flat_map words_for parts)) ∙ help.1 in cc
+law_of_look_words program stl pes parts request is_stl is_pes (inr (inr asks)) =
     look_rows stl pes parts (asked_by request)
     (sym (ap check_asked (rows_chosen stl pes parts is_stl is_pes))
     ∙ asked_so (program ∷ codes "check" ∷ stl ∷ pes ∷ flat_map words_for parts)
     (rows_after rules [] (stl ∷ pes ∷ flat_map words_for parts)) (asked_by request)
-    (command_of program (stl ∷ pes ∷ flat_map words_for parts)) asks.1.asked)
+    (command_of program (stl ∷ pes ∷ flat_map words_for parts)) asks.2.asked)
 
 -- ---- parts alone
 

@@ -146,6 +146,7 @@ tells
     ∙ ap (λ s. through_range range (through_stream s (Some bytes))) is.stream_is
     ∙ read_is)))
 tells ask.Help stl pes st ra o n y c all file bytes read files s e at_stl at_pes r told = cc
+tells ask.Version stl pes st ra o n y c all file bytes read files s e at_stl at_pes r told = cc
 tells (ask.Packet p) stl pes st ra o n y c all file bytes read files s e at_stl at_pes r told =
     cc
 tells (ask.Packets p) stl pes st ra o n y c all file bytes read files s e at_stl at_pes r told =

@@ -28,6 +28,7 @@ use Rattle.sub_words.specs.Help.{asks_help}
 use Rattle.sub_words.specs.PesTexts.{packet_size_of_text}
 use Rattle.sub_words.specs.Requests.{Asked, AsksFor, asked_by, asked_for, asked_in}
 use Rattle.sub_words.specs.Texts.{number_of_text}
+use Rattle.sub_words.specs.Version.{asks_version}
 use Rattle.sub_headline.specs.PlainWords.{IsName, LawOfPlainWords, default_options, whole_pes_file}
 
 -- ---- a name
@@ -47,6 +48,12 @@ no_help : (program stl pes : Text)
     → asks_help (program ∷ codes "check" ∷ stl ∷ pes ∷ []) ≡ false
 unfolding asks_help
 no_help program stl pes = refl
+
+-- Nor for the version.
+no_version : (program stl pes : Text)
+    → asks_version (program ∷ codes "check" ∷ stl ∷ pes ∷ []) ≡ false
+unfolding asks_version
+no_version program stl pes = refl
 
 -- ---- a word that is no option is a value
 
@@ -155,15 +162,18 @@ plain_asked program stl pes is_stl is_pes =
     ∙ ap (λ asked. Some asked) (asked_are stl pes)
 
 pub asks_of : (words : List Text) (request : Request) (asked : Asked)
+    → asks_version words ≡ false
     → asks_help words ≡ false
     → asked_for words ≡ Some (Ok asked)
     → AsksFor words request
     → asked_by request ≡ asked
-asks_of words request asked none is (inl help) = let e = sym none ∙ help.0 in cc
-asks_of words request asked none is (inr of) = same_asked _ _ _ of.1.asked is
+asks_of words request asked unversioned none is (inl version) =
+    let e = sym unversioned ∙ version.0 in cc
+asks_of words request asked unversioned none is (inr (inl help)) = let e = sym none ∙ help.1 in cc
+asks_of words request asked unversioned none is (inr (inr of)) = same_asked _ _ _ of.2.asked is
 
 pub law_of_plain_words : LawOfPlainWords
 law_of_plain_words program stl pes request is_stl is_pes asks =
     asks_of (program ∷ codes "check" ∷ stl ∷ pes ∷ []) request _
-    (no_help program stl pes)
+    (no_version program stl pes) (no_help program stl pes)
     (plain_asked program stl pes is_stl is_pes) asks

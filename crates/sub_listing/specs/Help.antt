@@ -18,6 +18,7 @@ help_text =
     ++ codes "  packet HEX             explains one Teletext packet of 42 bytes\n"
     ++ codes "  survey RECORDING       lists what there is in a recording, for tools\n"
     ++ codes "  --help                 prints this text\n"
+    ++ codes "  --version              prints the name and the version\n"
     ++ codes "\n"
     ++ codes "  --page 888   --every 250   --origin 0   --option english   where left out\n"
     ++ codes "  --complete   --within N   --all   --pace K   --keeping     for check\n"

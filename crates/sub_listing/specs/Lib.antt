@@ -15,3 +15,4 @@ pub mod FirstPacket
 pub mod Extracting
 pub mod Copying
 pub mod Help
+pub mod Version

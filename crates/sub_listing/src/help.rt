@@ -24,6 +24,7 @@ const HELP: &[u8] = b"usage: subttx COMMAND FILES [options]
   packet HEX             explains one Teletext packet of 42 bytes
   survey RECORDING       lists what there is in a recording, for tools
   --help                 prints this text
+  --version              prints the name and the version
 
   --page 888   --every 250   --origin 0   --option english   where left out
   --complete   --within N   --all   --pace K   --keeping     for check

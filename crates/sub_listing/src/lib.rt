@@ -26,6 +26,7 @@ mod schedule;
 mod show;
 mod state;
 mod status;
+mod version;
 mod writing;
 
 pub use extract::extract_packets;
@@ -42,3 +43,4 @@ pub use schedule::write_schedule;
 pub use show::list_subtitles;
 pub use state::print_state;
 pub use status::Status;
+pub use version::print_version;

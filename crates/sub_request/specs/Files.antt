@@ -8,6 +8,7 @@ use Rattle.sub_request.specs.declared.request.Request.TheVariants as ask
 -- What a request reads, in the order of its words, and what it writes.
 abbrev pub files_of : Request → FileNames
 files_of ask.Help = files.None
+files_of ask.Version = files.None
 files_of (ask.Packet bytes) = files.None
 files_of (ask.Packets pes) = files.ReadPes pes.name.now
 files_of (ask.Show stl) = files.ReadStl stl.now

@@ -90,7 +90,7 @@ impl<'a> Request<'a> {
         ensures { result ≡ files_of self.now }
     {
         match self {
-            Request::Help | Request::Packet { .. } => FileNames::None,
+            Request::Help | Request::Version | Request::Packet { .. } => FileNames::None,
             Request::Packets { pes } => FileNames::ReadPes(PesInput(pes.name)),
             Request::Show { stl } => FileNames::ReadStl(StlInput(stl)),
             Request::Normal { input, output } => {

@@ -114,6 +114,8 @@ impl UsageFault {
 pub enum Request<'a> {
     /// `--help`: tells how the program is used.
     Help,
+    /// `--version`: prints the name and the version of the program.
+    Version,
     /// `packet HEX`: shows one packet.
     Packet {
         /// The 42 bytes of the packet, in the order of EN 300 706: bit 1 is the lowest.

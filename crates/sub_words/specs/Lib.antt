@@ -1,4 +1,5 @@
 pub mod Help
+pub mod Version
 pub mod Commands
 pub mod Texts
 pub mod PesTexts

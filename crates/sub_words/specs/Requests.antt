@@ -19,6 +19,7 @@ use Rattle.sub_words.specs.Arguments.{packet_size_of, pes_packets_of, required_p
 use Rattle.sub_words.specs.Arguments.{survey_options_of}
 use Rattle.sub_words.specs.Commands.{are_sound, command_in, clap_refusals}
 use Rattle.sub_words.specs.Help.{asks_help}
+use Rattle.sub_words.specs.Version.{asks_version}
 use Rattle.sub_words.specs.Texts.{flip_of_text, frame_of_text, is_same_byte, number_of_text}
 use Rattle.sub_words.specs.Texts.{receiver_of_text}
 use Rattle.sub_request.specs.declared.listening.Flip.{Flip}
@@ -33,6 +34,7 @@ use Rattle.sub_request.specs.declared.request.UsageFault.TheVariants as fault
 -- What is asked for: a request, without where its texts and lists lie in memory.
 pub data Asked : Type 0 where
   Help : Asked
+  Version : Asked
   Packet : (bytes : List ℕ) → Asked
   Packets : (pes : PesAsked) → Asked
   Show : (stl : Text) → Asked
@@ -52,6 +54,7 @@ pes_asked pes = record { name = pes.name.now; stream = pes.stream; range = pes.r
 -- What a request asks for.
 abbrev pub asked_by : Request → Asked
 asked_by ask.Help = Help
+asked_by ask.Version = Version
 asked_by (ask.Packet bytes) = Packet bytes
 asked_by (ask.Packets pes) = Packets (pes_asked pes)
 asked_by (ask.Show stl) = Show stl.now
@@ -207,13 +210,15 @@ IsFaultOfCommand words fault.Memory = words ≢ []
 IsFaultOfCommand words fault.Open = ⊥
 IsFaultOfCommand words own = Breaks words own
 
--- The request is the one that the words ask for: help, or what a command asks for.
+-- The request is the one that the words ask for: the version, help, or what a command asks for.
 abbrev pub AsksFor : List Text → Request → Type 0
 AsksFor words request =
-    ((asks_help words ≡ true) × (request ≡ ask.Help))
-    ⊎ ((asks_help words ≡ false) × AsksOfCommand words request)
+    ((asks_version words ≡ true) × (request ≡ ask.Version))
+    ⊎ ((asks_version words ≡ false) × (asks_help words ≡ true) × (request ≡ ask.Help))
+    ⊎ ((asks_version words ≡ false) × (asks_help words ≡ false) × AsksOfCommand words request)
 
--- The fault is one that the words have, which do not ask for help.
+-- The fault is one that the words have, which do not ask for the version or help.
 pub record IsFaultOf (words : List Text) (fault : UsageFault) : Type 0 where
+  pub no_version : asks_version words ≡ false
   pub no_help : asks_help words ≡ false
   pub of_command : IsFaultOfCommand words fault

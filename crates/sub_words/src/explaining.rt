@@ -1,12 +1,13 @@
 //! Why words are no command, for people.
 use crate::command::subttx_command;
 use crate::help::asks_help;
+use crate::version::asks_version;
 use std::alloc::Global;
 
 /// Prints `clap`'s own message where it refuses the words, on standard error. Nothing is promised
 /// of it.
 pub fn explain_words<E: Eprint>(alloc: Global, words: &[&str], errors: &E) {
-    if words.is_empty() || asks_help(words) {
+    if words.is_empty() || asks_help(words) || asks_version(words) {
         return;
     }
     let Ok(command) = subttx_command(alloc) else {

@@ -20,6 +20,7 @@ mod parsing;
 mod pes_packets;
 mod reading;
 mod times;
+mod version;
 
 pub use explaining::explain_words;
 pub use laws::law_of_flips;

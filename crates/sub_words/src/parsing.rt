@@ -7,6 +7,7 @@ ghost use Rattle.sub_words.specs.Requests.{AsksFor, AsksOfCommand, IsFaultOf, Is
 use crate::command::subttx_command;
 use crate::help::asks_help;
 use crate::reading::read_command;
+use crate::version::asks_version;
 use clap::ArgMatches;
 use clap::error::ErrorKind;
 use std::alloc::Global;
@@ -18,7 +19,7 @@ use sub_request::{Request, UsageFault};
 pub trait ParseWords<'a>: Sized {
     /// Reads the words, of which the first is the program's name.
     ///
-    /// Words that ask for help are not looked at any further. What it gives of others are the
+    /// Words that ask for help or the version are not looked at any further. What it gives of others are the
     /// matches that `clap` has for them, defaults included, read by the rules of their command.
     ///
     /// # Errors
@@ -36,6 +37,9 @@ impl<'a> ParseWords<'a> for Request<'a> {
         ensures request { IfOk result (AsksFor (texts_of words.now)) }
         ensures fault { IfErr result (IsFaultOf (texts_of words.now)) }
     {
+        if asks_version(words) {
+            return Ok(Request::Version);
+        }
         if asks_help(words) {
             return Ok(Request::Help);
         }

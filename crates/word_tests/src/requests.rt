@@ -47,6 +47,16 @@ fn reads_the_words_for_help(rt: HostRuntime) {
     }
 }
 
+#[test]
+fn reads_the_words_for_the_version(rt: HostRuntime) {
+    for word in ["--version", "-V"] {
+        match Request::parse(rt.alloc(), &["subttx", word]) {
+            Ok(Request::Version) => {}
+            _ => panic!(rt; "no version"),
+        }
+    }
+}
+
 // A file may have the name of a word for help.
 #[test]
 fn reads_the_name_of_a_file_behind_two_dashes(rt: HostRuntime) {

@@ -180,6 +180,15 @@ class Clones(Case):
             done = clone.run(*words)
             self.must(f"{words} without a program", (done.status, done.out) == (0, text), done)
 
+    def test_prints_the_version(self) -> None:
+        """`--version` and `-V` print what VERSION has, alone: with another word they are none."""
+        clone = Clone(self)
+        text = f"subttx {(read(os.path.join(TOP, 'VERSION')) or '').strip()}\n".encode()
+        for word in ("--version", "-V"):
+            self.must(word, clone.run(word) == Done(0, text, []))
+            done = clone.run(word, "check")
+            self.must(f"{word} check", (done.status, done.out) == (2, b"usage 0 Words\n"), done)
+
     def test_finds_damage(self) -> None:
         """One byte of the program is another; also after the choice was kept."""
         clone = Clone(self)

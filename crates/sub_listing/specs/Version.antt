@@ -1,0 +1,6 @@
+-- The name and the version of the program, as `--version` prints them (own).
+use Rattle.std.specs.Prelude.{ℕ, List, codes}
+
+-- Its line.
+unfoldable pub version_text : List ℕ
+version_text = codes "subttx 3.0.0\n"

@@ -1,0 +1,22 @@
+//! Words that ask for the version.
+ghost use Rattle.std.specs.Prelude.{◌≡◌};
+ghost use Rattle.sub_words.specs.Commands.{texts_of};
+ghost use Rattle.sub_words.specs.Version as specs;
+
+/// Whether words ask for the version: a word for it stands alone behind the program's name.
+#[tactic(auto, unfolding(crate::specs::Version::asks_version))]
+pub fn asks_version(words: &[&str]) -> bool
+    ensures { result ≡ specs.asks_version (texts_of words.now) }
+{
+    match words.get(1) {
+        Some(word) => words.len() == 2 && is_version_word(word),
+        None => false,
+    }
+}
+
+// Whether a word is `--version` or `-V`.
+fn is_version_word(word: &str) -> bool
+    ensures { result ≡ specs.is_version_word word.now }
+{
+    word == "--version" || word == "-V"
+}
