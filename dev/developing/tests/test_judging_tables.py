@@ -37,7 +37,7 @@ from subtitles.stream import gaps
 from subtitles.stream.gaps import ClockJump, longest_gap, repeat_distance
 from subtitles.stream.packets import Packets
 from subtitles.stream.receiver import BLANK_PAGE
-from subtitles.stream.survey import Announced, Departure, PictureClock
+from subtitles.stream.survey import Announced, Departure
 from .bench import Case
 from .parts import asked_for, packets_told
 from .sent import CLOSING, HEADER, PAGE
@@ -81,13 +81,15 @@ class Clocks(unittest.TestCase):
         """Each video of each programme with the Teletext leaves it, and no other one: what is wrong
         has the number of the part, and what is not clear is counted in its time; a clock that the
         first picture tells counts what was before all PES packets too."""
-        away, unclear = Departure(TICKS * 50, 5 * TICKS), Departure(TICKS * 60, None)
-        before, behind = Departure(TICKS * 5, 2 * TICKS, True), Departure(TICKS * 101, None)
+        away, unclear = (Departure(TICKS * 50, TICKS * 49, 5 * TICKS),
+                         Departure(TICKS * 60, TICKS * 59, None))
+        before, behind = (Departure(TICKS * 5, TICKS * 4, 2 * TICKS),
+                          Departure(TICKS * 101, TICKS * 100, None))
         known: dict[int, Any] = {1: [before], 2: [away, unclear, behind], 3: [away], 4: [away]}
-        clocks = {video: PictureClock(several) for video, several in known.items()}
-        survey: Any = SimpleNamespace(picture_clocks=clocks, programmes_of=lambda pid: [
+        leads = {(9, video): several for video, several in known.items()}
+        survey: Any = SimpleNamespace(leads=leads, programmes_of=lambda pid: [
             SimpleNamespace(kinds={pid: 6, 1: 2, 2: 2}), SimpleNamespace(kinds={pid: 6, 3: 27})])
-        with mock.patch.object(timing, "departures_of", lambda lines, pid: lines):
+        with mock.patch.object(timing, "departures_of", lambda several: several):
             for source, count in ((GIVEN, 2), (RECORDING, 2), (START, 3), (TCP, 3)):
                 found = left_by_pictures(survey, 9, Found(10, 100, Clock(0, source)), 0, 7)
                 self.assertEqual([one.part for one in found.faults], [7] * count, source)

@@ -7,7 +7,7 @@ import os
 import random
 import unittest
 from types import SimpleNamespace
-from typing import Any, Optional, Sequence
+from typing import Any, Mapping, Optional, Sequence
 from unittest import mock
 
 from developing.multiplex import ADAPTATION_ALONE, BEGINS, PACKET, PAYLOAD, head
@@ -18,7 +18,7 @@ from subtitles.formats.listing import PICTURES_LEFT
 from subtitles.judging.timing import NOT_CHECKED, departures_in, late_jumps, left_by_pictures
 from subtitles.stream.gaps import Pace, REGULAR
 from subtitles.stream.packets import Packets, Run, announced_in, jumps_at, jumps_told, packets_in
-from subtitles.stream.survey import Departure, Distance, FEW, Line, Step, Survey, departures_of
+from subtitles.stream.survey import Departure, Lead, Survey, departures_of
 from .bench import Case
 from .judged import judged
 from .muxed import Programme, TELETEXT_PID, shown
@@ -28,172 +28,188 @@ from .sent import programme, scheduled, times
 # Whether the pictures leave the Teletext: by the lines of `survey`, as tables.
 
 PID, VIDEO = 0x101, 0x200
+SECOND = 25  # frames
 
 
-def distances(count: int, frames: float = 6, pts: int = 0, pid: int = PID, jitter: float = 0,
-              every: int = 1, chance: random.Random | None = None) -> list[Line]:
-    """PES packets of Teletext, each so many frames ahead of the pictures, but for some jitter."""
-    chance = chance or random.Random(1)
-    return [Distance(pid, (pts + TICKS * every * at) % CLOCK,
-                     round(TICKS * (frames - chance.uniform(0, jitter)))) for at in range(count)]
+def leads_of(leads: Sequence[float], steps: Mapping[int, float] = {}, first: int = 0,
+             each: int = SECOND) -> list[Lead]:
+    """Lines so many frames apart, whose leads have these frames. The decoding times go on by some
+    frames more than the number of pictures at some lines, by their places."""
+    found, gone = list[Lead](), 0.0
+    for at, ahead in enumerate(leads):
+        gone += steps.get(at, 0)
+        time = first + round(TICKS * (each * at + gone))
+        found.append(Lead((time + round(TICKS * ahead)) % CLOCK, round(TICKS * ahead), each * at))
+    return found
 
 
-def step(frames: float, before: int = 0) -> Step:
-    """By so many frames more than usual."""
-    return Step(before, (before + round(TICKS * (1 + frames))) % CLOCK, TICKS)
+class Departures(Case):
+    """Where the pictures leave, stay, or where that is unclear."""
 
-
-class Departures(unittest.TestCase):
-    """What leaves, what stays, and what is not clear."""
+    def ticks_of(self, leads: Sequence[Lead]) -> list[int | None] | None:
+        """By how many ticks they leave at each place; `None` if no step is usual."""
+        departures = departures_of(leads)
+        return None if departures is None else [one.ticks for one in departures]
 
     def test_finds_steps_of_the_pictures_against_the_teletext(self) -> None:
-        """On by some frames the Teletext is early, back it is late; where it goes along nothing
-        leaves; over the wrap too."""
-        for by in (1, 2, 12, 250, -1, -2, -250, 0.5, -0.5):
-            for begin in (0, CLOCK - TICKS * 20):
-                for name, after, wanted in (
-                        ("leaves", 6 - by, [Departure(TICKS * 90, round(TICKS * by))]),
-                        ("goes along", 6.0, []), ("the multiplexer", 6 + by, [])):
-                    lines = [*distances(40), step(by, begin), *distances(40, after, TICKS * 90)]
-                    self.assertEqual(departures_of(lines, PID), wanted, (by, begin, name))
+        """If the lead falls by the step of the decoding times the pictures leave. If it stays, or
+        nothing steps, they do not. So it is over the wrap of the clock, too."""
+        for by, first in itertools.product((1, 2, 12, 250, -1, -2, -250, 0.5, -0.5),
+                                           (0, CLOCK - TICKS * 500)):
+            step = {40: by}
+            rows: dict[str, tuple[float, Mapping[int, float], list[int | None]]] = {
+                "the pictures leave": (6 - by, step, [round(TICKS * by)]),
+                "both clocks step": (6, step, []), "the multiplexer": (6 + by, {}, [])}
+            for name, (after, steps, wanted) in rows.items():
+                self.check(f"{name} by {by} from {first}", self.ticks_of(
+                    leads_of([6.0] * 40 + [after] * 40, steps, first)), wanted)
 
-    def test_half_a_frame(self) -> None:
-        """It moves by as much, to half a frame."""
-        for moved, is_told in ((5.0, True), (5.49, True), (5.5, False), (4.51, True), (4.5, False),
-                               (10.0, False), (0.0, False)):
-            lines = [*distances(9, 8), step(5), *distances(9, 8 - moved)]
-            self.assertEqual(departures_of(lines, PID), [Departure(0, 5 * TICKS)] * is_told, moved)
+    def test_finds_each_of_several_places(self) -> None:
+        """A place lies between two lines; several of them are found in their order."""
+        leads = leads_of([6.0] * 20 + [3.0] * 20 + [6.0] * 20 + [6.0] * 20, {20: 3, 40: -3, 60: 9})
+        self.check("three steps", departures_of(leads), [
+            Departure(leads[20].pts, leads[19].pts, 3 * TICKS),
+            Departure(leads[40].pts, leads[39].pts, -3 * TICKS)])
+        for count in (0, 1):
+            self.check(f"{count} lines", departures_of(leads[:count]), [])
 
-    def test_what_is_not_clear(self) -> None:
-        """Too few on a side, or a multiplexer that puts them anywhere; without any nothing is."""
-        def vary(frames: int, by: int) -> list[Line]:
-            return [Distance(PID, TICKS, TICKS * frames + by * (at % 2)) for at in range(8)]
+    def test_finds_places_where_pictures_are_lost_too(self) -> None:
+        """If pictures are lost at the place, too, their clock steps by more than the lead falls."""
+        for lost in (0, 1, 2, 5, 12):
+            self.check(f"{lost} lost", self.ticks_of(
+                leads_of([6.0] * 40 + [6.0 - 50] * 40, {40: 50 + lost})), [50 * TICKS])
+        self.check("50 lost alone", self.ticks_of(leads_of([6.0] * 80, {40: 50})), [])
 
-        rows: list[tuple[list[Line], list[Line], list[Departure]]] = [
-            (distances(FEW), distances(FEW, 4, TICKS), [Departure(TICKS, 2 * TICKS)]),
-            (distances(FEW - 1), distances(FEW, 4, TICKS), [Departure(TICKS, None)]),
-            (distances(FEW), distances(FEW - 1, 4, TICKS), [Departure(TICKS, None)]),
-            (distances(FEW), [], []), ([], [], []),
-            ([], distances(FEW, 4, TICKS), [Departure(TICKS, None, True)]),
-            (distances(50, jitter=8), distances(50, 4, TICKS), [Departure(TICKS, None)]),
-            (distances(50), distances(50, 4, TICKS, jitter=8), [Departure(TICKS, None)]),
-            (distances(50, jitter=1), distances(50, 4, TICKS, jitter=1),
-             [Departure(TICKS, 2 * TICKS)]),
-            *((vary(6, by), vary(4, by), [Departure(TICKS, ticks)]) for by, ticks in (
-                (TICKS, 2 * TICKS), (TICKS + 1, None))),
-            (distances(50), distances(50, 4, TICKS, pid=7), []),
-            (distances(50, pid=7), distances(50, 4, TICKS), [Departure(TICKS, None, True)])]
-        for before, after, wanted in rows:
-            self.assertEqual(departures_of([*before, step(2), *after], PID), wanted)
+    def test_compares_the_lead_to_half_a_frame(self) -> None:
+        """The lead falls by the step, to half a frame."""
+        for moved, wanted in ((5.0, [5 * TICKS]), (5.4, [5 * TICKS]), (0.4, []), (0.0, []),
+                              (-3.0, [None])):
+            self.check(f"moved by {moved}", self.ticks_of(
+                leads_of([8.0] * 9 + [8 - moved] * 9, {9: 5})), wanted)
 
-    def test_tells_each_of_several_steps(self) -> None:
-        """Each step by what lies between it and its neighbours; and there and back."""
-        lines = [*distances(60), step(3), *distances(60, 3, TICKS * 100), step(-3),
-                 *distances(60, 6, TICKS * 200), step(9), *distances(60, 6, TICKS * 300)]
-        self.assertEqual(departures_of(lines, PID), [
-            Departure(TICKS * 100, 3 * TICKS), Departure(TICKS * 200, -3 * TICKS)])
-        self.assertEqual(departures_of(lines, 7), [])
-        # The fifty that are nearest to a step on either side tell it.
-        for before, after in ((100, 100), (49, 100), (100, 49), (50, 50)):
-            lines = [*distances(before, 9), *distances(50, 6, TICKS * 100), step(3),
-                     *distances(50, 3, TICKS * 200), *distances(after, 0, TICKS * 300)]
-            self.assertEqual(departures_of(lines, PID), [Departure(TICKS * 200, 3 * TICKS)])
-        self.assertEqual(departures_of([], PID), [])
-        # One that is far off, and two steps with nothing between.
-        far = Distance(PID, 5, 10 ** 6)
-        lines = [*distances(20), far, step(3), *distances(20, 3, TICKS * 100), step(2), step(2),
-                 *distances(20, 1, TICKS * 200)]
-        self.assertEqual(departures_of(lines, PID), [
-            Departure(TICKS * 100, 3 * TICKS), Departure(TICKS * 200, None, True)])
+    def test_tells_what_is_unclear(self) -> None:
+        """One line on a side, a multiplexer that puts the Teletext anywhere, or there and back."""
+        chance = random.Random(1)
 
+        def around(frames: float, jitter: float, count: int = 40) -> list[float]:
+            return [frames - chance.uniform(0, jitter) for _ in range(count)]
 
-# Pictures that leave the subtitles, judged: what is early or late for viewers, by tables, and a
-# pair of which `survey` tells it.
+        rows: dict[str, tuple[list[Lead], list[int | None]]] = {
+            "steady": (leads_of(around(6, 0) + around(4, 0), {40: 2}), [2 * TICKS]),
+            "a frame of jitter": (leads_of(around(6, 1) + around(4, 1), {40: 2}), [2 * TICKS]),
+            "eight frames of jitter": (leads_of(around(6, 8, 9) + around(4, 8, 9), {9: 2}), [None]),
+            "one line before": (leads_of([6.0] + [5, 3] * 9, {1: 2}), [None]),
+            "one line behind": (leads_of([6, 4] * 9 + [3.0], {18: 2}), [None]),
+            "a line that is away alone": (
+                leads_of([6.0] * 20 + [3.0] + [6.0] * 20, {20: 3, 21: -3}), [None])}
+        for name, (leads, wanted) in rows.items():
+            self.check(name, self.ticks_of(leads), wanted)
 
-
-def lines_of_step(frames: float, at: int, count: int = 10, before: float = 0, origin: int = 0,
-                  video: int = VIDEO) -> list[str]:
-    """What is told of pictures that go on by so many frames more at a frame of the Teletext, and
-    did by others before."""
-    ahead = [6.0 - before] * count + [6.0 - before - frames] * count
-    lines = [f"apart {PID} {(origin + TICKS * (at - count + place)) % CLOCK} {round(TICKS * one)} "
-             f"{video}" for place, one in enumerate(ahead)]
-    return [*lines[:count], f"step {video} 0 {round(TICKS * (1 + frames)) % CLOCK} {TICKS}",
-            *lines[count:]]
+    def test_needs_a_usual_step(self) -> None:
+        """Decoding times that do not go on with the number of pictures tell nothing."""
+        chance = random.Random(1)
+        steps = {at: float(chance.randrange(-9, 9)) for at in range(40)}
+        self.check("at random", departures_of(leads_of([6.0] * 40, steps)), None)
+        for each in (1, 12.5, 50):  # pictures a second: the usual step is what most lines have
+            steady = [lead._replace(number=round(each * at))
+                      for at, lead in enumerate(leads_of([6.0] * 40))]
+            self.check(f"{each} a second", departures_of(steady), [])
 
 
-def surveyed(*steps: Sequence[str], end: str = f"steps {VIDEO} {{}} {TICKS}") -> Survey:
-    """What is told of pictures that the second of two PMT names, beside others that stay, and those
-    of another programme, which leave."""
-    quiet, more, others = 0x300, 0x301, 0x302
+# Pictures that leave the subtitles, judged: what is early or late for viewers.
+
+def lines_of(steps: Sequence[tuple[float, int]], origin: int = 0, video: int = VIDEO,
+             jitter: int = 0) -> list[str]:
+    """The lines of a recording from frame 500 to 2500 whose pictures go on by some frames more at
+    some frames; every second lead is so many frames less."""
+    found = []
+    for frame in range(500, 2500, SECOND):
+        away = sum(by for by, at in steps if at <= frame)
+        lead = round(TICKS * (6 - away - jitter * (frame % 2)))
+        found.append(f"lead {PID} {(origin + TICKS * frame) % CLOCK} {lead} {video} {frame}")
+    return found
+
+
+def surveyed(lines: Sequence[str] = ()) -> Survey:
+    """What is known of pictures that the second of two PMT names, beside others that stay, and
+    those of another programme, which leave."""
+    quiet, others = 0x300, 0x302
     survey = Survey()
     for line in [f"programme 1 {VIDEO}", f"stream {PID} 6", f"programme 2 {others}",
                  f"stream {others} 2", f"programme 1 {VIDEO}", f"stream {PID} 6",
-                 *(f"stream {video} 2" for video in (quiet, VIDEO, more)),
-                 f"apart {PID} 0 0 {quiet}", *(line for step in steps for line in step),
-                 end.format(len(steps)), *lines_of_step(9, 1500, video=others),
-                 f"apart {PID} 0 0 {more}"]:
+                 *(f"stream {video} 2" for video in (quiet, VIDEO)),
+                 *lines_of([], video=quiet), *lines, *lines_of([(9, 1500)], video=others)]:
         survey.take(line)
     return survey
 
 
-class Left(unittest.TestCase):
-    """What is wrong of a part from frame 1000 to 2000."""
+class Left(Case):
+    """What is wrong of a part from frame 1000 to 2000, which has a line each 25 frames."""
 
-    def told(self, survey: Survey, within: int = 0, source: str = GIVEN, origin: int = 0) \
-            -> tuple[list[tuple[str | None, str | None, str]], list[str]]:
-        found = Found(1000, 2000, Clock(origin, source))
-        faults, notes = left_by_pictures(survey, PID, found, within, 1)
-        self.assertTrue(all(one.name == PICTURES_LEFT and one.part == 1 for one in faults))
+    def found(self, steps: Sequence[tuple[float, int]], within: int = 0, source: str = GIVEN,
+              origin: int = 0) -> tuple[list[tuple[str | None, str | None, str]], list[str]]:
+        """The times and the way of each fault, and the notes."""
+        faults, notes = left_by_pictures(surveyed(lines_of(steps, origin)), PID, Found(
+            1000, 2000, Clock(origin, source)), within, 1)
+        self.check("kinds", {(one.name, one.part) for one in faults} - {(PICTURES_LEFT, 1)}, set())
         return [(one.time, one.until, one.words.partition(" on subtitles come ")[2].partition(
             " for viewers")[0]) for one in faults], notes
 
     def test_reports_pictures_that_leave_the_subtitles(self) -> None:
-        """On: early; back: late, but for what is allowed of that; there and back; outside."""
+        """On: early; back: late, except what is allowed of that; there and back; at its ends."""
         middle, end = "00:01:00:00", "00:01:19:24"
-        rows: list[tuple[list[tuple[float, int]], int, list[tuple[str, str, str]]]] = [
-            ([], 0, []), ([(2, 1500)], 0, [(middle, end, "2 frames early")]),
-            ([(2, 1500)], 5, [(middle, end, "2 frames early")]),
-            ([(-2, 1500)], 0, [(middle, end, "2 frames late")]),
-            ([(-2, 1500)], 1, [(middle, end, "2 frames late")]), ([(-2, 1500)], 2, []),
-            ([(0.5, 1500)], 0, [(middle, end, "0.5 frames early")]),
-            ([(250, 1500)], 0, [(middle, end, "250 frames early")]),
-            ([(2, 1500), (-2, 1600)], 0, [(middle, "00:01:03:24", "2 frames early")]),
-            ([(-1, 1500), (-1, 1600)], 1, [("00:01:04:00", end, "2 frames late")]),
-            ([(2, 1000)], 0, [("00:00:40:00", end, "2 frames early")]),
-            ([(2, 999)], 0, []), ([(2, 2000)], 0, []),
-            ([(2, 1999)], 0, [(end, end, "2 frames early")])]
-        for origin, (steps, within, wanted) in itertools.product((0, CLOCK - 1400 * TICKS), rows):
-            befores = (sum(by for by, _ in steps[:place]) for place in range(len(steps)))
-            survey = surveyed(*(lines_of_step(by, at, 10, before, origin)
-                                for before, (by, at) in zip(befores, steps)))
-            found = self.told(survey, within, origin=origin)[0]
-            self.assertEqual(found, wanted, (origin, steps))
+        unclear = f"{NOT_CHECKED} at 1 place where their decoding times step: the multiplexer's " \
+            "delay varies, pictures are lost as well, or it is within a second of the " \
+            "programme's begin or end"
+        allowed = f"from {middle} on subtitles come 2 frames late for viewers: the pictures go " \
+            "on elsewhere, as --within 2 allows"
+        rows: dict[str, tuple[list[tuple[float, int]], int, list[tuple[str, str, str]],
+                              list[str]]] = {
+            "none": ([], 0, [], []),
+            "early": ([(2, 1500)], 0, [(middle, end, "2 frames early")], []),
+            "early is not allowed": ([(2, 1500)], 5, [(middle, end, "2 frames early")], []),
+            "late": ([(-2, 1500)], 0, [(middle, end, "2 frames late")], []),
+            "later than allowed": ([(-2, 1500)], 1, [(middle, end, "2 frames late")], []),
+            "late as allowed": ([(-2, 1500)], 2, [], [allowed]),
+            "half a frame": ([(0.5, 1500)], 0, [(middle, end, "0.5 frames early")], []),
+            "far": ([(250, 1500)], 0, [(middle, end, "250 frames early")], []),
+            "there and back": ([(2, 1500), (-2, 1600)], 0,
+                               [(middle, "00:01:03:24", "2 frames early")], []),
+            "twice": ([(-1, 1500), (-1, 1600)], 1, [("00:01:04:00", end, "2 frames late")],
+                      [allowed.replace(" 2 frames", " 1 frame").replace("2 allows", "1 allows")]),
+            "behind the first line": ([(2, 1001)], 0, [("00:00:41:00", end, "2 frames early")], []),
+            "before the first line": ([(2, 1000)], 0, [], [unclear]),
+            "a second before": ([(2, 975)], 0, [], []),
+            "before the last line": ([(2, 1975)], 0, [("00:01:19:00", end, "2 frames early")], []),
+            "behind the last line": ([(2, 1976)], 0, [], [unclear]),
+            "a second behind": ([(2, 2001)], 0, [], [])}
+        for origin, (name, (steps, within, faults, notes)) in itertools.product(
+                (0, CLOCK - 1400 * TICKS), rows.items()):
+            self.check(f"{name} from {origin}", self.found(steps, within, origin=origin),
+                       (faults, notes))
 
-    def test_first_picture(self) -> None:
-        """By that clock what steps before the first subtitle counts too."""
-        survey = surveyed(lines_of_step(2, 900))
-        self.assertEqual(self.told(survey, source=RECORDING), ([], []))
-        self.assertEqual(self.told(survey, source=START)[0],
-                         [("00:00:40:00", "00:01:19:24", "2 frames early")])
-        several = [*(Departure(TICKS * at, 9) for at in (900, 1000, 1999, 2000)),
-                   Departure(TICKS * 1000, None, True)]
-        for source, count in ((GIVEN, 2), (START, 4)):
-            found = Found(1000, 2000, Clock(0, source))
-            self.assertEqual(len(departures_in(several, found)), count)
+    def test_counts_steps_from_the_first_picture_on(self) -> None:
+        """By the clock of the first picture what steps before the first subtitle counts, too."""
+        self.check("by a recording", self.found([(2, 900)], source=RECORDING), ([], []))
+        self.check("by the picture", self.found([(2, 900)], source=START)[0],
+                   [("00:00:40:00", "00:01:19:24", "2 frames early")])
+        places = [(899, 900), (999, 1000), (1000, 1001), (1998, 1999), (1999, 2000), (2000, 2001)]
+        several = [Departure(TICKS * pts, TICKS * since, 9) for since, pts in places]
+        for source, wanted in ((GIVEN, [None, 9, 9, None]), (START, [9, 9, 9, 9, None])):
+            found = departures_in(several, Found(1000, 2000, Clock(0, source)))
+            self.check(source, [one.ticks for one in found], wanted)
 
-    def test_notes_steps_that_are_allowed_or_not_checked(self) -> None:
-        """What is allowed, and what is not checked."""
-        times = f"{NOT_CHECKED}: their decoding times"
-        for survey, within, begin in (
-                (surveyed(lines_of_step(-2, 1500)), 2, "from 00:01:00:00 on subtitles come 2 "
-                 "frames late for viewers: the pictures go on elsewhere, as --within 2 allows"),
-                (surveyed(lines_of_step(2, 1500, 4)), 0, f"{NOT_CHECKED} at 1 place where"),
-                (surveyed(end=f"steps {VIDEO} 0 -"), 0, f"{times} have"),
-                (surveyed(end=f"steps {VIDEO} 7 {TICKS}"), 0, f"{times} step more often")):
-            faults, notes = self.told(survey, within)
-            self.assertEqual((faults, [one[:len(begin)] for one in notes]), ([], [begin]))
-        self.assertEqual(self.told(Survey()), ([], []))
+    def test_notes_that_no_step_is_usual(self) -> None:
+        """Nothing is judged, and a note says so; without a line there is nothing to say."""
+        chance = random.Random(1)
+        steps = [(chance.randrange(-9, 9), frame) for frame in range(500, 2500, SECOND)]
+        lines = [line for line in lines_of([(by + 0.5, at) for by, at in steps])]
+        for name, survey, wanted in (
+                ("at random", surveyed(lines),
+                 [f"{NOT_CHECKED}: their decoding times have no usual step"]),
+                ("no line", Survey(), [])):
+            found = left_by_pictures(survey, PID, Found(1000, 2000, Clock(0, GIVEN)), 0, 1)
+            self.check(name, found, ([], wanted))
 
 
 class Pairs(Case):
@@ -212,12 +228,12 @@ class Pairs(Case):
             made = Programme({TELETEXT_PID: pes}, TICKS * begin, later=[(1500, TICKS * frames)])
             path = self.write("one.ts", shown([made], end - begin).data)
             found = judged(self, stl, path, "--origin", "0", *words)
-            time = time_of((begin + 1500 + 9) // 10 * 10)
-            line = f"from {time} on subtitles come {way} for viewers: the pictures go on elsewhere"
+            line = f" on subtitles come {way} for viewers: the pictures go on elsewhere"
             self.must(f"{frames} {words}", found.word == word and (not way or any(
                 line in one for one in found.said)), found.said)
-            self.must(f"{frames} {words}: line", word == "accepted" or found.result["line"] ==
-                      f"refused pictures left frame {time}", found.result["line"])
+            several = [time_of(begin + 1500 + frame) for frame in range(-25, 26)]  # to a second
+            self.must(f"{frames} {words}: line", word == "accepted" or found.result["line"] in [
+                f"refused pictures left frame {time}" for time in several], found.result["line"])
 
 
 # Jumps of a counter that a stream announces: the TS packets of a PID, and where they say so.

@@ -1,5 +1,5 @@
-"""The lines of `survey`: decoding times, first pictures, clocks, PES packets, and what ends them;
-what the tools know by them.
+"""The lines of `survey`: leads over the pictures, first pictures, tables, clocks, PES packets, and
+what ends them; what the tools know by them.
 
 Recordings are made here, and the lines that there are of them by docs/manual/survey.md.
 """
@@ -7,20 +7,22 @@ from __future__ import annotations
 
 import os
 import random
-from typing import Callable, Collection, Iterable, Sequence
+from typing import Callable, Iterable, NamedTuple, Sequence
 
-from developing.pes import packet, pes_packet
+from developing.multiplex import ADAPTATION_ALONE, BEGINS, PACKET, PAYLOAD, head
+from developing.pes import packet, pes_packet, pts_bytes
 from subtitles.common.command_line import Unanswered
 from subtitles.common.times import CLOCK, TICKS
 from subtitles.stream.packets import Change, Clocked, Mark, Packets, Run, Texts
 from subtitles.stream.survey import (
-    Announced, Distance, Lines, PictureClock, ProgramMap, Step, Survey, VERSION, Video, runs_told,
-    survey)
+    Announced, Lead, Lines, ProgramMap, Survey, VERSION, Video, runs_told, survey)
 from .bench import Case
 from .muxed import (
-    AHEAD, AUDIO_PID, SLICES, TELETEXT_PID, VIDEO_PID, Maker, Programme, components, filler,
-    mpeg_2_picture, shown, spaced, video_packet)
-from .sent import CLOSING, HEADER, PAGE
+    AHEAD, AUDIO_PID, CLOSED_GROUP, MPEG_2, PMT_PID, PRIVATE, RANDOM_ACCESS, SLICES, TELETEXT_PID,
+    VIDEO_PID, Maker, Programme, components, filler, mpeg_2_picture, program_association,
+    program_map, shown, spaced, teletext_descriptor, video_packet)
+from .sent import CLOSING, HEADER, PAGE, row
+from .test_formats_letters import naming
 
 FIRST = 1_000_000  # the PTS of a first picture, and of a first PES packet of Teletext
 LAST = FIRST + 100_000 * TICKS  # that of a last one
@@ -39,81 +41,103 @@ def each_frame(count: int, first: int = FIRST) -> list[bytes]:
     return [pes_packet((first + TICKS * frame) % CLOCK, [CLOSING]) for frame in range(count)]
 
 
-# Decoding times.
+# The lead of the Teletext over the pictures.
 
-def apart(frames: Iterable[int], ticks: int, *pids: int, video: int = VIDEO_PID) -> list[str]:
-    """The lines of PES packets that come in some frames on some PIDs, so far ahead of video."""
-    return [f"apart {pid} {FIRST + TICKS * frame} {ticks} {video}"
-            for frame in frames for pid in pids or (TELETEXT_PID,)]
-
-
-def step(frame: int, before: int, by: int, first: int = FIRST, video: int = VIDEO_PID) -> str:
-    """The line of pictures that have been later by some ticks up to a frame, and are by more."""
-    pts = first + TICKS * frame + before
-    return f"step {video} {pts - TICKS} {pts + by} {TICKS}"
+def lead(frame: int, ticks: int = 0, pid: int = TELETEXT_PID, video: int = VIDEO_PID,
+         number: int | None = None, first: int = FIRST) -> str:
+    """The line of the PES packet of a frame, behind the picture of that frame."""
+    return f"lead {pid} {(first + TICKS * frame) % CLOCK} {ticks} {video} " \
+        f"{frame + 1 if number is None else number}"
 
 
-class DecodingTimes(Case):
-    """Lines `step`, `apart` and `steps`."""
+def timed_video(pts: int | None, dts: int | None = None, stream_id: int = 0xE0) -> bytes:
+    """A PES packet of video with these times."""
+    times = [] if pts is None else [pts_bytes(pts)] if dts is None else [
+        pts_bytes(pts), pts_bytes(dts)]
+    return b"\0\0\1" + bytes([stream_id, 0, 0, 0x80, (0, 0x80, 0xC0)[len(times)], 5 * len(times)]) \
+        + b"".join(times) + mpeg_2_picture()
 
-    kinds = "step", "apart", "steps"
 
-    def test_steps(self) -> None:
-        """Within the first group of pictures and behind it, which ends at the next picture with the
-        random_access_indicator, or after ten seconds; up to fifty PES packets on each side."""
-        rows: list[tuple[str, Collection[int], list[tuple[int, int]], int, list[str]]] = [
-            ("none", (0, 12), [], 40, []),
-            ("no group", (), [(20, 7200)], 40,
-             [*apart(range(20), 0), step(20, 0, 7200), *apart(range(20, 40), -7200)]),
-            ("within it", (0, 30), [(20, 7200)], 40,
-             [*apart(range(20), 0), step(20, 0, 7200), *apart(range(20, 40), -7200)]),
-            ("behind it", (0, 12), [(20, 7200)], 80,
-             [*apart(range(20), 0), step(20, 0, 7200), *apart(range(20, 70), -7200)]),
-            ("ten seconds behind", (0,), [(260, -9000)], 270,
-             [*apart(range(210, 260), 0), step(260, 0, -9000), *apart(range(260, 270), 9000)]),
-            ("far behind", range(0, 500, 12), [(400, 5400)], 500,
-             [*apart(range(350, 400), 0), step(400, 0, 5400), *apart(range(400, 450), -5400)]),
-            ("two", (0, 12), [(60, 7200), (80, -7200)], 200,
-             [*apart(range(10, 60), 0), step(60, 0, 7200), *apart(range(60, 80), -7200),
-              step(80, 7200, -7200), *apart(range(80, 130), 0)])]
-        for name, flagged, later, frames, wanted in rows:
-            data = shown([Programme({TELETEXT_PID: each_frame(frames)}, FIRST, VIDEO_PID, flagged,
-                                    later)], frames).data
-            lines = told(self, data, *self.kinds)
-            self.must(name, lines == [*wanted, f"steps {VIDEO_PID} {len(later)} {TICKS}"], lines)
+class Leads(Case):
+    """The line `lead`."""
 
-    def test_two_with_teletext(self) -> None:
-        """Of each PID with Teletext."""
-        both = TELETEXT_PID, LATER_PID
-        data = shown([Programme(dict.fromkeys(both, each_frame(90)), FIRST, later=[(20, 7200)])],
-                     90).data
-        lines = told(self, data, *self.kinds)
-        self.must("both", lines == [
-            *apart(range(20), 0, TELETEXT_PID), *apart(range(20), 0, LATER_PID), step(20, 0, 7200),
-            *apart(range(20, 70), -7200, *both), f"steps {VIDEO_PID} 1 {TICKS}"], lines)
+    def lines_of(self, *programmes: Programme, frames: int = 60) -> list[str]:
+        """Those of a recording of programmes."""
+        return told(self, shown(programmes, frames).data, "lead")
 
-    def test_two_programmes(self) -> None:
-        """By the pictures of the own programme, in any order of programmes and of PIDs; where
-        another one's pictures step, nothing is apart."""
+    def test_prints_the_lead_once_a_second(self) -> None:
+        """Of the first PES packet of each second, within the first group of pictures and behind it,
+        and over the wrap of the clock."""
+        rows: list[tuple[str, tuple[int, ...], int, list[int]]] = [
+            ("one group", (0, 12), 0, [0, 0, 0]), ("no group", (), 0, [0, 0, 0]),
+            ("a step behind the group", (0, 12), 7200, [0, 0, -7200]),
+            ("a step within the group", (0, 59), 7200, [0, 0, -7200]),
+            ("back", (0, 12), -9000, [0, 0, 9000])]
+        for first in (FIRST, CLOCK - 20 * TICKS):
+            for name, flagged, by, wanted in rows:
+                made = Programme({TELETEXT_PID: each_frame(60, first)}, first, VIDEO_PID, flagged,
+                                 [(30, by)])
+                self.check(f"{first}: {name}", self.lines_of(made), [
+                    lead(25 * at, ticks, first=first) for at, ticks in enumerate(wanted)])
+
+    def test_leads_the_video_of_its_own_programme(self) -> None:
+        """Of each PID with Teletext, over the video of its own programme, in any order of
+        programmes and PIDs."""
+        both = dict.fromkeys((TELETEXT_PID, LATER_PID), each_frame(30))
+        self.check("two with Teletext", self.lines_of(Programme(both, FIRST), frames=30),
+                   [lead(frame, pid=pid) for frame in (0, 25) for pid in both])
         for own, other in ((VIDEO_PID, OTHER_VIDEO), (OTHER_VIDEO, VIDEO_PID)):
-            both = [Programme({TELETEXT_PID: each_frame(80)}, FIRST, own, later=[(60, 7200)]),
-                    Programme({}, 7 * FIRST, other, later=[(20, 3600)])]
-            for programmes in (both, both[::-1]):
-                lines = told(self, shown(programmes, 80).data, *self.kinds)
-                ends = [f"steps {one.video} 1 {TICKS}" for one in programmes]
-                self.must(f"{own:#x} {programmes[0].video:#x}", lines == [
-                    step(20, 0, 3600, 7 * FIRST, other), *apart(range(10, 60), 0, video=own),
-                    step(60, 0, 7200, video=own), *apart(range(60, 80), -7200, video=own), *ends],
-                    lines)
+            programmes = [Programme({TELETEXT_PID: each_frame(30)}, FIRST, own),
+                          Programme({}, 7 * FIRST, other)]
+            for order in (programmes, programmes[::-1]):
+                self.check(f"{own:#x} {order[0].video:#x}", self.lines_of(*order, frames=30),
+                           [lead(frame, video=own) for frame in (0, 25)])
 
-    def test_sixty_a_second(self) -> None:
-        """Steps of less than half a frame are usual too, and the first of them is one."""
-        maker = Maker(components())
+    def made_of(self, *several: tuple[int, bytes]) -> list[str]:
+        """The lines of PES packets on PIDs of a programme with two of video."""
+        maker = Maker([*components(), (OTHER_VIDEO, MPEG_2, b"")])
         maker.put_tables()
-        for number in range(8):
-            maker.put(VIDEO_PID, video_packet(FIRST + 1501 * number, mpeg_2_picture()))
-        lines = told(self, b"".join(maker.taken()), *self.kinds)
-        self.must("usual", lines == [f"steps {VIDEO_PID} 0 1501"], lines)
+        for pid, data in several:
+            maker.put(pid, data)
+        return told(self, maker.data, "lead")
+
+    def test_leads_the_last_picture_with_a_time(self) -> None:
+        """Which picture counts: the last that has a time, DTS or else PTS; of the PID of video that
+        began first; and one Teletext PES packet behind each."""
+        def teletext(frame: int) -> tuple[int, bytes]:
+            return TELETEXT_PID, pes_packet(FIRST + TICKS * frame, [CLOSING])
+
+        def video(pts: int | None, dts: int | None = None, pid: int = VIDEO_PID
+                  ) -> tuple[int, bytes]:
+            return pid, timed_video(pts, dts)
+
+        rows: dict[str, tuple[list[tuple[int, bytes]], list[str]]] = {
+            "no picture": ([teletext(0)], []),
+            "a picture without a time": ([video(None), teletext(0)], []),
+            "a second one without a time": (
+                [video(FIRST), video(None), teletext(0)], [lead(0, number=1)]),
+            "then one with a time": (
+                [video(FIRST), video(None), video(FIRST), teletext(0)], [lead(0, number=3)]),
+            "a DTS": ([video(FIRST + 7, FIRST - 5), teletext(0)], [lead(0, 5)]),
+            "behind one picture one alone": (
+                [video(FIRST), teletext(0), teletext(40)], [lead(0)]),
+            "behind each one": (
+                [video(FIRST), teletext(0), video(FIRST), teletext(40)],
+                [lead(0), lead(40, 40 * TICKS, number=2)]),
+            "under a second": (
+                [video(FIRST), teletext(0), video(FIRST), teletext(24)], [lead(0)]),
+            "a PTS that goes back": (
+                [video(FIRST), teletext(9), video(FIRST), teletext(8)],
+                [lead(9, 9 * TICKS, number=1), lead(8, 8 * TICKS, number=2)]),
+            "two PIDs of video": (
+                [video(FIRST, pid=OTHER_VIDEO), video(FIRST), teletext(0)],
+                [lead(0, video=OTHER_VIDEO)]),
+            "half the clock": (
+                [video(FIRST + CLOCK // 2), teletext(0)], [lead(0, -CLOCK // 2)]),
+            "a tick less": (
+                [video(FIRST + CLOCK // 2 + 1), teletext(0)], [lead(0, CLOCK // 2 - 1)])}
+        for name, (several, wanted) in rows.items():
+            self.check(name, self.made_of(*several), wanted)
 
 
 # First pictures: thirty, one a frame, each in two TS packets.
@@ -153,10 +177,205 @@ class FirstPictures(Case):
             ("1 3", pictures(group, lost=[8], scrambled=[11, 12, 29])),
             ("0 0 3 1", pictures((3,))), ("2 1 3 1", pictures((3,), [17, 40], [59])),
             ("1 1 0 1", pictures((0,), [1], [3])), ("0 0 30 0", pictures(())),
-            ("0 0 29 0", pictures((), [6], [8]))]
+            ("0 0 29 0", pictures((), [6], [8])),
+            ("1 0", pictures((3, 25), lost=range(17, 32))),  # the counter is the same again
+            ("0 0 29 0", pictures((), twice=[6, 7, 8], lost=[10]))]
         for number, (wanted, data) in enumerate(rows):
             lines = told(self, data, "pictures")
             self.must(f"{number}: {wanted}", lines == [f"pictures {VIDEO_PID} {wanted}"], lines)
+
+
+    def test_counts_a_packet_sent_twice_once(self) -> None:
+        """A TS packet that is sent twice counts once: each kind of them, and the flagged one."""
+        kinds = "video", "picture", "group", "pictures"
+        wanted = told(self, pictures((3, 15)), *kinds)
+        for number in range(34):
+            self.check(f"TS packet {number} twice",
+                       told(self, pictures((3, 15), twice=[number]), *kinds), wanted)
+
+    def test_takes_no_flag_of_a_damaged_packet(self) -> None:
+        """A TS packet with transport_error_indicator flags no picture, nor the next one."""
+        for count, passed in ((0, 3), (1, 14)):
+            wrong = [6][:count]
+            self.check(f"{wrong}", told(self, pictures((3, 15), wrong=wrong), "video"),
+                       [f"video {VIDEO_PID} {passed}"])
+
+    def lines_of(self, *several: bytes) -> list[str]:
+        """The lines of TS packets of the video PID."""
+        maker = Maker(components())
+        maker.put_tables()
+        return told(self, maker.data + b"".join(several), "video", "picture", "group", "pictures")
+
+    def split(self, cuts: Sequence[int], pes: bytes, flagged: bool = False, counter: int = 0
+              ) -> list[bytes]:
+        """The TS packets of a PES packet that is cut at some places."""
+        maker = Maker([])
+        maker.counters[VIDEO_PID] = counter + 15
+        for begin, end in zip([0, *cuts], [*cuts, len(pes)]):
+            is_first = begin == 0
+            maker.put_packet(VIDEO_PID, BEGINS * is_first, pes[begin:end],
+                             bytes([RANDOM_ACCESS]) if is_first and flagged else b"")
+        return maker.packets
+
+    def test_reads_video_headers_over_several_packets(self) -> None:
+        """Wherever the header of a PES packet is cut, its times and what follows it are read."""
+        pes = timed_video(FIRST, FIRST - 7)
+        pes = pes[:19] + CLOSED_GROUP + pes[19:]
+        second = timed_video(FIRST + TICKS)
+        rows: list[list[int]] = [[], *([cut] for cut in range(1, 30)), [1, 2, 3], [*range(1, 28)]]
+        for cuts in rows:
+            made = self.split([], second)  # the PID is known from the first stream_id on
+            made += self.split(cuts, pes, True, 1)
+            made += self.split([9], second, counter=len(made) & 15)
+            self.check(f"cut at {cuts}", self.lines_of(*made), [
+                f"video {VIDEO_PID} 1", f"picture {VIDEO_PID} {FIRST}",
+                f"picture {VIDEO_PID} {FIRST + TICKS}",
+                f"group {VIDEO_PID} {FIRST} {FIRST} closed", f"pictures {VIDEO_PID} 0 0 1 1"])
+
+    def test_begins_no_picture_if_its_header_is_lost(self) -> None:
+        """Then no picture begins: it may be none."""
+        first, rest = self.split([9], timed_video(FIRST), True)
+        gap, *_ = self.split([], b"x" * 9, counter=1)
+        whole = self.split([], timed_video(FIRST), True, 2)
+        begun = [f"video {VIDEO_PID} 0", f"picture {VIDEO_PID} {FIRST}",
+                 f"group {VIDEO_PID} {FIRST} {FIRST} unknown", f"pictures {VIDEO_PID} 0 0 0 1"]
+        self.check("not lost", self.lines_of(first, rest), begun)
+        lost = rest[:3] + bytes([rest[3] + 1 & 0xFF]) + rest[4:]
+        self.check("lost", self.lines_of(first, lost), [f"pictures {VIDEO_PID} 0 0 0 0"])
+        self.check("another follows", self.lines_of(first, gap, *whole), begun)
+
+    def test_begins_a_picture_at_stream_id_e0_to_ef(self) -> None:
+        """What has no start code of a PES packet of video, or is damaged."""
+        begun = f"picture {VIDEO_PID} {FIRST}"
+        rows: dict[str, tuple[bytes, bool]] = {
+            "stream_id E0": (timed_video(FIRST), True),
+            "stream_id EF": (timed_video(FIRST, stream_id=0xEF), True),
+            "stream_id DF": (timed_video(FIRST, stream_id=0xDF), False),
+            "stream_id F0": (timed_video(FIRST, stream_id=0xF0), False),
+            "private_stream_2": (timed_video(FIRST, stream_id=0xBF), False),
+            "audio": (timed_video(FIRST, stream_id=0xC0), False),
+            "00 00 02": (b"\0\0\2" + timed_video(FIRST)[3:], False),
+            "01 00 01": (b"\1" + timed_video(FIRST)[1:], False),
+            "00 01 01": (b"\0\1" + timed_video(FIRST)[2:], False),
+            "FF": (b"\xff" * 100, False)}
+        for name, (pes, is_picture) in rows.items():
+            flagged = self.split([], timed_video(0), True)
+            lines = self.lines_of(*flagged, *self.split([], pes, counter=1))
+            self.check(name, lines[2:-2], [begun] * is_picture)
+
+    def test_counts_no_announced_jump_as_lost(self) -> None:
+        """A jump of the counter that is announced, here or in a packet before, is no loss."""
+        first = self.split([], timed_video(FIRST), True)
+        for counter, lost in ((1, 0), (2, 1), (0, 1), (9, 1)):
+            second, = self.split([], timed_video(FIRST + TICKS), counter=counter)
+            says = second[:5] + bytes([second[5] | 0x80]) + second[6:]
+            alone = (head(VIDEO_PID, 0, ADAPTATION_ALONE) + bytes([PACKET - 5, 0x80])).ljust(
+                PACKET, b"\xff")
+            for name, made, wanted in (("not", [second], lost), ("here", [says], 0),
+                                       ("before", [alone, second], 0)):
+                self.check(f"{counter} {name}", self.lines_of(*first, *made)[-1],
+                           f"pictures {VIDEO_PID} {wanted} 0 0 1")
+
+
+# Tables: what PAT and PMT name, and PIDs that they do not.
+
+class Named(NamedTuple):
+    """A row: the PMT's components, or PES packets on PIDs behind the tables; and lines."""
+
+    components: list[tuple[int, int, bytes]]
+    wanted: list[str]
+
+
+class Tables(Case):
+    """Lines `programme`, `stream`, `announce` and `teletext`."""
+
+    kinds = "programme", "stream", "announce", "teletext", "pcr", "ahead"
+
+    def test_prints_each_stream_and_page_of_a_pmt(self) -> None:
+        """Each stream and each page of a PMT, of which there may be many."""
+        page = teletext_descriptor()
+        other = b"\x46" + teletext_descriptor(b"fra", 5, 0x50, 1)[1:]
+        two = b"\x56\x0a" + teletext_descriptor(b"deu", 2, 0x77)[2:] \
+            + teletext_descriptor(b"ger", 5, 0x99, 7)[2:]
+        one, more = "announce 257 888 656e67 2", "announce 257 150 667261 5"
+        rows: dict[str, Named] = {
+            "none": Named([], []),
+            "a stream": Named([(0x1FFE, 0xFF, b"")], ["stream 8190 255"]),
+            "descriptor 56": Named([(257, 6, page)], ["stream 257 6", one, "teletext 257"]),
+            "descriptor 46": Named([(257, 6, other)], ["stream 257 6", more, "teletext 257"]),
+            "both": Named([(257, 6, other + page)],
+                          ["stream 257 6", more, one, "teletext 257"]),
+            "another before it": Named([(257, 6, b"\x52\x01\x07" + page)],
+                                       ["stream 257 6", one, "teletext 257"]),
+            "DVB subtitles": Named([(257, 6, b"\x59\x08eng\x10\0\1\0\1")], ["stream 257 6"]),
+            "two pages": Named([(257, 6, two)], [
+                "stream 257 6", "announce 257 877 646575 2", "announce 257 799 676572 5",
+                "teletext 257"]),
+            "forty streams": Named(
+                [*((pid, 3, b"") for pid in range(300, 339)), (257, 6, page)],
+                [*(f"stream {pid} 3" for pid in range(300, 339)), "stream 257 6", one,
+                 "teletext 257"])}
+        for name, row in rows.items():
+            maker = Maker([], 0x1FFF)
+            table = program_map(1, row.components, 0x1FFF)
+            maker.put_packet(0, BEGINS, maker.tables[0][1].ljust(PACKET - 4, b"\xff"))
+            maker.put_packet(PMT_PID, BEGINS, table[:PACKET - 4].ljust(PACKET - 4, b"\xff"))
+            if table[PACKET - 4:]:
+                maker.put_packet(PMT_PID, 0, table[PACKET - 4:].ljust(PACKET - 4, b"\xff"))
+            maker.packets += [filler(AUDIO_PID, maker.counters).data] * 5
+            self.check(name, told(self, maker.data, *self.kinds),
+                       ["programme 1 8191", *row.wanted])
+
+    def test_reads_the_last_of_twenty_programmes(self) -> None:
+        """Twenty programmes, of which the last has Teletext and a PCR of its own."""
+        maker, pids = Maker([]), range(0x400, 0x414)
+        maps = [(pid, program_map(number, [(TELETEXT_PID, PRIVATE, teletext_descriptor())] if
+                                  pid == pids[-1] else [(pid + 0x100, MPEG_2, b"")], pid + 0x200))
+                for number, pid in enumerate(pids, 1)]
+        maker.tables = [(0, program_association(enumerate(pids, 1))), *maps]
+        maker.put_tables()
+        for frame, pes in enumerate(each_frame(30)):
+            for pid in (pids[0] + 0x200, pids[-1] + 0x200):
+                maker.pcr_pid = pid
+                maker.put_pcr(FIRST + TICKS * frame - (9 if pid == pids[0] + 0x200 else AHEAD))
+            maker.put(TELETEXT_PID, pes)
+        first, last = pids[0] + 0x200, pids[-1] + 0x200
+        lines = told(self, maker.data, *self.kinds)
+        self.check("tables", lines[:42], [
+            line for number, pid in enumerate(pids, 1) for line in (
+                f"programme {number} {pid + 0x200}",
+                f"stream {pid + 0x100} 2" if pid != pids[-1] else f"stream {TELETEXT_PID} 6")
+        ] + [f"announce {TELETEXT_PID} 888 656e67 2", f"teletext {TELETEXT_PID}"])
+        self.check("clocks", lines[42:], [
+            *(line for frame in (0, 25) for line in (
+                f"pcr {first} {FIRST + TICKS * frame - 9}",
+                f"pcr {last} {FIRST + TICKS * frame - AHEAD}",
+                f"ahead {TELETEXT_PID} {FIRST + TICKS * frame} {AHEAD}")),
+            f"pcr {first} {FIRST + TICKS * 29 - 9}", f"pcr {last} {FIRST + TICKS * 29 - AHEAD}"])
+
+    def test_follows_teletext_in_no_pmt(self) -> None:
+        """A PID that no PMT names is followed from the first PES packet on that has its
+        data_identifier within the same TS packet, if that is 10 to 1F."""
+        whole, *others = each_frame(6)
+        rows: dict[str, tuple[list[bytes], int, bool]] = {
+            "whole": ([whole], 0, True), "45 bytes": ([whole[:45], whole[45:]], 1, True),
+            "11 bytes": ([whole[:11], whole[11:]], 1, True),
+            "46 bytes": ([whole[:46], whole[46:]], 0, True),
+            "data_identifier 1F": ([whole[:45] + b"\x1f" + whole[46:]], 0, True),
+            "data_identifier 20": ([whole[:45] + b"\x20" + whole[46:]], 0, False),
+            "data_identifier 0F": ([whole[:45] + b"\x0f" + whole[46:]], 0, False),
+            "audio": ([b"\0\0\1\xc0" + whole[4:]], 0, False)}
+        for name, (parts, missing, is_followed) in rows.items():
+            maker = Maker([])
+            for place, part in enumerate(parts):
+                maker.put_packet(TELETEXT_PID, BEGINS * (place == 0), part)
+            for pes in others:
+                maker.put(TELETEXT_PID, pes)
+            found = told(self, maker.data, "teletext", "end")
+            count = 6 - missing
+            self.check(name, found, [
+                f"teletext {TELETEXT_PID}", f"end {TELETEXT_PID} {count} 0 "
+                f"{5 + (not missing) * len(parts)} 0 0 0 {FIRST + 5 * TICKS}"] * is_followed)
 
 
 # Clocks.
@@ -282,6 +501,21 @@ class PesPackets(Case):
             lines = told(self, of_pes(pes), "pes")
             self.must(name, lines == [f"pes {TELETEXT_PID} {one}" for one in wanted], lines)
 
+    def test_reads_teletext_headers_over_two_packets(self) -> None:
+        """Wherever the header of a PES packet is cut, `ahead`, `lead` and `end` have its PTS."""
+        for cut in (1, 3, 4, 8, 9, 13, 14, 45, 100):
+            maker = Maker(components())
+            maker.put_tables()
+            for frame, pes in enumerate(each_frame(30)):
+                maker.put_pcr(FIRST + TICKS * frame - AHEAD)
+                maker.put(VIDEO_PID, timed_video(FIRST + TICKS * frame))
+                maker.put_packet(TELETEXT_PID, BEGINS, pes[:cut])
+                maker.put_packet(TELETEXT_PID, 0, pes[cut:])
+            self.check(f"cut at {cut}", told(self, maker.data, "ahead", "lead", "end"), [
+                *(line for frame in (0, 25) for line in (
+                    lead(frame), f"ahead {TELETEXT_PID} {FIRST + TICKS * frame} {AHEAD}")),
+                f"end {TELETEXT_PID} 30 0 60 0 0 0 {FIRST + TICKS * 29}"])
+
     def test_reports_what_extract_refuses(self) -> None:
         """What `extract` refuses, and nothing behind it."""
         length = (184).to_bytes(2, "big"), (10 * 184 - 6).to_bytes(2, "big")
@@ -318,6 +552,133 @@ class PesPackets(Case):
             self.must(f"a file, {cut}", lines == [
                 f"pes 0 {run}", *["damaged 0 1500 cut"][:cut], f"end 0 1500 0 0 0 0 0 {last}",
                 "over 0 0"], lines)
+
+
+# All lines of a recording, in their order.
+
+def of_teletext(pes: Iterable[bytes], change: Callable[[list[bytes]], list[bytes]] = list
+                ) -> bytes:
+    """Tables, then PES packets of Teletext, whose TS packets may be changed."""
+    maker = Maker(components())
+    maker.put_tables()
+    tables = maker.taken()
+    for one in pes:
+        maker.put(TELETEXT_PID, one)
+    return b"".join([*tables, *change(maker.taken())])
+
+
+def without_second(packets: list[bytes]) -> list[bytes]:
+    return [packets[0], *packets[2:]]
+
+
+def scramble_second(packets: list[bytes]) -> list[bytes]:
+    first, second, *rest = packets
+    return [first, second[:3] + bytes([second[3] | 0x80]) + second[4:], *rest]
+
+
+def announce_second(packets: list[bytes]) -> list[bytes]:
+    """In place of the second one, which is lost, a jump of the counter is announced."""
+    field = bytes([PACKET - 5, 0x80]).ljust(PACKET - 4, b"\xff")
+    return [packets[0], head(TELETEXT_PID, 0, ADAPTATION_ALONE) + field, *packets[2:]]
+
+
+def with_units(pes: bytes, data_unit_id: int) -> bytes:
+    """A PES packet whose first data unit has another data_unit_id."""
+    return pes[:46] + bytes([data_unit_id]) + pes[47:]
+
+
+class Listings(Case):
+    """What a recording is, as a whole; docs/manual/survey.md says it line by line."""
+
+    maxDiff = None
+
+    def lines_of(self, data: bytes) -> list[str]:
+        """All lines but the first two, which are the same for each."""
+        status, lines = self.program("survey", self.write("one.ts", data))
+        self.check("status", status, 0)
+        self.check("first lines", lines[:2], ["survey 1", f"head {data[:11].hex()}".rstrip()])
+        return lines[2:]
+
+    def test_prints_all_lines_of_a_programme(self) -> None:
+        """Of a programme with video and Teletext whose PES packets are those of a row."""
+        other = packet(1, 0, [0, 5, 0, 8, 0, 8, 1, 0], b" " * 32)  # page 150
+        held = "0b0b4869" + "20" * 36
+        begun = f"pes 257 0 1 {FIRST} 0 heob/88080810 1 0"
+        rows: dict[str, tuple[bytes, str]] = {
+            "rows": (of_teletext(saying([HEADER, row(20, b"Hi")], [CLOSING], [HEADER])),
+                     f"sub 257 888; pes 257 0 1 {FIRST} 0 heo/88080810 2 0; rows 257 0 20:{held}; "
+                     f"pes 257 1 1 1003600 0 c/ 1 0; pes 257 2 1 1007200 0 heob/88080810 1 0; "
+                     "rows 257 2 -; subs 257 888 2; end 257 3 0 3 0 0 0 1007200; over 0 5"),
+            "strays": (of_teletext(saying([HEADER, CLOSING, row(20, b"Hi")], [CLOSING])),
+                       f"sub 257 888; pes 257 0 1 {FIRST} 0 hecbs/88080810 3 0; rows 257 0 -; "
+                       f"strays 257 0 20:{held}; pes 257 1 1 1003600 0 b/ 1 0; subs 257 888 1; "
+                       "end 257 2 0 2 0 0 0 1003600; over 0 4"),
+            "data_unit_id 02": (of_teletext([with_units(one, 2) for one in saying([HEADER])]),
+                                f"sub 257 888; {begun}; rows 257 0 -; subs 257 888 1; "
+                                "end 257 1 0 1 0 0 0 1000000; over 0 3"),
+            "data_unit_id 04": (of_teletext([with_units(one, 4) for one in saying([HEADER])]),
+                                "pes 257 0 1 1000000 0 b/ 0 0; end 257 1 0 1 0 0 0 1000000; "
+                                "over 0 3"),
+            "two pages": (of_teletext(saying([HEADER], [other], [HEADER])),
+                          f"sub 257 888; {begun}; rows 257 0 -; sub 257 150; "
+                          "pes 257 1 1 1003600 0 ob/ 1 0; pes 257 2 1 1007200 0 heob/88080810 1 0; "
+                          "subs 257 888 2; subs 257 150 1; end 257 3 0 3 0 0 0 1007200; over 0 5"),
+            "character sets": (
+                of_teletext(saying([HEADER, naming(28, 0x24)], [naming(29, 0x11, 4)],
+                                   [naming(29, 0x11, 1)])),
+                "sub 257 888; set 257 28 0 4 4; pes 257 0 1 1000000 0 heob/88080810 2 0; "
+                "rows 257 0 -; set 257 29 4 2 1; pes 257 1 2 1003600 3600 ob/ 1 0; "
+                "subs 257 888 1; end 257 3 0 3 0 0 0 1007200; over 0 5"),
+            "a loss": (of_teletext(each_frame(3), without_second),
+                       "pes 257 0 1 1000000 0 b/ 1 0; gap 257 1 1 0; "
+                       "pes 257 2 1 1007200 0 b/ 1 0; end 257 3 1 2 0 0 0 1007200; over 0 4"),
+            "a scrambled packet": (
+                of_teletext(each_frame(3), scramble_second),
+                "pes 257 0 1 1000000 0 b/ 1 0; gap 257 1 1 1; pes 257 2 1 1007200 0 b/ 1 0; "
+                "end 257 3 1 3 1 0 0 1007200; over 0 5"),
+            "an announced jump": (
+                of_teletext(each_frame(3), announce_second),
+                "seam 257 1; pes 257 0 2 1000000 7200 b/ 1 0; end 257 2 0 3 0 0 0 1007200; "
+                "over 0 5"),
+            "half the clock": (
+                of_teletext([pes_packet(pts, [CLOSING]) for pts in (FIRST, FIRST + CLOCK // 2)]),
+                f"pes 257 0 2 1000000 {-CLOCK // 2} b/ 1 0; "
+                f"end 257 2 0 2 0 0 0 {FIRST + CLOCK // 2}; over 0 4"),
+            "a tick less": (
+                of_teletext([pes_packet(pts, [CLOSING])
+                             for pts in (FIRST, FIRST + CLOCK // 2 - 1)]),
+                f"pes 257 0 2 1000000 {CLOCK // 2 - 1} b/ 1 0; "
+                f"end 257 2 0 2 0 0 0 {FIRST + CLOCK // 2 - 1}; over 0 4")}
+        tables = ["size 188", "programme 1 512", "stream 512 2", "stream 257 6",
+                  "announce 257 888 656e67 2", "teletext 257"]
+        for name, (data, lines) in rows.items():
+            self.check(name, self.lines_of(data), [*tables, *lines.split("; ")])
+
+    def test_ends_pictures_with_group_and_pictures(self) -> None:
+        """The first pictures of a video PID end with `group`, then `pictures`."""
+        tables = ["size 188", "programme 1 512", "stream 512 2", "stream 257 6",
+                  "announce 257 888 656e67 2", "teletext 257"]
+        for flagged, passed, count, last in (((3, 15), 3, 12, "0 0"), ((20,), 20, 10, "0 0 20 1")):
+            first = FIRST + TICKS * passed
+            self.check(f"{flagged}", self.lines_of(pictures(flagged)), [
+                *tables, f"video 512 {passed}",
+                *(f"picture 512 {first + TICKS * at}" for at in range(count)),
+                f"group 512 {first} {first} unknown", f"pictures 512 {last}",
+                "end 257 0 0 0 0 0 0 -", "over 0 62"])
+
+    def test_prints_all_lines_of_other_files(self) -> None:
+        """A file of PES packets, one that goes on otherwise or ends within one, and others."""
+        two = b"".join(each_frame(2))
+        run, end = "pes 0 0 2 1000000 3600 b/ 1 0", "end 0 2 0 0 0 0 0 1003600"
+        rows: dict[str, tuple[bytes, list[str]]] = {
+            "two": (two, ["size 0", run, end, "over 0 0"]),
+            "another start": (two + b"\0\0\1\xbe" + bytes(200),
+                              ["size 0", run, "damaged 0 2 start", end, "over 0 0"]),
+            "cut": (two + two[:183], ["size 0", run, "damaged 0 2 cut", end, "over 0 0"]),
+            "nothing": (b"", ["nothing", "over 0 0"]),
+            "RIFF": (b"RIFF" * 3, ["nothing", "over 12 0"])}
+        for name, (data, wanted) in rows.items():
+            self.check(name, self.lines_of(data), wanted)
 
 
 # What is known by such lines.
@@ -415,10 +776,8 @@ class Answered(Case):
             ("pictures 9 1 2", lambda it: it.videos, {9: Video(0, [], 1, 2)}),
             ("video 9 3; pictures 9 1 2 0 1", lambda it: it.videos, {9: Video(3, [], 1, 2, True)}),
             ("pictures 9 0 0 7 0", lambda it: it.videos, {9: Video(7, [], 0, 0, True)}),
-            ("apart 5 7 -9 9; step 9 1 2 3; apart 5 8 0 9; steps 9 4 -; steps 8 2 5",
-             lambda it: (it.picture_clocks, it.tells_seams),
-             ({9: PictureClock([Distance(5, 7, -9), Step(1, 2, 3), Distance(5, 8, 0)], 3, False),
-               8: PictureClock([], 2, True)}, True))]
+            ("lead 5 7 -9 9 3; lead 5 8 0 9 4; lead 5 1 2 8 1", lambda it: it.leads,
+             {(5, 9): [Lead(7, -9, 3), Lead(8, 0, 4)], (5, 8): [Lead(1, 2, 1)]})]
         for lines, known, wanted in rows:
             for more in ("", " more")[:1 if "sub" in lines or "pictures" in lines else 2]:
                 heard = Survey()

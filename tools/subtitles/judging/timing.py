@@ -23,7 +23,7 @@ from ..stream.gaps import (
     unseen_from)
 from ..stream.packets import NO_RANGE, PACKET, PTSPair, Packets, Range, jumps_at, jumps_told
 from ..stream.ranges import Cut, cut_of
-from ..stream.survey import Departure, PictureClock, Survey, departures_of
+from ..stream.survey import Departure, Survey, departures_of
 from .part import Part
 
 
@@ -346,27 +346,33 @@ class PicturesFound(NamedTuple):
 
 def left_by_pictures(survey: Survey, pid: int, alignment: Found, within: int, number: int
                      ) -> PicturesFound:
-    """What the pictures leave of a part by its number, whose Teletext is on a PID."""
+    """Return what the pictures leave of a part by its number, whose Teletext is on a PID."""
     kinds = {pid for programme in survey.programmes_of(pid) for pid in programme.kinds}
     faults, notes = list[NamedFault](), list[str]()
-    for video, clock in survey.picture_clocks.items():
-        if video in kinds:
-            inside = departures_in(departures_of(clock.lines, pid), alignment)
+    for (own, video), leads in survey.leads.items():
+        if own == pid and video in kinds:
+            departures = departures_of(leads)
+            inside = departures_in(departures or [], alignment)
             away = [departure for departure in inside if departure.ticks]
             faults += faults_of(away, alignment, within, number)
             notes += late_notes(away, alignment, within)
-            notes += unclear_notes(clock, sum(departure.ticks is None for departure in inside))
+            notes += unclear_notes(departures is not None, len(inside) - len(away))
     return PicturesFound(faults, notes)
 
 
 def departures_in(several: Sequence[Departure], alignment: Found) -> list[Departure]:
-    """Those of the time of a part; where its clock is of the first picture, from that on."""
+    """Return those within the time of a part, or from its first picture on if its clock is that of
+    the picture. One that may lie outside is unclear."""
     first = pts_of(alignment.begin, alignment.origin)
     length = TICKS * (alignment.end - alignment.begin)
     is_of_picture = alignment.clock.source in (START, TCP)
-    return [departure for departure in several
-            if (at := ticks_within(first, length, departure.pts)) < length and (
-                at >= 0 and not departure.is_begin or is_of_picture)]
+    found = []
+    for departure in several:
+        at, since = (ticks_within(first, length, pts) for pts in (departure.pts, departure.since))
+        if since < length and (at >= 0 or is_of_picture):
+            is_inside = at < length and (since >= 0 or is_of_picture)
+            found.append(departure if is_inside else departure._replace(ticks=None))
+    return found
 
 
 class Away(NamedTuple):
@@ -416,12 +422,11 @@ def late_notes(several: Sequence[Departure], alignment: Found, within: int) -> l
             for away in aways_of(several, alignment) if is_allowed(away.ticks, within)]
 
 
-def unclear_notes(clock: PictureClock, count: int) -> list[str]:
-    """What is not checked of the clock of the pictures, of whose steps so many are not clear."""
-    if not clock.has_step:
+def unclear_notes(is_steady: bool, count: int) -> list[str]:
+    """Return what is not checked of the pictures, by whether their decoding times go on with their
+    number, and at how many places that is unclear."""
+    if not is_steady:
         return [f"{NOT_CHECKED}: their decoding times have no usual step"]
-    if clock.untold:
-        return [f"{NOT_CHECKED}: their decoding times step more often than is told"]
     return [f"{NOT_CHECKED} at {counted(count, 'place')} where their decoding times step: the "
-            "Teletext comes too seldom there, or the multiplexer's delay varies by more than a "
-            "frame"] if count else []
+            "multiplexer's delay varies, pictures are lost as well, or it is within a second of "
+            "the programme's begin or end"] if count else []

@@ -2,109 +2,120 @@
 from __future__ import annotations
 
 import dataclasses
+import math
 import os
 import statistics
 import subprocess
 import sys
-from typing import Callable, IO, Iterable, Iterator, NamedTuple, Sequence, Union
+from typing import Callable, IO, Iterable, Iterator, NamedTuple, Sequence
 
 from ..common.command_line import Unanswered, page_in, pid_name, shown, stream_words
-from ..common.times import TICKS, ticks_between
+from ..common.times import TICKS, ticks_between, wrapped
 from ..formats.teletext import Page, page_name
 from .packets import Change, Clocked, Mark, PES, Packets, Run, Texts
 
 
-# Whether the pictures leave the Teletext: their clock steps, and that of the Teletext does not.
+# Whether the pictures leave the Teletext.
 #
-# What is sent with the pictures comes near them in the stream. Where their decoding times step, and
-# the distance from the last of these to the PTS of the Teletext changes by as much, the step is of
-# the pictures alone: a viewer sees what follows early or late. Where it stays, pictures were lost,
-# or both clocks were set anew. Where it changes without a step, that is how the multiplexer works.
+# Once a second `survey` prints the lead of the Teletext: its PTS less the decoding time of the last
+# picture, with the number of that picture. If decoding times go on by more or less than the number
+# of pictures, and the lead changes by as much, the pictures leave the Teletext: viewers see what
+# follows early or late. If the lead stays, pictures were lost, or both clocks were set anew. If it
+# changes without such a step, the multiplexer changes its delay.
+#
+# A multiplexer sends Teletext sometimes before a picture and sometimes behind it. So the means of
+# some leads before and behind a step are compared, to a multiple of their standard error; if there
+# are many, also the least and the greatest.
 
-FEW = 5  # PES packets of Teletext, at least, on each side of a step
-LOOKED_AT = 50  # of them, at most
-JITTER = TICKS  # ticks between the quartiles of their distances, of which more tell nothing
+LOOKED_AT = (10, 30)  # lines on either side of a step; 30 only if 10 do not decide
+FEW = 5  # fewer lines tell less of their spread than the whole part does
+MANY = 20  # so many lines on either side are compared by least and greatest, too
+SURE = 2.5  # standard errors of a difference of means
 
 
-class Distance(NamedTuple):
-    """A PES packet of Teletext: its PID, its PTS, and how many ticks that is ahead of the last
-    decoding time of the video before it."""
+class Lead(NamedTuple):
+    """A PES packet of Teletext: its PTS, how many ticks that is ahead of the decoding time of the
+    last picture before it, and the number of that picture."""
 
-    pid: int
     pts: int
     ticks: int
-
-
-class Step(NamedTuple):
-    """Where the decoding times of the video go from one to another, which is not the usual step."""
-
-    before: int
-    after: int
-    usual: int
-
-    @property
-    def ticks(self) -> int:
-        """By how much they go on more than usual; less than nothing where by less."""
-        return ticks_between(self.before, self.after) - self.usual
-
-
-Line = Union[Distance, Step]
-
-
-@dataclasses.dataclass
-class PictureClock:
-    """What is told of the decoding times of a PID of video: its steps, each with distances before
-    and behind it, in their order; how many have no line of their own, and whether there is a usual
-    step at all."""
-
-    lines: list[Line] = dataclasses.field(default_factory=list)
-    untold: int = 0
-    has_step: bool = True
+    number: int
 
 
 class Departure(NamedTuple):
-    """By how many ticks the pictures leave the Teletext, from the PES packet with a PTS on: what
-    follows is so early, or late where they are less than nothing. `None` where that is not clear;
-    `is_begin`: no PES packet came before."""
+    """A place where the pictures leave the Teletext, between the PES packets with PTS `since` and
+    `pts`: what follows is so many ticks early, or late if they are negative. `None`: unclear."""
 
     pts: int
+    since: int
     ticks: int | None
-    is_begin: bool = False
 
 
-def departures_of(lines: Sequence[Line], pid: int) -> list[Departure]:
-    """Where the pictures leave the Teletext of a PID, and where that is not clear, by the steps of
-    the video and the distances around them, in their order."""
-    rows: list[list[Distance]] = [[]]
-    steps = []
-    for line in lines:
-        if isinstance(line, Step):
-            steps.append(line)
-            rows.append([])
-        elif line.pid == pid:
-            rows[-1].append(line)
-    departures = []
-    for step, before, after in zip(steps, rows, rows[1:]):
-        before, after = before[-LOOKED_AT:], after[:LOOKED_AT]
-        if not after:
-            continue  # and nothing is early or late
-        pts = after[0].pts
-        if min(len(before), len(after)) < FEW or max(spread(before), spread(after)) > JITTER:
-            departures.append(Departure(pts, None, not before))
-        elif abs(middle(after) - middle(before) + step.ticks) * 2 < TICKS:
-            departures.append(Departure(pts, step.ticks))
+def departures_of(leads: Sequence[Lead]) -> list[Departure] | None:
+    """Return where the pictures leave the Teletext, and where that is unclear, to a second; `None`
+    if their decoding times do not go on with their number."""
+    steps = steps_of(leads)
+    ends = [at for at, step in enumerate(steps, 1) if abs(step) * 4 >= TICKS]
+    if len(ends) * 2 > len(leads):
+        return None
+    rows = [[lead.ticks for lead in leads[begin:end]]
+            for begin, end in zip([0, *ends], [*ends, len(leads)])]
+    changes = [abs(after - before) for row in rows for before, after in zip(row, row[1:])]
+    typical = statistics.fmean(changes) if changes else TICKS
+    departures, before, between, ticks = [], rows[0], list[int](), 0
+    for end, row in zip(ends, rows[1:]):
+        ticks += steps[end - 1]
+        if len(row) == 1 and end != ends[-1]:
+            between += row
+            continue
+        left = left_by(before, row, ticks, typical)
+        if left == 0 and is_outside(between, before):
+            left = None  # they left and came back, or one time is damaged
+        if left != 0:
+            at = end - len(between)
+            departures.append(Departure(leads[at].pts, leads[at - 1].pts, left))
+        before, between, ticks = row, [], 0
     return departures
 
 
-def middle(several: Sequence[Distance]) -> float:
-    """The median of their distances."""
-    return statistics.median(one.ticks for one in several)
+def steps_of(leads: Sequence[Lead]) -> list[int]:
+    """Return by how many ticks the decoding times go on more than usual for the number of pictures,
+    from each line to the next."""
+    times = [wrapped(lead.pts - lead.ticks) for lead in leads]
+    gone = [(ticks_between(first, second), after.number - before.number)
+            for first, second, before, after in zip(times, times[1:], leads, leads[1:])]
+    usual = statistics.median(ticks / count for ticks, count in gone) if gone else TICKS
+    return [round(ticks - usual * count) for ticks, count in gone]
 
 
-def spread(several: Sequence[Distance]) -> float:
-    """From the lower quartile of their distances to the upper one."""
-    low, _, high = statistics.quantiles([one.ticks for one in several], n=4)
-    return high - low
+def is_outside(between: Iterable[int], before: Sequence[int]) -> bool:
+    """Return whether a lead is half a frame or more from all those before."""
+    half = TICKS // 2
+    return any(lead <= min(before) - half or lead >= max(before) + half for lead in between)
+
+
+def left_by(before: Sequence[int], after: Sequence[int], step: int, typical: float) -> int | None:
+    """Return by how many ticks the pictures leave the Teletext at a step of their clock, by the
+    leads before and behind it: nothing, the step, or the change of the leads if pictures were lost
+    there, too; `None` if that is unclear."""
+    limit, half = min(abs(step) or TICKS, TICKS) / 2, TICKS // 2
+    for most in LOOKED_AT:
+        old, new = before[-most:], after[:most]
+        moved = statistics.fmean(new) - statistics.fmean(old)
+        error = SURE * math.sqrt(sum(max(
+            statistics.variance(row) if len(row) > 1 else 0,
+            typical ** 2 if len(row) < FEW else 0) / len(row) for row in (old, new)))
+        for ticks in (0, step):
+            ends = [abs(end(new) - end(old) + ticks) * 2 for end in (min, max)]
+            is_sure = min(len(old), len(new)) >= MANY and max(ends) < limit
+            if abs(moved + ticks) + (0 if is_sure else error) < limit:
+                return ticks
+        if step and abs(moved) - error >= limit:
+            if abs(step + moved) <= min(limit + error, abs(step) / 4):
+                return step
+            if 0 <= step + moved <= abs(moved) / 2:
+                return -half * round(moved / half)
+    return None
 
 
 # What `subttx survey` tells of a recording, a line for each fact, as values.
@@ -197,7 +208,7 @@ class Survey:
         self.by_pid: dict[int, Packets] = {}
         self.videos: dict[int, Video] = {}
         self.tells_seams = False  # by a line that no program had before one that tells them
-        self.picture_clocks: dict[int, PictureClock] = {}
+        self.leads: dict[tuple[int, int], list[Lead]] = {}  # of a PID, over a PID of video
         self.clocks: dict[int, tuple[int, int]] = {}  # the first PCR and the last one
 
     def take(self, line: str) -> None:
@@ -312,20 +323,10 @@ class Survey:
         self.videos[int(pid)].form = form
         self.tells_seams = True
 
-    def take_apart(self, pid: str, pts: str, ticks: str, video: str, *_: str) -> None:
-        self.picture_clock(video).lines.append(Distance(int(pid), int(pts), int(ticks)))
-
-    def take_step(self, pid: str, before: str, after: str, usual: str, *_: str) -> None:
-        self.picture_clock(pid).lines.append(Step(int(before), int(after), int(usual)))
-
-    def take_steps(self, pid: str, count: str, usual: str, *_: str) -> None:
-        clock = self.picture_clock(pid)
-        clock.untold = int(count) - sum(isinstance(line, Step) for line in clock.lines)
-        clock.has_step = usual != "-"
+    def take_lead(self, pid: str, pts: str, ticks: str, video: str, number: str, *_: str) -> None:
+        self.leads.setdefault((int(pid), int(video)), []).append(
+            Lead(int(pts), int(ticks), int(number)))
         self.tells_seams = True
-
-    def picture_clock(self, pid: str) -> PictureClock:
-        return self.picture_clocks.setdefault(int(pid), PictureClock())
 
     def take_pictures(self, pid: str, lost: str, scrambled: str, passed: str = "",
                       *_: str) -> None:
