@@ -270,10 +270,14 @@ def plain(packets: Packets, frames: Sequence[int], begin: int, end: int,
     blank = [at for at in early if "h" in does[at] and "b" in does[at]]
     if not own:
         return None
-    at_begin = frames[own[0]] == begin and early and "b" not in does[early[-1]] and \
-        own[0] in changed
-    first = blank[-1] if blank and not at_begin else next(
-        (at for at in own if "h" in does[at]), -1)
+    is_shown = frames[own[0]] == begin and early and "b" not in does[early[-1]]
+    headers = [at for at in early if "h" in does[at]]
+    if blank and not (is_shown and own[0] in changed):
+        first = blank[-1]
+    elif is_shown and own[0] not in changed and "h" in does[own[0]] and headers:
+        first = headers[-1]  # a repeat: the text came early
+    else:
+        first = next((at for at in own if "h" in does[at]), -1)
     if first < 0:
         return None
     last = own[-1]

@@ -345,7 +345,7 @@ class Announced(Case):
                                     for at, frame in enumerate(frames)], seams=[2, 3, 4, 5, 6])
             recording: Any = SimpleNamespace(is_stream=True, packets=packets,
                                              survey=SimpleNamespace(tells_seams=True))
-            part: Any = SimpleNamespace(frames=SimpleNamespace(recording=recording), pes=(0, 7))
+            part: Any = SimpleNamespace(recorded=(recording, None), pes=(0, 7))
             told = late_jumps(part, Pace(REGULAR, apart))
             self.must(f"{origin} {apart}", told == ([
                 (pts_of(one, origin), pts_of(other, origin)) for one, other in late], others), told)

@@ -290,6 +290,8 @@ class Times(unittest.TestCase):
              "80 heb, 90 he, 100 hex, 200 heb", every, (2, 3), True, False, 4),
             ("not where nothing changes then", "80 heb, 90 he, 100 he, 200 heb", every, (0, 3),
              True, False, 4),
+            ("with the header before, where a repeat shows text at the first TCI",
+             "75 he, 80 -, 100 he, 200 heb", every, (0, 3), True, False, 4),
             ("not where another one changes", "80 hebx, 90 he, 100 he, 200 heb", every, (0, 3),
              True, False, 4),
             ("not later than the first TCI", "80 heb, 90 he, 101 hex, 200 heb", every, (0, 3),

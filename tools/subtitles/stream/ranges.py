@@ -92,6 +92,7 @@ class Beginning:
         self.begin, self.within = begin, within
         self.sending: list[SentPacket] = []  # the transmission that may go on
         self.blank: int | None = None  # the first of the last one before it that leaves it blank
+        self.header: int | None = None  # the last header before it
         self.is_blank = True
 
     def take(self, sent: SentPacket) -> None:
@@ -99,6 +100,8 @@ class Beginning:
         if not (self.within and self.sending and sent.frame in (self.sending[0].frame, None)):
             self.blank, self.sending = self.last_blank(), []
         self.sending.append(sent)
+        if HEADER in sent.does:
+            self.header = sent.number
         if sent.frame is not None:
             self.is_blank = BLANK in sent.does
 
@@ -112,9 +115,13 @@ class Beginning:
         """Return the number with which the range begins, if this PES packet tells it."""
         if sent.frame is None or sent.frame < self.begin:
             return None
-        replaces = sent.frame == self.begin and not self.is_blank and changes
-        blank = None if replaces else self.last_blank()
-        return blank if blank is not None else sent.number if HEADER in sent.does else None
+        is_shown = sent.frame == self.begin and not self.is_blank  # text, before the first frame
+        blank = None if is_shown and changes else self.last_blank()
+        if blank is not None or HEADER not in sent.does:
+            return blank
+        # A repeat at the first frame: its text came early, which check sees from the last header on.
+        is_repeat = is_shown and not changes and not self.within and self.header is not None
+        return self.header if is_repeat else sent.number
 
 
 class Ending:
