@@ -8,6 +8,7 @@ prover        how one is proved
 sizes         how many lines they have of what
 definitions   the definitions of specs/, and what a name or a clause rests on
 sources       what a file of specs/, proofs/ or src/ defines
+graph         what names what among them, and what serves what
 signs         the signs of antt, with their meaning
 promises      the index of clauses in CLAUSES
 cited         names that documents cite

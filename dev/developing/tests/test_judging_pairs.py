@@ -309,7 +309,7 @@ class Said(OfProgramme):
         self.must("letter", found.result["hints"] == [f"50: {whole}"] and found.said[-3::2] == [
             f"50: {whole}", "refused 50 Character block 1 at 6"] and
             [one["do"] for one in found.result["faults"]] == [whole] and any(
-                one.startswith("in block 1 a letter cannot be shown")
+                '"Café" (block 1), a letter cannot be shown' in one
                 for one in found.lines("Refused: ")),
             found.said)
         found = judged(self, programme(self, times(1), text=b"\xa35"), "--option", "german")

@@ -18,7 +18,7 @@ from subtitles.formats.listing import PICTURES_LEFT
 from subtitles.judging.timing import NOT_CHECKED, departures_in, late_jumps, left_by_pictures
 from subtitles.stream.gaps import Pace, REGULAR
 from subtitles.stream.packets import Packets, Run, announced_in, jumps_at, jumps_told, packets_in
-from subtitles.stream.survey import Departure, Lead, Survey, departures_of
+from subtitles.stream.survey import Departure, VideoLead, Survey, departures_of
 from .bench import Case
 from .judged import judged
 from .muxed import Programme, TELETEXT_PID, shown
@@ -32,21 +32,22 @@ SECOND = 25  # frames
 
 
 def leads_of(leads: Sequence[float], steps: Mapping[int, float] = {}, first: int = 0,
-             each: int = SECOND) -> list[Lead]:
+             each: int = SECOND) -> list[VideoLead]:
     """Lines so many frames apart, whose leads have these frames. The decoding times go on by some
     frames more than the number of pictures at some lines, by their places."""
-    found, gone = list[Lead](), 0.0
+    found, gone = list[VideoLead](), 0.0
     for at, ahead in enumerate(leads):
         gone += steps.get(at, 0)
         time = first + round(TICKS * (each * at + gone))
-        found.append(Lead((time + round(TICKS * ahead)) % CLOCK, round(TICKS * ahead), each * at))
+        lead = round(TICKS * ahead)
+        found.append(VideoLead((time + lead) % CLOCK, lead, each * at))
     return found
 
 
 class Departures(Case):
     """Where the pictures leave, stay, or where that is unclear."""
 
-    def ticks_of(self, leads: Sequence[Lead]) -> list[int | None] | None:
+    def ticks_of(self, leads: Sequence[VideoLead]) -> list[int | None] | None:
         """By how many ticks they leave at each place; `None` if no step is usual."""
         departures = departures_of(leads)
         return None if departures is None else [one.ticks for one in departures]
@@ -94,7 +95,7 @@ class Departures(Case):
         def around(frames: float, jitter: float, count: int = 40) -> list[float]:
             return [frames - chance.uniform(0, jitter) for _ in range(count)]
 
-        rows: dict[str, tuple[list[Lead], list[int | None]]] = {
+        rows: dict[str, tuple[list[VideoLead], list[int | None]]] = {
             "steady": (leads_of(around(6, 0) + around(4, 0), {40: 2}), [2 * TICKS]),
             "a frame of jitter": (leads_of(around(6, 1) + around(4, 1), {40: 2}), [2 * TICKS]),
             "eight frames of jitter": (leads_of(around(6, 8, 9) + around(4, 8, 9), {9: 2}), [None]),

@@ -15,7 +15,7 @@ from subtitles.common.command_line import Unanswered
 from subtitles.common.times import CLOCK, TICKS
 from subtitles.stream.packets import Change, Clocked, Mark, Packets, Run, Texts
 from subtitles.stream.survey import (
-    Announced, Lead, Lines, ProgramMap, Survey, VERSION, Video, runs_told, survey)
+    Announced, VideoLead, Lines, ProgramMap, Survey, VERSION, Video, runs_told, survey)
 from .bench import Case
 from .muxed import (
     AHEAD, AUDIO_PID, CLOSED_GROUP, MPEG_2, PMT_PID, PRIVATE, RANDOM_ACCESS, SLICES, TELETEXT_PID,
@@ -777,7 +777,7 @@ class Answered(Case):
             ("video 9 3; pictures 9 1 2 0 1", lambda it: it.videos, {9: Video(3, [], 1, 2, True)}),
             ("pictures 9 0 0 7 0", lambda it: it.videos, {9: Video(7, [], 0, 0, True)}),
             ("lead 5 7 -9 9 3; lead 5 8 0 9 4; lead 5 1 2 8 1", lambda it: it.leads,
-             {(5, 9): [Lead(7, -9, 3), Lead(8, 0, 4)], (5, 8): [Lead(1, 2, 1)]})]
+             {(5, 9): [VideoLead(7, -9, 3), VideoLead(8, 0, 4)], (5, 8): [VideoLead(1, 2, 1)]})]
         for lines, known, wanted in rows:
             for more in ("", " more")[:1 if "sub" in lines or "pictures" in lines else 2]:
                 heard = Survey()

@@ -119,7 +119,7 @@ class Beginning:
         blank = None if is_shown and changes else self.last_blank()
         if blank is not None or HEADER not in sent.does:
             return blank
-        # A repeat at the first frame: its text came early, which check sees from the last header on.
+        # A repeat at the first frame: its text came early, which check sees from the header before.
         is_repeat = is_shown and not changes and not self.within and self.header is not None
         return self.header if is_repeat else sent.number
 

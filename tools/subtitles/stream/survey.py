@@ -33,7 +33,7 @@ MANY = 20  # so many lines on either side are compared by least and greatest, to
 SURE = 2.5  # standard errors of a difference of means
 
 
-class Lead(NamedTuple):
+class VideoLead(NamedTuple):
     """A PES packet of Teletext: its PTS, how many ticks that is ahead of the decoding time of the
     last picture before it, and the number of that picture."""
 
@@ -51,7 +51,7 @@ class Departure(NamedTuple):
     ticks: int | None
 
 
-def departures_of(leads: Sequence[Lead]) -> list[Departure] | None:
+def departures_of(leads: Sequence[VideoLead]) -> list[Departure] | None:
     """Return where the pictures leave the Teletext, and where that is unclear, to a second; `None`
     if their decoding times do not go on with their number."""
     steps = steps_of(leads)
@@ -78,7 +78,7 @@ def departures_of(leads: Sequence[Lead]) -> list[Departure] | None:
     return departures
 
 
-def steps_of(leads: Sequence[Lead]) -> list[int]:
+def steps_of(leads: Sequence[VideoLead]) -> list[int]:
     """Return by how many ticks the decoding times go on more than usual for the number of pictures,
     from each line to the next."""
     times = [wrapped(lead.pts - lead.ticks) for lead in leads]
@@ -208,7 +208,7 @@ class Survey:
         self.by_pid: dict[int, Packets] = {}
         self.videos: dict[int, Video] = {}
         self.tells_seams = False  # by a line that no program had before one that tells them
-        self.leads: dict[tuple[int, int], list[Lead]] = {}  # of a PID, over a PID of video
+        self.leads: dict[tuple[int, int], list[VideoLead]] = {}  # of a PID, over a PID of video
         self.clocks: dict[int, tuple[int, int]] = {}  # the first PCR and the last one
 
     def take(self, line: str) -> None:
@@ -325,7 +325,7 @@ class Survey:
 
     def take_lead(self, pid: str, pts: str, ticks: str, video: str, number: str, *_: str) -> None:
         self.leads.setdefault((int(pid), int(video)), []).append(
-            Lead(int(pts), int(ticks), int(number)))
+            VideoLead(int(pts), int(ticks), int(number)))
         self.tells_seams = True
 
     def take_pictures(self, pid: str, lost: str, scrambled: str, passed: str = "",
