@@ -70,7 +70,8 @@ def verdict_box(verdict: Verdict) -> Markup:
     kind, drawn = shape(verdict.word)
     not_judged = verdict.word == NOT_JUDGED
     line = NOT_JUDGED if not_judged else verdict.lead or ""
-    parts = [clock_words(verdict)] if not not_judged else []
+    # The sentence of a relative verdict says that no clock was given.
+    parts = [clock_words(verdict)] if verdict.word not in (NOT_JUDGED, RELATIVE) else []
     parts += [folded(LOST_WORDS, [gap.line() for gap in verdict.gaps if gap.is_judged]),
               folded(NAMED_WORDS, [f"{one.line}: {one.words}" for one in verdict.named])]
     if not_judged:
