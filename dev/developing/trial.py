@@ -27,6 +27,7 @@ OTHERS = re.compile(r"(sh|strace): ")
 # What is printed for a fault that is explained on standard error, and how the explanation begins.
 EXPLAINED = [(re.compile(rb"^fault \d+ (Open|Read|Write)\b", re.MULTILINE), "subttx: "),
              (re.compile(rb"^usage 0 Words$", re.MULTILINE), "error: ")]
+UNREAD = "subttx: cannot read the command line: "  # for want of memory
 # How many faults `check --all` tells of each PES packet, but the last, of an input.
 TOLD_OF_EACH = {"long.pes": 0, "even.pes": 2, "unread.pes": 1}
 
@@ -348,10 +349,10 @@ def as_before(command: Command, ran: Ran) -> list[str]:
 
 def whole_or_no_memory(command: Command, ran: Ran) -> list[str]:
     """The run has to be the one in which nothing fails, or to tell want of memory. There may be
-    none to explain wrong arguments."""
+    none to explain wrong arguments, or for a part of the explanation."""
     found = NO_MEMORY.search(ran.printed or b"")
     if not found or ran.printed is None:
-        if command.status == 2 and not ran.told:
+        if command.status == 2 and (not ran.told or ran.told.startswith(UNREAD)):
             ran = ran._replace(told="error: ")
         return as_before(command, ran)
     before = ran.printed[:found.start()]
@@ -421,12 +422,24 @@ def is_second_look(calls: list[Call], call: Call) -> bool:
         it.name == "fsync" for it in calls[:calls.index(call)])
 
 
+def is_explanation(call: Call) -> bool:
+    """Whether a call writes to standard error."""
+    return call.name == "write" and call.on == "2"
+
+
 def judge(trial: Trial, command: Command, ran: Ran) -> list[str]:
-    """What is wrong with a run under strace, by the calls that were made to fail in it."""
-    failed = {(call.name, call.on): call for call in reversed(ran.calls) if call.is_injected}
-    if not failed:
+    """What is wrong with a run under strace, by the calls that were made to fail in it. A write to
+    standard error that fails changes nothing but that."""
+    injected = [call for call in ran.calls if call.is_injected]
+    if not injected:
         return ["no call failed"] + as_before(command, ran)
-    first = [call for call in ran.calls if call.is_injected][0]
+    if any(is_explanation(call) for call in injected):
+        ran = ran._replace(told="error: \nsubttx: ")
+    failed = {(call.name, call.on): call for call in reversed(injected)
+              if not is_explanation(call)}
+    if not failed:
+        return as_before(command, ran)
+    first = next(iter(call for call in injected if not is_explanation(call)))
     text, written = command.printed, command.written
     if is_second_look(ran.calls, first):
         text = fault_of_write(command)
@@ -445,7 +458,8 @@ def judge(trial: Trial, command: Command, ran: Ran) -> list[str]:
         text = text[:handed(ran.calls, at_output)]
     faults = wrong(ran, 2, text, written)
     for (name, on), call in failed.items():
-        after = [it for it in ran.calls[ran.calls.index(call) + 1:] if it.name == name]
+        after = [it for it in ran.calls[ran.calls.index(call) + 1:]
+                 if it.name == name and not is_explanation(it)]
         if name in ("read", "write") and any(on in (it.on, "1") for it in after):
             faults.append(f"a {name} after the one that failed")
     return faults

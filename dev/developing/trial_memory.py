@@ -18,7 +18,7 @@ from .trial_inputs import HEADER
 KIBIBYTES = [96 * 1024, 64 * 1024, 32 * 1024, 16 * 1024, *range(8192, 1024, -48)]
 MUCH = 8192  # KiB: with as much the program has to start
 STACK = 64  # KiB: each command takes less than 48
-STACK_OF_SURVEY = 144  # KiB: that one takes between 96 and 112
+STACK_OF_SURVEY = 160  # KiB: that one takes between 144 and 152
 MANY = 99_999  # subtitles of one block each: as many as a file may have
 BESIDE_TEXTS = 10_000_000  # bytes that they may take but for their texts
 TOO_LITTLE = 1_000_000  # in so many they can't be kept
