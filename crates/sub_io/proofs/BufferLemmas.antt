@@ -1,5 +1,5 @@
--- Bytes that a buffer holds before those of the device inside; main lemmas: held-split,
--- held-parts, held-moved. Bytes that are lent, NAME_begin, and passed over, NAME_passed.
+-- The buffered bytes come before those of the inner device; main lemmas: held-split, held-parts,
+-- held-moved. Bytes that are lent, NAME_begin, and skipped, NAME_passed.
 use Rattle.std.proofs.Common.{◌≡◌, ℕ, ◌+◌, ◌-◌, ◌≤◌, List, [], ◌++◌, length, take, drop}
 use Rattle.std.proofs.Common.{slice_range, ◌<◌, append_assoc, length-take-le, take-append-drop}
 use Rattle.std.proofs.Common.{Option, Some, None, Result, sym, ap, ◌∙◌, arith, drop-drop}
@@ -16,7 +16,7 @@ use Rattle.sub_io.specs.Calls.{ReadsAhead}
 use Rattle.sub_io.specs.Device.{PassesOver, Pulls}
 use Rattle.sub_io.specs.Reading.{AreNext}
 
--- The first n of the bytes from a to e, and those after them.
+-- A range splits after its first n bytes.
 slice_range-split : (xs : List ℕ) (a e n : ℕ)
     → a + n ≤ e
     → slice_range xs a e ≡ slice_range xs a (a + n) ++ slice_range xs (a + n) e
@@ -28,7 +28,7 @@ slice_range-split xs a e n within =
     ∙ ap (λ l. take n (drop a xs) ++ take (e - (a + n)) l) (drop-drop n a xs)
     ∙ ap (λ k. take k (drop a xs) ++ slice_range xs (a + n) e) (sym first)
 
--- The first n bytes that are held were copied to the front of `to`.
+-- Copying the first n buffered bytes to the front of `to`.
 pub held-split : (xs ys copied rest : List ℕ) (a e n : ℕ)
     → ys ≡ xs
     → a + n ≤ e
@@ -41,7 +41,7 @@ held-split xs ys copied rest a e n kept within long same =
     (sym same ∙ sym (take-append_seam copied rest) ∙ ap (λ k. take k (copied ++ rest)) long)
     ∙ ap (λ l. take n (copied ++ rest) ++ slice_range l (a + n) e) (sym kept)
 
--- A pull while no byte is held is one of the source inside.
+-- With an empty buffer, a pull is one of the inner source.
 pub Pulls-past : {E : Type 0} (x y : Option (List ℕ)) (old new to : List ℕ) (r : Result ℕ E)
     → old ≡ []
     → new ≡ []
@@ -50,7 +50,7 @@ pub Pulls-past : {E : Type 0} (x y : Option (List ℕ)) (old new to : List ℕ) 
 Pulls-past x y old new to r none still p =
     rw (none, still, prepend_known-nil x, prepend_known-nil y) p
 
--- The bytes that the sink inside did not take were moved to the front of the room.
+-- The bytes that the inner sink did not take were moved to the front of the buffer.
 held-rest : (room : List ℕ) (n len : ℕ)
     → n ≤ len
     → len ≤ length room
@@ -66,7 +66,7 @@ held-rest room n len some within =
     (sym (take-paste room 0 (drop n room) left (omega arith) fits)
     ∙ ap (λ k. take k (paste room 0 (drop n room) left)) same)
 
--- The bytes that were held back are the first n of them and those that still are.
+-- The buffered bytes before the push are the n that were taken and those that remain.
 pub held-parts : (old room moved : List ℕ) (n len : ℕ)
     → n ≤ len
     → len ≤ length room
@@ -77,7 +77,8 @@ held-parts old room moved n len some within was now =
     was ∙ held-rest room n len some within
     ∙ ap (λ l. take n room ++ take (len - n) l) (sym now)
 
--- The sink inside took the first n of the bytes that were held back, and the rest still is.
+-- If the inner sink took the first n buffered bytes and the rest remains, the bytes taken in total
+-- are the same.
 pub held-moved : (x y : Option (List ℕ)) (old room moved : List ℕ) (n len : ℕ)
     → n ≤ len
     → len ≤ length room
@@ -89,16 +90,16 @@ held-moved x y old room moved n len some within was now p =
     append_known-moved x y (take n room) (take (len - n) moved) old p
     (held-parts old room moved n len some within was now)
 
--- ---- bytes that are lent and passed over
+-- ---- bytes that are lent and skipped
 
--- How many bytes are held.
+-- How many bytes are buffered.
 pub held_length : (xs : List ℕ) (a e : ℕ)
     → a ≤ e
     → e ≤ length xs
     → length (slice_range xs a e) ≡ e - a
 held_length xs a e le within = omega (arith, length-take (e - a) (drop a xs), length-drop a xs)
 
--- A range that is empty is so of any bytes. For `refill`.
+-- An empty range is empty for any bytes. For `refill`.
 pub none_held : (xs ys : List ℕ) (a e : ℕ)
     → a ≤ e
     → e ≤ length xs
@@ -118,17 +119,17 @@ held_past xs a e n within =
     ∙ sym (drop-take n (e - (a + n)) (drop a xs))
     ∙ ap (λ k. drop n (take k (drop a xs))) (sym whole)
 
--- All bytes of a device over memory.
+-- A device over memory lends all its bytes.
 pub all_are_next : (xs : List ℕ) → AreNext xs (Some xs)
 all_are_next xs bytes e = ap (take (length xs)) (sym (same_Some xs bytes e)) ∙ take-length xs
 
--- The bytes that are held before those of the device inside.
+-- The buffered bytes come before those of the inner device.
 pub held_are_next : (held : List ℕ) (x : Option (List ℕ)) → AreNext held (prepend_known held x)
 held_are_next held None bytes e = absurd cc
 held_are_next held (Some xs) bytes e =
     ap (take (length held)) (sym (same_Some (held ++ xs) bytes e)) ∙ take-append_seam held xs
 
--- The first of all bytes of a device over memory.
+-- Skipping bytes of a device over memory.
 pub front_passed : (xs rest : List ℕ) (n : ℕ)
     → n ≤ length xs
     → rest ≡ drop n xs
@@ -139,7 +140,7 @@ front_passed xs rest n le e = record {
   consumed = sym (take-append-drop n xs) ∙ ap (λ l. take n xs ++ l) (sym e);
 }
 
--- The first of the bytes that are held.
+-- Skipping buffered bytes.
 pub held_passed : (x : Option (List ℕ)) (held left : List ℕ) (n : ℕ)
     → n ≤ length held
     → left ≡ drop n held
@@ -154,7 +155,7 @@ held_passed (Some xs) held left n le e = record {
       ∙ ap (λ l. take n held ++ (l ++ xs)) (sym e);
 }
 
--- The source inside is not called for them.
+-- The inner source is not called to skip buffered bytes.
 pub held_read : {D : Type 0} (IsPull : D → ℕ → Option ℕ → D → Type 0)
     (old new : ReadAhead D) (n : ℕ)
     → 0 < n

@@ -1,4 +1,4 @@
--- Bytes that a device gave or took piece after piece; main lemmas: Consumes-more, Appends-more.
+-- Bytes that a device gave or took part by part; main lemmas: Consumes-more, Appends-more.
 use Rattle.std.proofs.Common.{◌≡◌, ℕ, ◌+◌, ◌-◌, ◌≤◌, List, ◌++◌, length, take, drop, Option, Some}
 use Rattle.std.proofs.Common.{None, Result, Ok, Err, refl, sym, ap, ◌∙◌, subst, le_refl, arith}
 use Rattle.std.proofs.Common.{length-append, drop_at, length-take-le}
@@ -15,7 +15,7 @@ use Rattle.sub_io.specs.Device.{AppendsPrefix, Fills, PassesOver, Told, Writes}
 use Rattle.sub_io.specs.Reading.{AreNext, IfKnown}
 use Rattle.sub_io.specs.declared.source.Failed.{Failed}
 
--- The first bytes of a slice whose part from a on was written.
+-- The front of a slice after a part of it was written.
 take-put_mid : (a k n : ℕ) (xs ys : List ℕ)
     → a ≤ length xs
     → n ≤ length ys
@@ -30,7 +30,7 @@ take-put_mid a k n xs ys within fits =
     ∙ ap (λ l. take a xs ++ take n l) back
     ∙ ap (λ l. take a xs ++ l) (take-append-le n ys after fits)
 
--- The next piece that went into the buffer.
+-- The next part that was read into the buffer.
 pub Consumes-more : (x y z : Option (List ℕ)) (a k n : ℕ) (xs ys : List ℕ)
     → a ≤ length xs
     → n ≤ length ys
@@ -40,7 +40,7 @@ pub Consumes-more : (x y z : Option (List ℕ)) (a k n : ℕ) (xs ys : List ℕ)
 Consumes-more x y z a k n xs ys within fits p q =
     subst (Consumes x z) (sym (take-put_mid a k n xs ys within fits)) (Consumes-trans x y z _ _ p q)
 
--- The first of the bytes that a device lends, passed over.
+-- Skipping the first of the bytes that a device lends.
 pub Consumes-passed : (old new : Option (List ℕ)) (front : List ℕ) (n : ℕ)
     → AreNext front old
     → n ≤ length front
@@ -57,7 +57,7 @@ Consumes-passed (Some xs) (Some ys) front n begins le p =
     ∙ take-append_seam p.bytes ys in
     p.consumed ∙ ap (λ l. l ++ ys) (sym same)
 
--- The next piece of the bytes that are written.
+-- The next part of the bytes that are written.
 pub Appends-more : (x y z : Option (List ℕ)) (a m n : ℕ) (xs : List ℕ)
     → m ≡ length xs - a
     → Appends x y (take a xs)
@@ -68,7 +68,7 @@ Appends-more x y z a m n xs e p q =
     subst (Appends x z) (ap (λ l. take a xs ++ take n l) whole ∙ sym (take-add a n xs))
     (Appends-trans x y z _ _ p q)
 
--- What a filled buffer says of a source that tells its bytes.
+-- A filled buffer determines what is left of a source with known bytes.
 pub Told-from_fills : (old new : Option (List ℕ)) (n : ℕ) (buffer : List ℕ)
     → Fills old n new buffer
     → IfKnown old (λ bytes. Told bytes n new buffer)
@@ -82,14 +82,14 @@ Told-from_fills (Some xs) (Some ys) n buffer f bytes e =
       ended = f.end;
     }
 
--- What a result tells of the bytes: the clause `told` of `fill`.
+-- The same for a result: the clause `told` of `fill`.
 pub Told-from_result : (old new : Option (List ℕ)) (buffer : List ℕ) (r : Result ℕ Failed)
     → IfOk r (λ n. Fills old n new buffer)
     → IfKnown old (λ bytes. IfOk r (λ n. Told bytes n new buffer))
 Told-from_result old new buffer (Ok n) f = Told-from_fills old new n buffer f
 Told-from_result old new buffer (Err e) f = λ bytes is. tt
 
--- What was added of the first of two pieces is a prefix of both: where the first put failed.
+-- If the first write fails, a prefix of the first part is a prefix of both.
 pub AppendsPrefix-first : (old new : Option (List ℕ)) (xs ys : List ℕ)
     → AppendsPrefix old new xs
     → AppendsPrefix old new (xs ++ ys)
@@ -98,7 +98,7 @@ AppendsPrefix-first old new xs ys p =
     let same = sym (take-append-le p.0 xs ys room) in
     (p.0, omega (arith, length-append xs ys), subst (Appends old new) same p.2)
 
--- All of the first piece and a prefix of the second: where the second put failed.
+-- If the second write fails, the first part and a prefix of the second are a prefix of both.
 pub AppendsPrefix-second : (old mid new : Option (List ℕ)) (xs ys : List ℕ)
     → Appends old mid xs
     → AppendsPrefix mid new ys
@@ -109,14 +109,14 @@ AppendsPrefix-second old mid new xs ys p q =
     let same = sym (take-append-add xs ys q.0) in
     (length xs + q.0, omega (arith, length-append xs ys), subst (Appends old new) same whole)
 
--- What was added is a prefix of itself.
+-- A list is a prefix of itself.
 pub AppendsPrefix-whole : (old new : Option (List ℕ)) (xs : List ℕ)
     → Appends old new xs
     → AppendsPrefix old new xs
 AppendsPrefix-whole old new xs p =
     (length xs, le_refl (length xs), subst (Appends old new) (sym (take-length xs)) p)
 
--- A put after one that added all its bytes: what the two together did.
+-- A write after a successful one: the effect of both.
 pub Writes-after : {X E : Type 0} (old mid new : Option (List ℕ)) (xs ys : List ℕ)
     → (result : Result X E)
     → Appends old mid xs
@@ -125,6 +125,6 @@ pub Writes-after : {X E : Type 0} (old mid new : Option (List ℕ)) (xs ys : Lis
 Writes-after old mid new xs ys (Ok value) p q = Appends-trans old mid new xs ys p q
 Writes-after old mid new xs ys (Err fault) p q = AppendsPrefix-second old mid new xs ys p q
 
--- For a function of two or more puts: `using(sub_io::proofs::DeviceLemmas::prefixes)`.
+-- For a function of two or more writes: `using(sub_io::proofs::DeviceLemmas::prefixes)`.
 pub ruleset prefixes =
     (AppendsPrefix-first, AppendsPrefix-second, AppendsPrefix-whole, Writes-after)

@@ -1,4 +1,4 @@
--- What was told stays told where it is handed on. Main lemma: keeps-told.
+-- Flushing does not change what was reported. Main lemma: keeps-told.
 use Rattle.std.proofs.Common.{◌≡◌, ◌∙◌, ℕ, Bool, true, false, List, [], ◌∷◌, ap, inl, inr, sym}
 use Rattle.std.proofs.Common.{not, refl, subst, Result, Ok, Err}
 use Rattle.std.specs.Prelude.{OnOk, is_err, is_ok}
@@ -10,7 +10,7 @@ module _
     {A D : Type 0} (IsTold : D → A → D → Type 0) (has_stopped is_waiting : D → Bool) (held : D → ℕ)
     (IsHandedOn : D → Bool → D → Type 0)
     (stays : StaysTold IsTold has_stopped is_waiting held IsHandedOn) where
-  -- The last of several things stays told, and so do all.
+  -- Reports stay reported if the last of them is flushed.
   stays_in_turn : (a b c : D) (x : A) (items : List A) (ok : Bool)
       → is_waiting b ≡ true
       → IsHandedOn b ok c
@@ -21,7 +21,7 @@ module _
   stays_in_turn a b c x (y ∷ items) ok waits on (mid, first, rest) =
       (mid, first, stays_in_turn mid b c y items ok waits on rest)
 
-  -- Where nothing was told since it held nothing back, it does not wait.
+  -- Reports since a state without pending ones stay reported.
   stays_after : (a b c : D) (items : List A) (ok : Bool)
       → is_waiting a ≡ false
       → is_waiting b ≡ true
@@ -33,7 +33,7 @@ module _
   stays_after a b c (x ∷ items) ok still waits on told =
       stays_in_turn a b c x items ok waits on told
 
-  -- For a function that has an audience hand on.
+  -- For a function that flushes an audience.
   pub keeps-told : (old new : D) (ok : Bool)
       → HandsOnIfWaiting is_waiting IsHandedOn old ok new
       → KeepsTold IsTold is_waiting old new
@@ -46,7 +46,7 @@ module _
         record { in_turn = stays_after start old new items ok still on.0 on.1 told.in_turn };
   }
 
-  -- What holds of one that was told nothing, or of one after each thing, holds after some.
+  -- What holds before any report and after each one holds after several.
   told-holds : (a b : D) (items : List A)
       → HoldsWhileWaiting is_waiting held a
       → TellsInTurn IsTold a b items
@@ -61,7 +61,7 @@ module _
       → HoldsWhileWaiting is_waiting held b
   holds-told a b holds some = told-holds a b some.items holds some.told.in_turn
 
--- It stays told that some was told.
+-- That something was reported stays true.
 pub TellsSome-kept : {A D : Type 0} (IsTold : D → A → D → Type 0) (is_waiting : D → Bool)
     (start old new : D)
     → TellsSome IsTold start old
@@ -73,14 +73,12 @@ TellsSome-kept IsTold is_waiting start old new some still keeps = record {
   told = keeps.kept start some.items still some.told;
 }
 
--- ---- whether it could hand on
+-- ---- success of flushing
 
--- What its answer says.
 pub not_ok : {X E : Type 0} (r : Result X E) (b : Bool) → is_err r ≡ b → not (is_ok r) ≡ b
 not_ok (Ok x) b is = is
 not_ok (Err e) b is = is
 
--- What holds then.
 pub when_ok : {X E : Type 0} {Q : Type 0} (r : Result X E) → is_err r ≡ false → OnOk r Q → Q
 when_ok (Ok x) is holds = holds
 when_ok (Err e) is holds = absurd (true≢false is)

@@ -1,15 +1,14 @@
--- Devices behind a buffer: the device inside, and the bytes that the buffer holds.
+-- Devices with a buffer: the inner device, and the buffered bytes.
 use Rattle.std.specs.Prelude.{◌≡◌, ℕ, ◌+◌, min, List, [], Bool}
 
--- A source: the bytes that were read from the source inside and are still to be given, and how many
--- the buffer has room for.
+-- A source: the bytes read from the inner source but not yet returned, and the size of the buffer.
 pub record ReadAhead (D : Type 0) : Type 0 where
   pub device : D
   pub held : List ℕ
   pub room : ℕ
 
--- A sink: the bytes that were taken and not yet handed to the sink inside, how many the buffer has
--- room for, whether the sink inside has failed, and how many calls were refused since.
+-- A sink: the bytes taken but not yet written to the inner sink, the size of the buffer, whether
+-- the inner sink has failed, and how many calls were refused since then.
 pub record HeldBack (D : Type 0) : Type 0 where
   pub device : D
   pub held : List ℕ
@@ -17,13 +16,12 @@ pub record HeldBack (D : Type 0) : Type 0 where
   pub failed : Bool
   pub refused : ℕ
 
--- The failures of the sink inside and the calls that were refused after the first of them, as far
--- as 64 bits count.
+-- The failures of the inner sink plus the calls refused after the first of them, saturating at 64
+-- bits.
 abbrev pub failures_and_refused : ℕ → ℕ → ℕ
 failures_and_refused failures refused = min (failures + refused) 0xFFFF_FFFF_FFFF_FFFF
 
--- No byte is held back, and no call has failed since: the sink inside has taken all bytes, by calls
--- that did not fail.
+-- The buffer is empty, and no call has failed: the inner sink has taken all bytes.
 pub record HandsOn {D : Type 0} (failure_count : D → ℕ) (old new : HeldBack D) : Type 0 where
   pub none : new.held ≡ []
   pub count :

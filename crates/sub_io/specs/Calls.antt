@@ -1,31 +1,31 @@
--- Which calls of a device a function makes: what each is lent, and what it answers. A device says
--- which of its calls go so, `is_pull` and `is_push`; one that says nothing has `any_call`.
+-- The calls of a device that a function makes, with their arguments and results. A device specifies
+-- its calls by `is_pull` and `is_push`, or leaves them open by `any_call`.
 use Rattle.std.specs.Prelude.{◌≡◌, ◌≢◌, ℕ, ◌-◌, ◌<◌, ◌≤◌, ◌⊎◌, Bool, true, false, min}
 use Rattle.std.specs.Prelude.{List, [], ◌∷◌, ◌++◌, length, take, drop}
 use Rattle.std.specs.Prelude.{Option, Some, None, option_map, Result, Ok, Err}
 use Rattle.sub_io.specs.Buffered.{HeldBack, ReadAhead}
 use Rattle.sub_io.specs.Countdown.{CountingDown, fails_next, countdown_after}
 
--- How many bytes a call gave or took; none where it failed.
+-- How many bytes a call transferred. `None` if it failed.
 abbrev pub answered : {E : Type 0} → Result ℕ E → Option ℕ
 answered (Ok n) = Some n
 answered (Err _) = None
 
--- Any state before, anything lent, any answer, any state after.
+-- No restriction.
 abbrev pub any_call : {D L : Type 0} → D → L → Option ℕ → D → Type 0
 any_call old lent answer new = Unit {0}
 
 -- ---- the calls of `fill`
 
--- The last call, where there is room for so many bytes left: none where there is no room, else one
--- that gave nothing. Where the filling fails it is one that failed.
+-- The last call, with `room` bytes of the buffer left. There is none if the buffer is full;
+-- otherwise it returned 0 bytes. If `fill` fails, the last call failed.
 abbrev pub EndsFilling :
     {D : Type 0} → (D → ℕ → Option ℕ → D → Type 0) → D → ℕ → Bool → D → Type 0
 EndsFilling IsPull old room true new =
     ((room ≡ 0) × (new ≡ old)) ⊎ ((0 < room) × IsPull old room (Some 0) new)
 EndsFilling IsPull old room false new = (0 < room) × IsPull old room None new
 
--- The calls before it gave so many bytes each, at least one; each was lent the room that was left.
+-- Each earlier call returned n > 0 bytes, and was given the rest of the buffer.
 abbrev pub PullsInTurn :
     {D : Type 0} → (D → ℕ → Option ℕ → D → Type 0) → D → ℕ → List ℕ → Bool → D → Type 0
 PullsInTurn IsPull old room [] ok new = EndsFilling IsPull old room ok new
@@ -35,7 +35,7 @@ PullsInTurn {D} IsPull old room (n ∷ ns) ok new =
     × IsPull old room (Some n) mid
     × PullsInTurn IsPull mid (room - n) ns ok new
 
--- The calls of a filling of a buffer with room for so many bytes.
+-- The calls that fill a buffer of `room` bytes.
 pub record FillsByPulls
     {D : Type 0} (IsPull : D → ℕ → Option ℕ → D → Type 0)
     (old : D) (room : ℕ) (ok : Bool) (new : D)
@@ -45,14 +45,14 @@ pub record FillsByPulls
 
 -- ---- the calls of `put_all`
 
--- The last call, where these bytes are left: none where there are none. Where the writing fails it
--- is one that failed.
+-- The last call, with `bytes` left. There is none if all are written. If `put_all` fails, the last
+-- call failed.
 abbrev pub EndsPutting :
     {D : Type 0} → (D → List ℕ → Option ℕ → D → Type 0) → D → List ℕ → Bool → D → Type 0
 EndsPutting IsPush old bytes true new = (bytes ≡ []) × (new ≡ old)
 EndsPutting IsPush old bytes false new = (0 < length bytes) × IsPush old bytes None new
 
--- The calls before it took so many bytes each; each was lent all that was left.
+-- Each earlier call took n bytes, and was offered all that were left.
 abbrev pub PushesInTurn :
     {D : Type 0}
     → (D → List ℕ → Option ℕ → D → Type 0) → D → List ℕ → List ℕ → Bool → D → Type 0
@@ -63,7 +63,7 @@ PushesInTurn {D} IsPush old bytes (n ∷ ns) ok new =
     × IsPush old bytes (Some n) mid
     × PushesInTurn IsPush mid (drop n bytes) ns ok new
 
--- The calls by which all of these bytes are pushed.
+-- The calls that push all of `bytes`.
 pub record PutsByPushes
     {D : Type 0} (IsPush : D → List ℕ → Option ℕ → D → Type 0)
     (old : D) (bytes : List ℕ) (ok : Bool) (new : D)
@@ -71,9 +71,9 @@ pub record PutsByPushes
   pub taken : List ℕ
   pub pushes : PushesInTurn IsPush old bytes taken ok new
 
--- ---- devices before another
+-- ---- devices that wrap another
 
--- A device of which one call fails: that one is not passed on, and each other is, as it was made.
+-- A device with one failing call: that one is not forwarded, every other is forwarded unchanged.
 pub record PassesOn
     {D L : Type 0} (IsCall : D → L → Option ℕ → D → Type 0)
     (old : CountingDown D) (lent : L) (answer : Option ℕ) (new : CountingDown D)
@@ -82,16 +82,16 @@ pub record PassesOn
   pub passed : fails_next old.left ≡ false → IsCall old.device lent answer new.device
   pub left : new.left ≡ countdown_after old.left
 
--- A source that reads ahead, lent so many bytes.
+-- A source with a buffer, at a pull of `lent` bytes.
 pub record ReadsAhead
     {D : Type 0} (IsPull : D → ℕ → Option ℕ → D → Type 0)
     (old : ReadAhead D) (lent : ℕ) (answer : Option ℕ) (new : ReadAhead D)
     : Type 0 where
-  -- Where bytes are held the source inside is not called.
+  -- If bytes are buffered, the inner source is not called.
   pub held : old.held ≢ [] → new.device ≡ old.device
-  -- Else it is called once: a long pull is passed on as it is,
+  -- Otherwise it is called once: a pull of at least the buffer's size is forwarded,
   pub straight : old.held ≡ [] → old.room ≤ lent → IsPull old.device lent answer new.device
-  -- and for a short one it is lent the whole room.
+  -- a shorter one requests a whole buffer.
   pub ahead :
       old.held ≡ []
       → lent < old.room
@@ -99,18 +99,18 @@ pub record ReadsAhead
       × IsPull old.device old.room got new.device
       × (answer ≡ option_map (λ n. min n lent) got)
 
--- The bytes without some of the first of them, or with all.
+-- `left` is the bytes without a prefix.
 abbrev pub AreLeftOf : List ℕ → List ℕ → Type 0
 AreLeftOf bytes left = (taken : List ℕ) × (bytes ≡ taken ++ left)
 
--- The bytes that a push took: none where it failed.
+-- The bytes that a push took; none if it failed.
 abbrev pub taken_by : List ℕ → Option ℕ → List ℕ
 taken_by bytes None = []
 taken_by bytes (Some n) = take n bytes
 
--- A sink that holds bytes back, and whose room was full: what is held was pushed into the sink
--- inside, and then a long push is passed on as it is. What that did not take is still held, and
--- else only a short push.
+-- A push into a sink with a full buffer. The buffer is pushed into the inner sink first. If that
+-- fails, the bytes not taken stay buffered. A push of at least the buffer's size is then forwarded,
+-- a shorter one is buffered.
 pub record HandsOnFull
     {D : Type 0} (IsPush : D → List ℕ → Option ℕ → D → Type 0)
     (old : HeldBack D) (bytes : List ℕ) (answer : Option ℕ) (new : HeldBack D)
@@ -129,17 +129,18 @@ pub record HandsOnFull
       → length bytes < old.room
       → (new.device ≡ mid) × (new.held ≡ taken_by bytes answer)
 
--- A push of these bytes into such a sink: which calls of the sink inside it makes, and what is held
--- then.
+-- A push into a sink with a buffer: which calls of the inner sink it makes, and what is buffered
+-- afterwards.
 pub record HoldsBack
     {D : Type 0} (IsPush : D → List ℕ → Option ℕ → D → Type 0)
     (old : HeldBack D) (bytes : List ℕ) (answer : Option ℕ) (new : HeldBack D)
     : Type 0 where
-  -- After a failure of the sink inside it is not called, and what is held stays.
+  -- After a failure the inner sink is not called, and the buffer does not change.
   pub refused :
       old.failed ≡ true → (answer ≡ None) × (new.device ≡ old.device) × (new.held ≡ old.held)
-  -- Nor is it where there is room for bytes: those that were taken are held behind the others. But
-  -- a long push while none is held is passed on, and none is held then.
+  -- With space in the buffer it is not called either: the bytes taken are appended to the buffer.
+  -- But if the buffer is empty, a push of at least its size is forwarded, and the buffer stays
+  -- empty.
   pub held :
       old.failed ≡ false
       → length old.held < old.room

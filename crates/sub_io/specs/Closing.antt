@@ -1,4 +1,4 @@
--- What is stored, and what is let go when a sink is closed.
+-- Storing and closing sinks.
 use Rattle.std.specs.Prelude.{◌≡◌, Bool, true, false, Some, None, Result, Ok, Err}
 use Rattle.std.specs.IoError.{error_kind}
 use Rattle.std.specs.declared.io.Error.{Error}
@@ -7,32 +7,32 @@ use Rattle.std.specs.declared.io.ErrorKind.TheVariants.{InvalidInput, Unsupporte
 use Rattle.sub_io.specs.Buffered.{HeldBack}
 use Rattle.sub_io.specs.Counted.{FileValue}
 
--- The system can't store what is there at all, as a pipe, a terminal or a device: EINVAL, or
+-- The errors of something that can never be stored, such as a pipe, a terminal or a device: EINVAL,
 -- ENOTSUP and ENOSYS.
 abbrev pub is_never_stored : ErrorKind → Bool
 is_never_stored InvalidInput = true
 is_never_stored Unsupported = true
 is_never_stored _ = false
 
--- Nothing is lost, by what the system answered where it was asked to store a file.
+-- The system's result of storing a file says that nothing is lost.
 abbrev pub loses_nothing : {X : Type 0} → Result X Error → Bool
 loses_nothing (Ok done) = true
 loses_nothing (Err error) = is_never_stored (error_kind error)
 
--- Any state in which something is stored, and any answer.
+-- No restriction.
 abbrev pub any_store : {D : Type 0} → D → Bool → Type 0
 any_store device answer = Unit {0}
 
--- What is handed to memory is not lost.
+-- Memory loses nothing.
 abbrev pub needs_no_store : {D : Type 0} → D → Bool
 needs_no_store device = true
 
--- Any state in which something is let go.
+-- No restriction.
 abbrev pub any_end : {D : Type 0} → D → Type 0
 any_end device = Unit {0}
 
--- A device over a writer is closed: the writer was let go as it was, where it was still there, and
--- no failure is counted.
+-- A device over a writer is closed: the writer, if still present, is dropped unchanged, and no
+-- failure is counted.
 pub record LetsGo
     {D : Type 0} (IsLetGo : D → Type 0) (old new : FileValue D) : Type 0 where
   pub writer : (device : D) → old.device ≡ Some device → IsLetGo device
@@ -41,7 +41,7 @@ pub record LetsGo
   pub stored : new.is_stored ≡ old.is_stored
   pub count : new.failure_count ≡ old.failure_count
 
--- A buffer is closed by closing the device inside, which is handed nothing of what is held back.
+-- A buffer is closed by closing the inner device. Buffered bytes are not written.
 pub record ClosesInside
     {D : Type 0} (IsClose : D → D → Type 0) (old new : HeldBack D) : Type 0 where
   pub device : IsClose old.device new.device

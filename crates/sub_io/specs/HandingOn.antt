@@ -1,10 +1,10 @@
--- What an audience was told stays told where it hands on what it holds back.
+-- Flushing does not change what was reported to an audience.
 use Rattle.std.specs.Prelude.{◌≡◌, ◌⊎◌, ℕ, List, Bool, true, false, not}
 use Rattle.sub_io.specs.Telling.{Tells}
 
--- The law of an audience that can hand on. The last thing that it was told stays told where it
--- waits and is to hand on; it says stop exactly where it could not; and once it was told something
--- it holds bytes back only while it waits.
+-- The law of an audience that can flush. The last item reported remains so if it is pending and
+-- then flushed. The audience has stopped exactly if the flush failed. After an item it buffers
+-- bytes only while `is_waiting`.
 pub record StaysTold
     {A D : Type 0} (IsTold : D → A → D → Type 0) (has_stopped is_waiting : D → Bool) (held : D → ℕ)
     (IsHandedOn : D → Bool → D → Type 0)
@@ -22,14 +22,14 @@ pub record StaysTold
       → is_waiting new ≡ false
       → held new ≡ 0
 
--- It was left as it is, or it was to hand on what it may hold back, and did so where `ok`.
+-- It was left unchanged, or pending reports were flushed; `ok` says whether that succeeded.
 abbrev pub HandsOnIfWaiting :
     {D : Type 0} → (D → Bool) → (D → Bool → D → Type 0) → D → Bool → D → Type 0
 HandsOnIfWaiting is_waiting IsHandedOn old ok new =
     ((ok ≡ true) × (new ≡ old)) ⊎ ((is_waiting old ≡ true) × IsHandedOn old ok new)
 
--- What was told to an audience up to one state was told up to another, if it held nothing back
--- before the first of it.
+-- All items reported up to one state also count as reported up to another, if nothing was pending
+-- before the first of them.
 pub record KeepsTold
     {A D : Type 0} (IsTold : D → A → D → Type 0) (is_waiting : D → Bool) (old new : D)
     : Type 0 where
@@ -39,6 +39,6 @@ pub record KeepsTold
       → Tells IsTold start old items
       → Tells IsTold start new items
 
--- It holds nothing back while it does not wait.
+-- It buffers no bytes unless reports are pending.
 abbrev pub HoldsWhileWaiting : {D : Type 0} → (D → Bool) → (D → ℕ) → D → Type 0
 HoldsWhileWaiting is_waiting held a = is_waiting a ≡ false → held a ≡ 0

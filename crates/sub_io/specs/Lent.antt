@@ -1,16 +1,15 @@
--- The bytes that a source lends: it gives them first, and without a call of the device below it. So
--- a pull of them does not wait, and does not fail.
+-- The bytes that a source lends: it gives them next, without calling the device below it. So a pull
+-- of them neither blocks nor fails.
 use Rattle.std.specs.Prelude.{◌≡◌, ◌≢◌, ℕ, List, [], ◌++◌, length, take, Result, MatchResult}
 
--- None.
 abbrev pub lends_nothing : {D : Type 0} → D → List ℕ
 lends_nothing device = []
 
--- Where bytes are lent, a pull gives the first of them and does not fail.
+-- If bytes are lent, a pull returns the first of them and does not fail.
 abbrev pub GivesLent : {E : Type 0} → List ℕ → List ℕ → List ℕ → Result ℕ E → Type 0
 GivesLent old new buffer result =
     old ≢ [] → MatchResult result (λ n. old ≡ take n buffer ++ new) (λ _. ⊥)
 
--- What is lent begins with these bytes.
+-- The bytes lent begin with these.
 abbrev pub BeginLent : List ℕ → List ℕ → Type 0
 BeginLent bytes lent = take (length bytes) lent ≡ bytes

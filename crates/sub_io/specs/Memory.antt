@@ -1,7 +1,7 @@
--- What a sink over memory is to its callers.
+-- The model of a sink over memory.
 use Rattle.std.specs.Prelude.{ℕ, List}
 
--- The bytes that it has taken, how many it can take in all, and how many of its pushes have failed.
+-- The bytes written, how many fit in total, and how many pushes have failed.
 pub record Written : Type 0 where
   pub bytes : List ℕ
   pub room : ℕ

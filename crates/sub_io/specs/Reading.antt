@@ -1,21 +1,21 @@
--- Words that the definitions of all readers share.
+-- Definitions that the specifications of all readers share.
 use Rattle.std.specs.Prelude.{◌≡◌, ℕ, ◌<◌, List, length, take, Option, Some, Result, Ok, Err}
 use Rattle.std.specs.Prelude.{slice_index}
 
 infixl 10 ◌>>=◌
--- One step of a reading after another: the first fault ends it.
+-- Two steps of a reading in a row. The first fault ends it.
 abbrev pub ◌>>=◌ : {A B E : Type 0} → Result A E → (A → Result B E) → Result B E
 (Ok x) >>= f = f x
 (Err e) >>= f = Err e
 
--- What holds of a device's bytes where it tells them.
+-- P holds for the bytes of a device, if they are known.
 abbrev pub IfKnown : Option (List ℕ) → (List ℕ → Type 0) → Type 0
 IfKnown known P = (bytes : List ℕ) → known ≡ Some bytes → P bytes
 
--- Each number of the list is a byte's.
+-- Each number of the list is a byte.
 abbrev pub AreBytes : List ℕ → Type 0
 AreBytes bytes = (i : ℕ) → slice_index bytes i < 256
 
--- These are the bytes that a device gives next, where it tells them.
+-- These bytes come next, if the device's bytes are known.
 abbrev pub AreNext : List ℕ → Option (List ℕ) → Type 0
 AreNext next told = IfKnown told (λ bytes. take (length next) bytes ≡ next)

@@ -1,4 +1,4 @@
-//! Devices that are told things, one after another, and may stop.
+//! Consumers of reported items, which may stop the reporting.
 
 ghost use Rattle.std.specs.Prelude.{◌≡◌, [], ◌∷◌, Bool, false, Option, None, Some, is_err, is_some};
 ghost use Rattle.std.specs.Prelude.{IsErr, not};
@@ -8,35 +8,35 @@ ghost use Rattle.sub_io.specs.Telling.{KeepsFirst, Tells};
 use crate::{Live, LiveAudience};
 use std::marker::Model;
 
-/// A device wants to be told nothing more.
+/// The error of an audience that wants no more items.
 #[derive(Clone, Copy, Debug, PartialEq, Eq)]
 pub struct Stopped;
 
-/// A device of the caller's that is told things one after another: the faults of a file, say.
+/// A consumer of items that are reported one at a time, such as the faults of a file.
 ///
-/// It may keep them, count them or print them. It says stop where it wants no more, or where it
-/// failed: why is a matter of the device's.
+/// It may keep, count or print them. It returns `Stopped` if it wants no more or has failed; only
+/// the implementation knows which.
 pub trait Audience<T> {
-    // How it stands after it was told a thing: its state before, the thing, its state then.
+    // How reporting an item changes it: the state before, the item, the state after.
     ghost is_told: { Self → T → Self → Type 0 };
 
-    // It said stop.
+    // It has returned `Stopped`.
     ghost has_stopped: { Self → Bool };
 
-    /// Tells it one thing more. Once it said stop it is told nothing.
+    /// Reports one item. It must not be called again after it has returned `Stopped`.
     ///
     /// # Errors
     ///
-    /// `Stopped` where it wants to be told nothing after this: it was told this one.
+    /// Returns `Stopped` if it wants no further items. It has received this one.
     fn tell(&mut self, item: T) -> Result<(), Stopped>
         requires { has_stopped self.old ≡ false }
         ensures told { Tells is_told self.old self.new (item ∷ []) }
         ensures stopped { has_stopped self.new ≡ is_err result };
 }
 
-/// A device that keeps the first thing that it is told, and says stop at it.
+/// An audience that keeps the first item, and stops there.
 ///
-/// Contracts see it as what it keeps.
+/// Its model is the item that it keeps.
 #[derive(Drop)]
 pub struct FirstTold<T> {
     first: Option<T>,
@@ -49,14 +49,14 @@ impl<T> Model for FirstTold<T> {
 }
 
 impl<T: Drop> FirstTold<T> {
-    /// A device that was told nothing yet.
+    /// Creates an audience that has received no item.
     pub fn new() -> Self
         ensures { result ≡ None }
     {
         FirstTold { first: None }
     }
 
-    /// What it was told. `None` where it was told nothing.
+    /// Returns the first item, or `None` if nothing was reported.
     pub fn into_first(self) -> Option<T>
         ensures { result ≡ self }
     {
@@ -70,11 +70,11 @@ impl<T: Drop> Audience<T> for FirstTold<T> {
 
     ghost has_stopped = { λ f. is_some f };
 
-    /// Keeps this one.
+    /// Keeps the item.
     ///
     /// # Errors
     ///
-    /// `Stopped` always.
+    /// Always returns `Stopped`.
     #[tactic(auto, using(crate::proofs::TellingLemmas::tellings))]
     fn tell(&mut self, item: T) -> Result<(), Stopped>
         ensures first { self.new ≡ Some item }
@@ -92,16 +92,16 @@ impl<T> Live for FirstTold<T> {
 
     ghost is_handed_on = { λ old ok new. (new ≡ old) × (is_some new ≡ not ok) };
 
-    /// Never: it keeps what it was told.
+    /// Returns `false`, since it buffers nothing.
     fn waits(&self) -> bool {
         false
     }
 
-    /// Does nothing: it keeps what it was told, and hands on nothing.
+    /// Does nothing, since it buffers nothing.
     ///
     /// # Errors
     ///
-    /// `Stopped` once it was told something.
+    /// Returns `Stopped` once it has received an item.
     fn hand_on(&mut self) -> Result<(), Stopped> {
         if self.first.is_some() {
             return Err(Stopped);

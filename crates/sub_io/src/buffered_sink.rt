@@ -1,4 +1,4 @@
-//! A sink that holds bytes back, so that many short pushes cost few calls of the sink inside.
+//! A sink with a buffer, so that many short pushes cost few calls of the inner sink.
 
 ghost use Rattle.std.specs.Prelude.{◌≡◌, ◌≢◌, ◌+◌, ◌-◌, ◌<◌, ◌≤◌, min, [], ◌++◌, length, take};
 ghost use Rattle.std.specs.Prelude.{Ok, IfErr, IfOk, IsErr, OnOk, false, true, is_ok, ◌↔◌, ◌⊎◌};
@@ -12,20 +12,20 @@ use crate::sink::push_all;
 use crate::{Close, Failed, Flush, Sink};
 use std::marker::Model;
 
-/// A sink that holds back what it takes until its room is full, and then hands it to the sink
-/// inside, as does a flush.
+/// A sink that buffers bytes, and pushes them into the inner sink when the buffer is full and at
+/// each flush.
 ///
-/// Once the sink inside has failed nothing more is handed to it: each later call answers `Failed`,
-/// and no byte is handed on when the value ends. So flush it before. No call is tried again, an
-/// interrupted one neither. The room is lent, as that of a `MemSink`.
+/// After the first failure of the inner sink every call returns `Failed` and pushes nothing more.
+/// Dropping the value writes nothing, so flush it first. No failed call is repeated, not even an
+/// interrupted one. The buffer is borrowed, like that of a `MemSink`.
 ///
-/// Contracts see it as the sink inside, the bytes held back, the size of the room, whether the sink
-/// inside has failed and how many calls were refused since.
+/// Its model has the inner sink, the buffered bytes, the size of the buffer, whether the inner sink
+/// has failed, and how many calls were refused since then.
 #[derive(Drop)]
 pub struct BufferedSink<'a, K> {
     inner: K,
     room: &'a mut [u8],
-    // How many bytes are held back, at the front of the room.
+    // How many bytes are buffered, from the start of `room`.
     len: usize,
     failed: bool,
     refused: u64,
@@ -46,7 +46,7 @@ impl<'a, K> Model for BufferedSink<'a, K> {
 }
 
 impl<'a, K: Sink> BufferedSink<'a, K> {
-    /// A sink that holds no byte back, with room for as many as `room` is long.
+    /// Creates a sink with an empty buffer, which holds as many bytes as `room` is long.
     pub fn new(inner: K, room: &'a mut [u8]) -> Self
         requires { 0 < length room.old }
         ensures { result ≡ record {
@@ -66,7 +66,7 @@ impl<'a, K: Sink> BufferedSink<'a, K> {
         }
     }
 
-    /// The sink inside. Bytes that are held back are lost.
+    /// Returns the inner sink. Buffered bytes are lost.
     pub fn into_inner(self) -> K
         ensures { result ≡ self.entry.device }
     {
@@ -74,7 +74,7 @@ impl<'a, K: Sink> BufferedSink<'a, K> {
         inner
     }
 
-    // Pushes into the sink inside, past the room.
+    // Pushes into the inner sink directly, without the buffer.
     fn push_through(&mut self, from: &[u8]) -> Result<usize, Failed>
         requires nonempty { 0 < length from.now }
         requires count { CanFail (K.failure_count self.old.device) }
@@ -96,7 +96,7 @@ impl<'a, K: Sink> BufferedSink<'a, K> {
         answer
     }
 
-    // Holds back as many bytes as there is room for, and answers how many.
+    // Appends as many bytes as fit to the buffer, and returns how many.
     fn hold(&mut self, from: &[u8]) -> usize
         ensures number { result ≡ min (length from.now) (self.old.room - length self.old.held) }
         ensures held { self.new.held ≡ self.old.held ++ take result from.now }
@@ -113,8 +113,8 @@ impl<'a, K: Sink> BufferedSink<'a, K> {
     }
 }
 
-// Pushes the first bytes of the room. It may write to the room, since no sink is lent beside a room
-// that is only read; it does not.
+// Pushes the first `len` bytes of the buffer. `room` is `&mut` only because the sink cannot be
+// borrowed next to a shared slice of it; it is not changed.
 fn push_front<K: Sink>(sink: &mut K, room: &mut [u8], len: usize) -> Result<(), usize>
     requires within { len ≤ length room.old }
     requires count { CanFail (K.failure_count sink.old) }
@@ -137,34 +137,34 @@ impl<K: Sink> Sink for BufferedSink<'_, K> {
 
     ghost is_push = { HoldsBack K.is_push };
 
-    /// Holds the bytes back, as many as there is room for. It hands on what is held where the room
-    /// is full, and pushes straight into the sink inside where no byte is held and `from` is at
-    /// least as long as the room.
+    /// Buffers as many bytes as fit. Flushes first if the buffer is full. If the buffer is empty
+    /// and `from` is at least as long as the buffer, pushes directly into the inner sink.
     ///
     /// # Errors
     ///
-    /// `Failed` where the sink inside fails, and at each call after that.
+    /// Returns `Failed` if the inner sink fails, and at each later call.
     fn push(&mut self, from: &[u8]) -> Result<usize, Failed>
         requires nonempty { 0 < length from.now }
         requires count { CanFail (failures_and_refused
             (K.failure_count self.old.device) self.old.refused) }
 
-        // After a failure of the sink inside nothing is done but counting.
+        // After a failure of the inner sink only the refused calls are counted.
         ensures refused { self.old.failed ≡ true → IsErr result
             × (self.new ≡ record self.old { refused = self.old.refused + 1 }) }
-        // Until then its failure is the one of the sink inside.
+        // Before that, failures are those of the inner sink.
         ensures asked { self.old.failed ≡ false → (self.new.refused ≡ self.old.refused)
             × CountsFailure
             (K.failure_count self.old.device) result (K.failure_count self.new.device) }
         ensures failed { IsErr result ↔ (self.new.failed ≡ true) }
-        // Bytes for which there is room are held back, and the sink inside is not asked.
+        // Bytes that fit are buffered without a call of the inner sink.
         ensures held { self.old.failed ≡ false
             → length self.old.held < self.old.room
             → (self.old.held ≢ []) ⊎ (length from.now < self.old.room)
             → (self.new.device ≡ self.old.device)
             × (result ≡ Ok (min (length from.now) (self.old.room - length self.old.held)))
             × IfOk result (λ n. self.new.held ≡ self.old.held ++ take n from.now) }
-        // A long push goes straight through while none is.
+        // A push of at least the buffer's size goes directly to the inner sink if the buffer is
+        // empty.
         ensures straight { self.old.failed ≡ false
             → self.old.held ≡ []
             → self.old.room ≤ length from.now
@@ -197,7 +197,7 @@ impl<K: Sink> Sink for BufferedSink<'_, K> {
         Ok(self.hold(from))
     }
 
-    /// The failures of the sink inside, and the calls that were refused after the first of them.
+    /// Returns the failures of the inner sink, plus the calls refused after the first of them.
     fn failures(&self) -> u64 {
         self.inner.failures().saturating_add(self.refused)
     }
@@ -206,29 +206,29 @@ impl<K: Sink> Sink for BufferedSink<'_, K> {
 impl<K: Sink> Flush for BufferedSink<'_, K> {
     ghost held = { λ k. length k.held };
 
-    /// Hands on all bytes that are held back: the sink inside then has taken all.
+    /// Pushes all buffered bytes into the inner sink.
     ///
     /// # Errors
     ///
-    /// `Failed` where the sink inside fails, and at each call after that.
+    /// Returns `Failed` if the inner sink fails, and at each later call.
     fn flush(&mut self) -> Result<(), Failed>
         requires { CanFail (failures_and_refused
             (K.failure_count self.old.device) self.old.refused) }
 
-        // After a failure of the sink inside nothing is done but counting.
+        // After a failure of the inner sink only the refused calls are counted.
         ensures refused { self.old.failed ≡ true → IsErr result
             × (self.new ≡ record self.old { refused = self.old.refused + 1 }) }
-        // Until then its failure is the one of the sink inside.
+        // Before that, failures are those of the inner sink.
         ensures asked { self.old.failed ≡ false → (self.new.refused ≡ self.old.refused)
             × CountsFailure
             (K.failure_count self.old.device) result (K.failure_count self.new.device) }
         ensures failed { IsErr result ↔ (self.new.failed ≡ true) }
         ensures calls { self.old.failed ≡ false → PutsByPushes K.is_push
             self.old.device self.old.held (is_ok result) self.new.device }
-        // All bytes that were held back went to the sink inside.
+        // On success the inner sink has taken all buffered bytes.
         ensures whole { OnOk result ((self.new.held ≡ [])
             × Appends (K.contents self.old.device) (K.contents self.new.device) self.old.held) }
-        // Or those that were not taken are still held back.
+        // On failure the bytes that it did not take stay in the buffer.
         ensures left { IfErr result (λ _. AreLeftOf self.old.held self.new.held) }
         ensures room { self.new.room ≡ self.old.room }
 
@@ -252,7 +252,7 @@ impl<K: Sink> Flush for BufferedSink<'_, K> {
                 Ok(())
             }
             Err(taken) => {
-                // What was taken is held back no longer.
+                // Remove the bytes that were taken from the buffer.
                 self.room.copy_within(taken..len, 0);
                 self.len = len - taken;
                 self.failed = true;
@@ -269,11 +269,11 @@ impl<K: Close> Close for BufferedSink<'_, K> {
 
     ghost is_close = { ClosesInside K.is_close };
 
-    /// Hands on all bytes that are held back, and has the sink inside stored.
+    /// Flushes the buffer, and has the inner sink stored.
     ///
     /// # Errors
     ///
-    /// `Failed` where the sink inside fails, and at each call after that.
+    /// Returns `Failed` if the inner sink fails, and at each later call.
     fn store(&mut self) -> Result<(), Failed>
         requires { CanFail (failures_and_refused
             (K.failure_count self.old.device) self.old.refused) }
@@ -295,7 +295,7 @@ impl<K: Close> Close for BufferedSink<'_, K> {
         answer
     }
 
-    /// Closes the sink inside. Bytes that are held back are not handed on.
+    /// Closes the inner sink. Buffered bytes are lost.
     fn close(&mut self)
         ensures call { ClosesInside K.is_close self.old self.new }
         ensures closed { K.is_closed self.new.device ≡ true }

@@ -1,4 +1,4 @@
-//! A source that reads ahead, so that many short pulls cost few calls of the source inside.
+//! A source with a read buffer, so that many short pulls cost few calls of the inner source.
 
 ghost use Rattle.std.specs.Prelude.{◌≡◌, ◌≢◌, ◌==◌, ◌+◌, ◌<◌, ◌≤◌, min, [], ◌++◌, length, take};
 ghost use Rattle.std.specs.Prelude.{slice_range, Ok, Some, None, IfOk, OnErr, MatchResult};
@@ -14,18 +14,17 @@ ghost use Rattle.sub_io.specs.Reading.{AreNext};
 use crate::{Failed, Source};
 use std::marker::Model;
 
-/// A source that asks the source inside for as many bytes as it has room for, and gives them in
-/// as many pulls as its user likes.
+/// A source that fills its buffer from the inner source, and serves pulls of any length from it.
 ///
-/// A pull asks the source inside at most once, and only where no byte is held. No call is tried
-/// again, an interrupted one neither. The room is lent, as that of a `MemSink`.
+/// A pull calls the inner source at most once, and only if the buffer is empty. No failed call is
+/// repeated, not even an interrupted one. The buffer is borrowed, like that of a `MemSink`.
 ///
-/// Contracts see it as the source inside, the bytes that are held and the size of the room.
+/// Its model has the inner source, the buffered bytes and the size of the buffer.
 #[derive(Drop)]
 pub struct BufferedSource<'a, S> {
     inner: S,
     room: &'a mut [u8],
-    // What is held is `room[start..end]`.
+    // The buffered bytes are `room[start..end]`.
     start: usize,
     end: usize,
 }
@@ -43,7 +42,7 @@ impl<'a, S> Model for BufferedSource<'a, S> {
 }
 
 impl<'a, S: Source> BufferedSource<'a, S> {
-    /// A source before which no byte is held, with room for as many as `room` is long.
+    /// Creates a source with an empty buffer, which holds as many bytes as `room` is long.
     pub fn new(inner: S, room: &'a mut [u8]) -> Self
         requires { 0 < length room.old }
         ensures { result ≡ record { device = inner; held = []; room = length room.old } }
@@ -56,7 +55,7 @@ impl<'a, S: Source> BufferedSource<'a, S> {
         }
     }
 
-    /// The source inside. Bytes that are held are lost.
+    /// Returns the inner source. Buffered bytes are lost.
     pub fn into_inner(self) -> S
         ensures { result ≡ self.entry.device }
     {
@@ -64,7 +63,7 @@ impl<'a, S: Source> BufferedSource<'a, S> {
         inner
     }
 
-    // Asks the source inside once, where no byte is held.
+    // Fills the empty buffer by one call of the inner source.
     #[tactic(auto, using(crate::proofs::BufferLemmas::none_held))]
     fn refill(&mut self) -> Result<(), Failed>
         requires empty { self.old.held ≡ [] }
@@ -89,7 +88,7 @@ impl<'a, S: Source> BufferedSource<'a, S> {
         Ok(())
     }
 
-    // Moves bytes that are held into `to`, as many as it has room for, and answers how many.
+    // Moves as many buffered bytes into `to` as fit, and returns how many.
     fn give(&mut self, to: &mut [u8]) -> usize
         ensures number { result ≡ min (length self.old.held) (length to.old) }
         ensures len { length to.new ≡ length to.old }
@@ -105,8 +104,8 @@ impl<'a, S: Source> BufferedSource<'a, S> {
     }
 }
 
-// Copies the bytes from `start` on, as many as `to` is long. It may write to the room, since behind
-// `self` no room that is only read keeps what it holds; it does not.
+// Copies `to.len()` bytes of the buffer, from `start` on. `room` is `&mut` only because a shared
+// slice behind `self` is not known to keep its contents; it is not changed.
 fn copy_front(room: &mut [u8], start: usize, to: &mut [u8])
     requires { start + length to.old ≤ length room.old }
     ensures same { room.new ≡ room.old }
@@ -126,26 +125,28 @@ impl<S: Source> Source for BufferedSource<'_, S> {
 
     ghost lent = { λ s. s.held };
 
-    /// Gives the bytes that are held, or asks the source inside once: straight into `to` where that
-    /// is at least as long as the room.
+    /// Returns buffered bytes. If there are none, calls the inner source once, and reads directly
+    /// into `to` if that is at least as long as the buffer.
     ///
     /// # Errors
     ///
-    /// `Failed` where the source inside fails, which is asked only where no byte is held.
+    /// Returns `Failed` if the inner source fails. It is called only if the buffer is empty.
     #[inline(always)]
     fn pull(&mut self, to: &mut [u8]) -> Result<usize, Failed>
         requires { CanFail (S.failure_count self.old.device) }
 
-        // Bytes that are held are given, and the source inside is not asked.
+        // Buffered bytes are returned without a call of the inner source.
         ensures held { self.old.held ≢ [] → (self.new.device ≡ self.old.device)
             × (result ≡ Ok (min (length self.old.held) (length to.old)))
             × IfOk result (λ n. self.old.held ≡ take n to.new ++ self.new.held) }
-        // Where none is, what it gives is given or held, and none is held once it has failed.
+        // With an empty buffer, the bytes that the inner source gives are returned or buffered.
+        // After a failure the buffer is empty.
         ensures asked { self.old.held ≡ [] → IfOk result (λ n. Consumes
             (S.remaining self.old.device) (S.remaining self.new.device)
             (take n to.new ++ self.new.held)) }
         ensures err { OnErr result ((self.old.held ≡ []) × (self.new.held ≡ [])) }
-        // A long pull goes straight through, and bytes are held only where `to` is full.
+        // A pull of at least the buffer's size bypasses the buffer. Bytes stay in the buffer only
+        // if `to` was filled.
         ensures straight { self.old.held ≡ [] → self.old.room ≤ length to.old → self.new.held ≡ [] }
         ensures full { IfOk result (λ n. n < length to.old → self.new.held ≡ []) }
         ensures room { self.new.room ≡ self.old.room }
@@ -169,12 +170,12 @@ impl<S: Source> Source for BufferedSource<'_, S> {
         Ok(self.give(to))
     }
 
-    /// The failures of the source inside.
+    /// Returns the failures of the inner source.
     fn failures(&self) -> u64 {
         self.inner.failures()
     }
 
-    /// All bytes that are held.
+    /// Returns all buffered bytes.
     #[inline(always)]
     fn held(&self) -> &[u8]
         ensures all { result.now ≡ self.now.held }
@@ -185,7 +186,7 @@ impl<S: Source> Source for BufferedSource<'_, S> {
         &self.room[self.start..self.end]
     }
 
-    /// Passes over bytes that are held; the source inside is not asked.
+    /// Skips buffered bytes without a call of the inner source.
     #[inline(always)]
     fn pass(&mut self, count: usize) -> bool
         requires some { 0 < count }

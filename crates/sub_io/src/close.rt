@@ -1,7 +1,7 @@
-//! Sinks that are stored, and closed before their value ends.
+//! Sinks that are stored, and closed before they are dropped.
 //!
-//! A network disk may report only at the end that a file is lost, and std drops what closing a file
-//! answers. So a command asks the system to store its file, and closes it, before it prints its
+//! A network disk may report a lost file only when it is closed, and std ignores the result of
+//! closing a file. So a command has the system store its file, and closes it, before it prints its
 //! line. Pipes and devices store nothing.
 
 ghost use Rattle.std.specs.Prelude.{◌≡◌, Bool, OnOk, true};
@@ -14,14 +14,15 @@ use std::fs::OpenFile;
 use std::io;
 use std::io::ErrorKind;
 
-/// What the system can be asked to store, as a file. Each file that it opens is one.
+/// Something that the system can be asked to store, such as a file. Each file opened by std
+/// implements it.
 pub trait Store {
-    // It was asked in this state, and answered so.
+    // It was asked in this state, and returned this result.
     ghost is_store: { Self → Bool → Type 0 };
 
-    /// Waits until what was written to it is stored, and answers whether nothing of it is lost.
+    /// Waits until everything written is stored, and returns whether nothing of it was lost.
     ///
-    /// What is stored nowhere, as what a pipe, a terminal or a device took, is not lost.
+    /// Pipes, terminals and devices store nothing, so they lose nothing.
     fn store(&self) -> bool
         ensures { is_store self.now result };
 }
@@ -34,7 +35,7 @@ impl<T: OpenFile> Store for T {
     }
 }
 
-// Whether nothing is lost, by what the system answered where it was asked to store a file.
+// Returns whether nothing was lost, from the system's result of storing a file.
 fn is_kept(answer: io::Result<()>) -> bool
     ensures { result ≡ loses_nothing answer }
 {
@@ -47,14 +48,15 @@ fn is_kept(answer: io::Result<()>) -> bool
     }
 }
 
-/// What can be let go, as a file, which that closes. Each type that can be dropped is one.
+/// Something that can be dropped, such as a file, which dropping closes. Each type that implements
+/// `Drop` implements it.
 ///
-/// Nothing else can be done with it here, so nothing is written by letting it go.
+/// Generic code can do nothing else with the value, so releasing it writes nothing.
 pub trait LetGo: Drop + Sized {
-    // It was let go in this state.
+    // It was dropped in this state.
     ghost is_let_go: { Self → Type 0 };
 
-    /// Drops it.
+    /// Drops the value.
     fn let_go(self)
         ensures { is_let_go self };
 }
@@ -65,23 +67,25 @@ impl<T: Drop> LetGo for T {
     fn let_go(self) {}
 }
 
-/// A sink that can be stored, and closed before its value ends, as a file.
+/// A sink that can be stored, and closed before it is dropped, such as a file.
 pub trait Close: Flush {
-    // Whether the system has stored all that it has taken. What need not be stored, as memory,
-    // always is.
+    // The system has stored all bytes taken so far. Always true of sinks that need no storing, such
+    // as memory.
     ghost is_stored: { Self → Bool };
 
-    // Whether it is closed. What need not be closed, as memory, always is.
+    // It is closed. Always true of sinks that need no closing, such as memory.
     ghost is_closed: { Self → Bool };
 
-    // Which closes go so: its state before, in which what is below it was let go, and after.
+    // How closing changes it: the state before, in which the writer below was dropped, and the
+    // state after.
     ghost is_close: { Self → Self → Type 0 };
 
-    /// Hands on all bytes that are held back, and waits until the system has stored what was taken.
+    /// Flushes all buffered bytes, and waits until the system has stored everything.
     ///
     /// # Errors
     ///
-    /// `Failed` where the device failed, or the system did not store it: its count is one higher.
+    /// Returns `Failed` if the device fails or the system cannot store the bytes. The failure count
+    /// rises by one.
     fn store(&mut self) -> Result<(), Failed>
         requires { CanFail (Self.failure_count self.old) }
         ensures bytes { Keeps (Self.contents self.old) (Self.contents self.new) }
@@ -90,8 +94,8 @@ pub trait Close: Flush {
         ensures count { CountsFailure (Self.failure_count self.old) result
             (Self.failure_count self.new) };
 
-    /// Closes it: what is below it is handed nothing more, and was let go as it was. What closing
-    /// reports is not looked at.
+    /// Closes the sink: drops the writer below in its current state, and writes nothing more.
+    /// Errors of closing are ignored.
     fn close(&mut self)
         ensures call { is_close self.old self.new }
         ensures closed { is_closed self.new ≡ true }

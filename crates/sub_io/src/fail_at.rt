@@ -1,4 +1,4 @@
-//! A device of which one call fails, for tests of what its users do then.
+//! A device with one failing call, to test how its users react.
 
 ghost use Rattle.std.specs.Prelude.{◌≡◌, ◌<◌, ◌≤◌, length, Some, IfOk, IsErr, OnOk};
 ghost use Rattle.std.specs.Prelude.{false, true};
@@ -11,14 +11,14 @@ ghost use Rattle.sub_io.specs.Device.{CanFail, CountsFailure, Pulls, Pushes};
 use crate::{Close, Failed, Flush, Sink, Source};
 use std::marker::Model;
 
-/// A device that passes all calls but one on to the device inside; that one fails and does nothing.
+/// A device that forwards all calls but one to the inner device. That one fails and does nothing.
 ///
-/// It is a source where the device inside is one, and a sink where that is one; a flush is a call
-/// too, and so is a store. Contracts see it as the device inside and its countdown.
+/// It implements the traits of the inner device (`Source`, `Sink`, `Flush`, `Close`). Flushing and
+/// storing count as calls too. Its model has the inner device and the countdown.
 #[derive(Drop)]
 pub struct FailAt<D> {
     inner: D,
-    // The calls before the one that fails; `None` after it.
+    // How many calls precede the failing one. `None` after it.
     left: Option<u64>,
 }
 
@@ -29,7 +29,7 @@ impl<D> Model for FailAt<D> {
 }
 
 impl<D> FailAt<D> {
-    /// A device whose call number `k` fails, counted from 0.
+    /// Creates a device whose call number `k` fails, counted from 0.
     pub fn new(inner: D, k: u64) -> Self
         ensures { result ≡ record { device = inner; left = Some k } }
     {
@@ -39,7 +39,7 @@ impl<D> FailAt<D> {
         }
     }
 
-    // Counts this call, and answers whether it is the one that fails.
+    // Counts a call, and returns whether it is the failing one.
     fn trips(&mut self) -> bool
         ensures device { self.new.device ≡ self.old.device }
         ensures trips { result ≡ fails_next self.old.left }
@@ -58,7 +58,7 @@ impl<D> FailAt<D> {
         }
     }
 
-    // The failures of the device inside, and the one of the countdown.
+    // Adds the call that failed by the countdown to the failures of the inner device.
     fn with_own(&self, inner: u64) -> u64
         ensures { result ≡ failures_with self.now.left inner }
     {
@@ -77,15 +77,15 @@ impl<S: Source> Source for FailAt<S> {
 
     ghost is_pull = { PassesOn S.is_pull };
 
-    /// Pulls from the device inside.
+    /// Pulls from the inner device.
     ///
     /// # Errors
     ///
-    /// `Failed` at the call that is to fail, which does nothing, and where the device inside fails.
+    /// Returns `Failed` at the chosen call, which does nothing, and if the inner device fails.
     fn pull(&mut self, to: &mut [u8]) -> Result<usize, Failed>
         requires { CanFail (failures_with self.old.left (S.failure_count self.old.device)) }
 
-        // The call that fails does nothing, each other is the inner device's, and all are counted.
+        // The chosen call does nothing, every other is forwarded, and all are counted.
         ensures fails { fails_next self.old.left ≡ true →
             IsErr result × (self.new.device ≡ self.old.device) × (to.new ≡ to.old) }
         ensures passed { fails_next self.old.left ≡ false → CountsFailure
@@ -107,12 +107,12 @@ impl<S: Source> Source for FailAt<S> {
         self.inner.pull(to)
     }
 
-    /// The failures of the device inside, and one more after the call of the countdown.
+    /// Returns the failures of the inner device, plus one after the chosen call.
     fn failures(&self) -> u64 {
         self.with_own(self.inner.failures())
     }
 
-    /// Nothing, since it lends nothing.
+    /// Returns `false`, since it lends no bytes.
     fn pass(&mut self, _count: usize) -> bool {
         false
     }
@@ -125,16 +125,16 @@ impl<K: Sink> Sink for FailAt<K> {
 
     ghost is_push = { PassesOn K.is_push };
 
-    /// Pushes into the device inside.
+    /// Pushes into the inner device.
     ///
     /// # Errors
     ///
-    /// `Failed` at the call that is to fail, which does nothing, and where the device inside fails.
+    /// Returns `Failed` at the chosen call, which does nothing, and if the inner device fails.
     fn push(&mut self, from: &[u8]) -> Result<usize, Failed>
         requires nonempty { 0 < length from.now }
         requires count { CanFail (failures_with self.old.left (K.failure_count self.old.device)) }
 
-        // The call that fails does nothing, each other is the inner device's, and all are counted.
+        // The chosen call does nothing, every other is forwarded, and all are counted.
         ensures fails { fails_next self.old.left ≡ true →
             IsErr result × (self.new.device ≡ self.old.device) }
         ensures passed { fails_next self.old.left ≡ false → CountsFailure
@@ -157,7 +157,7 @@ impl<K: Sink> Sink for FailAt<K> {
         self.inner.push(from)
     }
 
-    /// The failures of the device inside, and one more after the call of the countdown.
+    /// Returns the failures of the inner device, plus one after the chosen call.
     fn failures(&self) -> u64 {
         self.with_own(self.inner.failures())
     }
@@ -166,15 +166,15 @@ impl<K: Sink> Sink for FailAt<K> {
 impl<K: Flush> Flush for FailAt<K> {
     ghost held = { λ d. K.held d.device };
 
-    /// Flushes the device inside.
+    /// Flushes the inner device.
     ///
     /// # Errors
     ///
-    /// `Failed` at the call that is to fail, which does nothing, and where the device inside fails.
+    /// Returns `Failed` at the chosen call, which does nothing, and if the inner device fails.
     fn flush(&mut self) -> Result<(), Failed>
         requires { CanFail (failures_with self.old.left (K.failure_count self.old.device)) }
 
-        // The call that fails does nothing, each other is the inner device's, and all are counted.
+        // The chosen call does nothing, every other is forwarded, and all are counted.
         ensures fails { fails_next self.old.left ≡ true →
             IsErr result × (self.new.device ≡ self.old.device) }
         ensures passed { fails_next self.old.left ≡ false → CountsFailure
@@ -203,15 +203,15 @@ impl<K: Close> Close for FailAt<K> {
     ghost is_close = { λ old new.
         K.is_close old.device new.device × (new.left ≡ old.left) };
 
-    /// Stores the device inside.
+    /// Stores the inner device.
     ///
     /// # Errors
     ///
-    /// `Failed` at the call that is to fail, which does nothing, and where the device inside fails.
+    /// Returns `Failed` at the chosen call, which does nothing, and if the inner device fails.
     fn store(&mut self) -> Result<(), Failed>
         requires { CanFail (failures_with self.old.left (K.failure_count self.old.device)) }
 
-        // The call that fails does nothing, each other is the inner device's, and all are counted.
+        // The chosen call does nothing, every other is forwarded, and all are counted.
         ensures fails { fails_next self.old.left ≡ true →
             IsErr result × (self.new.device ≡ self.old.device) }
         ensures passed { fails_next self.old.left ≡ false → CountsFailure
@@ -232,7 +232,7 @@ impl<K: Close> Close for FailAt<K> {
         self.inner.store()
     }
 
-    /// Closes the device inside. It is no call that can fail.
+    /// Closes the inner device. Closing cannot fail and is not counted.
     fn close(&mut self)
         ensures call { K.is_close self.old.device self.new.device
             × (self.new.left ≡ self.old.left) }

@@ -1,13 +1,13 @@
-//! The number and the name of a fault.
+//! Numbers and names of faults.
 ghost use Rattle.std.specs.Prelude.{◌≡◌, ◌≤◌, length};
 ghost use Rattle.sub_io.specs.FaultCode.{fault_code};
 
 use std::marker::Model;
 
-/// The number and the name by which a fault is told (own). Each type of faults has one table of
-/// them, its method `code`.
+/// The number and the name of a fault in reports (own). The method `code` of each fault type has
+/// the table of its faults.
 ///
-/// Contracts see it as a `FaultCodeValue`.
+/// Its model is a `FaultCodeValue`.
 #[derive(Drop)]
 pub struct FaultCode {
     number: u8,
@@ -22,12 +22,12 @@ impl Model for FaultCode {
 
     ghost view = { λ c. record { number = c.number; name = c.name.now } };
 
-    // So a line about a fault has room for its name.
+    // Bounds the length of a line that reports a fault.
     ghost invariant = { λ c. length c.name.now ≤ 16 };
 }
 
 impl FaultCode {
-    /// The code of this number and this name, of at most 16 letters.
+    /// Creates a code with this number and this name of at most 16 characters.
     pub fn new(number: u8, name: &'static str) -> FaultCode
         requires { length name.now ≤ 16 }
         ensures { result ≡ fault_code number name.now }
@@ -35,14 +35,14 @@ impl FaultCode {
         FaultCode { number, name }
     }
 
-    /// The number.
+    /// Returns the number.
     pub fn number(&self) -> u8
         ensures { result ≡ self.now.number }
     {
         self.number
     }
 
-    /// The name: at most 16 letters.
+    /// Returns the name, at most 16 characters.
     pub fn name(&self) -> &'static str
         ensures value { result.now ≡ self.now.name }
         ensures len { length result.now ≤ 16 }

@@ -1,4 +1,4 @@
-//! A file of std that is written, stored, and closed before its value ends.
+//! An output file that is stored, and closed before it is dropped.
 
 ghost use Rattle.std.specs.Prelude.{◌≡◌, ◌+◌, ◌<◌, ◌≤◌, IfOk, IfSome, IsErr, None, OnOk, Option};
 ghost use Rattle.std.specs.Prelude.{Some, [], false, is_none, length, true};
@@ -12,13 +12,14 @@ use crate::{Close, Failed, Flush, LetGo, Sink, Store};
 use std::io::Write;
 use std::marker::Model;
 
-/// A sink over a writer of std that can be stored and closed, as a file. One push is one `write`.
+/// A sink over a std writer, such as a file, that can be stored and closed. One push is one
+/// `write`.
 ///
-/// Each error of the writer is a failure, `Interrupted` too, and so is a write that takes no byte,
-/// a store in which something is lost, and each call once it is closed.
+/// Every error of the writer is a failure, including `Interrupted`. So is a write of 0 bytes, a
+/// store that loses something, and each call after `close`.
 ///
-/// Contracts see it as the writer, until it is closed, the bytes that this said that it took,
-/// whether it is stored, and its count of failures.
+/// Its model has the writer (until it is closed), the bytes that the writer reported as written,
+/// whether they are stored, and the failure count.
 #[derive(Drop)]
 pub struct IntoFile<W> {
     inner: Option<W>,
@@ -39,7 +40,7 @@ impl<W> Model for IntoFile<W> {
 }
 
 impl<W: Write> IntoFile<W> {
-    /// A sink that hands the writer what it takes, with no failure yet.
+    /// Creates a sink that writes to `inner`, without failures.
     pub fn new(inner: W) -> Self
         ensures { result ≡ record {
           device = Some inner;
@@ -62,16 +63,16 @@ impl<W: Write> Sink for IntoFile<W> {
 
     ghost failure_count = { λ s. s.failure_count };
 
-    /// Writes once. What is written so is not stored yet.
+    /// Calls `write` once. The bytes are not stored yet.
     ///
     /// # Errors
     ///
-    /// `Failed` at each error of the writer, where it takes no byte, and once it is closed.
+    /// Returns `Failed` if the writer returns an error or writes no byte, and after `close`.
     fn push(&mut self, from: &[u8]) -> Result<usize, Failed>
         requires nonempty { 0 < length from.now }
         requires count { CanFail self.old.failure_count }
         ensures closed { self.old.device ≡ None → IsErr result × (self.new.device ≡ None) }
-        // What the writer said that it took is what it tells, if it does.
+        // If the writer's contents are known, they agree with the reported number of bytes.
         ensures writer { Pushes (known_while_open W.contents self.old.device)
             (known_while_open W.contents self.new.device) from.now result }
         ensures stored { OnOk result (self.new.is_stored ≡ false) }
@@ -98,22 +99,21 @@ impl<W: Write> Sink for IntoFile<W> {
         }
     }
 
-    /// How many calls have failed, taken no byte or lost something, and how many came after it was
-    /// closed.
+    /// Returns how many calls failed, wrote no byte, lost something or came after `close`.
     fn failures(&self) -> u64 {
         self.failures
     }
 }
 
 impl<W: Write> Flush for IntoFile<W> {
-    // What it takes it hands to the writer at once.
+    // Every push writes at once.
     ghost held = { holds_nothing };
 
     /// Flushes the writer.
     ///
     /// # Errors
     ///
-    /// `Failed` at each error of the writer, and once it is closed.
+    /// Returns `Failed` if the writer returns an error, and after `close`.
     fn flush(&mut self) -> Result<(), Failed>
         requires { CanFail self.old.failure_count }
         ensures closed { self.old.device ≡ None → IsErr result × (self.new.device ≡ None) }
@@ -148,11 +148,11 @@ impl<W: Write + LetGo + Store> Close for IntoFile<W> {
     ///
     /// # Errors
     ///
-    /// `Failed` at each error of the writer, where something is lost, and once it is closed.
+    /// Returns `Failed` if the writer returns an error or loses something, and after `close`.
     fn store(&mut self) -> Result<(), Failed>
         requires { CanFail self.old.failure_count }
         ensures closed { self.old.device ≡ None → IsErr result × (self.new.device ≡ None) }
-        // The writer answered, as it then is, that nothing is lost.
+        // In its new state the writer answered that nothing is lost.
         ensures call { OnOk result (IfSome self.new.device (λ writer. W.is_store writer true)) }
         ensures bytes { Keeps (Some self.old.taken) (Some self.new.taken) }
         ensures held { OnOk result (holds_nothing self.new ≡ 0) }
@@ -172,7 +172,7 @@ impl<W: Write + LetGo + Store> Close for IntoFile<W> {
         Ok(())
     }
 
-    /// Lets go of the writer as it is, which closes a file.
+    /// Drops the writer in its current state, which closes a file.
     fn close(&mut self)
         ensures call { LetsGo W.is_let_go self.old self.new }
         ensures closed { self.new ≡ record self.old { device = None } }

@@ -1,7 +1,7 @@
-//! Devices that give bytes and take bytes, and count their failures.
+//! Devices that read and write bytes, and count their failures.
 //!
-//! The lowest crate of `subttx`: all others read files and write files by these traits alone, so
-//! that their contracts can say what any device gave and took, whether or not it tells its bytes.
+//! The lowest crate of `subttx`. All others read and write files only through these traits, so
+//! their contracts can say what any device read or wrote, whether or not its contents are known.
 //!
 //! ```
 //! let mut source = MemSource::new(b"EBU STL");
@@ -12,18 +12,18 @@
 //! put_all(&mut sink, &head)?; // sink.written() is "EBU"
 //! ```
 //!
-//! - `Source` and `Sink` are the traits, `fill` and `put_all` what the readers and writers call;
-//!   `Flush` is a sink that may hold bytes back, `Close` one that can be stored (`Store`) and
-//!   closed, for which it lets go (`LetGo`) of what is below it.
-//! - `MemSource` and `MemSink` are devices over memory, `FromRead`, `IntoWrite` and `IntoFile` over
-//!   std.
-//! - `BufferedSource` and `BufferedSink` stand before another device, so that it is called less
-//!   often.
+//! - `Source` and `Sink` are the traits; readers and writers call `fill` and `put_all`. `Flush` is
+//!   a sink that may buffer bytes. `Close` is one that can be stored (`Store`) and closed by
+//!   dropping (`LetGo`) the writer below it.
+//! - `MemSource` and `MemSink` are devices over memory; `FromRead`, `IntoWrite` and `IntoFile` are
+//!   devices over std.
+//! - `BufferedSource` and `BufferedSink` put a buffer before another device, so that it is called
+//!   less often.
 //! - `FailAt` makes one chosen call of another device fail.
-//! - `Audience` is the trait of devices that are told things one after another, and may stop;
-//!   `FirstTold` stops at the first.
-//! - `Live` is a device that can hand on what it holds back, before its user waits for a source.
-//! - `FaultCode` is the number and the name of a fault, of whichever crate.
+//! - `Audience` is the trait of consumers to which items are reported one at a time, and which may
+//!   stop; `FirstTold` stops at the first.
+//! - `Live` is a consumer that can flush what it buffers before a read that may block.
+//! - `FaultCode` is the number and the name of a fault of any crate.
 #![tactic(auto)]
 
 mod audience;

@@ -1,39 +1,39 @@
-//! What a reader who follows a listing while it is made asks of devices: whether they hold
-//! something back (they wait), and that they hand it on.
+//! Flushing for users who follow a listing while it is written: whether reports are pending, and a
+//! call that flushes them.
 
 ghost use Rattle.std.specs.Prelude.{◌≡◌, ℕ, Bool, OnOk, false, is_ok};
 ghost use Rattle.sub_io.specs.HandingOn.{StaysTold};
 
 use crate::{Audience, Stopped};
 
-/// A device that may hold back what it was told or has taken, and can hand it on.
+/// A device that may buffer reports or bytes, and can flush them.
 pub trait Live {
-    // It may hold something back of what it was told.
+    // Reports may be pending.
     ghost is_waiting: { Self → Bool };
 
-    // How many bytes are held back, by it and by the devices below it.
+    // How many bytes are buffered, by it and by the devices below it.
     ghost held: { Self → ℕ };
 
-    // How it stands after it was to hand on: its state before, whether it did so, its state then.
+    // How flushing changes it: the state before, whether it succeeded, the state after.
     ghost is_handed_on: { Self → Bool → Self → Type 0 };
 
-    /// Whether it may hold something back of what it was told.
+    /// Returns whether reports may be pending.
     fn waits(&self) -> bool
         ensures { result ≡ is_waiting self.now };
 
-    /// Hands on all that is held back.
+    /// Flushes everything that is buffered.
     ///
     /// # Errors
     ///
-    /// `Stopped` where it failed, in this call or before.
+    /// Returns `Stopped` if it failed, in this call or earlier.
     fn hand_on(&mut self) -> Result<(), Stopped>
         ensures call { is_handed_on self.old (is_ok result) self.new }
         ensures none { OnOk result (held self.new ≡ 0) }
         ensures still { OnOk result (is_waiting self.new ≡ false) };
 }
 
-/// An audience that may hold back what it was told, and can hand it on: what it was told stays
-/// told.
+/// An audience that may buffer reports and can flush them. Flushing does not change what was
+/// reported.
 pub trait LiveAudience<T>: Audience<T> + Live {
     ghost stays_told: { StaysTold Self.is_told Self.has_stopped Self.is_waiting Self.held
         Self.is_handed_on };

@@ -1,4 +1,4 @@
-//! Devices over memory: a source that gives the bytes of a slice, and a sink that fills one.
+//! Devices over memory: a source that reads a slice, and a sink that fills one.
 
 ghost use Rattle.std.specs.Prelude.{◌≡◌, ℕ, ◌+◌, ◌-◌, ◌<◌, ◌≤◌, min, List, [], length, take, Ok};
 ghost use Rattle.std.specs.Prelude.{IfOk, IsErr, OnOk, Some, false, true, ◌↔◌, drop};
@@ -14,9 +14,9 @@ ghost use Rattle.sub_io.specs.Memory.{Written};
 use crate::{Close, Failed, Flush, Sink, Source};
 use std::marker::Model;
 
-/// A source that gives the bytes of a slice. It never fails.
+/// A source that reads a slice. It never fails.
 ///
-/// Contracts see it as the list of the bytes that are left.
+/// Its model is the list of the bytes that are left.
 #[derive(Drop)]
 pub struct MemSource<'a> {
     rest: &'a [u8],
@@ -29,7 +29,7 @@ impl<'a> Model for MemSource<'a> {
 }
 
 impl<'a> MemSource<'a> {
-    /// A source that gives the bytes of `bytes` from the first on.
+    /// Creates a source that reads `bytes` from the start.
     pub fn new(bytes: &'a [u8]) -> Self
         ensures { result ≡ bytes.now }
     {
@@ -44,7 +44,7 @@ impl Source for MemSource<'_> {
 
     ghost lent = { λ s. s };
 
-    /// Gives as many bytes as `to` has room for, or all that are left. It never fails.
+    /// Reads as many bytes as fit in `to`, or all that are left. It never fails.
     fn pull(&mut self, to: &mut [u8]) -> Result<usize, Failed>
         ensures all { result ≡ Ok (min (length self.old) (length to.old)) }
         ensures bound { ReadsAtMost result to.new }
@@ -59,12 +59,12 @@ impl Source for MemSource<'_> {
         Ok(n)
     }
 
-    /// 0, since no call fails.
+    /// Returns 0, since no call fails.
     fn failures(&self) -> u64 {
         0
     }
 
-    /// All bytes that are left.
+    /// Returns all bytes that are left.
     fn held(&self) -> &[u8]
         ensures all { result.now ≡ self.now }
         ensures bytes { AreNext result.now (Some self.now) }
@@ -73,7 +73,7 @@ impl Source for MemSource<'_> {
         self.rest
     }
 
-    /// Passes over bytes that are left.
+    /// Skips `count` bytes, if so many are left.
     #[tactic(auto, using(crate::proofs::BufferLemmas::front_passed))]
     fn pass(&mut self, count: usize) -> bool
         ensures held { (result ≡ true) ↔ (count ≤ length self.old) }
@@ -90,9 +90,9 @@ impl Source for MemSource<'_> {
     }
 }
 
-/// A sink that keeps what it takes in a slice, and fails where the slice is full.
+/// A sink that writes to a slice, and fails when the slice is full.
 ///
-/// Contracts see it as its bytes, its room and its count of failures.
+/// Its model has the bytes written, the size of the slice and the failure count.
 #[derive(Drop)]
 pub struct MemSink<'a> {
     room: &'a mut [u8],
@@ -113,9 +113,9 @@ impl<'a> Model for MemSink<'a> {
 }
 
 impl<'a> MemSink<'a> {
-    /// An empty sink with room for as many bytes as `room` is long.
+    /// Creates an empty sink for as many bytes as `room` is long.
     ///
-    /// What `room` holds once the sink is gone is not said: read `written` before.
+    /// The contents of `room` are unspecified once the sink is gone: read `written` before.
     pub fn new(room: &'a mut [u8]) -> Self
         ensures { result ≡ record { bytes = []; room = length room.old; failure_count = 0 } }
     {
@@ -126,7 +126,7 @@ impl<'a> MemSink<'a> {
         }
     }
 
-    /// The bytes that were taken, the first one first.
+    /// Returns the bytes written, in order.
     pub fn written(&self) -> &[u8]
         ensures { result.now ≡ self.now.bytes }
     {
@@ -139,11 +139,11 @@ impl Sink for MemSink<'_> {
 
     ghost failure_count = { λ k. k.failure_count };
 
-    /// Takes as many bytes as there is room for.
+    /// Takes as many bytes as fit.
     ///
     /// # Errors
     ///
-    /// `Failed` where the slice is full, and only there.
+    /// Returns `Failed` only if the slice is full.
     fn push(&mut self, from: &[u8]) -> Result<usize, Failed>
         requires nonempty { 0 < length from.now }
         requires count { CanFail self.old.failure_count }
@@ -166,7 +166,7 @@ impl Sink for MemSink<'_> {
         Ok(n)
     }
 
-    /// How many pushes found the slice full.
+    /// Returns how many pushes found the slice full.
     fn failures(&self) -> u64 {
         self.failures
     }
@@ -175,7 +175,7 @@ impl Sink for MemSink<'_> {
 impl Flush for MemSink<'_> {
     ghost held = { holds_nothing };
 
-    /// Does nothing, since no byte is held back. It never fails.
+    /// Does nothing, since no byte is buffered. It never fails.
     fn flush(&mut self) -> Result<(), Failed>
         ensures ok { result ≡ Ok tt }
         ensures same { self.new ≡ self.old }
@@ -194,7 +194,7 @@ impl Close for MemSink<'_> {
 
     ghost is_close = { λ old new. new ≡ old };
 
-    /// Does nothing: memory is not stored. It never fails.
+    /// Does nothing, since memory needs no storing. It never fails.
     fn store(&mut self) -> Result<(), Failed>
         ensures ok { result ≡ Ok tt }
         ensures same { self.new ≡ self.old }
@@ -206,7 +206,7 @@ impl Close for MemSink<'_> {
         Ok(())
     }
 
-    /// Does nothing: memory is not closed.
+    /// Does nothing, since memory needs no closing.
     fn close(&mut self)
         ensures { self.new ≡ self.old }
     {}

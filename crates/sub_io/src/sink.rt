@@ -10,22 +10,23 @@ use crate::Failed;
 
 /// A device that takes bytes.
 pub trait Sink {
-    // The bytes that it has taken, where it tells them.
+    // All bytes taken so far, if they are known.
     ghost contents: { Self → Option (List ℕ) };
 
-    // How many of its calls have failed.
+    // How many calls have failed.
     ghost failure_count: { Self → ℕ };
 
-    // Which pushes go so, where it says that: its state before, the bytes that it is lent, how many
-    // it takes or none where it fails, its state after.
+    // How a push changes the device, if it specifies that: the state before, the bytes offered, how
+    // many were taken (`None` if it failed), the state after.
     ghost is_push: { Self → List ℕ → Option ℕ → Self → Type 0 } = { any_call };
 
-    /// Takes bytes from the front of `from`, which must not be empty, and answers how many: 1 to
-    /// its length.
+    /// Takes bytes from the front of `from`, which must not be empty. Returns how many: at least 1,
+    /// at most its length.
     ///
     /// # Errors
     ///
-    /// `Failed` where the device failed: it took nothing, and its count is one higher.
+    /// Returns `Failed` if the device fails. It has taken nothing, and its failure count rises by
+    /// one.
     fn push(&mut self, from: &[u8]) -> Result<usize, Failed>
         requires nonempty { 0 < length from.now }
         requires count { CanFail (failure_count self.old) }
@@ -35,24 +36,24 @@ pub trait Sink {
         ensures bytes { Pushes (contents self.old) (contents self.new) from.now result }
         ensures count { CountsFailure (failure_count self.old) result (failure_count self.new) };
 
-    /// How many calls have failed.
+    /// Returns how many calls have failed.
     fn failures(&self) -> u64
         ensures { result ≡ failure_count self.now };
 }
 
-/// A sink that may hold back bytes that it has taken, as a `BufferedSink` does.
+/// A sink that may buffer bytes it has taken, such as `BufferedSink`.
 ///
-/// A failing write of such bytes comes late: at a later push, or only at `flush`.
+/// Errors of writing these bytes appear late: at a later push, or only at `flush`.
 pub trait Flush: Sink {
-    // How many of the bytes that it has taken it holds back, and has not handed on.
+    // How many of the bytes taken are still buffered.
     ghost held: { Self → ℕ };
 
-    /// Hands on all bytes that are held back. What the sink has taken stays as it was.
+    /// Writes all buffered bytes. The bytes taken do not change.
     ///
     /// # Errors
     ///
-    /// `Failed` where the device failed: some bytes may still be held back, and its count is one
-    /// higher.
+    /// Returns `Failed` if the device fails. Some bytes may still be buffered, and the failure
+    /// count rises by one.
     fn flush(&mut self) -> Result<(), Failed>
         requires { CanFail (Self.failure_count self.old) }
         ensures bytes { Keeps (Self.contents self.old) (Self.contents self.new) }
@@ -61,11 +62,11 @@ pub trait Flush: Sink {
             (Self.failure_count self.new) };
 }
 
-/// Pushes all of `from`, in as many calls as the sink needs: each is lent what is left of it.
+/// Pushes all of `from`, in as many calls as needed; each call offers all bytes that are left.
 ///
 /// # Errors
 ///
-/// `Failed` at the first push that fails: a prefix of `from` was taken.
+/// Returns `Failed` at the first push that fails. A prefix of `from` was taken.
 pub fn put_all<K: Sink>(sink: &mut K, from: &[u8]) -> Result<(), Failed>
     requires { CanFail (K.failure_count sink.old) }
     ensures calls { PutsByPushes K.is_push sink.old from.now (is_ok result) sink.new }
@@ -78,7 +79,7 @@ pub fn put_all<K: Sink>(sink: &mut K, from: &[u8]) -> Result<(), Failed>
     }
 }
 
-// Pushes all of `from`. The error is how many bytes were taken before the first push that failed.
+// Pushes all of `from`. The error is the number of bytes taken before the push that failed.
 pub(crate) fn push_all<K: Sink>(sink: &mut K, from: &[u8]) -> Result<(), usize>
     requires { CanFail (K.failure_count sink.old) }
     ensures calls { PutsByPushes K.is_push sink.old from.now (is_ok result) sink.new }

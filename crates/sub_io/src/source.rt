@@ -1,4 +1,4 @@
-//! Devices that give bytes.
+//! Devices that provide bytes.
 
 ghost use Rattle.std.specs.Prelude.{◌≡◌, ◌≢◌, ℕ, ◌+◌, ◌<◌, ◌≤◌, List, [], length, take, Option, Ok};
 ghost use Rattle.std.specs.Prelude.{IfOk, OnErr, Some, false, is_ok, true};
@@ -9,30 +9,32 @@ ghost use Rattle.sub_io.specs.Device.{CanFail, CountsFailure, Fills, PassesOver,
 ghost use Rattle.sub_io.specs.Lent.{BeginLent, GivesLent, lends_nothing};
 ghost use Rattle.sub_io.specs.Reading.{AreBytes, AreNext, IfKnown};
 
-/// A device's call failed: it gave or took nothing.
+/// The error of a device's call. It has read or written nothing.
 #[derive(Clone, Copy, Debug, PartialEq, Eq)]
 pub struct Failed;
 
-/// A device that gives bytes.
+/// A device that provides bytes.
 pub trait Source {
-    // The bytes that it has still to give, where it tells them.
+    // The bytes that are left, if they are known.
     ghost remaining: { Self → Option (List ℕ) };
 
-    // How many of its calls have failed.
+    // How many calls have failed.
     ghost failure_count: { Self → ℕ };
 
-    // Which pulls go so, where it says that: its state before, how many bytes it is lent, how many
-    // it gives or none where it fails, its state after.
+    // How a pull changes the device, if it specifies that: the state before, the size of the
+    // buffer, how many bytes were read (`None` if it failed), the state after.
     ghost is_pull: { Self → ℕ → Option ℕ → Self → Type 0 } = { any_call };
 
-    // The bytes that it gives without a call of the device below it, which may wait and may fail.
+    // The bytes that it can return without calling the device below it, which may block and may
+    // fail.
     ghost lent: { Self → List ℕ } = { lends_nothing };
 
-    /// Puts bytes in front of `to` and answers how many; 0 for a nonempty `to` means the end.
+    /// Reads bytes to the front of `to`, and returns how many. 0 for a nonempty `to` means the end.
     ///
     /// # Errors
     ///
-    /// `Failed` where the device failed: it gave nothing, and its count is one higher.
+    /// Returns `Failed` if the device fails. It has given no bytes, and its failure count rises by
+    /// one.
     fn pull(&mut self, to: &mut [u8]) -> Result<usize, Failed>
         requires { CanFail (failure_count self.old) }
         ensures bound { ReadsAtMost result to.new }
@@ -41,12 +43,12 @@ pub trait Source {
         ensures lent { GivesLent (lent self.old) (lent self.new) to.new result }
         ensures count { CountsFailure (failure_count self.old) result (failure_count self.new) };
 
-    /// How many calls of `pull` have failed.
+    /// Returns how many calls of `pull` have failed.
     fn failures(&self) -> u64
         ensures { result ≡ failure_count self.now };
 
-    /// The bytes that it holds and lends where they stand: those that it gives next, without a call
-    /// of the device below it. A device that holds none, or lends none, says so by an empty slice.
+    /// Returns buffered bytes in place: those that it gives next, without calling the device below
+    /// it. Empty if it buffers none or cannot lend them.
     fn held(&self) -> &[u8]
         ensures bytes { AreNext result.now (remaining self.now) }
         ensures lent { BeginLent result.now (lent self.now) }
@@ -54,12 +56,12 @@ pub trait Source {
         &[]
     }
 
-    /// Reads on until it lends bytes, where it makes them of those of the device below it; any
-    /// other device does nothing. It gives none.
+    /// Reads ahead until it can lend bytes, if it derives them from a device below it. Other
+    /// devices do nothing. It consumes none of the bytes that `pull` gives.
     ///
     /// # Errors
     ///
-    /// `Failed` where the device below it failed.
+    /// Returns `Failed` if the device below it fails.
     fn read_on(&mut self) -> Result<(), Failed>
         requires { CanFail (failure_count self.old) }
         ensures bytes { Keeps (remaining self.old) (remaining self.new) }
@@ -69,8 +71,8 @@ pub trait Source {
         Ok(())
     }
 
-    /// Passes over so many of the bytes that it lends, as one pull that gives them, and answers
-    /// whether it did: where it lends fewer, nothing is done.
+    /// Skips `count` of the bytes that it lends, like a pull of them, and returns `true`. If it
+    /// lends fewer, it does nothing and returns `false`.
     fn pass(&mut self, count: usize) -> bool
         requires some { 0 < count }
         requires count { CanFail (failure_count self.old) }
@@ -81,15 +83,15 @@ pub trait Source {
         ensures count { failure_count self.new ≡ failure_count self.old };
 }
 
-/// Pulls until `to` is full or the source is at its end, and answers how many bytes it got.
+/// Pulls until `to` is full or the source ends, and returns how many bytes were read.
 ///
-/// Fewer than `to.len()` only at the end of the source. Each pull is lent what is left of `to`, and
-/// none is made after one that gave nothing or failed, nor where `to` is full.
+/// Reads fewer than `to.len()` only at the end of the source. Each pull offers the rest of `to`.
+/// None follows a pull that read nothing or failed, or once `to` is full.
 ///
 /// # Errors
 ///
-/// `Failed` at the first pull that fails: some bytes may have been taken, fewer than `to.len()`,
-/// and what `to` holds is not said.
+/// Returns `Failed` at the first pull that fails. Fewer than `to.len()` bytes may have been
+/// consumed, and the contents of `to` are unspecified.
 #[inline(always)]
 pub fn fill<S: Source>(source: &mut S, to: &mut [u8]) -> Result<usize, Failed>
     requires { CanFail (S.failure_count source.old) }
@@ -98,7 +100,7 @@ pub fn fill<S: Source>(source: &mut S, to: &mut [u8]) -> Result<usize, Failed>
         Consumes (S.remaining source.old) (S.remaining source.new) (take n to.new)) }
     ensures end { IfOk result (λ n. n < length to.new → IsAtEnd (S.remaining source.new)) }
 
-    // These three facts as one, and what they say where the source tells its bytes.
+    // These three facts in one record, and what follows if the source's bytes are known.
     ensures fills { IfOk result (λ n.
         Fills (S.remaining source.old) n (S.remaining source.new) to.new) }
     ensures told { IfKnown (S.remaining source.old) (λ bytes.

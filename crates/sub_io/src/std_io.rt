@@ -1,7 +1,7 @@
 //! Devices over std's readers and writers: files, standard input and output.
 //!
-//! No call that failed is tried again, an interrupted one neither: a retry would hide a device that
-//! never recovers, and would need a bound.
+//! No failed call is repeated, not even an interrupted one. A retry would hide a device that never
+//! recovers, and would need a bound.
 
 ghost use Rattle.std.specs.Prelude.{◌≡◌, ◌+◌, ◌<◌, ◌≤◌, [], ◌++◌, IfOk, OnOk, Some, length, take};
 ghost use Rattle.std.specs.Prelude.{IsErr};
@@ -14,11 +14,11 @@ use crate::{Failed, Flush, Sink, Source};
 use std::io::{Read, Write};
 use std::marker::Model;
 
-/// A source over a reader of std, as a buffered file. One pull is one `read`.
+/// A source over a std reader, such as a buffered file. One pull is one `read`.
 ///
-/// Each error of the reader is a failure, `Interrupted` too: no call is tried again.
+/// Every error of the reader is a failure, including `Interrupted`.
 ///
-/// Contracts see it as the reader and its count of failures.
+/// Its model has the reader and the failure count.
 #[derive(Drop)]
 pub struct FromRead<R> {
     inner: R,
@@ -32,7 +32,7 @@ impl<R> Model for FromRead<R> {
 }
 
 impl<R: Read> FromRead<R> {
-    /// A source that gives what the reader gives, with no failure yet.
+    /// Creates a source that reads from `inner`, without failures.
     pub fn new(inner: R) -> Self
         ensures { result ≡ record { device = inner; failure_count = 0 } }
     {
@@ -45,11 +45,11 @@ impl<R: Read> Source for FromRead<R> {
 
     ghost failure_count = { λ s. s.failure_count };
 
-    /// Reads once.
+    /// Calls `read` once.
     ///
     /// # Errors
     ///
-    /// `Failed` at each error of the reader.
+    /// Returns `Failed` if the reader returns an error.
     fn pull(&mut self, to: &mut [u8]) -> Result<usize, Failed> {
         match self.inner.read(to) {
             Ok(n) => Ok(n),
@@ -60,23 +60,22 @@ impl<R: Read> Source for FromRead<R> {
         }
     }
 
-    /// How many reads have failed.
+    /// Returns how many reads have failed.
     fn failures(&self) -> u64 {
         self.failures
     }
 
-    /// Nothing, since it lends nothing.
+    /// Returns `false`, since it lends no bytes.
     fn pass(&mut self, _count: usize) -> bool {
         false
     }
 }
 
-/// A sink over a writer of std. One push is one `write`, and a flush is the writer's.
+/// A sink over a std writer. One push is one `write`, and a flush is the writer's.
 ///
-/// Each error of the writer is a failure, `Interrupted` too, and so is a write that takes no byte.
+/// Every error of the writer is a failure, including `Interrupted`. So is a write of 0 bytes.
 ///
-/// Contracts see it as the writer, the bytes that this said that it took, and its count of
-/// failures.
+/// Its model has the writer, the bytes that the writer reported as written, and the failure count.
 #[derive(Drop)]
 pub struct IntoWrite<W> {
     inner: W,
@@ -95,7 +94,7 @@ impl<W> Model for IntoWrite<W> {
 }
 
 impl<W: Write> IntoWrite<W> {
-    /// A sink that hands the writer what it takes, with no failure yet.
+    /// Creates a sink that writes to `inner`, without failures.
     pub fn new(inner: W) -> Self
         ensures { result ≡ record { device = inner; taken = []; failure_count = 0 } }
     {
@@ -112,15 +111,15 @@ impl<W: Write> Sink for IntoWrite<W> {
 
     ghost failure_count = { λ s. s.failure_count };
 
-    /// Writes once.
+    /// Calls `write` once.
     ///
     /// # Errors
     ///
-    /// `Failed` at each error of the writer, and where it takes no byte.
+    /// Returns `Failed` if the writer returns an error or writes no byte.
     fn push(&mut self, from: &[u8]) -> Result<usize, Failed>
         requires nonempty { 0 < length from.now }
         requires count { CanFail self.old.failure_count }
-        // What the writer said that it took is what it tells, if it does.
+        // If the writer's contents are known, they agree with the reported number of bytes.
         ensures writer { Pushes (W.contents self.old.device) (W.contents self.new.device)
             from.now result }
         ensures some { IfOk result (λ n. 0 < n) }
@@ -141,22 +140,22 @@ impl<W: Write> Sink for IntoWrite<W> {
         }
     }
 
-    /// How many writes have failed or taken no byte, and how many flushes have failed.
+    /// Returns how many writes failed or wrote no byte, plus how many flushes failed.
     fn failures(&self) -> u64 {
         self.failures
     }
 }
 
 impl<W: Write> Flush for IntoWrite<W> {
-    // What it takes it hands to the writer at once. What the writer then holds back is not seen: a
-    // file of the operating system holds nothing, a buffer of std's would.
+    // Every push writes at once. Buffers of the writer itself are not visible here: a file of the
+    // operating system has none, a buffered writer of std would have one.
     ghost held = { holds_nothing };
 
     /// Flushes the writer.
     ///
     /// # Errors
     ///
-    /// `Failed` at each error of the writer.
+    /// Returns `Failed` if the writer returns an error.
     fn flush(&mut self) -> Result<(), Failed>
         requires { CanFail self.old.failure_count }
         ensures writer { Keeps (W.contents self.old.device) (W.contents self.new.device) }

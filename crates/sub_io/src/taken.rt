@@ -1,15 +1,15 @@
-//! What a writer said that it took, as clauses see it.
+//! The bytes that a writer reported as written, for contracts only.
 
 ghost use Rattle.std.specs.Prelude.{◌≡◌, ℕ, List, [], ◌++◌};
 ghost use Rattle.std.specs.Borrow.{ftrue};
 
 use std::marker::Model;
 
-/// The bytes that a writer said that it took. Only clauses see them: it takes no memory, and its
-/// functions do nothing. So whoever calls these says what the writer said.
+/// The bytes that a writer reported as written. Only contracts see them: the type has no size, and
+/// its functions do nothing. So each caller must record what its writer reported.
 #[derive(Drop)]
 pub struct Taken {
-    /// The bytes, the first one first.
+    /// The bytes, in order.
     pub ghost bytes: { List ℕ },
 }
 
@@ -17,7 +17,7 @@ impl Model for Taken {
     ghost also_owns = { λ _. ftrue };
 }
 
-/// Bytes that a writer took in one call.
+/// The bytes that a writer took in one call.
 #[derive(Clone, Copy)]
 pub struct Piece<'a> {
     /// The bytes.
@@ -25,14 +25,14 @@ pub struct Piece<'a> {
 }
 
 impl Taken {
-    /// No byte yet.
+    /// Returns the empty record.
     pub fn nothing() -> Taken
         ensures { result.bytes ≡ [] }
     {
         Taken {}
     }
 
-    /// These bytes behind those before.
+    /// Appends the bytes of one call.
     pub fn and(&self, more: &Piece<'_>) -> Taken
         ensures { result.bytes ≡ self.now.bytes ++ more.now.bytes.now }
     {

@@ -1,4 +1,4 @@
--- What a full or ended buffer says of told bytes, by Told-from_result.
+-- The known bytes of a source after filling a buffer, by Told-from_result.
 use Rattle.sub_io.proofs.DeviceLemmas.{Told-from_result}
 use Rattle.sub_io.proofs.source.fill.Goals as goal
 

@@ -1,4 +1,4 @@
--- Each turn of `fill_up` puts its piece after those before it, by Consumes-more.
+-- Each iteration of `fill_up` adds its part after those before it, by Consumes-more.
 use Rattle.std.proofs.Common.{rules}
 use Rattle.sub_io.proofs.DeviceLemmas.{Consumes-more}
 use Rattle.sub_io.proofs.CallLemmas.{fills-more}

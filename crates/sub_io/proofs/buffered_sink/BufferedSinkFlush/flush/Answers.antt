@@ -1,4 +1,4 @@
--- Where a flush fails, the bytes that were not taken are still held back, by held-parts and
+-- After a failed flush the bytes that were not taken stay in the buffer, by held-parts and
 -- held-moved.
 use Rattle.std.proofs.Common.{rules}
 use Rattle.sub_io.proofs.BufferLemmas.{held-parts, held-moved}

@@ -1,4 +1,4 @@
--- What `give` copies is the front of what was held, by held-split.
+-- `give` copies the front of the buffered bytes, by held-split.
 use Rattle.std.proofs.Common.{◌≡◌, ◌+◌, length, take, slice_range, ap, ◌∙◌, arith, length-take}
 use Rattle.sub_io.proofs.BufferLemmas.{held-split}
 use Rattle.sub_io.proofs.buffered_source.BufferedSource.give.Goals as goal

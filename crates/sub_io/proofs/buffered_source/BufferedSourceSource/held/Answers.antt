@@ -1,4 +1,4 @@
--- What the source tells begins with what is held, by held_are_next.
+-- The source's bytes begin with the buffered ones, by held_are_next.
 use Rattle.std.proofs.Common.{slice_range}
 use Rattle.sub_io.proofs.BufferLemmas.{held_are_next}
 use Rattle.sub_io.proofs.buffered_source.BufferedSourceSource.held.Goals as goal

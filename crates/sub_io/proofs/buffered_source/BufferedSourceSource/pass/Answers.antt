@@ -1,4 +1,4 @@
--- What is passed over is the front of what was held: held_past.
+-- The skipped bytes are the front of the buffer: held_past.
 use Rattle.std.proofs.Common.{◌+◌, ◌≤◌, length, slice_range, refl, arith}
 use Rattle.sub_io.proofs.BufferLemmas.{held_length, held_passed, held_past, held_read}
 use Rattle.sub_io.proofs.buffered_source.BufferedSourceSource.pass.Goals as goal

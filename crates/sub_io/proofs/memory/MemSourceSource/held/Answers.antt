@@ -1,4 +1,4 @@
--- All bytes are held, by all_are_next.
+-- A source over memory lends all its bytes, by all_are_next.
 use Rattle.sub_io.proofs.BufferLemmas.{all_are_next}
 use Rattle.sub_io.proofs.memory.MemSourceSource.held.Goals as goal
 
