@@ -1,5 +1,5 @@
--- What is kept after the packets of a frame of the list: `heard_here`; and at its end:
--- `ending_steps`, `follows_then`.
+-- The state after the packets of a frame, `heard_here`, and at its end: `ending_steps`,
+-- `follows_then`.
 use Rattle.std.proofs.lemmas.Bool.Decides.{nat_tests}
 use Rattle.std.proofs.Common.{◌≡◌, ℕ, zero, suc, ◌+◌, ◌<◌, Bool, ◌&&◌, ◌||◌, not, nat_le, nat_lt}
 use Rattle.std.proofs.Common.{cond, List, [], ◌∷◌, ◌++◌, length, map, take, refl, sym, ap, ◌∙◌}
@@ -31,7 +31,7 @@ use Rattle.sub_checker.proofs.FrameEndLemmas.{steps_are}
 
 -- ---- the packets of a frame
 
--- What comes of them, by what is kept. For `take_next`.
+-- The steps of the packets agree with the state. For `take_next`.
 pub packets_are :
     (g : Criteria) (frames : Transmission) (n : ℕ) (last ps : List (List ℕ)) (c : CheckerValue)
     → BeforePackets g frames n last c
@@ -42,7 +42,7 @@ packets_are g frames n last ps c arrives are =
     let watched = ap (λ (t : Criteria). t.watched) arrives.waits.known.criteria_are in
     rw (sym watched, arrives.frame_is, sym are) refl
 
--- From when on a header is too long ago, with those of more packets.
+-- When the repeat bound is exceeded next, given the headers among more packets.
 pub late_core : (due before has : Bool) (late frame every f : ℕ)
     → (due && not before) ≡ nat_le late (f + 1)
     → (due && not (before || (has && nat_lt f (frame + every))))
@@ -55,7 +55,6 @@ module _ (g : Criteria) (frames : Transmission) (n : ℕ) (last ps : List (List 
     (are : packets_of_frame frames n ≡ ps)
     (hears : HasHeard 0 (packets_before frames n) ps c d)
   where
-    -- The packets up to there.
     joined : packets_before frames n ++ ps ≡ packets_before frames (suc n)
     joined =
         let next : n + 1 ≡ suc n = omega arith in
@@ -63,7 +62,6 @@ module _ (g : Criteria) (frames : Transmission) (n : ℕ) (last ps : List (List 
         ∙ sym (joined_more frames n there)
         ∙ ap (packets_before frames) next
 
-    -- The headers among them.
     has_header : holds_header (kind g.watched.page) ps ≡ nat_lt 0 hears.headers
     has_header =
         let watched = ap (λ (t : Criteria). t.watched) arrives.waits.known.criteria_are in
@@ -105,7 +103,7 @@ module _ (g : Criteria) (frames : Transmission) (n : ℕ) (last ps : List (List 
         (list_any (covers g f) (take n frames)) (nat_lt 0 hears.headers) c.late_at c.frame c.every f
         (arrives.waits.begun.late_is f))
 
-    -- What is kept then. For `take_next`.
+    -- The state after the packets. For `take_next`.
     pub heard_here : (e : CheckerValue) → e ≡ record here {
       counts = record here.counts { frames = suc n };
     } → AfterPackets g frames n ps e
@@ -131,7 +129,7 @@ module _ (g : Criteria) (frames : Transmission) (n : ℕ) (last ps : List (List 
 module _ (g : Criteria) (frames : Transmission) (n : ℕ) (last : List (List ℕ)) (c : CheckerValue)
     (is : AfterPackets g frames n last c)
   where
-    -- A frame has a header of the page where their count has risen.
+    -- A frame has a header of the page if their count has risen.
     pub header_more : (before : ℕ) → n < length frames
         → before ≡ header_count g.watched.page (packets_before frames n)
         → nat_lt before c.counts.headers
@@ -144,7 +142,7 @@ module _ (g : Criteria) (frames : Transmission) (n : ℕ) (last : List (List ℕ
         let count = is.known.count in
         grind (arith, nat_tests, header_count-append, holds-count)
 
-    -- What is told of the first frame's. For `end_sent`.
+    -- The missing header of the first frame is reported. For `end_sent`.
     pub first_told : (has lacks : Bool)
         → has ≡ holds_header (kind g.watched.page) (packets_of_frame frames n)
         → lacks ≡ ((c.counts.frames == 1) && not has)
@@ -164,7 +162,7 @@ module _ (g : Criteria) (frames : Transmission) (n : ℕ) (last : List (List ℕ
         go (suc k) number at holds = grind (arith, nat_tests)
 
     module _ (due : c.listener.comparison.due ≡ due_in c.programme c.frame) where
-      -- What comes at the end. For `end_sent`.
+      -- The steps at the end agree with the state. For `end_sent`.
       pub ending_steps : end_steps c ≡ steps_at_end g frames n (suc n) (frame_at frames n)
       ending_steps =
           steps_are g frames n (suc n) (frame_at frames n) last c is.known is.begun is.frame_is due
@@ -178,7 +176,7 @@ module _ (g : Criteria) (frames : Transmission) (n : ℕ) (last : List (List ℕ
           is.standing_is is.last_is is.since_is (frame_on g frames n) (omega arith)
           is.latest_is
 
-      -- The step there. For `end_sent`.
+      -- The reporter's step at the end. For `end_sent`.
       pub end_step : (f : ℕ) (begins none : Bool) (d : CheckerValue)
           → d ≡ after_end c
           → f ≡ d.frame
@@ -201,7 +199,7 @@ module _ (g : Criteria) (frames : Transmission) (n : ℕ) (last : List (List ℕ
           is.latest_is l
           ∙ since_last g frames n
 
-      -- What is kept there. For `end_sent`.
+      -- The state after the end. For `end_sent`.
       pub follows_then : AfterEnd g frames (suc n) last (after_end c)
       follows_then = record {
         known = assumption is.known;

@@ -1,7 +1,6 @@
--- What is kept between two PES packets: `BetweenPieces-closed`, `BetweenPieces-open`,
--- `waiting_none`, `waiting_some`; whether one goes on with the frame before, `goes_on_is`; what
--- comes of one of another frame, `arrived`, `next_is`; and what is kept then, `more_keeps`,
--- `next_keeps`.
+-- The state between two PES packets: `BetweenPieces-closed`, `BetweenPieces-open`, `waiting_none`,
+-- `waiting_some`. Whether a packet continues the last frame: `goes_on_is`. The steps of a packet of
+-- another frame: `arrived`, `next_is`. The state after it: `more_keeps`, `next_keeps`.
 use Rattle.std.proofs.lemmas.Bool.Decides.{nat_tests}
 use Rattle.std.proofs.Common.{◌≡◌, ℕ, suc, ◌+◌, ◌-◌, ◌<◌, ◌==◌, Bool, ◌&&◌}
 use Rattle.std.proofs.Common.{true, false, List, [], ◌∷◌, ◌++◌, length, refl, sym, ap}
@@ -28,9 +27,9 @@ use Rattle.sub_checker.proofs.AfterPacketsLemmas.{heard_here}
 use Rattle.sub_checker.proofs.MorePacketsLemmas.{opens_more}
 use Rattle.sub_checker.proofs.ReporterLemmas.{relays_begun, relays_two}
 
--- ---- what is kept between two PES packets
+-- ---- the state between two PES packets
 
--- After an end.
+-- The state after the end of the last frame.
 pub BetweenPieces-closed : (g : Criteria) (sent : Transmission) (last : List (List ℕ))
     (c : CheckerValue)
     → c.counts.is_open ≡ false
@@ -39,7 +38,7 @@ pub BetweenPieces-closed : (g : Criteria) (sent : Transmission) (last : List (Li
     → BetweenPieces g sent last c
 BetweenPieces-closed g sent last c shut each follows = grind (arith, nat_tests)
 
--- Before one.
+-- The state before the end of the last frame.
 pub BetweenPieces-open : (g : Criteria) (sent : Transmission) (n : ℕ) (last : List (List ℕ))
     (c : CheckerValue)
     → c.counts.is_open ≡ true
@@ -49,7 +48,7 @@ pub BetweenPieces-open : (g : Criteria) (sent : Transmission) (n : ℕ) (last : 
     → BetweenPieces g sent last c
 BetweenPieces-open g sent n last c opened within all opens = grind (arith, nat_tests)
 
--- No end is still to come.
+-- If the last frame is closed, no end is open.
 pub waiting_none : (g : Criteria) (sent : Transmission) (last : List (List ℕ)) (c : CheckerValue)
     → BetweenPieces g sent last c
     → c.counts.is_open ≡ false
@@ -57,7 +56,7 @@ pub waiting_none : (g : Criteria) (sent : Transmission) (last : List (List ℕ))
 unfolding steps_of_waiting
 waiting_none g sent last c keeps shut = grind (arith, nat_tests)
 
--- The last frame's end is.
+-- If it is not, the open end is that of the last frame.
 pub waiting_some : (g : Criteria) (sent : Transmission) (last : List (List ℕ)) (c : CheckerValue)
     → BetweenPieces g sent last c
     → c.counts.is_open ≡ true
@@ -65,7 +64,7 @@ pub waiting_some : (g : Criteria) (sent : Transmission) (last : List (List ℕ))
 unfolding steps_of_waiting
 waiting_some g sent last c keeps opened = grind (arith, nat_tests)
 
--- What else is counted changes nothing.
+-- Other changes of the counts do not matter.
 heard_counts : (g : Criteria) (sent : Transmission) (n : ℕ) (last : List (List ℕ))
     (c d : CheckerValue) (m : Counts)
     → d ≡ record c { counts = m }
@@ -75,7 +74,7 @@ heard_counts : (g : Criteria) (sent : Transmission) (n : ℕ) (last : List (List
     → AfterPackets g sent n last d
 heard_counts g sent n last c d m is frames headers heard = grind (arith, nat_tests)
 
--- Before an end nothing else changes. For `end_open`.
+-- Closing the frame changes nothing else. For `end_open`.
 pub heard_shut : (g : Criteria) (sent : Transmission) (n : ℕ) (last : List (List ℕ))
     (c d : CheckerValue)
     → d ≡ record c { counts = record c.counts { is_open = false } }
@@ -84,7 +83,7 @@ pub heard_shut : (g : Criteria) (sent : Transmission) (n : ℕ) (last : List (Li
 heard_shut g sent n last c d is heard =
     heard_counts g sent n last c d (record c.counts { is_open = false }) is refl refl heard
 
--- More packets of the last frame. For `take_more`.
+-- The state after more packets of the last frame. For `take_more`.
 pub more_keeps : (g : Criteria) (sent : Transmission) (last ps : List (List ℕ))
     (c v e : CheckerValue) (k : ℕ)
     → BetweenPieces g sent last c
@@ -109,7 +108,7 @@ more_keeps g sent last ps c v e k keeps opened hears is sum =
 
 -- ---- the next PES packet
 
--- It is of the frame before.
+-- The checker decides correctly whether a packet continues the last frame.
 pub goes_on_is : (g : Criteria) (sent : Transmission) (last : List (List ℕ)) (c : CheckerValue)
     (s : SentFrame) (same : Bool)
     → BetweenPieces g sent last c
@@ -117,7 +116,7 @@ pub goes_on_is : (g : Criteria) (sent : Transmission) (last : List (List ℕ)) (
     → goes_on_with g.within sent s ≡ same
 goes_on_is g sent last c s same keeps is = grind (arith, nat_tests)
 
--- What comes of it then, and where it is of another frame.
+-- The steps of a packet that continues the last frame.
 pub more_is : (g : Criteria) (sent : Transmission) (pes : ℕ) (s : SentFrame)
     → goes_on_with g.within sent s ≡ true
     → steps_of_sent g sent pes s ≡ AtPes pes ∷ steps_of_more g sent s.packets
@@ -131,7 +130,7 @@ pub next_is : (g : Criteria) (sent : Transmission) (pes : ℕ) (s : SentFrame)
 unfolding steps_of_sent
 next_is g sent pes s other = rw other refl
 
--- It is the last frame of the list.
+-- The new frame is the last one of the list.
 pub is_sent : (sent : Transmission) (s : SentFrame)
     → IsSentFrame (sent ++ s ∷ []) (length sent) s.frame s.packets
 is_sent sent s = record {
@@ -152,7 +151,7 @@ pub one_longer : (sent : Transmission) (s : SentFrame)
     → length (sent ++ s ∷ []) ≡ suc (length sent)
 one_longer sent s = length-append sent (s ∷ []) ∙ omega arith
 
--- The way to its frame, and then the step there. For `take_next`.
+-- The steps of reaching its frame, and the step there. For `take_next`.
 pub arrived : {D : Type 0} {d : _} {IsTold : D → Event → D → Type 0} {a s t : Reporter D d}
     (g : Criteria) (frames : Transmission) (n : ℕ) (last : List (List ℕ)) (c : CheckerValue)
     → BeforePackets g frames n last c
@@ -167,7 +166,7 @@ arrived {a = a} {s = s} {t = t} g frames n last c arrives reached begins =
     (sym arrives.frame_is) (sym back))
     reached (relays_begun s t c begins)
 
--- Its steps where its end comes at once, and where it does not. For `take_next`.
+-- The steps of a frame that ends at once, and of one that does not. For `take_next`.
 pub next_each : (g : Criteria) (frames : Transmission) (n : ℕ) → g.within ≡ 0
     → next_steps g frames n
     ≡ steps_of_arrival g frames n ++ steps_of_packets g frames n ++ steps_of_ending g frames n
@@ -184,7 +183,7 @@ module _ (g : Criteria) (frames : Transmission) (n : ℕ) (last ps : List (List 
     (arrives : BeforePackets g frames n last c) (there : n < length frames)
     (are : packets_of_frame frames n ≡ ps) (hears : HasHeard 0 (packets_before frames n) ps c v)
   where
-    -- What is kept after them. For `take_next`.
+    -- The state after the packets. For `take_next`.
     pub next_heard : (e : CheckerValue)
         → e ≡ record v { counts = record v.counts { frames = v.counts.frames + 1 } }
         → AfterPackets g frames n ps e
@@ -199,7 +198,7 @@ module _ (g : Criteria) (frames : Transmission) (n : ℕ) (last ps : List (List 
         record here { counts = record here.counts { frames = k } })
         (omega (arith, arrives.waits.number)))
 
-    -- And where more of them may come.
+    -- The state if more packets of the frame may follow.
     pub next_keeps : (e : CheckerValue) (before k : ℕ)
         → 0 < c.within
         → length frames ≡ suc n
@@ -233,20 +232,20 @@ module _ (g : Criteria) (frames : Transmission) (n : ℕ) (last ps : List (List 
               ∙ ap length (sym are);
         })
 
-    -- And later where it need not.
+    -- Both sides agree that `within` is not 0.
     pub some_is : (v.within ≡ 0 → ⊥) → 0 < c.within
     some_is not_each =
         let same = ap (λ (w : CheckerValue). w.within) hears.new_is in
         omega (arith, not_each, same)
 
-    -- The end comes at once where it has to.
+    -- Both sides agree that `within` is 0.
     pub each_is : v.within ≡ 0 → g.within ≡ 0
     each_is e =
         ap (λ (t : Criteria). t.within) arrives.waits.known.criteria_are
         ∙ sym (ap (λ (w : CheckerValue). w.within) hears.new_is)
         ∙ e
 
--- The last end was that of all frames. For `end_open`.
+-- The last end is that of the whole list. For `end_open`.
 pub follows_all : (g : Criteria) (sent : Transmission) (last : List (List ℕ)) (c : CheckerValue)
     → 0 < length sent
     → AfterEnd g sent (suc (length sent - 1)) last c

@@ -1,6 +1,6 @@
--- What is kept on the way to a frame of the list, and what comes on it: before the first one,
--- `arrives_first`; the frames of the day before another one, `gap_steps`, `gap_waits`, `gap_ended`;
--- and there, `arrives_next`. More frames of the list change nothing: `AfterEnd-prefix`.
+-- Reaching a frame of the list. The first frame: `arrives_first`. The frames of the day before a
+-- later one: `gap_steps`, `gap_waits`, `gap_ended`. The later one itself: `arrives_next`. More
+-- frames of the list change nothing: `AfterEnd-prefix`.
 use Rattle.std.proofs.lemmas.Bool.Decides.{nat_tests}
 use Rattle.std.proofs.Common.{◌≡◌, ℕ, zero, suc, ◌+◌, ◌-◌, ◌<◌, ◌≤◌, Bool, false, nat_le, cond}
 use Rattle.std.proofs.Common.{List, [], ◌∷◌, ◌++◌, length, map, Option, None, refl, sym, ap, ◌∙◌}
@@ -34,7 +34,7 @@ use Rattle.sub_checker.proofs.FrameEndLemmas.{steps_are}
 
 -- ---- before the first frame
 
--- Nothing is kept. For `new`.
+-- The state before the first frame. For `new`.
 pub AfterEnd-none :
     (g : Criteria) (frames : Transmission) (last : List (List ℕ)) (c : CheckerValue)
     → g ≡ criteria_kept c g.unread
@@ -67,13 +67,13 @@ BetweenPieces-none g last c criteria knows counts since stood =
       opens = λ e. absurd (true≢false (sym e ∙ shut));
     }
 
--- Another page is due: the rest stays.
+-- Moving to another frame keeps what the state remembers.
 remembers_at : (g : Criteria) (frames : Transmission) (n f : ℕ) (last : List (List ℕ))
     (c : CheckerValue)
     → Remembers g frames n last c → Remembers g frames n last (at_frame f c)
 remembers_at g frames n f last c known = grind arith
 
--- The first frame is reached. For `begin`.
+-- The state at the first frame. For `begin`.
 pub arrives_first :
     (g : Criteria) (frames : Transmission) (f : ℕ) (last : List (List ℕ)) (c : CheckerValue)
     → AfterEnd g frames 0 last c
@@ -82,7 +82,7 @@ pub arrives_first :
 unfolding is_gap latest standing_before since_before since_frames
 arrives_first g frames f last c follows is = grind (arith, nat_tests, remembers_at)
 
--- What comes before it. For `begin`.
+-- The steps before the first frame. For `begin`.
 pub first_reaching :
     (g : Criteria) (frames : Transmission) (f : ℕ) (last : List (List ℕ)) (c : CheckerValue)
     (out : Option ℕ) (told : Bool)
@@ -96,7 +96,7 @@ first_reaching g frames f last c out told follows is from e = grind (arith, nat_
 
 -- ---- the frames of the day before another one
 
--- The next end, where no frame of the day lies between.
+-- The state before the next end, if no frame of the day lies between.
 pub follows_waits :
     (g : Criteria) (frames : Transmission) (n f : ℕ) (last : List (List ℕ)) (c : CheckerValue)
     → AfterEnd g frames n last c
@@ -106,7 +106,7 @@ pub follows_waits :
 follows_waits g frames n f last c follows some l =
     grind (arith, nat_tests, end_before_low, standing_before_is, since_low)
 
--- It may be any of these.
+-- A state before the end of f is also one before any end up to f.
 waits_lower :
     (g : Criteria) (frames : Transmission) (n f e : ℕ) (last : List (List ℕ)) (c : CheckerValue)
     → BeforeEnd g frames n f last c
@@ -117,7 +117,7 @@ waits_lower :
 waits_lower g frames n f e last c waits some l m =
     grind (arith, nat_tests, end_before_low, standing_before_is, since_low)
 
--- One end more. For `cross_gap`.
+-- One more end. For `cross_gap`.
 module _ (g : Criteria) (frames : Transmission) (n f : ℕ) (last : List (List ℕ))
     (v b : CheckerValue)
     (waits : BeforeEnd g frames n f last v) (some : 0 < n) (later : latest frames n < f)
@@ -177,7 +177,7 @@ module _ (g : Criteria) (frames : Transmission) (n f : ℕ) (last : List (List �
       number = number_there;
     }
 
--- What comes at the ends so far, one end more.
+-- The steps of the ends so far, with one more end.
 pub gap_more :
     (g : Criteria) (frames : Transmission) (n f e : ℕ)
     → latest frames n < f
@@ -187,7 +187,7 @@ pub gap_more :
 unfolding steps_of_gap
 gap_more g frames n f e later is = grind (arith, nat_tests)
 
--- Before the first of them nothing does.
+-- No steps before the first of these ends.
 pub gap_start : (g : Criteria) (frames : Transmission) (n latest_is : ℕ)
     → latest_is ≡ latest frames n
     → steps_of_gap g frames n (latest_is + 1 - (latest frames n + 1)) ≡ []
@@ -195,7 +195,7 @@ unfolding steps_of_gap
 gap_start g frames n latest_is is =
     let none : latest_is + 1 - (latest frames n + 1) ≡ 0 = omega (arith, is) in rw none refl
 
--- After the last of them. For `cross_gap`.
+-- The state after the last of these ends. For `cross_gap`.
 pub gap_ended :
     (g : Criteria) (frames : Transmission) (n f to known : ℕ) (last : List (List ℕ))
     (c : CheckerValue)
@@ -222,7 +222,7 @@ gap_ended g frames n f to known last c waits some is later done upto =
           (omega (arith, is, l, done)),
     )
 
--- The frame is reached. For `go_to`.
+-- The state at the frame of a later PES packet. For `go_to`.
 pub arrives_next :
     (g : Criteria) (frames : Transmission) (n f : ℕ) (last : List (List ℕ)) (c : CheckerValue)
     → BeforeEnd g frames n f last c
@@ -232,7 +232,7 @@ pub arrives_next :
 unfolding latest
 arrives_next g frames n f last c waits is latest_is = grind (arith, nat_tests, remembers_at)
 
--- What is told of its order. For `go_to`.
+-- The events of its order. For `go_to`.
 pub order_are :
     (g : Criteria) (frames : Transmission) (n f last pes : ℕ) (told : Bool)
     → 0 < n
@@ -264,7 +264,7 @@ since_prefix g done more (suc i) l =
     ∙ unfinished_since-prefix g g.unread done more (suc i) (frame_at done i) l
     ∙ since_last g done i
 
--- What is kept after some frames is so where more are sent.
+-- The state after some frames stays valid if more frames are sent.
 pub AfterEnd-prefix : (g : Criteria) (done more : Transmission) (last : List (List ℕ))
     (c : CheckerValue)
     → AfterEnd g done (length done) last c

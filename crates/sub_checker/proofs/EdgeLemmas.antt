@@ -1,4 +1,4 @@
--- The due page from one edge to the next.
+-- The due page from one change to the next.
 use Rattle.std.proofs.lemmas.Bool.Decides.{nat_tests}
 use Rattle.std.proofs.Common.{Option, Some, None, ◌≡◌, ℕ, zero, suc, ◌+◌, ◌-◌, ◌<◌, ◌≤◌, Bool, true}
 use Rattle.std.proofs.Common.{List, refl, ap, ◌∙◌, arith}
@@ -13,7 +13,7 @@ use Rattle.sub_plan.specs.Schedule.{due_in}
 use Rattle.sub_checker.specs.Checker.{CheckerValue, IsAtFrame, IsJudged, at_frame, is_before}
 use Rattle.sub_packets.specs.declared.listener.Listener.{Listener}
 
--- Up to the next edge the due page stays.
+-- The due page stays the same until its next change.
 due_until :
     (drawing : Drawing) (records : List SubtitleValue) (frame : ℕ) (edge : Option ℕ) (k : ℕ)
     → TellsNextEdge records frame edge
@@ -32,7 +32,7 @@ due_until drawing records frame (Some e) (suc k) tells before =
     ∙ ap (due drawing records) (omega arith)
     ∙ due_until drawing records frame (Some e) k tells (grind (arith, nat_tests))
 
--- And it is the next edge still.
+-- The next change stays the same until then.
 same_edge :
     (records : List SubtitleValue) (frame f : ℕ) (edge : Option ℕ)
     → TellsNextEdge records frame edge
@@ -47,7 +47,7 @@ same_edge records frame f (Some edge) tells low before =
       least = λ e is l. tells.least e is (omega arith);
     }
 
--- What is kept at a frame is so at a later one before the next edge. For `move_to`.
+-- `IsAtFrame` stays true until the next change of the due page. For `move_to`.
 pub IsAtFrame-later :
     (p : ProgrammeValue) (every : ℕ) (s : Listener) (first latest last frame : ℕ)
     (edge : Option ℕ) (f : ℕ)
@@ -60,7 +60,7 @@ IsAtFrame-later p every s first latest last frame edge f small is low before =
     let k : frame + (f - frame) ≡ f = omega arith in
     grind (arith, nat_tests, due_until, same_edge)
 
--- And what is judged. For `move_to`.
+-- So does `IsJudged`. For `move_to`.
 pub IsJudged-later :
     (j : JudgedValue) (p : ProgrammeValue) (any_refused : Bool) (first within frame : ℕ)
     (edge : Option ℕ) (known_from f : ℕ)
@@ -70,7 +70,7 @@ pub IsJudged-later :
 IsJudged-later j p any_refused first within frame edge known_from f is low = grind
     (arith, nat_tests)
 
--- What is kept as due is due at this frame. For `move_to`.
+-- The due page in the state is the one of the new frame. For `move_to`.
 pub at_frame-stays :
     (f : ℕ) (c : CheckerValue)
     → c.listener.comparison.due ≡ due_in c.programme f

@@ -1,6 +1,6 @@
--- What stands at the end of a frame, and what comes there, by what is kept: `steps_are`,
--- `stands_are`, `since_are`; since which frame the page is not whole, `gap_on`, `frame_on`; and
--- where nothing stands, `quiet_once`, `quiet_within`.
+-- The end of a frame, from the state: its faults and steps, `steps_are`, `stands_are`, `since_are`;
+-- since which frame the page has been wrong, `gap_on`, `frame_on`; ends without faults,
+-- `quiet_once`, `quiet_within`.
 use Rattle.std.proofs.lemmas.Bool.Decides.{nat_tests}
 use Rattle.std.proofs.Common.{◌≡◌, ℕ, zero, suc, ◌+◌, ◌-◌, ◌<◌, ◌≤◌, Bool, false, ◌||◌}
 use Rattle.std.proofs.Common.{cond, List, [], ◌∷◌, ◌++◌, map, Option, Some, None, refl, sym}
@@ -29,9 +29,9 @@ use Rattle.sub_rules.specs.declared.event.Event.{Event}
 use Rattle.sub_rules.proofs.EndRuleLemmas.{end_from_none}
 use Rattle.sub_rules.specs.declared.standing.Standing.{Standing}
 
--- ---- since which frame the page is not whole
+-- ---- since which frame the page has been wrong
 
--- At the end of a frame of the day after the latest one.
+-- At the end of a frame of the day after the latest frame.
 pub gap_on :
     (g : Criteria) (frames : Transmission) (n f : ℕ)
     → 0 < n
@@ -65,14 +65,14 @@ pub frame_on : (g : Criteria) (frames : Transmission) (n : ℕ)
 unfolding since_frames
 frame_on g frames n = grind (arith, nat_tests, since_last, before_last)
 
--- The end before, where no frame of the day lies between.
+-- At the end before, if no frame of the day lies between.
 pub since_low : (g : Criteria) (frames : Transmission) (n f : ℕ)
     → f ≤ latest frames n + 1
     → since_before g frames n f ≡ since_frames g frames n
 unfolding since_before unfinished_since since_in_gap since_frames
 since_low g frames n f low = grind (arith, nat_tests)
 
--- And where one does.
+-- At the end before, if one does.
 pub since_high : (g : Criteria) (frames : Transmission) (n f e : ℕ)
     → 0 < n
     → e ≡ f + 1
@@ -84,19 +84,19 @@ since_high g frames (suc n) f e some is =
 
 -- ---- the end before
 
--- The end before, where the frame is not after the one after the latest.
+-- If the frame is at most one after the latest one, the end before is that of the last PES packet.
 pub end_before_low : (frames : Transmission) (n f : ℕ) → f ≤ latest frames n + 1
     → end_before frames n f ≡ frame_at frames (n - 1)
 end_before_low frames n f l = grind (arith, nat_tests)
 
--- And where it is.
+-- Otherwise it is that of the frame before.
 pub end_before_high : (frames : Transmission) (n f : ℕ) → latest frames n < f
     → end_before frames n (f + 1) ≡ f
 end_before_high frames n f l = grind (arith, nat_tests)
 
 -- ---- an end
 
--- What is told at the end of a frame, by what is kept.
+-- The events at the end of a frame, from the state.
 ends_are :
     (g : Criteria) (frames : Transmission) (i n f : ℕ) (old new : Standing) (last : ℕ)
     → old ≡ standing_before g frames i f
@@ -107,14 +107,14 @@ unfolding standing_before
 ends_are g frames zero n f old new last is at now = rw (is, now) (end_from_none _ _ _ _)
 ends_are g frames (suc i) n f old new last is at now = rw (is, now, at (omega arith)) refl
 
--- Where there is a PES packet, whether one is too long ago goes by the latest of them.
+-- After the first PES packet, the maximum distance counts from the latest frame.
 silent_at : (g : Criteria) (frames : Transmission) (n f : ℕ) → 0 < n
     → is_silent g frames n f ≡ silent_for g.pace (latest frames n) f
 unfolding is_silent
 silent_at g frames zero f some = absurd (omega arith)
 silent_at g frames (suc n) f some = refl
 
--- Whether the page had to be whole, by what is kept.
+-- Whether the page is overdue, from the state.
 pub overdue_is : (g : Criteria) (c : CheckerValue) (first : ℕ) (since : Option ℕ) (f : ℕ)
     (last : List (List ℕ)) (frames : Transmission) (n : ℕ)
     → Remembers g frames n last c
@@ -123,7 +123,7 @@ overdue_is g c first None f last frames n known = refl
 overdue_is g c first (Some s) f last frames n known =
     ap (λ (t : Criteria). is_overdue t first (Some s) f) known.criteria_are
 
--- Since which frame the page is not whole, as it is told before a frame.
+-- The `GoesBack` step before a frame agrees with the state.
 pub back_are :
     (g : Criteria) (frames : Transmission) (i n f : ℕ) (last : List (List ℕ)) (c : CheckerValue)
     → Remembers g frames n last c
@@ -131,11 +131,11 @@ pub back_are :
     → back_steps c ≡ steps_before g (since_before g frames i f)
 back_are g frames i n f last c known since = grind (arith, nat_tests)
 
--- Where the page has to be whole at each end, it is not told.
+-- If `within` is 0, there is no `GoesBack` step.
 pub back_none : (c : CheckerValue) → c.within ≡ 0 → back_steps c ≡ []
 back_none c each = grind (arith, nat_tests)
 
--- By whether a number is 0: what is so for 0, and what follows where it is not.
+-- Splits by whether `within` is 0.
 late_by : (w : ℕ) (a b : Bool) → (0 < w → a ≡ b) → (w == 0 || a) ≡ (w == 0 || b)
 late_by w a b same = grind (arith, nat_tests)
 
@@ -150,7 +150,7 @@ module _ (g : Criteria) (frames : Transmission) (i n f : ℕ) (last : List (List
     ≡ unfinished_from (since_before g frames i f) (is_unfinished g frames n f) f)
     (some : 0 < n) (latest_is : c.latest ≡ latest frames n)
   where
-    -- What was heard up to it.
+    -- The packets received so far.
     abbrev so_far : List (List ℕ)
     so_far = packets_before frames n
 
@@ -177,7 +177,7 @@ module _ (g : Criteria) (frames : Transmission) (i n f : ℕ) (last : List (List
     unfinished_is : is_unfinished_now c ≡ is_unfinished g frames n f
     unfinished_is = rw (wrong_is, incomplete_is) refl
 
-    -- Since which frame the page is not whole.
+    -- Since which frame the page has been wrong.
     since_is : 0 < g.within → since_now c ≡ unfinished_since g frames n f
     since_is l = rw (since l, unfinished_is, at) (sym on)
 
@@ -212,7 +212,7 @@ module _ (g : Criteria) (frames : Transmission) (i n f : ℕ) (last : List (List
         (ap (λ (t : Criteria). silent_for t.pace (latest frames n) f) (sym known.criteria_are)
         ∙ sym (silent_at g frames n f some))
 
-    -- What stands broken.
+    -- The active faults.
     pub stands_are : stands c ≡ standing_at g frames n f
     unfolding standing_at
     stands_are =
@@ -227,7 +227,7 @@ module _ (g : Criteria) (frames : Transmission) (i n f : ℕ) (last : List (List
           at,
         ) refl
 
-    -- What comes there.
+    -- The steps at the end.
     pub steps_are : end_steps c ≡ steps_at_end g frames i n f
     steps_are =
         ap₂ (λ (back ms : List CheckStep). back ++ ms ++ map Says (end_events c.standing c.last
@@ -255,7 +255,7 @@ module _ (g : Criteria) (frames : Transmission) (i n f : ℕ) (last : List (List
             ∙ ap (λ (w : ℕ). cond (w == 0) []
             (AtEnd f (unfinished_since g frames n f) (is_late g frames n f) ∷ [])) (sym within_is)
 
-    -- Since which frame the page is not whole, as it is kept then.
+    -- Since which frame the page has been wrong, as the new state has it.
     pub since_are : 0 < g.within → (after_end c).since ≡ unfinished_since g frames n f
     since_are l = by c.within (rw (sym within_is) l)
       where
@@ -266,9 +266,9 @@ module _ (g : Criteria) (frames : Transmission) (i n f : ℕ) (last : List (List
             let not_each : (suc w == 0) ≡ false = grind (arith, nat_tests) in
             rw not_each (since_is l)
 
--- ---- an end, by what is found there
+-- ---- the end, from the parts that the code computes
 
--- Where the page has to be whole at the end of each frame.
+-- If `within` is 0.
 pub once_steps : (d c : CheckerValue) (s : Standing)
     → d ≡ c
     → c.within ≡ 0
@@ -277,7 +277,7 @@ pub once_steps : (d c : CheckerValue) (s : Standing)
     ≡ map Says (end_events d.standing d.last s d.frame)
 once_steps d c s same each is = grind (arith, nat_tests, back_none)
 
--- Where it need not.
+-- If `within` is not 0.
 pub within_steps : (d c : CheckerValue) (s : Standing)
     (since : Option ℕ) (late : Bool)
     → d ≡ c
@@ -290,7 +290,7 @@ pub within_steps : (d c : CheckerValue) (s : Standing)
     ++ map Says (end_events d.standing d.last s d.frame)
 within_steps d c s since late same some is since_is late_is = grind (arith, nat_tests)
 
--- Where nothing stands broken, and nothing did.
+-- If no fault was active and none is, there are no events.
 none_told : (old new : Standing) (before f : ℕ)
     → old ≡ nothing_stands
     → new ≡ nothing_stands

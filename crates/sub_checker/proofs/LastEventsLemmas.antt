@@ -1,5 +1,5 @@
--- What is told after the last piece, by what is kept: `closing_are`, `relays_alike`, `closes_are`,
--- `tells_closing`, `closing_parts`.
+-- The events after the last PES packet, from the state: `closing_are`, `relays_alike`,
+-- `closes_are`, `tells_closing`, `closing_parts`.
 use Rattle.std.proofs.lemmas.Bool.Decides.{nat_tests}
 use Rattle.std.proofs.Common.{◌≡◌, ℕ, zero, suc, ◌<◌, Bool, true, false, ◌&&◌, ◌||◌, not}
 use Rattle.std.proofs.Common.{cond, is_some, List, [], ◌∷◌, ◌++◌, length, Option, Some, None, refl}
@@ -38,7 +38,7 @@ use Rattle.sub_checker.proofs.FrameEndLemmas.{overdue_is, since_last}
 
 -- ---- the last end
 
--- By whether a number is 0.
+-- Splits by whether `within` is 0.
 pending_by : (w : ℕ) (s t : Option ℕ) (a b : Bool)
     → (0 < w → s ≡ t)
     → (0 < w → a ≡ b)
@@ -60,7 +60,7 @@ module _ (g : Criteria) (frames : Transmission) (n : ℕ) (last : List (List ℕ
     within_is : g.within ≡ c.within
     within_is = ap (λ (t : Criteria). t.within) follows.known.criteria_are
 
-    -- The page may be whole in a frame that does not come.
+    -- The page might still become right in a frame that does not come.
     abbrev pends : ℕ → ℕ → ℕ → Bool
     pends w k e =
         is_some (unfinished_since g frames k e)
@@ -88,7 +88,7 @@ module _ (g : Criteria) (frames : Transmission) (n : ℕ) (last : List (List ℕ
         ∙ ap (λ (k : ℕ). pends g.within k (frame_at frames n)) (sym all)
         ∙ ap (pends g.within (length frames)) (sym end_is)
 
-    -- What follows it, where nothing is left.
+    -- The events that follow it, if no bytes are left.
     pub late_are : (pes : ℕ) → late_events g frames ≡ fault_events (last_fault pes None c)
     late_are pes = by (is_short g.last_out (end_frame frames) || is_pending g frames) late_is
       where
@@ -106,7 +106,7 @@ module _ (g : Criteria) (frames : Transmission) (n : ℕ) (last : List (List ℕ
         by true is = rw (follows.number, is, last_is, end_is) refl
         by false is = rw (follows.number, is) refl
 
-    -- What stands broken has ended there.
+    -- The active faults end there.
     pub endings_are :
         endings (standing_at g frames (suc n) (end_frame frames)) (end_frame frames)
         ≡ endings c.standing c.last
@@ -118,8 +118,8 @@ module _ (g : Criteria) (frames : Transmission) (n : ℕ) (last : List (List ℕ
 
 -- ---- the end of the file
 
--- These events are told as those are: a refusal that names a PES packet is told of the one of which
--- is told, whichever it names.
+-- Two lists of events have the same effect. They may differ only in the PES packet that a fault
+-- names, since the tracker sets that itself.
 pub record AreAlike (es fs : List Event) : Type 0 where
   pub none_are : tells_none es ≡ tells_none fs
   pub told_are : (t : TrustTracker) → told_by t (map Says es) ≡ told_by t (map Says fs)
@@ -130,7 +130,7 @@ same_alike es fs is =
     rw is (record { none_are = refl; told_are = λ t. refl; kept_are = λ t. refl })
 
 module _ (k n : ℕ) (u : Unread) where
-  -- Others, and then what is left, as this PES packet.
+  -- Events followed by the fault of the unread rest, as of PES packet i.
   abbrev with_last : List Event → ℕ → List Event
   with_last es i = es ++ Told (unread_fault i (Some u)) ∷ []
 
@@ -157,7 +157,7 @@ none_ended : (f : ℕ) → endings nothing_stands f ≡ []
 unfolding end_events end_rules
 none_ended f = refl
 
--- What is told after the last piece is told by what is kept.
+-- The events after the last PES packet agree with the state.
 pub closing_are :
     (g : Criteria) (list : Transmission) (pes : ℕ) (last : List (List ℕ)) (c : CheckerValue)
     (given : Option CheckFault)
@@ -203,7 +203,7 @@ closing_are g list pes last c given follows is = rw is (go (length list) refl fo
         (endings_are g list n last c all here)))
         (by n all here g.unread)
 
--- Steps with such events are relayed alike.
+-- Events with the same effect are relayed in the same way.
 pub relays_alike : {D : Type 0} {d : _} {IsTold : D → Event → D → Type 0} {a b : Reporter D d}
     (es fs : List Event) → AreAlike es fs
     → ReporterRelays IsTold a (map Says fs) b
@@ -219,7 +219,7 @@ relays_alike {IsTold = IsTold} {a = a} {b = b} es fs alike relays =
       kept = relays.kept ∙ sym kept;
     }
 
--- Whether anything is told of a change.
+-- Whether the ends of faults are reported.
 tells_end : (s : Standing) (f : ℕ) → tells_none (end_events s f nothing_stands f) ≡ stands_none s
 unfolding end_events
 tells_end s f = go end_rules
@@ -243,13 +243,13 @@ tells_end s f = go end_rules
         (flat_map (λ r. rule_events r (broken_at r s) f (broken_at r nothing_stands) f) rules) in
         rw (nothing_at rule) grind (arith, nat_tests)
 
--- Whether anything is told then. For `tells_last`.
+-- Whether anything is reported after the end. For `tells_last`.
 pub tells_closing : (pes : ℕ) (given : Option CheckFault) (c : CheckerValue)
     → (is_some (last_fault pes given c) || not (stands_none c.standing))
     ≡ not (tells_none (closing_now pes given c))
 tells_closing pes given c = grind (arith, nat_tests, tells_none-two, tells_end)
 
--- Bytes are left where a fault ended reading, and more is told.
+-- Bytes are left if a fault ended reading, and then more is reported.
 pub closes_are :
     (g : Criteria) (list : Transmission) (pes : ℕ) (last : List (List ℕ)) (c : CheckerValue)
     (given : Option CheckFault) (left more : Bool)
@@ -271,7 +271,7 @@ closes_are g list pes last c given left more follows is left_is more_is =
     some None = refl
     some (Some u) = refl
 
--- What is told after the last end, by the fields of what is kept.
+-- The events after the last end, from the fields of the state.
 pub closing_parts : (pes : ℕ) (given told : Option CheckFault) (v c : CheckerValue)
     (none : Standing)
     → v ≡ c

@@ -1,4 +1,4 @@
--- What came to a device behind a latch: `unlatched`; and where one could not hand on:
+-- What reached the device behind a latch, `unlatched`, also if it could not be flushed:
 -- `handed_stopped`.
 use Rattle.std.proofs.Common.{◌≡◌, ◌∙◌, Bool, true, false, List, [], ◌∷◌, refl, sym, subst}
 use Rattle.std.proofs.lemmas.Bool.{true≢false}
@@ -12,7 +12,7 @@ use Rattle.sub_rules.specs.declared.event.Event.{Event}
 use Rattle.sub_checker.specs.declared.latch.Latch.{Latch}
 
 module _ {D : Type 0} {g : _} (IsTold : D → Event → D → Type 0) where
-  -- What came to the device of these: all, or a prefix, or none where it had said stop.
+  -- The device was told these events, a prefix of them, or none if it had said stop before.
   pub record Comes (old new : Latch D g) (es : List Event) : Type 0 where
     pub same : new.device.ghost_name ≡ old.device.ghost_name
     pub stays : old.stopped ≡ true → (new.device.now ≡ old.device.now) × (new.stopped ≡ true)
@@ -71,7 +71,7 @@ module _ {D : Type 0} {g : _} (IsTold : D → Event → D → Type 0) where
       → Comes old new es
   unlatched old new es told = in_turn old new es told.in_turn
 
-  -- Some of them, whatever they were.
+  -- The device was told some events.
   pub unlatched_some : (old new : Latch D g) → TellsSome (IsLatched IsTold) old new
       → (new.device.ghost_name ≡ old.device.ghost_name)
       × TellsSome IsTold old.device.now new.device.now
@@ -79,7 +79,7 @@ module _ {D : Type 0} {g : _} (IsTold : D → Event → D → Type 0) where
       let p = unlatched old new some.items some.told in
       (p.same, record { items = take p.cut.0 _; told = p.cut.2 })
 
--- It says stop exactly where it could not hand on. For `hand_on_told`.
+-- The device has said stop exactly if it could not be flushed. For `hand_on_told`.
 pub handed_stopped : {A D : Type 0} {IsTold : D → A → D → Type 0}
     {has_stopped is_waiting : D → Bool} {held : D → ℕ}
     {IsHandedOn : D → Bool → D → Type 0}

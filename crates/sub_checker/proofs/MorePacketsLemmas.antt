@@ -1,4 +1,4 @@
--- What comes of more packets of the last frame, `more_are`, and what is kept then: `opens_more`.
+-- More packets of the last frame: their steps, `more_are`, and the state after them, `opens_more`.
 use Rattle.std.proofs.lemmas.Bool.Decides.{nat_tests}
 use Rattle.std.proofs.Common.{◌≡◌, ℕ, suc, ◌+◌, ◌-◌, ◌<◌, Bool, ◌&&◌, ◌||◌, nat_le}
 use Rattle.std.proofs.Common.{nat_lt, List, [], ◌∷◌, ◌++◌, length, map, take, refl, sym, ap, ◌∙◌}
@@ -30,7 +30,7 @@ use Rattle.sub_checker.proofs.AfterPacketsLemmas.{late_core}
 
 -- ---- more packets of the last frame
 
--- What comes of them, by what is kept. For `take_more`.
+-- The steps of the packets, from the state. For `take_more`.
 pub more_are :
     (g : Criteria) (sent : Transmission) (n : ℕ) (last ps : List (List ℕ)) (c : CheckerValue)
     → StaysOpen g sent n last c
@@ -40,14 +40,14 @@ pub more_are :
     (packets_before sent (suc n)) ps (length ps))
 more_are g sent n last ps c opens all = grind (arith, nat_tests)
 
--- With none of no packets the text begins.
+-- Without packets no text begins.
 some_begins : (w : Watched) (ps : List (List ℕ))
     → (nat_lt 0 (length ps) && holds_beginning w.keeps (kind w.page) ps)
     ≡ holds_beginning w.keeps (kind w.page) ps
 some_begins w [] = refl
 some_begins w (p ∷ ps) = grind (arith, nat_tests)
 
--- Of a frame's headers, those of more packets.
+-- The headers of a frame and of more packets, regrouped.
 either : (a b h l : Bool) → (a || ((b || h) && l)) ≡ ((a || (b && l)) || (h && l))
 either a b h l = grind (arith, nat_tests)
 
@@ -79,7 +79,6 @@ module _ (g : Criteria) (sent : Transmission) (n : ℕ) (last ps : List (List �
     long : length longer ≡ suc n
     long = with_packets-length ps sent ∙ all
 
-    -- The packets up to there.
     whole : packets_before longer (suc n) ≡ packets_before sent (suc n) ++ ps
     whole =
         ap (packets_before longer) (sym all)
@@ -152,7 +151,7 @@ module _ (g : Criteria) (sent : Transmission) (n : ℕ) (last ps : List (List �
         (list_any (covers g f) (take (suc n) sent)) (nat_lt 0 hears.headers) c.late_at c.frame
         c.every f (is.begun.late_is f))
 
-    -- What is kept then. For `take_more`.
+    -- The state after the packets. For `take_more`.
     heard_more : (e : CheckerValue) (k : ℕ)
         → e ≡ record here { counts = record here.counts { packets = k } }
         → c.counts.packets ≡ length (packets_of_frame sent n)
@@ -185,7 +184,7 @@ module _ (g : Criteria) (sent : Transmission) (n : ℕ) (last ps : List (List �
               (packets_of_frame sent n) ps);
         })
 
-    -- And more of them may come.
+    -- The state if more packets of the frame may follow.
     pub opens_more : (e : CheckerValue) (k : ℕ)
         → e ≡ record here { counts = record here.counts { packets = k } }
         → c.counts.headers_before ≡ header_count g.watched.page (packets_before sent n)

@@ -1,4 +1,5 @@
--- What a piece that was read says of the packets that were sent last: `again_is`, `last_is`.
+-- How the packets of the last frame follow from the PES packet that was read: `again_is` if it
+-- repeats them, `last_is` otherwise.
 use Rattle.std.proofs.Common.{◌≡◌, ◌∙◌, ℕ, Bool, true, false, List, Ok, Option, Result, Some, sym}
 use Rattle.std.proofs.Common.{ap, refl}
 use Rattle.std.proofs.lemmas.Bool.{true≢false}
@@ -10,7 +11,7 @@ use Rattle.sub_rules.specs.declared.fault.CheckFault.{CheckFault}
 use Rattle.sub_rules.specs.declared.sending.Sending.{Sending}
 use Rattle.sub_checker.specs.NextPieces.{IsAgain, is_passed, last_with}
 
--- An answer that is a piece that is sent.
+-- The result is a PES packet that is sent.
 pub given_sent : {n : Option NextPiece} {r : NextPiece} {s : Sending}
     → n ≡ Some r
     → r ≡ next.Sent s
@@ -19,7 +20,7 @@ given_sent is sent =
     ap (λ n. let x : Result (Option NextPiece) CheckFault = Ok n in x)
     (is ∙ ap (λ (p : NextPiece). Some p) sent)
 
--- Where it is those of the PES packet before again, they are those that were sent last.
+-- If the PES packet repeats the one before, its packets are those of the last frame.
 pub again_is : {old new : List UnitValue} {n : Option NextPiece} (r : NextPiece) (passed : Bool)
     (last : List (List ℕ))
     → n ≡ Some r
@@ -35,7 +36,7 @@ again_is (next.Passed f) passed last is here was sent same = absurd same
 again_is (next.Sent s) passed last is here was sent same =
     was sent ∙ ap packets_of_units (sym (here s (given_sent is refl) same))
 
--- Where it is not passed over, its packets are the last ones then.
+-- Unless the PES packet is skipped, its packets become those of the last frame.
 pub last_is : (r : NextPiece) (last packets : List (List ℕ)) → is_passed r ≡ false
     → last_with last r packets ≡ packets
 last_is (next.Passed f) last packets sent = absurd (true≢false sent)

@@ -1,4 +1,4 @@
--- What each way out of the loop over pieces shows of the whole file: `step`, `told_stop`,
+-- What each exit of the loop over PES packets shows about the whole file: `step`, `told_stop`,
 -- `told_before`, `told_whole`.
 use Rattle.std.proofs.lemmas.Bool.Decides.{nat_tests}
 use Rattle.std.proofs.Common.{◌≡◌, ℕ, ◌+◌, ◌≤◌, Bool, true, false, List, [], ◌∷◌, ◌++◌, length}
@@ -53,14 +53,15 @@ use Rattle.ttx_pes.specs.Reader.{TakesPesPacket}
 use Rattle.ttx_pes.specs.Reading.{answer_at, most_packets}
 use Rattle.ttx_pes.specs.declared.fault.PesFault.{PesFault}
 
--- What comes of the first pieces of a file, and the frames that they send.
+-- The steps of the first PES packets of a file.
 abbrev pub each_steps : Criteria → List Piece → List CheckStep
 each_steps g done = steps_of_each g [] 0 done
 
 abbrev pub frames_sent : Criteria → List Piece → Transmission
 frames_sent g done = joined_after g.within [] (frames_of done)
 
--- What is kept after the first pieces of a list, and of the last of them that is sent.
+-- The state after the first PES packets of a file, `last` being the Teletext packets of the last
+-- valid one.
 pub record Tracks
     (g : Criteria) (done : List Piece) (last : List (List ℕ)) (c : CheckerValue) (p : Relay) : Type
     0
@@ -68,7 +69,7 @@ pub record Tracks
     pub keeps : BetweenPieces g (frames_sent g done) last c
     pub relay_is : p ≡ relay_after nothing_relayed (each_steps g done)
 
--- Before the first piece nothing is kept.
+-- The state before the first PES packet.
 pub tracks_none : (g : Criteria) (last : List (List ℕ)) (c : CheckerValue) (p : Relay)
     → BetweenPieces g [] last c
     → p ≡ nothing_relayed
@@ -76,13 +77,13 @@ pub tracks_none : (g : Criteria) (last : List (List ℕ)) (c : CheckerValue) (p 
 unfolding steps_of_each frames_of joined_after
 tracks_none g last c p keeps none = grind (arith, nat_tests, after-none)
 
--- What is told of some pieces is what is relayed of their steps.
+-- The events of PES packets are the relayed events of their steps.
 some_told : (g : Criteria) (done : List Piece)
     → events_of_pieces g done ≡ relayed nothing_relayed (each_steps g done)
 unfolding events_of_pieces relayed
 some_told g done = ap (all_announced no_run) (told_is (each_steps g done))
 
--- ---- one piece more
+-- ---- one more PES packet
 
 -- The frames that are sent then.
 sent_more : (g : Criteria) (done : List Piece) (s : SentFrame)
@@ -100,7 +101,7 @@ passed_more g done u =
     ∙ append-nil (frames_of done))
 
 module _ (g : Criteria) (done : List Piece) (pes : ℕ) (count : length done ≡ pes) where
-  -- What comes with a piece more.
+  -- The steps of one more PES packet.
   abbrev steps_more : Piece → List CheckStep
   steps_more p = steps_of_each g (frames_sent g done) pes (p ∷ [])
 
@@ -108,7 +109,7 @@ module _ (g : Criteria) (done : List Piece) (pes : ℕ) (count : length done ≡
       → each_steps g (done ++ p ∷ []) ≡ each_steps g done ++ steps_more p
   more_steps p = steps_of_each-append g [] 0 pes done (p ∷ []) (omega (arith, count))
 
-  -- All that is told then, and what is kept.
+  -- The events of one more PES packet follow those of the packets before.
   pub more_events : (p : Piece) (q : Relay)
       → q ≡ relay_after nothing_relayed (each_steps g done)
       → events_of_pieces g (done ++ p ∷ [])
@@ -121,7 +122,7 @@ module _ (g : Criteria) (done : List Piece) (pes : ℕ) (count : length done ≡
       → new ≡ relay_after nothing_relayed (each_steps g (done ++ p ∷ []))
   more_relay p q new was is = grind (arith, nat_tests, after-append, more_steps)
 
-  -- What comes of one that is sent, and of one that is passed over.
+  -- The steps of a sent PES packet, and of a skipped one.
   pub sent_steps : (s : SentFrame)
       → steps_more (Sent s) ≡ steps_of_sent g (frames_sent g done) pes s
   unfolding steps_of_each
@@ -132,7 +133,7 @@ module _ (g : Criteria) (done : List Piece) (pes : ℕ) (count : length done ≡
   unfolding steps_of_each
   passed_steps u = refl
 
-  -- What is kept after one that is sent.
+  -- The state after a sent PES packet.
   tracks_sent : (s : SentFrame) (last : List (List ℕ)) (c : CheckerValue) (q new : Relay)
       → q ≡ relay_after nothing_relayed (each_steps g done)
       → BetweenPieces g (sent_after g.within (frames_sent g done) s) last c
@@ -144,7 +145,7 @@ module _ (g : Criteria) (done : List Piece) (pes : ℕ) (count : length done ≡
         more_relay (Sent s) q new was (is ∙ ap (relay_after q) (sym (sent_steps s)));
   }
 
-  -- What is kept after one that is passed over.
+  -- The state after a skipped one.
   tracks_passed : (u : Unread) (last : List (List ℕ)) (c : CheckerValue) (q new : Relay)
       → q ≡ relay_after nothing_relayed (each_steps g done)
       → BetweenPieces g (frames_sent g done) last c
@@ -157,25 +158,26 @@ module _ (g : Criteria) (done : List Piece) (pes : ℕ) (count : length done ≡
         more_relay (Passed u) q new was (is ∙ ap (relay_after q) (sym (passed_steps u)));
   }
 
--- ---- what is told last
+-- ---- the last events
 
 module _ (g : Criteria) (all : List Piece) where
   abbrev closing : List CheckStep
   closing = last_steps g (frames_sent g all) (length all)
 
-  -- All that is told is what is relayed of all steps, and up to which piece a run goes.
+  -- All events are the relayed events of all steps, followed by the end of a run of skipped PES
+  -- packets.
   all_told : all_of_pieces g all ≡ finished nothing_relayed (each_steps g all ++ closing)
   unfolding all_of_pieces told_of_pieces relayed relay_after
   all_told = grind (arith, nat_tests, told_is, append_assoc)
 
-  -- So it is what is told of the pieces, and what is told last.
+  -- So they are those of the PES packets, followed by the last events.
   whole : all_of_pieces g all
       ≡ events_of_pieces g all
       ++ finished (relay_after nothing_relayed (each_steps g all)) closing
   whole = grind (arith, nat_tests, all_told, passed-append, after-append, append_assoc, some_told)
 
-  -- A device that was told what follows the last piece was told the whole, and what was read is
-  -- counted; or a part, where it said stop.
+  -- A device that was told the last events was told all, and the counts are right; or it said stop,
+  -- and was told a prefix.
   told_end : {D : Type 0} {IsTold : D → Event → D → Type 0} (clock : Clock) (bytes : List ℕ)
       (a b c : D) (r : Option Accepted) (p : Relay)
       → p ≡ relay_after nothing_relayed (each_steps g all)
@@ -191,7 +193,7 @@ module _ (g : Criteria) (all : List Piece) where
       subst (TellsPrefix IsTold a c) (sym whole)
       (TellsPrefix-second a b c _ _ first (rw is at second))
 
--- What is told of the first pieces comes first.
+-- The events of the first PES packets are a prefix of all events.
 pub front_of : (g : Criteria) (all done more : List Piece)
     → all ≡ done ++ more
     → (rest : List Event) × (all_of_pieces g all ≡ events_of_pieces g done ++ rest)
@@ -214,7 +216,7 @@ front_of g all done more parts =
 
 -- ---- the end of the loop
 
--- Where no piece is read of the bytes and nothing keeps them from being read on, none are left.
+-- If no PES packet is read and nothing is unread, no bytes are left.
 rest_none : (clock : Clock) (n : ℕ) (rest : List ℕ)
     → n ≤ most_packets
     → ReadsPieces clock n rest [] None
@@ -239,7 +241,7 @@ rest_none clock n rest few reads = by (answer_at n rest) refl
             let stop = pieces_stop clock n rest [] None f few reads is kind in
             let some = stop.1 in cc
 
--- Nothing was told yet.
+-- No events before the first PES packet.
 pub none_of_pieces : (g : Criteria) → events_of_pieces g [] ≡ []
 unfolding events_of_pieces steps_of_each told_after all_announced
 none_of_pieces g = refl
@@ -256,14 +258,14 @@ module _ (judging : JudgedValue) {options : OptionsValue} {bytes : List ℕ}
     abbrev clock : Clock
     clock = clock_of options
 
-    -- The pieces that were read are the first ones.
+    -- The PES packets that were read are the first ones.
     pub front : (pes ≤ length all) × (take pes all ≡ done)
     front = (
       omega (arith, ap length at.parts, length-append done at.ahead, at.count),
       ap (take pes) at.parts ∙ take_at done at.ahead pes at.count,
     )
 
-    -- A device that said stop before the next piece was told a part of the whole.
+    -- A device that said stop before the next PES packet was told a prefix.
     pub told_before : {D : Type 0} {IsTold : D → Event → D → Type 0} (a b : D)
         → Tells IsTold a b (events_of_pieces g done)
         → TellsPrefix IsTold a b (all_of_pieces g all)
@@ -272,7 +274,7 @@ module _ (judging : JudgedValue) {options : OptionsValue} {bytes : List ℕ}
         subst (TellsPrefix IsTold a b) (sym front.1)
         (TellsPrefix-first a b _ _ (TellsPrefix-whole a b _ told))
 
-    -- So was one that said stop at it.
+    -- So was one that said stop at that packet.
     stop_at : {D : Type 0} {IsTold : D → Event → D → Type 0} (p : Piece)
         (more : List Piece) (ms : List CheckStep) (a b d : D)
         → at.ahead ≡ p ∷ more
@@ -290,7 +292,7 @@ module _ (judging : JudgedValue) {options : OptionsValue} {bytes : List ℕ}
         (TellsPrefix-first a d _ _ (TellsPrefix-second a b d _ _ told
         (subst (λ (l : List CheckStep). TellsPrefix IsTold b d (relayed q l)) (sym of) part)))
 
-    -- By what was read of it. For `tell_pieces`.
+    -- The same, from the result of reading it. For `tell_pieces`.
     pub told_stop : {D : Type 0} {IsTold : D → Event → D → Type 0} (v : PesValue) (r : NextPiece)
         (a b d : D)
         → TellsPiece clock pes at.rest at.ahead unread v (Ok (Some r))
@@ -315,13 +317,13 @@ module _ (judging : JudgedValue) {options : OptionsValue} {bytes : List ℕ}
       long : length all ≡ pes
       long = ap length (sym is_all) ∙ at.count
 
-      -- What comes last.
+      -- The last steps.
       closing_is : last_steps g (frames_sent g done) pes ≡ closing g all
       closing_is =
           ap (last_steps g (frames_sent g done)) (sym long)
           ∙ ap (λ (l : List Piece). last_steps g (frames_sent g l) (length all)) is_all
 
-      -- What was read and counted.
+      -- The counts are right.
       read_is : (a : Accepted) → CountsRead options.page (frames_sent g done) a
           → IsReadOn g clock bytes all a
       read_is a counts = record {
@@ -346,7 +348,7 @@ module _ (judging : JudgedValue) {options : OptionsValue} {bytes : List ℕ}
       read_some None counts = tt
       read_some (Some a) counts = read_is a counts
 
-      -- The device was told the whole, or a part. For `tell_pieces`.
+      -- The device was told all events, or a prefix. For `tell_pieces`.
       pub told_whole : {D : Type 0} {IsTold : D → Event → D → Type 0} (a b d : D)
           (r : Option Accepted)
           → Tells IsTold a b (events_of_pieces g done)
@@ -362,7 +364,7 @@ module _ (judging : JudgedValue) {options : OptionsValue} {bytes : List ℕ}
           second)
           (read_some r counts)
 
-    -- What is read and told with one piece more.
+    -- One more PES packet was read and reported.
     pub record Steps
         {D : Type 0} (IsTold : D → Event → D → Type 0) (p : Piece) (after : Option (List ℕ))
         (heard : List (List ℕ)) (d : CheckerValue) (then : Relay) (a b : D)
@@ -383,7 +385,7 @@ module _ (judging : JudgedValue) {options : OptionsValue} {bytes : List ℕ}
         (Tells-trans a b d _ _ first
         (subst (λ (l : List CheckStep). Tells IsTold b d (relayed q l)) (sym of) second))
 
-    -- One that is passed over.
+    -- The step for a skipped PES packet.
     step_passed : {D : Type 0} (IsTold : D → Event → D → Type 0) (after : Option (List ℕ))
         (u : Unread) (f : CheckFault) (e : CheckerValue) (then : Relay) (a b d : D)
         → after ≡ Some (behind_piece at.rest)
@@ -408,7 +410,7 @@ module _ (judging : JudgedValue) {options : OptionsValue} {bytes : List ℕ}
               (subst (λ (l : List CheckStep). Tells IsTold b d (relayed q l)) same second);
         }
 
-    -- One that is sent.
+    -- The step for a sent one.
     step_sent : {D : Type 0} (IsTold : D → Event → D → Type 0) (after : Option (List ℕ))
         (v : PesValue) (frame : ℕ) (heard : List (List ℕ)) (e : CheckerValue) (then : Relay)
         (a b d : D) (left : after ≡ Some (behind_piece at.rest))
@@ -436,7 +438,7 @@ module _ (judging : JudgedValue) {options : OptionsValue} {bytes : List ℕ}
           told = told_more (Sent s) _ a b d (sent_steps g done pes at.count s) first second;
         }
 
-    -- By what was read of it, a PES packet of this value where it is sent. For `tell_pieces`.
+    -- The step from the result of reading a PES packet. For `tell_pieces`.
     pub step : {D : Type 0} (IsTold : D → Event → D → Type 0) (after : Option (List ℕ))
         (v : PesValue) (r : NextPiece) (e : CheckerValue) (then : Relay) (a b d : D)
         → after ≡ Some (behind_piece at.rest)

@@ -1,5 +1,5 @@
--- What is read of a PES file, piece by piece: `reads_on_none`, `reads_on_sent`, `reads_on_passed`;
--- and what was taken, where the source fails: `packets_taken`.
+-- Reading a PES file one PES packet at a time: `reads_on_none`, `reads_on_sent`, `reads_on_passed`;
+-- the consumed bytes if the source fails: `packets_taken`.
 use Rattle.std.proofs.lemmas.Bool.Decides.{nat_tests}
 use Rattle.std.proofs.Common.{◌≡◌, ℕ, ◌+◌, ◌≤◌, List, [], ◌∷◌, ◌++◌, length, Option, Some, refl}
 use Rattle.std.proofs.Common.{sym, ap, subst, ◌∙◌, append_assoc, arith, length-append, Result, Err}
@@ -30,7 +30,7 @@ use Rattle.ttx_pes.specs.DataUnit.{IsUnit, UnitValue}
 
 -- ---- frames and their packets
 
--- The packets of units have 42 bytes.
+-- The Teletext packets of data units have 42 bytes.
 pub whole_units :
     (units : List UnitValue)
     → AllByRecursion IsUnit units
@@ -38,9 +38,9 @@ pub whole_units :
 whole_units [] h = tt
 whole_units (u ∷ units) h = (h.0.packet.size, whole_units units h.1)
 
--- ---- pieces that are read
+-- ---- reading PES packets
 
--- Of the pieces of a file these first ones are read, and the others are left.
+-- The first PES packets of the file were read, and the others are left.
 pub record ReadsOn
     (options : OptionsValue) (bytes : List ℕ) (all : List Piece) (unread : Option Unread)
     (remaining : Option (List ℕ)) (pes : ℕ) (done : List Piece)
@@ -56,7 +56,7 @@ pub record ReadsOn
       → AreTaken (clock_of options) bytes (frames_of done) rest
   pub whole : AreWhole (frames_of done)
 
--- Before the first of them.
+-- At the start of the file.
 pub reads_on_none : (options : OptionsValue) (all : List Piece) (unread : Option Unread)
     (remaining : Option (List ℕ)) (bytes : List ℕ)
     → remaining ≡ Some bytes
@@ -74,14 +74,14 @@ reads_on_none options all unread remaining bytes told reads = record {
   whole = tt;
 }
 
--- At most as many frames are sent as there are pieces.
+-- There are at most as many frames as PES packets.
 pub frames_few : (pieces : List Piece) → length (frames_of pieces) ≤ length pieces
 unfolding frames_of
 frames_few [] = omega arith
 frames_few (Sent s ∷ pieces) = let l = frames_few pieces in omega arith
 frames_few (Passed u ∷ pieces) = let l = frames_few pieces in omega arith
 
--- One packet more is taken.
+-- One more PES packet is consumed.
 taken_sent : (clock : Clock) (bytes rest : List ℕ) (frames : Transmission) (v : PesValue)
     (frame : ℕ) (old new : Option (List ℕ))
     → AreTaken clock bytes frames rest
@@ -106,7 +106,7 @@ taken_sent clock bytes rest frames v frame old new taken was is takes of =
       joined = grind (arith, concat-append, append_assoc);
     }
 
--- The packets that were taken as frames, as PES packets of the grammar.
+-- The consumed PES packets match the grammar.
 each_packet : (values : List PesValue) (packets : List (List ℕ))
     → AllZip IsPesPacket values packets
     → AllByRecursion (λ b. (v : PesValue) × IsPesPacket v b) packets
@@ -131,14 +131,14 @@ packets_taken {clock} bytes frames rest n old new taken number was is = record {
   consumed = rw (was, is) taken.joined;
 }
 
--- Two faults that name the PES packet at which the source failed name one.
+-- Two faults that name the PES packet at which the source failed name the same one.
 pub named_pes : (f : CheckFault) (n pes : ℕ)
     → f ≡ fault.Pes n Read
     → (let r : Result (Option Accepted) CheckFault = Err f in r) ≡ Err (fault.Pes pes Read)
     → pes ≡ n
 named_pes f n pes here is = let same = sym here in cc
 
--- Its packets have 42 bytes.
+-- The Teletext packets of one more PES packet have 42 bytes.
 whole_sent : (frames : Transmission) (v : PesValue) (frame : ℕ)
     → AreWhole frames
     → IsPesValue v
@@ -147,7 +147,7 @@ whole_sent frames v frame before is =
     let whole = whole_units v.units is.each in
     grind (arith, nat_tests, Each-push, All-from_recursion)
 
--- One more of them, which is sent or passed over.
+-- One more PES packet, sent or skipped.
 module _ (options : OptionsValue) (bytes : List ℕ) (all : List Piece) (unread : Option Unread)
     (before after : Option (List ℕ)) (pes : ℕ) (done : List Piece)
     (at : ReadsOn options bytes all unread before pes done)

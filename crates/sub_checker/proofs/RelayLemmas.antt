@@ -1,4 +1,4 @@
--- What a device relays of what it is told: `relays_all`; of steps in parts: `relays-trans`.
+-- The events that are relayed for events, `relays_all`, and for steps in parts, `relays-trans`.
 use Rattle.std.proofs.lemmas.Bool.Decides.{nat_tests}
 use Rattle.std.proofs.Common.{arith}
 use Rattle.std.proofs.Common.{◌≡◌, List, [], ◌∷◌, ◌++◌, Bool, true, false, map}
@@ -47,10 +47,9 @@ pub passed-none : (p : Relay) → relayed p [] ≡ []
 unfolding relayed told_by all_announced
 passed-none p = refl
 
--- ---- what is told, part by part
+-- ---- events, one part after another
 
 module _ {D : Type 0} {g : _} (IsTold : D → Event → D → Type 0) where
-  -- Nothing.
   pub relays-none : (s : Reporter D g) → ReporterRelays IsTold s [] s
   relays-none s = record {
     told =
@@ -59,7 +58,6 @@ module _ {D : Type 0} {g : _} (IsTold : D → Event → D → Type 0) where
     kept = sym (after-none s.relay);
   }
 
-  -- The one part, and then the other.
   pub relays-trans : (a b c : Reporter D g) (xs ys : List CheckStep)
       → ReporterRelays IsTold a xs b
       → ReporterRelays IsTold b ys c
@@ -91,7 +89,7 @@ one_kept : (p : Relay) (m : CheckStep)
 unfolding relay_after told_by tracker_after
 one_kept p m = grind (arith, nat_tests, append-nil)
 
--- What is told with one, after a run of pieces that were passed over. For `close` and `relay`.
+-- The events of one step, relayed after a run of skipped PES packets. For `close` and `relay`.
 pub relay_one : {D : Type 0} {g : _} (IsTold : D → Event → D → Type 0) (s t : Reporter D g)
     (m : CheckStep) (es : List Event)
     → es ≡ told_with m s.relay.tracker
@@ -116,7 +114,7 @@ both_kept run mid xs e is =
     ap (λ (r : PassedPieces). kept_run (passed_after (as_run r) e)) is
     ∙ sym (ap kept_run (passed_after-append run xs (e ∷ [])))
 
--- What is told with an event. For `relay`.
+-- The events of a `Says` step. For `relay`.
 pub says_with : (t u : TrustTracker) (e named : Event) (first : Option Event)
     → first_alone first ≡ trusted_before t.run t.whole t.back (doubted t.last (late_since t) e)
     → u ≡ after_step (Says e) t
@@ -125,7 +123,7 @@ pub says_with : (t u : TrustTracker) (e named : Event) (first : Option Event)
 unfolding told_with after_step
 says_with t u e named first before kept is = rw (before, is, kept) refl
 
--- With this step nothing is told.
+-- A step without events.
 pub silent : {D : Type 0} {g : _} (IsTold : D → Event → D → Type 0) (s t : Reporter D g)
     (m : CheckStep)
     → t ≡ at_step m s
@@ -136,7 +134,7 @@ silent IsTold s t m is none =
     let no = Tells-none {IsTold = IsLatched IsTold} s.latch in
     grind (arith, nat_tests, one_told, one_kept)
 
--- ---- what a device relays
+-- ---- what a reporter relays
 
 module _ {D : Type 0} {g : _} (IsTold : D → Event → D → Type 0) where
   in_turn : (old new : Reporter D g) (es : List Event)
@@ -148,13 +146,13 @@ module _ {D : Type 0} {g : _} (IsTold : D → Event → D → Type 0) where
   in_turn old new (e ∷ es) (mid, first, rest) =
       relays-trans IsTold old mid new (Says e ∷ []) (map Says es) first (in_turn mid new es rest)
 
-  -- Events that a reporter was told.
+  -- Events that were told to a reporter.
   pub relays_all : (old new : Reporter D g) (es : List Event)
       → Tells (IsRelayed IsTold) old new es
       → ReporterRelays IsTold old (map Says es) new
   relays_all old new es told = in_turn old new es told.in_turn
 
--- ---- steps with which nothing is told
+-- ---- steps without events
 
 abbrev pub may_tell : CheckStep → Bool
 may_tell (Says e) = true

@@ -1,5 +1,5 @@
--- What a reporter relays, in parts: `relays_two`; nothing, `relays_nothing`; steps with which
--- nothing is told, `relays_step` and its kin; events that it was told, `relays_told`.
+-- Relaying steps in parts, `relays_two`; no steps, `relays_nothing`; steps without events,
+-- `relays_step` and the like; events, `relays_told`.
 use Rattle.std.proofs.Common.{◌≡◌, List, [], ◌∷◌, ◌++◌, Bool, true, false, cond, map}
 use Rattle.std.proofs.Common.{refl, sym, subst}
 use Rattle.sub_io.specs.Telling.{Tells}
@@ -14,19 +14,16 @@ use Rattle.sub_checker.proofs.RelayLemmas.{may_tell, relays-none, relays-trans, 
 use Rattle.sub_checker.proofs.RelayLemmas.{silent_with}
 
 module _ {D : Type 0} {g : _} {IsTold : D → Event → D → Type 0} where
-  -- The same by another name.
   pub relays_same : {s t : Reporter D g} {xs zs : List CheckStep}
       → zs ≡ xs
       → ReporterRelays IsTold s xs t
       → ReporterRelays IsTold s zs t
   relays_same is on = rw is on
 
-  -- None.
   pub relays_nothing : {s : Reporter D g} {zs : List CheckStep} → zs ≡ []
       → ReporterRelays IsTold s zs s
   relays_nothing {s} is = rw is (relays-none IsTold s)
 
-  -- The one part, and then the other.
   pub relays_two : {a b c : Reporter D g} {xs ys zs : List CheckStep}
       → zs ≡ xs ++ ys
       → ReporterRelays IsTold a xs b
@@ -35,14 +32,14 @@ module _ {D : Type 0} {g : _} {IsTold : D → Event → D → Type 0} where
   relays_two {a} {b} {c} {xs} {ys} is first second =
       rw is (relays-trans IsTold a b c xs ys first second)
 
-  -- Events that it was told.
+  -- Events that were told to the reporter.
   pub relays_told : {s t : Reporter D g} {es : List Event} {zs : List CheckStep}
       → zs ≡ map Says es
       → Tells (IsRelayed IsTold) s t es
       → ReporterRelays IsTold s zs t
   relays_told {s} {t} {es} is told = rw is (relays_all IsTold s t es told)
 
-  -- A step with which nothing is told.
+  -- A step without events.
   pub relays_step : {s t : Reporter D g} {m : CheckStep} {zs : List CheckStep}
       → zs ≡ m ∷ []
       → t ≡ at_step m s
@@ -51,7 +48,7 @@ module _ {D : Type 0} {g : _} {IsTold : D → Event → D → Type 0} where
   relays_step {s} {t} {m} is at none =
       rw is (silent IsTold s t m at (silent_with m s.relay.tracker none))
 
-  -- Since which frame the page is not whole, where that is told.
+  -- The `GoesBack` step, if it is needed.
   pub relays_back : (s t : Reporter D g) (c : CheckerValue) {zs : List CheckStep}
       → zs ≡ back_steps c
       → t ≡ back_reporter c s
@@ -64,7 +61,7 @@ module _ {D : Type 0} {g : _} {IsTold : D → Event → D → Type 0} where
       by true at = relays_step refl at refl
       by false at = subst (ReporterRelays IsTold s []) (sym at) (relays_nothing refl)
 
-  -- The step of a frame before it.
+  -- The steps before a frame.
   pub relays_begun : (s t : Reporter D g) (c : CheckerValue)
       → t ≡ back_reporter c (at_step (Begins c.frame) s)
       → ReporterRelays IsTold s (Begins c.frame ∷ back_steps c) t

@@ -1,5 +1,5 @@
--- What the checker keeps of the frames that may stay: what is told with steps is told by it,
--- `told_is`; one list of steps after another, `told_by-append`, `tracker_after-append`.
+-- The tracker computes the trusted frames: the events of steps are those that it gives, `told_is`;
+-- lists of steps can be joined, `told_by-append`, `tracker_after-append`.
 use Rattle.std.proofs.lemmas.Bool.Decides.{nat_tests}
 use Rattle.std.proofs.Common.{◌≡◌, arith, List, [], ◌∷◌, ◌++◌, refl, sym, ap, ◌∙◌}
 use Rattle.std.proofs.Common.{append_assoc, is_some, not, true}
@@ -30,7 +30,7 @@ told_by-append t (x ∷ xs) ys =
     ap (λ (l : List Event). told_with x t ++ l) (told_by-append (after_step x t) xs ys)
     ∙ sym (append_assoc (told_with x t) _ _)
 
--- ---- what is kept is what is said of the steps that came before
+-- ---- the tracker's state follows from the steps before
 
 record IsKept (past : List CheckStep) (t : TrustTracker) : Type 0 where
   pes_is : t.pes ≡ pes_told past
@@ -59,14 +59,14 @@ starts : IsKept [] new_tracker
 unfolding pes_told last_begun stays_quiet since_of late_of back_of run_of
 starts = grind (arith, nat_tests)
 
--- After a step it is so too.
+-- Each step preserves it.
 keeps : (m : CheckStep) (past : List CheckStep) (t : TrustTracker) → IsKept past t
     → IsKept (m ∷ past) (after_step m t)
 unfolding after_step pes_told last_begun stays_quiet since_of late_of back_of run_of whole_of
     tells_fall
 keeps m past t k = grind (arith, nat_tests, doubted_now, order_fall)
 
--- ---- what is told
+-- ---- the events
 
 told_same : (m : CheckStep) (past : List CheckStep) (t : TrustTracker) → IsKept past t
     → told_at past m ≡ told_with m t
@@ -82,6 +82,6 @@ after_same [] past t k = refl
 after_same (m ∷ ms) past t k =
     rw (told_same m past t k, after_same ms (m ∷ past) (after_step m t) (keeps m past t k)) refl
 
--- What is told with steps is told by what the checker keeps.
+-- The events that the rules define for steps are those of the tracker.
 pub told_is : (ms : List CheckStep) → told_after [] ms ≡ told_by new_tracker ms
 told_is ms = after_same ms [] new_tracker starts

@@ -1,5 +1,5 @@
--- At which frames it is not known what is due: the same between two edges, `undecided_same`; and
--- from when on it is known, within the frames that count, `known_none`, `known_not`, `known_last`,
+-- The frames at which the due page is unknown: nothing changes between two page changes,
+-- `undecided_same`; from which frame on it is known, `known_none`, `known_not`, `known_last`,
 -- `known_never`.
 use Rattle.std.proofs.lemmas.Bool.Decides.{nat_tests}
 use Rattle.std.proofs.Common.{◌≡◌, ℕ, zero, suc, ◌+◌, ◌-◌, ◌<◌, ◌≤◌, ◌⊎◌, Bool, true, false, ◌&&◌}
@@ -15,9 +15,9 @@ use Rattle.sub_rules.specs.Events.{was_undecided}
 use Rattle.sub_rules.specs.FrameRules.{is_due_undecided}
 use Rattle.sub_checker.specs.Checker.{IsKnownFrom, is_before}
 
--- ---- between two edges
+-- ---- between two page changes
 
--- No edge is after the one frame and up to the other.
+-- The due page does not change after frame f and up to frame g.
 abbrev NoEdge : List SubtitleValue → ℕ → ℕ → Type 0
 NoEdge ts f g = (e : ℕ) → IsEdge ts e → f < e → e ≤ g → ⊥
 
@@ -53,12 +53,12 @@ undecided_same j f g le none =
     from_same j.programme.records j.behind_other j.is_before_other 0 f g le
     (λ low. absurd (omega (arith, low))) none
 
--- What comes before a frame before the next edge does too.
+-- A frame before one that precedes the next change precedes it too.
 earlier : (e f : ℕ) (edge : Option ℕ) → e ≤ f → is_before f edge ≡ true → is_before e edge ≡ true
 earlier e f None le before = refl
 earlier e f (Some next) le before = grind (arith, nat_tests)
 
--- From a frame up to before the next edge.
+-- From a frame up to the next change.
 until_edge : (j : JudgedValue) (frame f : ℕ) (edge : Option ℕ)
     → TellsNextEdge j.programme.records frame edge
     → frame ≤ f
@@ -72,10 +72,10 @@ until_edge j frame f (Some next) tells low before =
     sym (undecided_same j frame f low
     (λ e edge after until. let m = tells.least e edge after in omega (arith, l, m, until)))
 
--- ---- within the frames that count
+-- ---- the last frames
 
 module _ (undecided : ℕ → Bool) (first f : ℕ) where
-  -- Where it is known at each of them.
+  -- The due page is known at each of them.
   pub was-none : (n : ℕ)
       → undecided f ≡ false
       → ((e : ℕ) → first ≤ e → f ≤ e + n → e ≤ f → undecided e ≡ false)
@@ -84,7 +84,7 @@ module _ (undecided : ℕ → Bool) (first f : ℕ) where
   was-none zero here none = grind (arith, nat_tests)
   was-none (suc n) here none = grind (arith, nat_tests, (was-none n here))
 
-  -- Where it is not at one of them.
+  -- It is unknown at one of them.
   pub was-some : (n e : ℕ)
       → (first ≤ e) ⊎ (e ≡ f)
       → f ≤ e + n
@@ -111,25 +111,25 @@ module _ (undecided : ℕ → Bool) (first f : ℕ) where
           at (inr same) = absurd (omega (arith, l, same))
       by (inr l) rest = let nearer = rest l in grind (arith, nat_tests)
 
-  -- Where none before it counts.
+  -- If `within` is 0, only the frame itself counts.
   pub was-once : (n : ℕ) → n ≡ 0 → was_undecided undecided first f n ≡ undecided f
   unfolding was_undecided
   was-once n none = rw none refl
 
-  -- At the frame itself.
+  -- It is known at the frame itself.
   pub was-here : (n : ℕ) → was_undecided undecided first f n ≡ false → undecided f ≡ false
   unfolding was_undecided
   was-here zero none = none
   was-here (suc n) none = let rest = was-here n in grind (arith, nat_tests)
 
--- ---- from when on it is known
+-- ---- from which frame on it is known
 
 none_below : (f : ℕ) → nat_lt f 0 ≡ false
 none_below f = grind (arith, nat_tests)
 
 module _ (j : JudgedValue) (first within frame : ℕ) (edge : Option ℕ)
     (tells : TellsNextEdge j.programme.records frame edge) where
-  -- Nothing is refused. For `known_from`.
+  -- If no subtitle was refused. For `known_from`.
   pub known_none : has_refused j ≡ false
       → IsKnownFrom (is_due_undecided j) first within frame edge 0
   known_none h1 = grind (arith, nat_tests, none_below, was-none)
@@ -138,7 +138,7 @@ module _ (j : JudgedValue) (first within frame : ℕ) (edge : Option ℕ)
     any_refused_is : (e : ℕ) → is_due_undecided j e ≡ is_undecided_in j e
     any_refused_is e = ap (λ b. b && is_undecided_in j e) is
 
-    -- It is not known here.
+    -- If it is unknown at this frame.
     pub known_not : (k : ℕ)
         → day ≤ k
         → is_undecided_in j frame ≡ true
@@ -148,7 +148,7 @@ module _ (j : JudgedValue) (first within frame : ℕ) (edge : Option ℕ)
         (omega arith) (any_refused_is f ∙ until_edge j frame f edge tells low before ∙ here) in
         rw there (grind (arith, nat_tests))
 
-    -- It was not known last at this frame.
+    -- If it was unknown last at frame `last`.
     pub known_last : (last : ℕ)
         → first ≤ last
         → last < frame
@@ -178,7 +178,7 @@ module _ (j : JudgedValue) (first within frame : ℕ) (edge : Option ℕ)
             (any_refused_is last ∙ here))
             (grind (arith, nat_tests))
 
-    -- It was known at each of them.
+    -- If it was known at each of them.
     pub known_never : (least : ℕ)
         → ((f : ℕ) → first ≤ f → frame ≤ f + within → least ≤ f)
         → is_undecided_in j frame ≡ false

@@ -1,5 +1,5 @@
--- Where the page is whole at an end nothing is kept that was not due, `none_undue`; and nothing
--- stands broken, as few comparisons tell, `quiet_stands`.
+-- If the page is right at an end, no cell has an unexpected code, `none_undue`, and few comparisons
+-- show that no fault is active, `quiet_stands`.
 use Rattle.std.proofs.lemmas.Bool.Decides.{nat_tests}
 use Rattle.std.proofs.Common.{◌≡◌, ℕ, zero, suc, ap, ◌+◌, ◌<◌, Bool, true, false}
 use Rattle.std.proofs.Common.{not, Option, None, is_some, refl}
@@ -14,7 +14,7 @@ use Rattle.sub_checker.specs.Checker.{undecided_now, undue_now}
 use Rattle.sub_rules.specs.Events.{nothing_stands, silent_for, was_due}
 use Rattle.sub_checker.proofs.UndecidedLemmas.{was-here}
 
--- What is due now was due within any frames.
+-- A code that is due now was due within the last frames.
 due_now : (due : ℕ → Rows) (first f n row column code : ℕ)
     → (cell (due f) row column == code) ≡ true
     → was_due due first f n row column code ≡ true
@@ -22,7 +22,7 @@ unfolding was_due
 due_now due first f zero row column code is = is
 due_now due first f (suc n) row column code is = rw (due_now due first f n row column code is) refl
 
--- So where each cell is right nothing is kept that was not due.
+-- So no cell is unexpected if each cell is right.
 pub no_undue : (s : Listener) (due : ℕ → Rows) (first f n : ℕ)
     → s.comparison.due ≡ due f
     → wrong_kept s ≡ None
@@ -38,7 +38,7 @@ no_undue s due first f n is none =
     let same = ap (λ (rows : Rows). cell rows row column) is in
     grind (arith, nat_tests))
 
--- So it is where each cell is right. For `first_undue`.
+-- The same for the value that the code computes. For `first_undue`.
 pub none_undue : (c : CheckerValue) (o : Option (ℕ × ℕ)) (b : Bool)
     → c.listener.comparison.due ≡ due_in c.programme c.frame
     → is_some o ≡ not b
@@ -47,7 +47,7 @@ pub none_undue : (c : CheckerValue) (o : Option (ℕ × ℕ)) (b : Bool)
     → None ≡ undue_now c
 none_undue c o b due is none same = grind (arith, nat_tests, was-here, no_undue)
 
--- Nothing stands broken there, as few comparisons tell. For `is_quiet`.
+-- Few comparisons show that no fault is active. For `is_quiet`.
 pub quiet_stands : (c : CheckerValue)
     → c.listener.comparison.due ≡ due_in c.programme c.frame
     → c.standing ≡ nothing_stands

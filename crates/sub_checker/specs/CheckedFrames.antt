@@ -1,5 +1,5 @@
--- The parts of the check of one frame of the list, and what is kept after the first n frames.
--- Private functions alone cite this.
+-- The steps of checking one frame, and the state of the checker after the first n frames. Only
+-- contracts of private functions use it.
 use Rattle.std.specs.Prelude.{◌≡◌, ℕ, suc, ◌+◌, ◌-◌, ◌<◌, ◌==◌, List, [], ◌++◌, length, map}
 use Rattle.std.specs.Prelude.{nat_le, false, true, Option, if◌then◌else◌}
 use Rattle.ttx_page.specs.PacketKind.{kind}
@@ -20,9 +20,9 @@ use Rattle.sub_rules.specs.Trusted.CheckStep.{GoesBack, Says}
 use Rattle.sub_checker.specs.Relay.{at_step}
 use Rattle.sub_checker.specs.declared.reporter.Reporter.{Reporter}
 
--- ---- what is kept
+-- ---- the state
 
--- The criteria that are kept, with this end of reading.
+-- The criteria that the state contains, with this end of reading.
 abbrev pub criteria_kept : CheckerValue → Option Unread → Criteria
 criteria_kept c unread =
     record (criteria_with c.programme c.listener.watched c.every c.within c.pace unread) {
@@ -30,8 +30,8 @@ criteria_kept c unread =
       undecided = is_undecided_by c;
     }
 
--- What is kept of the packets is what the first n frames of the list say, and of the PES packet
--- that was heard last what its packets do.
+-- The state agrees with the packets of the first n frames, and with the packets `last` of the last
+-- PES packet.
 pub record Remembers
     (g : Criteria) (frames : Transmission) (n : ℕ) (last : List (List ℕ)) (c : CheckerValue)
     : Type 0 where
@@ -39,13 +39,12 @@ pub record Remembers
   pub knows : KnowsLast (packets_before frames n) last c.listener
   pub count : c.counts.headers ≡ header_count g.watched.page (packets_before frames n)
 
--- What is kept from the first PES packet on: its frame, and from when on a header of the page is
--- too long ago.
+-- The state from the first PES packet on: its frame, and when the repeat bound is exceeded.
 pub record HasBegun (g : Criteria) (frames : Transmission) (n : ℕ) (c : CheckerValue) : Type 0 where
   pub first_is : c.first ≡ frame_at frames 0
   pub late_is : (f : ℕ) → is_gap g frames n f ≡ nat_le c.late_at (f + 1)
 
--- What is kept after the first n frames of the list, at the end of the last of them.
+-- The state after the first n frames, at the end of the last of them.
 pub record AfterEnd
     (g : Criteria) (frames : Transmission) (n : ℕ) (last : List (List ℕ)) (c : CheckerValue)
     : Type 0 where
@@ -59,7 +58,7 @@ pub record AfterEnd
   pub since_is : 0 < g.within → c.since ≡ since_frames g frames n
   pub number : c.counts.frames ≡ n
 
--- What is kept after the first n frames of the list, where the next end is that of frame f.
+-- The state after the first n frames, if the end of frame f is the next to be checked.
 pub record BeforeEnd
     (g : Criteria) (frames : Transmission) (n f : ℕ) (last : List (List ℕ)) (c : CheckerValue)
     : Type 0 where
@@ -70,7 +69,7 @@ pub record BeforeEnd
   pub since_is : 0 < g.within → c.since ≡ since_before g frames n f
   pub number : c.counts.frames ≡ n
 
--- That, at frame n of the list, before its packets.
+-- That state at frame n of the list, before its packets.
 pub record BeforePackets
     (g : Criteria) (frames : Transmission) (n : ℕ) (last : List (List ℕ)) (c : CheckerValue)
     : Type 0 where
@@ -78,7 +77,7 @@ pub record BeforePackets
   pub frame_is : c.frame ≡ frame_at frames n
   pub latest_is : c.latest ≡ latest frames (suc n)
 
--- That, after its packets, where its end is still to come.
+-- The state after the packets of frame n, before its end.
 pub record AfterPackets
     (g : Criteria) (frames : Transmission) (n : ℕ) (last : List (List ℕ)) (c : CheckerValue)
     : Type 0 where
@@ -94,7 +93,7 @@ pub record AfterPackets
       c.listener.begun
       ≡ holds_beginning g.watched.keeps (kind g.watched.page) (packets_of_frame frames n)
 
--- And more of its packets may come.
+-- That state, if more packets of the frame may follow.
 pub record StaysOpen
     (g : Criteria) (frames : Transmission) (n : ℕ) (last : List (List ℕ)) (c : CheckerValue)
     : Type 0 where
@@ -102,8 +101,8 @@ pub record StaysOpen
   pub before : c.counts.headers_before ≡ header_count g.watched.page (packets_before frames n)
   pub packets : c.counts.packets ≡ length (packets_of_frame frames n)
 
--- What is kept between two PES packets, where these frames were sent: after the end of the last
--- one, or within frames before it.
+-- The state between two PES packets: after the end of the last frame, or, if `within` is not 0,
+-- before it.
 pub record BetweenPieces (g : Criteria) (sent : Transmission) (last : List (List ℕ))
     (c : CheckerValue) : Type 0
   where
@@ -113,24 +112,24 @@ pub record BetweenPieces (g : Criteria) (sent : Transmission) (last : List (List
     pub within : c.counts.is_open ≡ true → 0 < g.within
     pub opens : c.counts.is_open ≡ true → StaysOpen g sent (length sent - 1) last c
 
--- ---- what comes
+-- ---- the steps
 
--- What comes before frame i of the list begins.
+-- The steps before frame i of the list begins.
 abbrev pub reaching_steps : Criteria → Transmission → ℕ → List CheckStep
 reaching_steps g frames i =
     map Says (order_events g frames i) ++ steps_of_gap g frames i (gap_length frames i)
 
--- What comes of frame i of the list, without its end where that comes later.
+-- The steps of frame i of the list, without its end if that comes later.
 abbrev pub next_steps : Criteria → Transmission → ℕ → List CheckStep
 next_steps g frames i =
     steps_of_arrival g frames i
     ++ steps_of_packets g frames i
     ++ (if g.within == 0 then steps_of_ending g frames i else [])
 
--- What comes after the last one of `pes` pieces.
+-- The steps after the last of `pes` PES packets.
 abbrev pub last_steps : Criteria → Transmission → ℕ → List CheckStep
 last_steps g list pes = steps_of_waiting g list ++ steps_of_closing g list pes (length list)
 
--- Before a frame, or its end: since which one the page is not whole, where that is told.
+-- Says since which frame the page has been wrong, if that is needed.
 unfoldable pub back_reporter : {D : Type 0} {g : _} → CheckerValue → Reporter D g → Reporter D g
 back_reporter c s = if goes_back_now c then at_step (GoesBack c.since) s else s

@@ -1,4 +1,4 @@
--- How far the check has come, as the checker keeps it. Private functions alone cite this.
+-- The state of the checker. Only contracts of private functions use it.
 use Rattle.std.specs.Prelude.{◌≡◌, ℕ, ◌+◌, ◌-◌, ◌*◌, ◌<◌, ◌≤◌, ◌&&◌, ◌||◌, ◌==◌, List, [], ◌∷◌}
 use Rattle.std.specs.Prelude.{◌++◌}
 use Rattle.std.specs.Prelude.{Option, Some, None, max, map, nat_le, nat_lt, is_some, not}
@@ -23,40 +23,49 @@ use Rattle.sub_packets.specs.declared.listener.Listener.{Listener}
 use Rattle.sub_checker.specs.declared.counts.Counts.{Counts}
 use Rattle.sub_plan.specs.Schedule.{due_in}
 
--- ---- what is counted
+-- ---- counts
 
--- Nothing was heard.
+-- No PES packet yet.
 abbrev pub nothing_counted : Counts
 nothing_counted =
     record { frames = 0; headers = 0; headers_before = 0; packets = 0; is_open = false }
 
--- More headers of the page.
+-- Adds headers of the page.
 abbrev pub with_headers : ℕ → Counts → Counts
 with_headers headers n = record n { headers = n.headers + headers }
 
--- The end of the last frame is still to come, which has so many headers of the page, and packets.
+-- Leaves the last frame open: it has this many headers of the page and packets so far.
 abbrev pub left_open : ℕ → ℕ → Counts → Counts
 left_open headers packets n =
     record n { headers_before = n.headers - headers; packets = packets; is_open = true }
 
--- So many PES packets may have been counted.
+-- The counts are within the bounds that `pes` PES packets allow, so none can overflow.
 pub record AreFew (pes : ℕ) (n : Counts) : Type 0 where
   pub frames : n.frames ≤ pes
   pub headers : n.headers ≤ 255 * pes
   pub packets : n.packets ≤ 255 * pes
 
--- What is sent by a PES packet with these units.
+-- The frame that a PES packet with these data units carries.
 abbrev pub sent_as : Sending → List UnitValue → SentFrame
 sent_as sending units = record { frame = sending.frame; packets = packets_of_units units }
 
--- ---- what is kept
+-- ---- the state
 
--- The programme, all that is judged, and whether subtitles of the file are refused beside it; the
--- repeat bound, within how many frames the page has to be whole, how many frames
--- apart PES packets are at most, where that is asked, what is kept of the packets, the frame of the
--- first PES packet, the greatest one of all, the frame that a page is due at, that of the last end
--- and what stood broken there, the first of the frames up to it at whose ends the page was not
--- whole, one more than the first frame at whose end a header is too long ago, and what was counted.
+-- The state of the checker:
+--
+--   programme      the subtitles, with `judging` also those around refused ones
+--   any_refused    subtitles of the file were refused
+--   every          repeat bound: at most so many frames from one header of the page to the next
+--   within         the page has to be right within so many frames
+--   pace           maximum distance of PES packets in frames, if `--pace` is given
+--   listener       what the packets received so far leave on the page
+--   first, latest  the frame of the first PES packet, and the greatest frame so far
+--   frame          the current frame; `listener` compares with the page that is due there
+--   last           the frame whose end was checked last
+--   standing       the faults that were active at that end
+--   since          the first frame from which on the page has been wrong without a break
+--   late_at        one more than the first frame at whose end the repeat bound is exceeded
+--   counts         counts of what was read
 pub record CheckerValue : Type 0 where
   pub programme : ProgrammeValue
   pub judging : JudgedValue
@@ -74,7 +83,7 @@ pub record CheckerValue : Type 0 where
   pub late_at : ℕ
   pub counts : Counts
 
--- The checker at another frame, with the page that is due there.
+-- Moves the checker to frame f, and draws the page that is due there.
 abbrev pub at_frame : ℕ → CheckerValue → CheckerValue
 at_frame f c = record c {
   frame = f;
@@ -83,31 +92,31 @@ at_frame f c = record c {
   };
 }
 
--- The checker at the frame of the first PES packet.
+-- Moves the checker to the frame of the first PES packet.
 abbrev pub at_first : ℕ → CheckerValue → CheckerValue
 at_first f c = record (at_frame f c) { first = f; latest = f; late_at = f + c.every }
 
--- The checker at the frame of a later PES packet.
+-- Moves the checker to the frame of a later PES packet.
 abbrev pub at_next : ℕ → CheckerValue → CheckerValue
 at_next f c = record (at_frame f c) { latest = max c.latest f }
 
--- A frame is before the next edge, if there is one.
+-- The frame comes before the next change of the due page, if there is one.
 abbrev pub is_before : ℕ → Option ℕ → Bool
 is_before frame None = true
 is_before frame (Some edge) = nat_lt frame edge
 
--- From when on a header is too long ago, after a frame with a header or without one.
+-- When the repeat bound is exceeded next. `found`: the frame has a header.
 abbrev pub later_by : Bool → ℕ → ℕ → ℕ → ℕ
 later_by found frame every before = if found then max before (frame + every + 1) else before
 
--- The checker with more headers of the page in the frame that was reached.
+-- Counts headers of the page in the current frame.
 abbrev pub after_headers : ℕ → CheckerValue → CheckerValue
 after_headers headers c = record c {
   counts = with_headers headers c.counts;
   late_at = later_by (nat_lt 0 headers) c.frame c.every c.late_at;
 }
 
--- After these packets more were heard, the first of them this one of its frame.
+-- The listener received `packets` after `heard`. The first of them is number `from` of its frame.
 pub record HasHeard
     (from : ℕ) (heard packets : List (List ℕ)) (old new : CheckerValue)
     : Type 0 where
@@ -121,47 +130,47 @@ pub record HasHeard
   pub begins :
       listener.begun ≡ begins_frame old.listener.watched from old.listener.begun packets
 
--- ---- the end of the frame that was reached
+-- ---- the end of the current frame
 
--- The page had to be whole by the end of frame f, where it is not since this frame.
+-- The page should have been right by the end of frame f, given the frame since which it is wrong.
 abbrev pub is_overdue_at : ProgrammeValue → ℕ → ℕ → Option ℕ → ℕ → Bool
 is_overdue_at programme within first None f = false
 is_overdue_at programme within first (Some since) f =
     nat_le (since + within) f || is_missed (tci_of_ending programme.records (f + 1)) first since
 
--- At this frame it is not known what is due.
+-- The due page is unknown at this frame, because a subtitle was refused.
 abbrev pub is_undecided_by : CheckerValue → ℕ → Bool
 is_undecided_by c frame = is_due_undecided c.judging frame
 
--- The first cell that is not right, where it is known what is due.
+-- The first wrong cell. `None` if the due page is unknown.
 abbrev pub differs_now : CheckerValue → Option (ℕ × ℕ)
 differs_now c = if is_undecided_by c c.frame then None else wrong_kept c.listener
 
--- It is not known of a frame what was due, within the frames that count.
+-- The due page is unknown at one of the last `within` frames.
 abbrev pub undecided_now : CheckerValue → Bool
 undecided_now c = was_undecided (is_undecided_by c) c.first c.frame c.within
 
--- The first cell in which is kept what was not due within the frames that count, where it is known
--- what was due.
+-- The first cell whose code was due at none of the last `within` frames. `None` if the due page is
+-- unknown at one of them.
 abbrev pub undue_now : CheckerValue → Option (ℕ × ℕ)
 undue_now c =
     if undecided_now c
     then None
     else undue_kept c.listener (due_in c.programme) c.first c.frame c.within
 
--- The page is not whole.
+-- The page is wrong or incomplete.
 abbrev pub is_unfinished_now : CheckerValue → Bool
 is_unfinished_now c = is_some (differs_now c) || is_incomplete_kept c.listener
 
--- Since which frame it is not.
+-- The frame since which it is.
 abbrev pub since_now : CheckerValue → Option ℕ
 since_now c = unfinished_from c.since (is_unfinished_now c) c.frame
 
--- Whether the page had to be whole by now: at once, or within frames that are over.
+-- The page has to be right by now: `within` is 0, or that many frames have passed.
 abbrev pub late_now : CheckerValue → Bool
 late_now c = c.within == 0 || is_overdue_at c.programme c.within c.first (since_now c) c.frame
 
--- What stands broken.
+-- The faults that are active at the end of the current frame.
 abbrev pub stands : CheckerValue → Standing
 stands c = record {
   content = if late_now c then differs_now c else undue_now c;
@@ -171,23 +180,23 @@ stands c = record {
   silent = silent_for c.pace c.latest c.frame;
 }
 
--- Beside what is refused, and within frames, it is told before a frame since which one the page is
--- not whole.
+-- A `GoesBack` step is needed: subtitles were refused, and the page may take more than one frame to
+-- become right.
 abbrev pub goes_back_now : CheckerValue → Bool
 goes_back_now c = c.any_refused && not (c.within == 0)
 
--- The step of that.
+-- That step, if it is needed.
 abbrev pub back_steps : CheckerValue → List CheckStep
 back_steps c = if goes_back_now c then GoesBack c.since ∷ [] else []
 
--- What comes there.
+-- The steps at the end of the current frame.
 abbrev pub end_steps : CheckerValue → List CheckStep
 end_steps c =
     back_steps c
     ++ (if c.within == 0 then [] else AtEnd c.frame (since_now c) (late_now c) ∷ [])
     ++ map Says (end_events c.standing c.last (stands c) c.frame)
 
--- The checker after it.
+-- The state after that end.
 abbrev pub after_end : CheckerValue → CheckerValue
 after_end c = record c {
   standing = stands c;
@@ -195,13 +204,13 @@ after_end c = record c {
   since = if c.within == 0 then c.since else since_now c;
 }
 
--- Nothing stood broken at the end before, and nothing does here.
+-- No fault is active at this end, and none was at the end before.
 pub record IsQuietEnd (c : CheckerValue) : Type 0 where
   pub stood : c.standing ≡ nothing_stands
   pub stand : stands c ≡ nothing_stands
   pub since : since_now c ≡ None
 
--- The page is not whole at the last end, and that is not late.
+-- The page was wrong at the last end, but still has time to become right.
 abbrev pub is_pending_now : CheckerValue → Bool
 is_pending_now c =
     not (c.within == 0)
@@ -210,8 +219,8 @@ is_pending_now c =
 
 -- ---- the invariant
 
--- Up to the next edge it is by this number that it is known at a frame whether what was due was
--- known, within the frames that count: the frames at which it was not are those below it.
+-- Until the due page changes next, the frames with an unknown due page within the last `within`
+-- frames are exactly those below `known_from`. So one number answers the question for each frame.
 abbrev pub IsKnownFrom : (ℕ → Bool) → ℕ → ℕ → ℕ → Option ℕ → ℕ → Type 0
 IsKnownFrom undecided first within frame edge known_from =
     (f : ℕ)
@@ -220,7 +229,7 @@ IsKnownFrom undecided first within frame edge known_from =
     → is_before f edge ≡ true
     → nat_lt f known_from ≡ was_undecided undecided first f within
 
--- What is judged is what is kept of it, up to the next edge.
+-- The state agrees with `judging` until the due page changes next.
 pub record IsJudged
     (judging : JudgedValue) (programme : ProgrammeValue) (any_refused : Bool)
     (first within frame : ℕ) (edge : Option ℕ) (known_from : ℕ)
@@ -229,8 +238,7 @@ pub record IsJudged
   pub any_refused_is : any_refused ≡ has_refused judging
   pub known_is : IsKnownFrom (is_due_undecided judging) first within frame edge known_from
 
--- The page that is kept as due and the next edge are those of the frame, and the numbers are such
--- that none is too large.
+-- The due page and its next change are those of `frame`, and no number can overflow.
 pub record IsAtFrame
     (programme : ProgrammeValue) (every : ℕ) (listener : Listener) (first latest last frame : ℕ)
     (edge : Option ℕ)

@@ -1,10 +1,10 @@
--- A device that may have said stop, behind a latch. Private functions alone cite this.
+-- A device behind a latch, which may have said stop. Only contracts of private functions use it.
 use Rattle.std.specs.Prelude.{◌≡◌, true, false, [], ◌∷◌}
 use Rattle.sub_io.specs.Telling.{Tells}
 use Rattle.sub_rules.specs.declared.event.Event.{Event}
 use Rattle.sub_checker.specs.declared.latch.Latch.{Latch}
 
--- A latch was told an event: so was the device behind it, unless that had said stop.
+-- A latch was told an event: so was the device behind it, unless it had said stop.
 pub record IsLatched
     {D : Type 0} {g : _} (IsTold : D → Event → D → Type 0)
     (old : Latch D g) (e : Event) (new : Latch D g)

@@ -1,4 +1,4 @@
--- What the checker tells of a PES file that is read on behind the pieces that are passed over.
+-- The events of a PES file that is read on after skipped PES packets.
 use Rattle.std.specs.Prelude.{◌≡◌, ℕ, ◌≤◌, List, [], ◌++◌, length, take, Option, Some, None}
 use Rattle.std.specs.Prelude.{Result, Ok, Err}
 use Rattle.sub_io.specs.Reading.{IfKnown}
@@ -20,8 +20,8 @@ use Rattle.sub_checker.specs.ReadCounts.{AreTaken, AreWhole, CountsRead}
 use Rattle.sub_checker.specs.declared.reporter.Relay.{Relay}
 use Rattle.sub_checker.specs.declared.accepted.Accepted.{Accepted}
 
--- The bytes were read as pieces, and what these send is counted: where each is sent, and nothing is
--- left, the bytes are PES packets that are read as their frames.
+-- The counts agree with the frames that the PES packets send. If each packet is sent and no bytes
+-- are left, the bytes are PES packets that carry these frames.
 pub record IsReadOn
     (g : Criteria) (clock : Clock) (bytes : List ℕ) (pieces : List Piece) (a : Accepted)
     : Type 0 where
@@ -33,8 +33,8 @@ pub record IsReadOn
   pub whole : AreWhole (frames_of pieces)
   pub counts : CountsRead g.watched.page (sent_by_pieces g pieces) a
 
--- What a device was told of pieces that are read of these bytes. Where the source failed, what is
--- told of the pieces that were read whole.
+-- The events for these PES packets of the bytes. If the source failed, the events of the packets
+-- before.
 abbrev pub TellsPieces : {D : Type 0} → Criteria → Clock → List ℕ → List Piece
     → (D → Event → D → Type 0) → D → D → Result (Option Accepted) CheckFault → Type 0
 TellsPieces g clock bytes pieces IsTold old new (Ok (Some a)) =
@@ -47,8 +47,7 @@ TellsPieces g clock bytes pieces IsTold old new (Err f) =
     × (f ≡ fault.Pes n Read)
     × Tells IsTold old new (events_of_pieces g (take n pieces))
 
--- What a device was told of these bytes, by the pieces that they are read as, and by the criteria
--- that belong to what is left unread.
+-- The same for any reading of the bytes, with the criteria that belong to its unread rest.
 abbrev pub TellsFile : {D : Type 0} → (Option Unread → Criteria) → Clock → List ℕ
     → (D → Event → D → Type 0) → D → D → Result (Option Accepted) CheckFault → Type 0
 TellsFile criteria clock bytes IsTold old new result =
@@ -56,8 +55,8 @@ TellsFile criteria clock bytes IsTold old new result =
     → ReadsPieces clock 0 bytes pieces unread
     → TellsPieces (criteria unread) clock bytes pieces IsTold old new result
 
--- The source failed within this piece: those before it were taken. Where none of them was passed
--- over they are PES packets of the grammar.
+-- The source failed within this PES packet: those before it were consumed. If none of them was
+-- skipped, they match the grammar.
 abbrev pub FailsReadingOn : Clock → ℕ → Option (List ℕ) → Option (List ℕ) → Type 0
 FailsReadingOn clock pes known left =
     FailsAtPiece pes known left
@@ -67,6 +66,7 @@ FailsReadingOn clock pes known left =
     → length (frames_of (take pes pieces)) ≡ pes
     → FailsAtPacket pes known left))
 
--- What is told with steps, and then up to which piece a run goes. Private functions alone cite it.
+-- The events of steps, and then the end of a run of skipped PES packets. Only contracts of private
+-- functions use it.
 abbrev pub finished : Relay → List CheckStep → List Event
 finished p steps = relayed p steps ++ ended_run (as_run (relay_after p steps).run)

@@ -1,4 +1,4 @@
--- What the checker tells of a PES file, and counts of it.
+-- The counts that the checker returns for a PES file.
 use Rattle.std.specs.Prelude.{◌≡◌, ℕ, ◌+◌, ◌<◌, List, ◌++◌, length, All}
 use Rattle.std.specs.List.{AllByRecursion, AllZip, concat}
 use Rattle.ttx_packet.specs.PageId.{PageIdValue}
@@ -11,8 +11,8 @@ use Rattle.sub_rules.specs.PesFrames.{IsReadAs}
 use Rattle.sub_rules.specs.Transmission.{SentFrame, Transmission}
 use Rattle.sub_checker.specs.declared.accepted.Accepted.{Accepted}
 
--- What is counted of the frames that were sent: the frames of the day from the first one's to the
--- latest one's, and the headers of the page.
+-- The counts of the frames that were sent: the frames of the day from the first one to the greatest
+-- one, and the headers of the page.
 pub record CountsRead (page : PageIdValue) (frames : Transmission) (a : Accepted) : Type 0 where
   pub none : length frames ≡ 0 → a.frames ≡ 0
   pub frames_are :
@@ -25,7 +25,8 @@ abbrev pub AreWhole : Transmission → Type 0
 AreWhole frames =
     AllByRecursion (λ (s : SentFrame). All (λ packet. length packet ≡ 42) s.packets) frames
 
--- The bytes are PES packets that are read as these frames by a clock, joined, and then the rest.
+-- The bytes are joined PES packets that carry these frames according to the clock, followed by the
+-- rest.
 pub record AreTaken
     (clock : Clock) (bytes : List ℕ) (frames : Transmission) (rest : List ℕ)
     : Type 0 where

@@ -1,6 +1,5 @@
--- What is relayed to a device of what comes one step after another: what is told of it, with the
--- frames that are trusted, and of pieces that are passed over up to which one they go. Private
--- functions alone cite this.
+-- The events that are relayed to a device for a list of steps, with trusted frames and the ends of
+-- runs of skipped PES packets. Only contracts of private functions use it.
 use Rattle.std.specs.Prelude.{◌≡◌, List, [], ◌∷◌}
 use Rattle.sub_io.specs.Telling.{Tells}
 use Rattle.sub_rules.specs.PieceEvents.{all_announced, no_run, passed_after_all}
@@ -13,26 +12,27 @@ use Rattle.sub_checker.specs.declared.reporter.Relay.{Relay}
 use Rattle.sub_checker.specs.declared.reporter.Reporter.{Reporter}
 use Rattle.sub_checker.specs.TrustTracker.{after_step, new_tracker, told_by, tracker_after}
 
--- Nothing came yet.
+-- The state before the first step.
 abbrev pub nothing_relayed : Relay
 nothing_relayed = record { tracker = new_tracker; run = kept_run no_run }
 
--- What is told with steps, one after another.
+-- The events of a list of steps.
 unfoldable pub relayed : Relay → List CheckStep → List Event
 relayed p ms = all_announced (as_run p.run) (told_by p.tracker ms)
 
--- What is kept after them.
+-- The state after them.
 unfoldable pub relay_after : Relay → List CheckStep → Relay
 relay_after p ms = record {
   tracker = tracker_after p.tracker ms;
   run = kept_run (passed_after_all (as_run p.run) (told_by p.tracker ms));
 }
 
--- After a step with which nothing is told.
+-- The state after a step without events.
 abbrev pub at_step : {D : Type 0} {g : _} → CheckStep → Reporter D g → Reporter D g
 at_step m s = record s { relay = record s.relay { tracker = after_step m s.relay.tracker } }
 
--- A reporter relayed these to the latch before its device, and keeps what is kept then.
+-- The reporter relayed the events of these steps to the latch before its device, and has the state
+-- after them.
 pub record ReporterRelays
     {D : Type 0} {g : _} (IsTold : D → Event → D → Type 0)
     (old : Reporter D g) (steps : List CheckStep) (new : Reporter D g)
@@ -40,7 +40,7 @@ pub record ReporterRelays
   pub told : Tells (IsLatched IsTold) old.latch new.latch (relayed old.relay steps)
   pub kept : new.relay ≡ relay_after old.relay steps
 
--- It relayed an event.
+-- The reporter relayed one event.
 abbrev pub IsRelayed : {D : Type 0} {g : _}
     → (D → Event → D → Type 0) → Reporter D g → Event → Reporter D g → Type 0
 IsRelayed IsTold old e new = ReporterRelays IsTold old (Says e ∷ []) new

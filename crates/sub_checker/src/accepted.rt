@@ -1,20 +1,20 @@
-//! What is counted of a PES file.
+//! Counts of what was read of a PES file.
 ghost use Rattle.std.specs.Prelude.{◌≡◌};
 ghost use Rattle.sub_rules.specs.Fault.{is_pes_read};
 
 use sub_rules::CheckFault;
 use ttx_pes::PesFault;
 
-/// What an accepted transmission holds.
+/// The counts that are returned for a PES file.
 #[derive(Clone, Copy, Debug, PartialEq, Eq)]
 pub struct Accepted {
-    /// How many frames of the day there are from the first PES packet's to the latest one's.
+    /// The number of frames of the day from that of the first PES packet to the greatest one.
     pub frames: u64,
-    /// How many headers of the page there are.
+    /// The number of headers of the page.
     pub transmissions: u64,
 }
 
-/// The source failed.
+/// Returns whether the fault is a failure of the source.
 pub(crate) fn is_source_failure(fault: &CheckFault) -> bool
     ensures { result ≡ is_pes_read fault.now }
 {

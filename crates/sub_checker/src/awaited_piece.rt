@@ -1,5 +1,4 @@
-//! Before the next piece is read, for which a device may have to be waited: what was told is handed
-//! on.
+//! Flushes pending reports before a PES packet is read, since that read may block.
 ghost use Rattle.std.specs.Prelude.{◌≡◌, OnOk, false, is_err};
 ghost use Rattle.sub_io.specs.HandingOn.{HoldsWhileWaiting, KeepsTold};
 ghost use Rattle.ttx_pes.specs.LentPacket.{NothingWaits};
@@ -9,11 +8,11 @@ use sub_io::{LiveAudience, Stopped};
 use sub_rules::Event;
 use ttx_pes::{Pieces, hand_on_first};
 
-/// Where a device may be asked for the next piece, the audience hands on first what it holds back.
+/// Flushes the audience if reading the next PES packet may ask a device.
 ///
 /// # Errors
 ///
-/// `Stopped` where it can't.
+/// Returns `Stopped` if the audience can't be flushed.
 pub(crate) fn hand_on_told<P: Pieces, A: LiveAudience<Event>>(
     source: &P,
     latch: &mut Latch<'_, A>,

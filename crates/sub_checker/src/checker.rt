@@ -1,4 +1,4 @@
-//! How far the check has come: the page that is due, and what was heard.
+//! The state of the check: the packets received so far, and the page that is due.
 ghost use Rattle.std.specs.Prelude.{◌≡◌, ℕ, ◌+◌, ◌<◌, ◌≤◌, List, [], Option, max};
 ghost use Rattle.stl_file.specs.TimeCode.{day};
 ghost use Rattle.sub_checker.specs.Checker.{is_before};
@@ -17,43 +17,42 @@ use sub_packets::Listener;
 use sub_plan::Options;
 use sub_rules::{Event, Standing, Watched};
 
-/// How far the check has come.
+/// The state of the check.
 #[derive(Drop)]
 pub(crate) struct Checker<'a> {
     pub judging: &'a Judging<'a>,
     pub programme: &'a Programme,
-    // Subtitles of the file are refused.
+    // Subtitles of the file were refused.
     pub has_refused: bool,
-    // The repeat bound.
+    // The repeat bound in frames.
     pub every: u32,
-    // Within how many frames the page has to be whole.
+    // The page has to be right within so many frames.
     pub within: u32,
-    // How many frames apart PES packets are at most, where that is asked.
+    // The maximum distance of PES packets in frames, if `--pace` is given.
     pub pace: Option<u32>,
     pub listener: Listener,
     // The frame of the first PES packet.
     pub first: u32,
-    // The greatest frame of a PES packet.
+    // The greatest frame of a PES packet so far.
     pub latest: u32,
-    // The frame of the day that the page is due at that is kept as due.
+    // The current frame of the day; `listener` compares with the page that is due there.
     pub frame: u32,
-    // The next frame at which another page may be due.
+    // The next frame at which the due page may change.
     pub edge: Option<u32>,
-    // The number of a subtitle near it, to be guessed where the next page is drawn. Contracts don't
-    // see it.
+    // The number of a subtitle near that frame: where the search for the next page starts.
+    // Contracts don't see it.
     pub near: usize,
-    // Up to the next edge, from which frame on it is known what is due, and what was within the
-    // frames that count.
+    // The first frame, up to the next change of the due page, at which that page and those of the
+    // last `within` frames are known.
     pub known_from: u64,
-    // The frame of the last end, and what stood broken there.
+    // The frame whose end was checked last, and the faults that were active there.
     pub last: u32,
     pub standing: Standing,
-    // The first of the frames up to the last end at whose ends the page was not whole, where it
-    // need not be whole at each.
+    // The first frame from which on the page has been wrong without a break; used if `within` is
+    // not 0.
     pub since: Option<u32>,
-    // One more than the first frame at whose end a header of the page is too long ago.
+    // One more than the first frame at whose end the repeat bound is exceeded.
     pub late_at: u32,
-    // What was counted of the PES packets.
     pub counts: Counts,
 }
 
@@ -93,7 +92,7 @@ impl<'a> Checker<'a> {
     ghost use Rattle.sub_rules.specs.Trusted.CheckStep.{Begins};
     ghost use Rattle.sub_checker.specs.LastEvents.{AreCounted};
 
-    /// Before the first PES packet: nothing was heard.
+    /// Returns the state before the first PES packet.
     pub fn new(judging: &'a Judging<'a>, options: &Options) -> Self
         ensures none { AreFew 0 result.counts }
         ensures keeps { (last : List (List ℕ)) (unread : Option Unread)
@@ -133,8 +132,8 @@ impl<'a> Checker<'a> {
         }
     }
 
-    /// Goes to another frame: where a subtitle begins or ends on the way, the due page is drawn
-    /// anew, and so it is on the way back.
+    /// Moves to another frame. Draws the due page again if a subtitle begins or ends on the way,
+    /// and if the frame is an earlier one.
     pub fn move_to(&mut self, f: u32)
         requires day { f < day }
         ensures { self.new ≡ at_frame f self.old }
@@ -146,8 +145,8 @@ impl<'a> Checker<'a> {
         }
     }
 
-    // Draws the page that is due at a frame. Apart from `move_to`, which else would make room for a
-    // page at each frame.
+    // Draws the page that is due at a frame. Kept out of `move_to`, which would otherwise reserve
+    // stack for a page at each frame.
     #[inline(never)]
     fn draw(&mut self, f: u32)
         requires day { f < day }
@@ -161,7 +160,7 @@ impl<'a> Checker<'a> {
         self.frame = f;
     }
 
-    /// Begins at the frame of the first PES packet.
+    /// Moves to the frame of the first PES packet.
     pub fn start(&mut self, frame: u32)
         requires day { frame < day }
         ensures { self.new ≡ at_first frame self.old }
@@ -173,7 +172,7 @@ impl<'a> Checker<'a> {
         self.known_from = known_from(self.judging, self.has_refused, frame, frame, self.within);
     }
 
-    /// Goes to the frame of another PES packet.
+    /// Moves to the frame of a later PES packet.
     pub fn arrive(&mut self, frame: u32)
         requires day { frame < day }
         ensures { self.new ≡ at_next frame self.old }
@@ -182,7 +181,7 @@ impl<'a> Checker<'a> {
         self.latest = greater(self.latest, frame);
     }
 
-    /// The packets of the frame that was reached follow.
+    /// Tells the reporter that the packets of the current frame follow.
     #[inline(always)]
     pub fn begin_frame<A: Audience<Event>>(&self, reporter: &mut Reporter<'_, A>)
         ensures begun { reporter.new
@@ -192,8 +191,8 @@ impl<'a> Checker<'a> {
         self.go_back(reporter);
     }
 
-    /// What follows is told of the frame that was reached or at its end: beside what is refused,
-    /// and within frames, since which one the page is not whole up to the one before.
+    /// Tells the reporter since which frame the page has been wrong, up to the frame before. Needed
+    /// only if subtitles were refused and `within` is not 0.
     #[inline(always)]
     #[tactic(auto, unfolding(crate::specs::CheckedFrames::back_reporter))]
     pub fn go_back<A: Audience<Event>>(&self, reporter: &mut Reporter<'_, A>)
@@ -204,7 +203,7 @@ impl<'a> Checker<'a> {
         }
     }
 
-    /// Counts the headers of the page in a PES packet of the frame that was reached.
+    /// Counts the headers of the page in a PES packet of the current frame.
     pub fn count(&mut self, headers: u8)
         requires room { self.old.counts.headers < 0xFFFF_FFFF_FF00 }
         ensures { self.new ≡ after_headers headers self.old }
@@ -215,8 +214,7 @@ impl<'a> Checker<'a> {
         }
     }
 
-    /// What was read: the frames of the day from the first PES packet's to the latest one's, and
-    /// the headers of the page.
+    /// Returns the counts of what was read.
     pub fn read(&self) -> Accepted
         ensures { AreCounted self.now result }
     {
@@ -227,7 +225,7 @@ impl<'a> Checker<'a> {
     }
 }
 
-// How many frames there are from the first PES packet's to the latest one's.
+// Returns the number of frames from that of the first PES packet to the greatest one.
 fn frame_count(frames: u32, first: u32, latest: u32) -> u64
     requires { first ≤ latest }
     ensures none { frames ≡ 0 → result ≡ 0 }
@@ -240,7 +238,7 @@ fn frame_count(frames: u32, first: u32, latest: u32) -> u64
     }
 }
 
-// Whether a frame is before the edge.
+// Returns whether a frame comes before the next change of the due page.
 fn is_before(frame: u32, edge: Option<u32>) -> bool
     ensures { result ≡ is_before frame edge }
 {
@@ -250,7 +248,6 @@ fn is_before(frame: u32, edge: Option<u32>) -> bool
     }
 }
 
-// The greater of two frames.
 fn greater(a: u32, b: u32) -> u32
     ensures { result ≡ max a b }
 {

@@ -1,24 +1,24 @@
-//! What is counted of the PES packets that were heard.
+//! Counts of the PES packets received so far.
 ghost use Rattle.std.specs.Prelude.{◌≡◌, ◌≤◌};
 ghost use Rattle.sub_checker.specs.Checker.{left_open, nothing_counted};
 
-/// What is counted of the PES packets that were heard, and of the frame of the last of them.
+/// Counts of the PES packets received so far, and of the frame of the last of them.
 #[derive(Clone, Copy)]
 pub(crate) struct Counts {
-    /// How many frames were sent, those of PES packets of one frame as one.
+    /// The number of frames; consecutive PES packets of one frame count once.
     pub frames: u32,
-    /// How many headers of the page there were.
+    /// The number of headers of the page.
     pub headers: u64,
-    /// How many there were before the last frame.
+    /// The number of headers of the page before the last frame.
     pub headers_before: u64,
-    /// How many packets the last frame has, where its end is still to come.
+    /// The number of packets of the last frame, while `is_open`.
     pub packets: u32,
-    /// The end of the last frame is still to come.
+    /// The end of the last frame has not been checked yet.
     pub is_open: bool,
 }
 
 impl Counts {
-    /// Nothing was heard.
+    /// Returns the counts before the first PES packet.
     pub fn new() -> Self
         ensures { result ≡ nothing_counted }
     {
@@ -31,8 +31,9 @@ impl Counts {
         }
     }
 
-    /// The end of the last frame is still to come: it has so many headers of the page, and packets.
-    /// Apart from what is done with each frame, which else would keep both counts of headers.
+    /// Leaves the end of the last frame open: it has this many headers of the page and packets so
+    /// far. Kept out of the code that runs for each frame, which would otherwise keep both counts
+    /// of headers.
     #[inline(never)]
     pub fn leave_open(&mut self, headers: u8, packets: u32)
         requires { headers ≤ self.old.headers }

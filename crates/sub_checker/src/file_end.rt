@@ -1,4 +1,4 @@
-//! What is told after the last piece of a PES file.
+//! Reports what follows the last PES packet of a file.
 ghost use Rattle.std.specs.Prelude.{◌≡◌, ℕ, IfSome, List, is_none, length, not};
 ghost use Rattle.std.specs.Prelude.{◌||◌};
 ghost use Rattle.sub_io.specs.Telling.{TellsSome};
@@ -19,8 +19,9 @@ use crate::reporter::{Reporter, tell_some};
 use sub_io::Audience;
 use sub_rules::{CheckFault, Event};
 
-/// Tells what is told after the last piece, where this fault ended reading, if one did: first the
-/// end of the last frame, where that is still to come. And counts what was read.
+/// Checks the end of the last frame if it is still open, reports the events at the end of the file,
+/// and returns the counts; `None` if the audience stops it. `fault` is what ended reading, if
+/// anything did.
 pub(crate) fn finish<A: Audience<Event>>(
     checker: &mut Checker<'_>,
     pes: u32,
@@ -51,7 +52,8 @@ pub(crate) fn finish<A: Audience<Event>>(
     Some(read)
 }
 
-// Relays what is told after so many pieces, where this fault ended reading, if one did.
+// Reports the end of the last frame and of the file after `pes` PES packets. `fault` is what ended
+// reading, if anything did.
 fn end_and_close<A: Audience<Event>>(
     checker: &mut Checker<'_>,
     pes: u32,
@@ -70,7 +72,7 @@ fn end_and_close<A: Audience<Event>>(
     close(checker, pes, fault, reporter);
 }
 
-// Relays what is told after the last end.
+// Reports what follows the end of the last frame.
 fn close<A: Audience<Event>>(
     checker: &Checker<'_>,
     pes: u32,
@@ -90,8 +92,8 @@ fn close<A: Audience<Event>>(
     checker.close(pes, fault, reporter);
 }
 
-// Whether what is trusted is told whatever came before: beside what is refused of the subtitle
-// file, or since anything is told after the last piece.
+// Returns whether the trusted frames of the last run have to be reported even if nothing was
+// reported before: subtitles were refused, or something is reported at the end of the file.
 fn tells_trusted(checker: &Checker<'_>, pes: u32, fault: Option<CheckFault>) -> bool
     ensures { result
         ≡ (checker.now.any_refused || not (tells_none (closing_now pes fault checker.now))) }

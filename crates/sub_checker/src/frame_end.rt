@@ -1,13 +1,13 @@
-//! The end of a frame: what stands broken there, and what is told of it.
+//! The end of a frame: which faults are active there, and which changes are reported.
 //!
 //! ```text
-//! end_waiting    the last frame, where its end is still to come
+//! end_waiting    the last frame, if its end is still open
 //!   end_open
-//!     end_sent   a frame of PES packets: has the first one a header?
+//!     end_sent   a frame of PES packets: does the first one have a header?
 //! end_of_frame   any frame of the day; `end_sent` calls it too
-//!   end_quietly  nothing stood broken, and nothing does
+//!   end_quietly  no fault was active, and none is
 //!   end_otherwise
-//!     end_at_once, end_within   by whether the page has to be whole at each end
+//!     end_at_once, end_within   depending on whether `within` is 0
 //! ```
 ghost use Rattle.std.specs.Prelude.{◌≡◌, ◌==◌, ◌&&◌, ℕ, suc, ◌+◌, ◌<◌, List, IsTrue, None};
 ghost use Rattle.std.specs.Prelude.{false, is_err, length, nat_le, not, true};
@@ -33,20 +33,20 @@ use sub_io::Audience;
 use sub_packets::tell_if;
 use sub_rules::{CheckFault, Event, Standing};
 
-/// What is found at an end, where the page need not be whole at each.
+/// The state at an end, if `within` is not 0.
 #[derive(Drop)]
 pub(crate) struct EndWithin {
-    /// What stands broken.
+    /// The active faults.
     pub standing: Standing,
-    /// The first of the frames up to this end at whose ends the page is not whole.
+    /// The first frame from which on the page has been wrong up to this end.
     pub since: Option<u32>,
-    /// The page had to be whole by now.
+    /// The page has to be right by now.
     pub is_late: bool,
 }
 
 impl<'a> Checker<'a> {
-    // Whether it is known by a few comparisons that nothing stood broken at the last end, and that
-    // nothing does at the frame that was reached: so it is most often.
+    // Returns `true` if a few comparisons show that no fault was active at the last end and that
+    // none is at the current frame, which is the usual case.
     #[inline(always)]
     #[tactic(auto, using(crate::proofs::WholeLemmas::quiet_stands))]
     fn is_quiet(&self) -> bool
@@ -64,8 +64,7 @@ impl<'a> Checker<'a> {
             && !self.is_silent()
     }
 
-    // What stands broken at the frame that was reached, where the page has to be whole at the end
-    // of each.
+    // Returns the active faults at the current frame, if `within` is 0.
     fn standing_now(&self) -> Standing
         requires each { self.now.within ≡ 0 }
         ensures { result ≡ stands self.now }
@@ -84,8 +83,8 @@ impl<'a> Checker<'a> {
         }
     }
 
-    // Whether it is not known at the end of the frame that was reached what is due, or what was
-    // within the frames that count.
+    // Returns whether the due page is unknown at the current frame or at one of the last `within`
+    // frames.
     #[inline(always)]
     fn is_undecided(&self) -> bool
         ensures { result ≡ undecided_now self.now }
@@ -93,14 +92,14 @@ impl<'a> Checker<'a> {
         u64::from(self.frame) < self.known_from
     }
 
-    // Whether it is not known what is due at that frame.
+    // Returns whether the due page is unknown at the current frame.
     fn is_undecided_here(&self) -> bool
         ensures { result ≡ is_undecided_by self.now self.now.frame }
     {
         self.has_refused && self.judging.is_undecided(self.frame)
     }
 
-    // The first cell that is not right, where it is known what is due.
+    // Returns the first wrong cell, or `None` if the due page is unknown.
     fn first_wrong(&self, is_undecided: bool) -> Option<(u8, u8)>
         requires { is_undecided ≡ is_undecided_by self.now self.now.frame }
         ensures { result ≡ differs_now self.now }
@@ -111,7 +110,7 @@ impl<'a> Checker<'a> {
         self.listener.first_wrong()
     }
 
-    // Whether a header of the page is too long ago at the end of the frame that was reached.
+    // Returns whether the repeat bound is exceeded at the end of the current frame.
     #[inline(always)]
     fn has_gap(&self) -> bool
         ensures { result ≡ nat_le self.now.late_at (self.now.frame + 1) }
@@ -119,7 +118,8 @@ impl<'a> Checker<'a> {
         self.late_at <= self.frame + 1
     }
 
-    // Whether a PES packet is too long ago there, whatever is in it.
+    // Returns whether the latest PES packet, whatever it contains, is longer ago than `--pace`
+    // allows.
     #[inline(always)]
     fn is_silent(&self) -> bool
         ensures { result ≡ silent_for self.now.pace self.now.latest self.now.frame }
@@ -130,8 +130,8 @@ impl<'a> Checker<'a> {
         }
     }
 
-    // What is found at the end of the frame that was reached, where the page need not be whole at
-    // each: in a cell may be kept what was due within these frames, until it is late.
+    // Returns the state at the end of the current frame if `within` is not 0: until the page is
+    // overdue, a cell may still have a code that was due within these frames.
     fn end_now(&self) -> EndWithin
         requires within { 0 < self.now.within }
         ensures standing { result.standing ≡ stands self.now }
@@ -164,9 +164,9 @@ impl<'a> Checker<'a> {
         }
     }
 
-    // The first cell in which is kept a code that was not due within these frames, where it is
-    // known what was, by the first one that is not right now: where there is none, nor is there one
-    // of the former.
+    // Returns the first cell with a code that was due at none of the last `within` frames; `None`
+    // if one of these pages is unknown. If no cell differs from the current due page, there is
+    // none.
     fn first_undue(&self, differing: Option<(u8, u8)>) -> Option<(u8, u8)>
         ensures { differing ≡ differs_now self.now → result ≡ undue_now self.now }
     {
@@ -181,7 +181,8 @@ impl<'a> Checker<'a> {
             .first_undue(self.programme, self.first, frame, self.within)
     }
 
-    /// Whether the page had to be whole by the end of a frame, where it is not since another one.
+    /// Returns whether the page should have been right by the end of `frame`, given the frame
+    /// `since` which it is wrong.
     pub fn is_overdue(&self, since: Option<u32>, frame: u32) -> bool
         requires day { frame < day }
         ensures { result
@@ -190,7 +191,7 @@ impl<'a> Checker<'a> {
         is_overdue(self.programme, self.within, self.first, since, frame)
     }
 
-    // The end of the frame that was reached, where nothing stood broken and nothing does.
+    // Ends the current frame if no fault was active and none is.
     #[inline(always)]
     fn end_quietly<A: Audience<Event>>(&mut self, reporter: &mut Reporter<'_, A>)
         requires quiet { IsQuietEnd self.old }
@@ -205,8 +206,7 @@ impl<'a> Checker<'a> {
         }
     }
 
-    // The end of the frame that was reached, where the page has to be whole at the end of each:
-    // what changes of what stands broken is told.
+    // Ends the current frame if `within` is 0, and reports which faults became active or inactive.
     #[inline(always)]
     fn end_at_once<A: Audience<Event>>(&mut self, reporter: &mut Reporter<'_, A>)
         requires each { self.old.within ≡ 0 }
@@ -220,7 +220,8 @@ impl<'a> Checker<'a> {
         self.last = frame;
     }
 
-    // The same, where it need not be whole at each.
+    // Ends the current frame if `within` is not 0, and reports which faults became active or
+    // inactive.
     #[inline(never)]
     fn end_within<A: Audience<Event>>(&mut self, reporter: &mut Reporter<'_, A>)
         requires within { 0 < self.old.within }
@@ -237,14 +238,14 @@ impl<'a> Checker<'a> {
         self.last = frame;
     }
 
-    /// The end of the frame that was reached: what changes of what stands broken is told.
+    /// Ends the current frame, and reports which faults became active or inactive.
     #[inline(always)]
     pub fn end_of_frame<A: Audience<Event>>(&mut self, reporter: &mut Reporter<'_, A>)
         ensures due { self.old.listener.comparison.due ≡ due_in self.old.programme self.old.frame }
         ensures told { ReporterRelays A.is_told reporter.old (end_steps self.old) reporter.new }
         ensures ended { self.new ≡ after_end self.old }
     {
-        // Most ends are quiet: what else is asked within frames would cost each of them something.
+        // Most ends are without faults, and the work for `within` would cost each of them time.
         if self.within == 0 && self.is_quiet() {
             self.end_quietly(reporter);
             return;
@@ -252,8 +253,8 @@ impl<'a> Checker<'a> {
         self.end_otherwise(reporter);
     }
 
-    // The end of a frame at which something changes or stands broken, or any end within frames.
-    // Apart from `end_of_frame`, which stands in each loop over frames.
+    // Ends a frame at which a fault is active or changes, and any frame if `within` is not 0. Kept
+    // out of `end_of_frame`, which is in each loop over frames.
     #[inline(never)]
     fn end_otherwise<A: Audience<Event>>(&mut self, reporter: &mut Reporter<'_, A>)
         ensures told { ReporterRelays A.is_told reporter.old (end_steps self.old) reporter.new }
@@ -270,8 +271,8 @@ impl<'a> Checker<'a> {
         }
     }
 
-    /// The end of the frame of the PES packets that were heard last, among which there is a header
-    /// of the page or none: that the first one has one, and what stands broken.
+    /// Ends the frame of the last PES packets, and reports a missing header if it is the first
+    /// frame. `has_header`: the frame has a header of the page.
     #[inline(always)]
     pub fn end_sent<A: Audience<Event>>(&mut self, has_header: bool, reporter: &mut Reporter<'_, A>)
         ensures counts { self.new.counts ≡ self.old.counts }
@@ -288,7 +289,7 @@ impl<'a> Checker<'a> {
         reporter.end_frame(self.frame, self.listener.begun, self.standing.has_none());
     }
 
-    /// The end of the last frame, where it is still to come.
+    /// Ends the last frame if its end is still open.
     #[inline(always)]
     pub fn end_waiting<A: Audience<Event>>(&mut self, reporter: &mut Reporter<'_, A>)
         ensures closed { self.new.counts.is_open ≡ false }
@@ -304,7 +305,7 @@ impl<'a> Checker<'a> {
         self.end_open(reporter);
     }
 
-    // The end of the last frame, where it is still to come.
+    // Ends the last frame, whose end is still open.
     #[inline(never)]
     fn end_open<A: Audience<Event>>(&mut self, reporter: &mut Reporter<'_, A>)
         requires opened { self.old.counts.is_open ≡ true }
@@ -321,7 +322,7 @@ impl<'a> Checker<'a> {
     }
 }
 
-// The first frame has no header of the page.
+// Returns whether this is the first frame and has no header of the page.
 fn lacks_first(frames: u32, has_header: bool) -> bool
     ensures { result ≡ (frames == 1 && not has_header) }
 {

@@ -1,4 +1,4 @@
-//! The way to the frame of a PES packet: its order, and the frames of the day before it.
+//! Moves to the frame of a PES packet: checks the order, and ends the frames of the day before it.
 ghost use Rattle.std.specs.Prelude.{◌≡◌, ℕ, ◌<◌, List};
 ghost use Rattle.stl_file.specs.TimeCode.{day};
 ghost use Rattle.sub_rules.specs.Events.{gap_length, is_early};
@@ -16,7 +16,7 @@ use sub_packets::tell_if;
 use sub_rules::{CheckFault, Event};
 
 impl<'a> Checker<'a> {
-    /// Goes to the frame of a PES packet that is not of the frame of the one before it.
+    /// Moves to the frame of a PES packet, which is not the frame of the packet before it.
     pub fn reach<A: Audience<Event>>(&mut self, frame: u32, reporter: &mut Reporter<'_, A>)
         requires day { frame < day }
         ensures counts { self.new.counts ≡ self.old.counts }
@@ -33,7 +33,7 @@ impl<'a> Checker<'a> {
         }
     }
 
-    // Goes to the frame of the first PES packet.
+    // Moves to the frame of the first PES packet.
     fn begin<A: Audience<Event>>(&mut self, frame: u32, reporter: &mut Reporter<'_, A>)
         requires day { frame < day }
         ensures counts { self.new.counts ≡ self.old.counts }
@@ -48,7 +48,7 @@ impl<'a> Checker<'a> {
         self.start(frame);
     }
 
-    // Goes to the frame of another PES packet.
+    // Moves to the frame of a later PES packet.
     fn go_to<A: Audience<Event>>(&mut self, frame: u32, reporter: &mut Reporter<'_, A>)
         requires day { frame < day }
         ensures counts { self.new.counts ≡ self.old.counts }
@@ -65,8 +65,7 @@ impl<'a> Checker<'a> {
         self.arrive(frame);
     }
 
-    // The ends of the frames of the day before that of a PES packet, from the one after the latest
-    // on.
+    // Ends the frames of the day between the latest one and that of a PES packet.
     fn cross_gap<A: Audience<Event>>(&mut self, to: u32, reporter: &mut Reporter<'_, A>)
         requires day { to < day }
         ensures counts { self.new.counts ≡ self.old.counts }
@@ -84,7 +83,7 @@ impl<'a> Checker<'a> {
     }
 }
 
-// Whether a subtitle is due before the frame.
+// Returns whether a subtitle is due before the frame.
 fn is_early(first_in: Option<u32>, frame: u32) -> bool
     ensures { result ≡ is_early first_in frame }
 {

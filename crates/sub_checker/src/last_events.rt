@@ -1,4 +1,4 @@
-//! What is told after the last frame.
+//! Events after the last frame.
 ghost use Rattle.std.specs.Prelude.{◌≡◌, not};
 ghost use Rattle.sub_io.specs.Telling.{Tells};
 ghost use Rattle.sub_rules.specs.Events.{is_short};
@@ -12,8 +12,8 @@ use sub_packets::Taker;
 use sub_rules::{CheckFault, Event, Standing};
 
 impl<'a> Checker<'a> {
-    /// What is told after the end of the last frame and so many pieces, where this fault ended
-    /// reading, if one did: what stands broken has ended, and then the last fault.
+    /// Reports what follows the end of the last frame and `pes` PES packets: the ends of the active
+    /// faults, and then the last fault. `fault` is what ended reading, if anything did.
     pub fn close<A: Taker>(&self, pes: u32, fault: Option<CheckFault>, taker: &mut A)
         ensures { Tells A.is_told taker.old taker.new
             (closing_now pes fault self.now) }
@@ -23,7 +23,7 @@ impl<'a> Checker<'a> {
         tell_fault(self.last_fault(pes, fault), taker);
     }
 
-    /// Whether anything is told then.
+    /// Returns whether `close` reports anything.
     pub fn tells_last(&self, pes: u32, fault: Option<CheckFault>) -> bool
         ensures { result ≡ not (tells_none (closing_now pes fault self.now)) }
     {
@@ -31,7 +31,7 @@ impl<'a> Checker<'a> {
         is_told || !self.standing.has_none()
     }
 
-    // The fault that is told last, after so many pieces, where this one ended reading, if one did.
+    // Returns the fault that is reported last, after `pes` PES packets.
     fn last_fault(&self, pes: u32, fault: Option<CheckFault>) -> Option<CheckFault>
         ensures { result ≡ last_fault pes fault self.now }
     {
@@ -51,8 +51,8 @@ impl<'a> Checker<'a> {
         }
     }
 
-    // The page is not whole at the last end, and that is not late: it may be whole in a frame that
-    // does not come.
+    // Returns whether the page was wrong at the last end, but still had time to become right in a
+    // frame that does not come.
     fn is_pending(&self) -> bool
         ensures { result ≡ is_pending_now self.now }
     {
@@ -60,7 +60,6 @@ impl<'a> Checker<'a> {
     }
 }
 
-// Tells a fault, if there is one.
 #[tactic(auto, using(sub_io::proofs::TellingLemmas::tellings))]
 fn tell_fault<A: Taker>(fault: Option<CheckFault>, taker: &mut A)
     ensures { Tells A.is_told taker.old taker.new
@@ -71,7 +70,7 @@ fn tell_fault<A: Taker>(fault: Option<CheckFault>, taker: &mut A)
     }
 }
 
-// The last TCO is after the frame.
+// Returns whether a subtitle ends after the frame.
 fn is_short(last_out: Option<u32>, frame: u32) -> bool
     ensures { result ≡ is_short last_out frame }
 {

@@ -1,18 +1,18 @@
-//! What stands before a device that may say stop.
+//! Protects a device from events after it said stop.
 //!
-//! A device that said stop is told nothing more. Without it 35 functions returned whether to stop.
-//! Its ghost field says that what was told is all of it or, after a stop, a prefix.
+//! Without this guard, 35 functions returned whether to stop. The ghost field says that the device
+//! was told all events or, after a stop, a prefix of them.
 ghost use Rattle.std.specs.Prelude.{◌≡◌};
 
 use sub_io::Audience;
 use sub_rules::Event;
 
-/// Stands before a device: once that said stop, nothing comes to it.
+/// Passes events to a device until it says stop.
 #[derive(Drop)]
 pub(crate) struct Latch<'a, A: Audience<Event>> {
     /// The device.
     pub device: &'a mut A,
-    /// It said stop.
+    /// The device said stop.
     pub stopped: bool,
 
     ghost agrees: { A.has_stopped device.now ≡ stopped },

@@ -1,4 +1,4 @@
-//! What comes to a device behind a latch.
+//! Passes events to the device behind a latch.
 ghost use Rattle.sub_checker.specs.Latch.{IsLatched};
 
 use crate::latch::Latch;
@@ -9,7 +9,7 @@ use sub_rules::Event;
 impl<A: Audience<Event>> Taker for Latch<'_, A> {
     ghost is_told = { IsLatched A.is_told };
 
-    /// Tells the device, unless that said stop.
+    /// Tells the device, unless it said stop.
     fn tell(&mut self, event: Event) {
         if self.stopped {
             return;

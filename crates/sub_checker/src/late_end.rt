@@ -1,4 +1,4 @@
-//! Within how many frames the page has to be whole: since when it is not, and whether that is late.
+//! Since when the page has been wrong, and whether it should have been right by now.
 ghost use Rattle.std.specs.Prelude.{◌≡◌, ◌<◌};
 ghost use Rattle.stl_file.specs.TimeCode.{day};
 ghost use Rattle.sub_rules.specs.Events.{is_missed, unfinished_from};
@@ -6,8 +6,8 @@ ghost use Rattle.sub_checker.specs.Checker.{is_overdue_at};
 
 use stl_rows::Programme;
 
-/// The first of the frames, one after another, at whose ends the page is not whole, up to this one,
-/// by the one up to the end before.
+/// Returns the first frame of the run of frames with a wrong page that ends at `frame`. `since` is
+/// the value at the end before.
 pub(crate) fn unfinished_from(since: Option<u32>, unfinished: bool, frame: u32) -> Option<u32>
     ensures { result ≡ unfinished_from since unfinished frame }
 {
@@ -18,8 +18,9 @@ pub(crate) fn unfinished_from(since: Option<u32>, unfinished: bool, frame: u32) 
     }
 }
 
-/// Whether the page had to be whole by the end of a frame, where it is not since another one: so
-/// many frames after that, or after all frames of a subtitle.
+/// Returns whether the page should have been right by the end of a frame, given the frame `since`
+/// which it is wrong: `within` frames have passed, or a subtitle has ended that was never shown
+/// right.
 pub(crate) fn is_overdue(
     programme: &Programme,
     within: u32,
@@ -37,7 +38,8 @@ pub(crate) fn is_overdue(
         || is_missed(programme.tci_of_ending(frame + 1), first, since)
 }
 
-// Whether no frame of a subtitle had the page whole at its end, by the TCI of the one that ends.
+// Returns whether the page was wrong at the end of each frame of the subtitle that ends, given its
+// TCI.
 fn is_missed(tci: Option<u32>, first: u32, since: u32) -> bool
     ensures { result ≡ is_missed tci first since }
 {

@@ -1,8 +1,8 @@
-//! The exact checker: tells all that is broken of a PES file, one PES packet at a time.
+//! The exact checker: reports everything that is broken in a PES file, one PES packet at a time.
 //!
-//! Stands on `sub_rules`, which says what is asked, and on `sub_packets`, which tells the rules
-//! that a sending's packets break and holds what they show. What its events mean for acceptance,
-//! and for receivers, `sub_check` says.
+//! `sub_rules` defines the rules, and `sub_packets` reports the rules that packets break and keeps
+//! the page that they transmit. `sub_check` says what the events mean for acceptance and for
+//! receivers.
 //!
 //! ```text
 //! tell_pieces(&Judging::known(&programme), &mut source, &options, &mut audience)?;

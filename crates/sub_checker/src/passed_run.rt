@@ -1,4 +1,4 @@
-//! PES packets that are passed over one directly after the other, for faults of one number.
+//! Runs of consecutive PES packets that are skipped for faults with the same number.
 ghost use Rattle.std.specs.Prelude.{◌≡◌};
 ghost use Rattle.sub_io.specs.Telling.{first_alone};
 ghost use Rattle.sub_rules.specs.PieceEvents.{ended_run, goes_on, goes_on_after, is_behind, joins};
@@ -7,17 +7,17 @@ ghost use Rattle.sub_checker.specs.PassedPieces.{as_run, kept_run};
 
 use sub_rules::{CheckFault, Event, FaultPlace};
 
-/// PES packets that were passed over last, one directly after the other, for faults of one number.
+/// The current run of consecutive skipped PES packets whose faults have the same number.
 #[derive(Clone, Copy)]
 pub(crate) struct PassedPieces {
-    /// The fault of the last of them; `None` where something else was told since, or none was.
+    /// The fault of the last of them; `None` if there is no run, or if another event came after it.
     pub last: Option<CheckFault>,
-    /// There are more than one.
+    /// The run has more than one packet.
     pub many: bool,
 }
 
 impl PassedPieces {
-    /// Before the first PES packet.
+    /// Returns the state before the first PES packet.
     pub fn new() -> Self
         ensures { result ≡ kept_run no_run }
     {
@@ -27,7 +27,7 @@ impl PassedPieces {
         }
     }
 
-    /// Whether it goes on with this event.
+    /// Returns whether the event continues the run.
     #[tactic(auto, unfolding(sub_rules::specs::PieceEvents::joins))]
     pub fn joins(&self, event: &Event) -> bool
         ensures { result ≡ joins (as_run self.now) event.now }
@@ -38,7 +38,7 @@ impl PassedPieces {
         }
     }
 
-    /// What it is after this event.
+    /// Returns the run after the event.
     #[tactic(auto, unfolding(sub_rules::specs::PieceEvents::passed_after))]
     pub fn after(&self, event: &Event) -> PassedPieces
         ensures { result ≡ kept_run (passed_after (as_run self.now) event.now) }
@@ -56,7 +56,7 @@ impl PassedPieces {
         }
     }
 
-    /// Up to which PES packet it goes, where it has more than one.
+    /// Returns the event that says up to which PES packet the run goes, if it has more than one.
     pub fn ended(&self) -> Option<Event>
         ensures { first_alone result ≡ ended_run (as_run self.now) }
     {
@@ -67,8 +67,8 @@ impl PassedPieces {
     }
 }
 
-// Whether a fault is that of a PES packet that is passed over directly after the last one, and has
-// its number.
+// Returns whether the fault is that of a PES packet which is skipped directly after the last one,
+// with the same number.
 fn follows(last: &Option<CheckFault>, fault: &CheckFault) -> bool
     ensures { result ≡ goes_on_after last.now fault.now }
 {
@@ -78,7 +78,7 @@ fn follows(last: &Option<CheckFault>, fault: &CheckFault) -> bool
     }
 }
 
-// The fault, of a piece that is passed over directly after the last one, has its number.
+// Returns whether the fault continues the run that ends with `last`.
 #[tactic(auto, unfolding(sub_rules::specs::PieceEvents::goes_on))]
 fn goes_on(last: &CheckFault, fault: &CheckFault) -> bool
     ensures { result ≡ goes_on last.now fault.now }
@@ -87,7 +87,7 @@ fn goes_on(last: &CheckFault, fault: &CheckFault) -> bool
     row.is_passed && is_behind(before.place, row.place) && row.code.number() == before.code.number()
 }
 
-// The one place is the PES packet directly after that of the other.
+// Returns whether `place` is the PES packet directly after `last`.
 fn is_behind(last: FaultPlace, place: FaultPlace) -> bool
     ensures { result ≡ is_behind last place }
 {

@@ -1,4 +1,4 @@
-//! What is told of a PES file that is read on behind the pieces that are passed over.
+//! Reports everything that is broken in a PES file, and reads on after skipped PES packets.
 ghost use Rattle.std.specs.Prelude.{◌≡◌, ℕ, ◌+◌, ◌<◌, ◌≤◌, [], ◌∷◌, Err, IfErr, IfOk, List};
 ghost use Rattle.std.specs.Prelude.{false, is_none, true};
 ghost use Rattle.sub_io.specs.Device.{CanFail, CountsIf, failed};
@@ -34,15 +34,18 @@ use sub_plan::Options;
 use sub_rules::{CheckFault, Event, NextPiece, Sending, next_piece, units_of};
 use ttx_pes::{ComparingReader, PesFault, Pieces};
 
-/// Tells all that is broken of a PES file to a device of the caller's, piece by piece, until it
-/// says stop, and counts what was read; `None` where it said stop. Reading goes on behind a piece
-/// that is passed over. Where subtitles of the file are refused that is told beside them.
+/// Reports everything that is broken in a PES file to `audience`, one PES packet at a time, and
+/// returns the counts of what was read. Returns `None` if the audience stops it.
 ///
-/// `check_all` of `sub_check` calls it, and says what its events and counts mean.
+/// Reading continues after a skipped packet. If subtitles were refused, the transmission is checked
+/// against the others.
+///
+/// `check_all` of `sub_check` calls this function and documents its events and counts.
 ///
 /// # Errors
 ///
-/// `Pes` with `Read` where the source failed: then the events are those of the pieces before.
+/// Returns `Pes` with `Read` if the source fails. The events of all packets before that have been
+/// reported.
 pub fn tell_pieces<P: Pieces, A: LiveAudience<Event>>(
     judging: &Judging<'_>,
     source: &mut P,
@@ -63,7 +66,7 @@ pub fn tell_pieces<P: Pieces, A: LiveAudience<Event>>(
     ensures only { IfErr result (λ f. is_pes_read f ≡ true) }
     ensures options { IsOptions options.now }
     ensures programme { IsProgramme judging.now.programme.drawing judging.now.programme.records }
-    // Where the source failed, as each of its calls may, nothing that was told is held back.
+    // If the source fails, every report has been flushed.
     ensures asked { A.held audience.old ≡ 0 → IfErr result (λ _. A.held audience.new ≡ 0) }
     ensures device { P.device source.new ≡ P.device source.old }
     ensures count { CountsIf P.failure_count source.old (failed is_pes_read result) source.new }
@@ -103,8 +106,8 @@ pub fn tell_pieces<P: Pieces, A: LiveAudience<Event>>(
     }
 }
 
-// Tells a piece that was read, and says whether it is passed over. `passed` says whether the one
-// before it was.
+// Reports one PES packet, and returns whether it was skipped. `passed`: the packet before it was
+// skipped.
 fn tell_piece<A: Audience<Event>>(
     piece: NextPiece,
     pes: u32,
@@ -141,7 +144,7 @@ fn tell_piece<A: Audience<Event>>(
     }
 }
 
-// A sending after a piece: after one that was passed over it is not the one before, sent again.
+// Clears `again` after a skipped packet, since the last valid packet is not the one before.
 fn after_piece(passed: bool, sending: Sending) -> Sending
     ensures frame { result.frame ≡ sending.frame }
     ensures again { result.again ≡ true → (sending.again ≡ true) × (passed ≡ false) }
@@ -152,7 +155,7 @@ fn after_piece(passed: bool, sending: Sending) -> Sending
     }
 }
 
-// Tells the fault of a piece that is passed over.
+// Reports the fault of a skipped packet.
 fn tell_passed<A: Audience<Event>>(pes: u32, fault: CheckFault, reporter: &mut Reporter<'_, A>)
     ensures { ReporterRelays A.is_told reporter.old (AtPes pes ∷ Says (Event.Told fault) ∷ [])
         reporter.new }

@@ -1,4 +1,4 @@
-//! A PES packet that is sent: the way to its frame, its packets, and the end of its frame.
+//! Checks a valid PES packet: moves to its frame, receives its packets, and ends the frame.
 ghost use Rattle.std.specs.Prelude.{◌≡◌, ℕ, suc, ◌+◌, ◌<◌, ◌≤◌, ◌==◌, ◌&&◌, List, map};
 ghost use Rattle.std.specs.Prelude.{false, length, true};
 ghost use Rattle.stl_file.specs.TimeCode.{day};
@@ -24,9 +24,8 @@ use sub_rules::{Event, Sending};
 use ttx_pes::SentUnits;
 
 impl<'a> Checker<'a> {
-    /// A PES packet: its number, what is sent, and its units. The end of its frame comes at once
-    /// where the page has to be whole at the end of each; else where a PES packet of another frame
-    /// does, or none.
+    /// Checks PES packet number `pes`. If `within` is 0, its frame ends at once; otherwise when a
+    /// PES packet of another frame, or the end of the file, follows.
     pub fn go_on<A: Audience<Event>>(
         &mut self,
         pes: u32,
@@ -57,7 +56,7 @@ impl<'a> Checker<'a> {
         self.take_next(pes, sending, units, reporter);
     }
 
-    // Whether a PES packet of a frame goes on with the last one.
+    // Returns whether a PES packet of `frame` belongs to the last frame.
     #[inline(always)]
     fn goes_on(&self, frame: u32) -> bool
         ensures { result ≡ (self.now.counts.is_open && frame == self.now.frame) }
@@ -65,7 +64,7 @@ impl<'a> Checker<'a> {
         self.counts.is_open && frame == self.frame
     }
 
-    // A PES packet of another frame than that of the one before it.
+    // Checks a PES packet of another frame than the packet before it.
     fn take_next<A: Audience<Event>>(
         &mut self,
         pes: u32,
@@ -98,7 +97,7 @@ impl<'a> Checker<'a> {
         self.counts.leave_open(headers, units.len() as u32);
     }
 
-    // More packets of the frame that was reached.
+    // Receives more packets of the current frame.
     #[inline(never)]
     fn take_more<A: Audience<Event>>(
         &mut self,
@@ -126,8 +125,8 @@ impl<'a> Checker<'a> {
         self.counts.packets += units.len() as u32;
     }
 
-    // Packets of the frame that was reached, the first of them this one of it: how many headers of
-    // the page are among them.
+    // Receives packets of the current frame, and returns how many of them are headers of the page.
+    // The first of them is number `from` of its frame.
     #[inline(always)]
     fn hear<A: Audience<Event>>(
         &mut self,

@@ -1,6 +1,5 @@
-//! What the checker tells, relayed to a device: with the frames that may stay on air as they are,
-//! and of PES packets that are passed over one directly after the other the first, and up to which
-//! one they go.
+//! Relays the checker's events to a device. Adds which frames are trusted, and reports of a run of
+//! skipped PES packets only the first and up to which one it goes.
 ghost use Rattle.std.specs.Prelude.{◌≡◌, [], ◌∷◌, ◌++◌};
 ghost use Rattle.sub_io.specs.Telling.{Tells, first_alone};
 ghost use Rattle.sub_rules.specs.PieceEvents.{all_announced, announced, passed_after};
@@ -17,26 +16,26 @@ use sub_io::Audience;
 use sub_packets::Taker;
 use sub_rules::Event;
 
-/// What is kept from one step to the next.
+/// The state from one step to the next.
 #[derive(Clone, Copy)]
 pub(crate) struct Relay {
     /// The frames that may be trusted.
     pub tracker: TrustTracker,
-    /// The pieces that were passed over last.
+    /// The current run of skipped PES packets.
     pub run: PassedPieces,
 }
 
-/// Stands between the checker and a device.
+/// Relays the checker's events to a device.
 #[derive(Drop)]
 pub(crate) struct Reporter<'a, A: Audience<Event>> {
     /// The device, which may have said stop.
     pub latch: Latch<'a, A>,
-    /// What is kept.
+    /// The state.
     pub relay: Relay,
 }
 
 impl Relay {
-    /// Before the first step.
+    /// Returns the state before the first step.
     pub fn new() -> Self
         ensures { result ≡ nothing_relayed }
     {
@@ -48,38 +47,37 @@ impl Relay {
 }
 
 impl<A: Audience<Event>> Reporter<'_, A> {
-    /// What follows is told of this PES packet.
+    /// Names the PES packet that the next events belong to.
     pub fn go_to(&mut self, pes: u32)
         ensures { self.new ≡ at_step (AtPes pes) self.old }
     {
         self.relay.tracker.go_to(pes);
     }
 
-    /// The packets of a frame follow.
+    /// Says that the packets of a frame follow.
     pub fn begin_frame(&mut self, frame: u32)
         ensures { self.new ≡ at_step (Begins frame) self.old }
     {
         self.relay.tracker.begin_frame(frame);
     }
 
-    /// What follows is told of a frame or at its end: since which frame the page is not whole up to
-    /// the one before it.
+    /// Sets the frame since which the page has been wrong, up to the frame before.
     pub fn go_back(&mut self, since: Option<u32>)
         ensures { self.new ≡ at_step (GoesBack since) self.old }
     {
         self.relay.tracker.go_back(since);
     }
 
-    /// What follows is told at the end of a frame: since which frame the page is not whole, and
-    /// whether that is late.
+    /// Says that the next events belong to the end of a frame: since when the page is wrong, and
+    /// whether it is overdue.
     pub fn at_end(&mut self, frame: u32, since: Option<u32>, is_late: bool)
         ensures { self.new ≡ at_step (AtEnd frame since is_late) self.old }
     {
         self.relay.tracker.at_end(frame, since, is_late);
     }
 
-    /// The end of a frame of PES packets: whether it has a header of the page with which a run may
-    /// begin, and whether nothing stands broken.
+    /// Ends a frame of PES packets. `has_beginning`: it has a header of the page that can begin a
+    /// run. `none_stands`: no fault is active.
     pub fn end_frame(&mut self, frame: u32, has_beginning: bool, none_stands: bool)
         ensures { self.new ≡ at_step (Ends frame has_beginning none_stands) self.old }
     {
@@ -88,8 +86,8 @@ impl<A: Audience<Event>> Reporter<'_, A> {
             .end_frame(frame, has_beginning, none_stands);
     }
 
-    /// Tells what is trusted of the last run, where anything was told or will be. The last frame is
-    /// not trusted where bytes are left after it.
+    /// Reports the trusted frames of the last run, if anything was or will be reported. The last
+    /// frame is not trusted if bytes are left after it.
     pub fn close(&mut self, are_left: bool, tells_more: bool)
         ensures { ReporterRelays A.is_told self.old (Closes are_left tells_more ∷ []) self.new }
     {
@@ -97,7 +95,7 @@ impl<A: Audience<Event>> Reporter<'_, A> {
         announce_some(last, &mut self.relay.run, &mut self.latch);
     }
 
-    /// Hands on an event, and tells before it what is trusted of the run that it ends.
+    /// Passes on an event. Before it, reports the trusted frames of the run that it ends.
     pub fn relay(&mut self, event: Event)
         ensures { ReporterRelays A.is_told self.old (Says event ∷ []) self.new }
     {
@@ -111,13 +109,13 @@ impl<A: Audience<Event>> Reporter<'_, A> {
 impl<A: Audience<Event>> Taker for Reporter<'_, A> {
     ghost is_told = { IsRelayed A.is_told };
 
-    /// Hands it on, unless it is told already.
+    /// Relays the event; a run of skipped packets is shortened.
     fn tell(&mut self, event: Event) {
         self.relay(event);
     }
 }
 
-// Tells one, if there is one.
+// Passes on an event, if there is one.
 #[rattlefmt::skip]
 #[tactic(auto, unfolding(
     sub_rules::specs::PieceEvents::all_announced,
@@ -133,7 +131,8 @@ fn announce_some<T: Taker>(event: Option<Event>, run: &mut PassedPieces, taker: 
     }
 }
 
-// Tells an event after a run of PES packets that were passed over, unless it goes on with it.
+// Passes on an event. If it ends a run of skipped PES packets, reports first up to which one the
+// run goes.
 #[tactic(auto, unfolding(sub_rules::specs::PieceEvents::announced))]
 fn announce<T: Taker>(event: Event, run: &mut PassedPieces, taker: &mut T)
     ensures told { Tells T.is_told taker.old taker.new (announced (as_run run.old) event) }
@@ -147,7 +146,7 @@ fn announce<T: Taker>(event: Event, run: &mut PassedPieces, taker: &mut T)
     tell_behind(before.ended(), event, taker);
 }
 
-// Tells an event after another, if there is one.
+// Passes on two events, the first of which is optional.
 #[tactic(auto, using(sub_io::proofs::TellingLemmas::tellings))]
 fn tell_behind<T: Taker>(first: Option<Event>, event: Event, taker: &mut T)
     ensures { Tells T.is_told taker.old taker.new (first_alone first ++ event ∷ []) }
@@ -156,7 +155,7 @@ fn tell_behind<T: Taker>(first: Option<Event>, event: Event, taker: &mut T)
     taker.tell(event);
 }
 
-/// Tells an event, if there is one.
+/// Passes on an event, if there is one.
 #[tactic(auto, using(sub_io::proofs::TellingLemmas::tellings))]
 pub(crate) fn tell_some<T: Taker>(event: Option<Event>, taker: &mut T)
     ensures { Tells T.is_told taker.old taker.new (first_alone event) }

@@ -1,4 +1,4 @@
-//! What is told where another rule of a frame's end stands broken than at the end before.
+//! Reports which rules of a frame's end became broken or are no longer broken.
 ghost use Rattle.std.specs.Prelude.{◌≡◌, ◌==◌, ◌&&◌, ℕ};
 ghost use Rattle.sub_io.specs.Telling.{Tells};
 ghost use Rattle.sub_rules.specs.Events.{broken_at, end_events, end_fault, end_rules, rule_events};
@@ -6,7 +6,7 @@ ghost use Rattle.sub_rules.specs.Events.{broken_at, end_events, end_fault, end_r
 use sub_packets::{Taker, tell_if};
 use sub_rules::{CheckFault, EndRule, Event, Standing};
 
-// The rules, in the order in which they are told.
+// The rules, in the order of their reports.
 const RULES: [EndRule; 5] = [
     EndRule::Content,
     EndRule::Gap,
@@ -15,8 +15,8 @@ const RULES: [EndRule; 5] = [
     EndRule::Silent,
 ];
 
-/// Tells what changes from an end of a frame `before`, where these stood broken, to one of another
-/// frame, where the others stand: of each rule in their order.
+/// Reports the changes from the active faults `old` at the end of frame `before` to those at the
+/// end of `frame`, rule by rule.
 #[inline(never)]
 pub(crate) fn tell_change<A: Taker>(
     old: &Standing,
@@ -33,7 +33,7 @@ pub(crate) fn tell_change<A: Taker>(
     }
 }
 
-// Tells what changes of a rule.
+// Reports the change of one rule.
 fn tell_of<A: Taker>(
     rule: EndRule,
     old: &Standing,
@@ -48,7 +48,7 @@ fn tell_of<A: Taker>(
     tell_rule(rule, old.at(rule), before, new.at(rule), frame, taker)
 }
 
-// Tells where a rule is broken no more, and where it is broken anew, or at another place.
+// Reports that a rule is no longer broken, or that it is broken now or at another cell.
 #[tactic(auto, using(sub_io::proofs::TellingLemmas::tellings))]
 fn tell_rule<A: Taker>(
     rule: EndRule,
@@ -81,7 +81,7 @@ fn tell_rule<A: Taker>(
     taker.tell(told);
 }
 
-// The refusal of a rule that is broken at this place.
+// Returns the fault of a rule that is broken at this cell.
 fn fault_of(rule: EndRule, frame: u32, cell: (u8, u8)) -> CheckFault
     ensures { result ≡ end_fault rule frame cell }
 {
@@ -95,7 +95,6 @@ fn fault_of(rule: EndRule, frame: u32, cell: (u8, u8)) -> CheckFault
     }
 }
 
-// Whether two cells are the same.
 fn is_same_cell(a: (u8, u8), b: (u8, u8)) -> bool
     ensures { result ≡ (a.0 == b.0 && a.1 == b.1) }
 {

@@ -1,4 +1,4 @@
-//! What is kept of the frames that may stay on air as they are, from one step to the next.
+//! Tracks the frames that may be trusted to be right on air, from one step to the next.
 ghost use Rattle.std.specs.Prelude.{◌≡◌, ◌≤◌, ◌&&◌, is_some};
 ghost use Rattle.sub_io.specs.Telling.{first_alone};
 ghost use Rattle.sub_rules.specs.Trusted.{at_pes, trusted};
@@ -10,36 +10,35 @@ ghost use Rattle.sub_checker.specs.TrustTracker.{trusted_before};
 
 use sub_rules::{CheckFault, Event};
 
-/// What is kept of the frames that may be trusted.
+/// The frames that may be trusted.
 #[derive(Clone, Copy)]
 pub(crate) struct TrustTracker {
-    /// The PES packet of which is told: the checker counts those that are read alone.
+    /// The PES packet that is being reported; the checker itself counts only valid ones.
     pub pes: u32,
-    /// The run of quiet frames up to the last end: the frame of the first header of the page with
-    /// which it may begin.
+    /// The frame of the header of the page with which the current run of clean frames began.
     pub run: Option<u32>,
-    /// The first frame of it at whose end the page was whole.
+    /// The first frame of the run at whose end the page was right.
     pub whole: Option<u32>,
     /// The frame of the last PES packet; 0 before the first one.
     pub last: u32,
-    /// The frames rose up to here.
+    /// The frames have been in rising order so far.
     pub rises: bool,
-    /// They did, and no packet of this frame broke a rule on which a receiver depends.
+    /// As `rises`, and no packet of this frame broke a rule that receivers depend on.
     pub is_clean: bool,
-    /// The first of the frames up to the last end at whose ends the page is not whole, where it
-    /// need not be whole at each.
+    /// The first frame from which on the page has been wrong up to the last end, if `within` is not
+    /// 0.
     pub since: Option<u32>,
-    /// That end is late.
+    /// The page is overdue at the last end.
     pub is_late: bool,
-    /// The first of the frames up to the one before at whose ends the page was not whole, where
-    /// those are not trusted wherever a run is over.
+    /// The first frame of those up to the frame before with a wrong page, if such frames are not
+    /// trusted however a run ends.
     pub back: Option<u32>,
-    /// Something was told.
+    /// Something was reported.
     pub told: bool,
 }
 
 impl TrustTracker {
-    /// Before the first piece.
+    /// Returns the state before the first PES packet.
     pub fn new() -> Self
         ensures { result ≡ new_tracker }
     {
@@ -57,7 +56,7 @@ impl TrustTracker {
         }
     }
 
-    /// What follows is told of this PES packet.
+    /// Names the PES packet that the next events belong to.
     #[inline(always)]
     #[tactic(auto, unfolding(crate::specs::TrustTracker::after_step))]
     pub fn go_to(&mut self, pes: u32)
@@ -66,7 +65,7 @@ impl TrustTracker {
         self.pes = pes;
     }
 
-    /// The packets of a frame follow.
+    /// Says that the packets of a frame follow.
     #[inline(always)]
     #[tactic(auto, unfolding(crate::specs::TrustTracker::after_step))]
     pub fn begin_frame(&mut self, frame: u32)
@@ -76,8 +75,7 @@ impl TrustTracker {
         self.is_clean = self.rises;
     }
 
-    /// What follows is told of a frame or at its end: the first of the frames up to the one before
-    /// it at whose ends the page was not whole.
+    /// Sets the frame since which the page has been wrong, up to the frame before.
     #[tactic(auto, unfolding(crate::specs::TrustTracker::after_step))]
     pub fn go_back(&mut self, since: Option<u32>)
         ensures { self.new ≡ after_step (GoesBack since) self.old }
@@ -85,8 +83,8 @@ impl TrustTracker {
         self.back = since;
     }
 
-    /// What follows is told at the end of a frame: the first of the frames up to it at whose ends
-    /// the page is not whole, and whether it is late.
+    /// Says that the next events belong to the end of a frame: since when the page is wrong, and
+    /// whether it is overdue.
     #[tactic(auto, unfolding(crate::specs::TrustTracker::after_step))]
     pub fn at_end(&mut self, frame: u32, since: Option<u32>, is_late: bool)
         ensures { self.new ≡ after_step (AtEnd frame since is_late) self.old }
@@ -98,8 +96,8 @@ impl TrustTracker {
         }
     }
 
-    /// The end of a frame of PES packets: whether that has a header of the page with which a run
-    /// may begin, and whether nothing stands broken.
+    /// Ends a frame of PES packets. `has_beginning`: it has a header of the page that can begin a
+    /// run. `none_stands`: no fault is active.
     #[inline(always)]
     #[tactic(auto, unfolding(crate::specs::TrustTracker::after_step))]
     pub fn end_frame(&mut self, frame: u32, has_beginning: bool, none_stands: bool)
@@ -111,8 +109,8 @@ impl TrustTracker {
         self.end_another(frame, has_beginning, none_stands);
     }
 
-    // Whether a run goes on in which the page was whole, and no packet of this frame broke a rule
-    // on which a receiver depends.
+    // Returns whether the run continues with a right page, and no packet of this frame broke a rule
+    // that receivers depend on.
     #[inline(always)]
     fn stays_whole(&self) -> bool
         ensures { result
@@ -121,7 +119,7 @@ impl TrustTracker {
         self.run.is_some() && self.whole.is_some() && self.is_clean
     }
 
-    // The end of a frame after which other than before may be kept.
+    // Ends a frame after which the state may change.
     #[inline(never)]
     #[tactic(auto, unfolding(crate::specs::TrustTracker::after_step))]
     fn end_another(&mut self, frame: u32, has_beginning: bool, none_stands: bool)
@@ -136,7 +134,8 @@ impl TrustTracker {
         }
     }
 
-    /// This is told: what is trusted of the run that it ends, to be told before it.
+    /// Takes an event, and returns the trusted frames of the run that it ends, to be reported
+    /// before it.
     #[tactic(auto, unfolding(crate::specs::TrustTracker::after_step))]
     pub fn say(&mut self, event: &Event) -> Option<Event>
         ensures before { first_alone result
@@ -161,9 +160,9 @@ impl TrustTracker {
         }
     }
 
-    /// The end of the file: what is trusted of the last run, where anything was told or will be.
-    /// The last frame is not trusted where bytes are left after it, nor are those at whose ends the
-    /// page is not whole up to the last one.
+    /// Ends the file, and returns the trusted frames of the last run, if anything was or will be
+    /// reported. The last frame is not trusted if bytes are left after it, nor are the last frames
+    /// if the page is wrong at their ends.
     #[tactic(auto, unfolding(crate::specs::TrustTracker::after_step))]
     pub fn close(&mut self, are_left: bool, tells_more: bool) -> Option<Event>
         ensures told { first_alone result ≡ told_with (Closes are_left tells_more) self.old }
@@ -174,7 +173,7 @@ impl TrustTracker {
         last
     }
 
-    // What is trusted of the last run at the end of the file.
+    // Returns the trusted frames of the last run at the end of the file.
     #[tactic(auto, unfolding(crate::specs::TrustTracker::told_with))]
     fn trusted_last(&self, are_left: bool, tells_more: bool) -> Option<Event>
         ensures { first_alone result ≡ told_with (Closes are_left tells_more) self.now }
@@ -195,7 +194,7 @@ impl TrustTracker {
         }
     }
 
-    /// What is told of a frame, told of the PES packet which sends it.
+    /// Moves an event of a frame to the PES packet that transmits the frame.
     #[tactic(auto, unfolding(sub_rules::specs::Trusted::at_pes))]
     pub fn at_pes(&self, event: Event) -> Event
         ensures { result ≡ at_pes self.now.pes event }
@@ -207,7 +206,7 @@ impl TrustTracker {
     }
 }
 
-// The first frame of a run at whose end the page was whole, where this frame is one of it.
+// Returns the first frame of the run at whose end the page was right; `frame` is part of the run.
 fn first_whole(whole: Option<u32>, since: Option<u32>, frame: u32) -> Option<u32>
     ensures { result ≡ first_whole whole since frame }
 {
@@ -217,7 +216,7 @@ fn first_whole(whole: Option<u32>, since: Option<u32>, frame: u32) -> Option<u32
     if since.is_none() { Some(frame) } else { None }
 }
 
-// Which frames of a run before this frame are trusted, if there are any.
+// Returns the trusted frames of the run before `frame`, if there are any.
 fn trusted(run: Option<u32>, whole: Option<u32>, frame: u64) -> Option<Event>
     requires { frame ≤ 0x1_0000_0000 }
     ensures { first_alone result ≡ trusted run whole frame }
@@ -232,8 +231,8 @@ fn trusted(run: Option<u32>, whole: Option<u32>, frame: u64) -> Option<Event>
     }
 }
 
-// The first frame that is trusted no more where this is told, after a PES packet of frame `last`,
-// at an end that is late since the frame `late`, or not.
+// Returns the first frame that is no longer trusted once the event is reported. `last` is the frame
+// of the last PES packet; `late` is the frame since which an overdue page is wrong.
 #[tactic(auto, unfolding(crate::specs::TrustTracker::doubted))]
 fn doubted(last: u32, late: Option<u32>, event: &Event) -> Option<u32>
     ensures { result ≡ doubted last late event.now }
@@ -244,7 +243,7 @@ fn doubted(last: u32, late: Option<u32>, event: &Event) -> Option<u32>
     }
 }
 
-// It tells that the frames do not rise.
+// Returns whether the event reports that the frames do not rise.
 #[tactic(auto, unfolding(crate::specs::TrustTracker::is_order))]
 fn is_order(event: &Event) -> bool
     ensures { result ≡ is_order event.now }

@@ -1,4 +1,4 @@
-//! From which frame on it is known again what is due, within the frames that count.
+//! From which frame on the due page is known again, and was known within the last frames.
 ghost use Rattle.std.specs.Prelude.{◌≡◌, ℕ, ◌+◌, ◌<◌, ◌≤◌, MatchOption, Option};
 ghost use Rattle.std.specs.Prelude.{false, true};
 ghost use Rattle.stl_rows.specs.DuePage.{TellsNextEdge};
@@ -8,9 +8,9 @@ ghost use Rattle.sub_checker.specs.Checker.{IsKnownFrom};
 
 use stl_rows::Judging;
 
-/// The frame from which on, up to the next edge, it is known what is due, and what was at each of
-/// the `within` frames before, none of them before the frame `first`. It is a number above all
-/// frames where that is not known at this one, and 0 where it was known all the time.
+/// Returns the first frame, up to the next change of the due page, at which that page and those of
+/// the `within` frames before it (from `first` on) are known. Returns a number above all frames if
+/// the due page is unknown at `frame`, and 0 if it was known all the time.
 pub(crate) fn known_from(
     judging: &Judging<'_>,
     any_refused: bool,
@@ -35,7 +35,7 @@ pub(crate) fn known_from(
     }
 }
 
-// The earliest frame that counts: one of the last frames, and none before the first one.
+// Returns the later of `first` and the frame that is `within` frames before `frame`.
 fn earliest(first: u32, frame: u32, within: u32) -> u32
     ensures first { first ≤ result }
     ensures last { frame ≤ result + within }
@@ -45,8 +45,8 @@ fn earliest(first: u32, frame: u32, within: u32) -> u32
     if from < first { first } else { from }
 }
 
-// The last frame before a frame at which it is known what is due, from the least on, at which it is
-// not.
+// Returns the last frame from `least` on and before `frame` at which the due page is unknown. It is
+// known at `frame`.
 fn last_undecided(judging: &Judging<'_>, frame: u32, least: u32) -> Option<u32>
     requires known { is_undecided_in judging.now frame ≡ false }
     ensures { MatchOption result
@@ -64,8 +64,8 @@ fn last_undecided(judging: &Judging<'_>, frame: u32, least: u32) -> Option<u32>
     None
 }
 
-// The last frame before one of which more or less may be known than there. `None` where that is
-// before the least frame.
+// Returns the last frame before `at` at which the due page may be known or unknown differently from
+// there; `None` if that is before `least`.
 fn frame_before(judging: &Judging<'_>, at: u32, least: u32) -> Option<u32>
     ensures { MatchOption result
         ((f : ℕ) → least ≤ f → f ≤ at

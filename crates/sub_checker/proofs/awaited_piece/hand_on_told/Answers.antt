@@ -1,4 +1,4 @@
--- What was told stays told, and it says stop where it could not hand on: keeps-told,
+-- Events stay told, and the latch stops if the device could not be flushed: keeps-told,
 -- handed_stopped.
 use Rattle.std.proofs.Common.{◌∙◌, sym}
 use Rattle.sub_io.proofs.HandingOnLemmas.{keeps-told, not_ok}

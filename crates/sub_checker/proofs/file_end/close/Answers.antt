@@ -1,4 +1,4 @@
--- What is trusted of the last run, and then what is told last: by RelayLemmas.
+-- The trusted frames of the last run, and then the last events.
 use Rattle.std.proofs.Common.{◌++◌, [], ◌∷◌, length, ap, map, refl, sym}
 use Rattle.sub_rules.specs.PieceEvents.{closing_of_pieces}
 use Rattle.sub_rules.specs.Trusted.{CheckStep}

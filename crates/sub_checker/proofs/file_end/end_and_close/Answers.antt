@@ -1,4 +1,4 @@
--- The last end, where it is still to come, and what is told after it.
+-- The last end, if it is open, and the events after it.
 use Rattle.std.proofs.Common.{refl}
 use Rattle.sub_io.proofs.TellingLemmas.{TellsSome-trans}
 use Rattle.sub_checker.proofs.ReporterLemmas.{relays_two}

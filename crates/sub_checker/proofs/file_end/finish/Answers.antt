@@ -1,4 +1,4 @@
--- What is told last, and then up to which piece a run goes: by LatchLemmas.
+-- The last events, and then the end of a run of skipped PES packets.
 use Rattle.std.proofs.Common.{◌∙◌, ◌++◌, ap, sym, List}
 use Rattle.sub_io.proofs.TellingLemmas.{TellsSome-trans}
 use Rattle.sub_rules.specs.PieceEvents.{ended_run}

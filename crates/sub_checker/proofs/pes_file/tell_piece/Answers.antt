@@ -1,4 +1,4 @@
--- What is sent is told as the sending with the reader's packets.
+-- A valid PES packet is reported with the packets that the reader has.
 use Rattle.std.proofs.Common.{◌∙◌, ap, subst, sym}
 use Rattle.sub_rules.specs.PacketRules.{packets_of_units}
 use Rattle.sub_checker.specs.NextPieces.{IsAgain}

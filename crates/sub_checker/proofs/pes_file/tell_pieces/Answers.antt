@@ -1,4 +1,4 @@
--- Each way out tells what the whole file is: by PieceWaysLemmas.
+-- Each exit shows that the events are those of the whole file.
 use Rattle.std.proofs.Common.{◌≡◌, ◌∙◌, ◌∷◌, [], ap, refl, rules, sym, subst, arith, List}
 use Rattle.std.proofs.Common.{Ok, Option, Result, Some, ℕ, length, take}
 use Rattle.sub_checker.specs.LastEvents.{ending_fault}
@@ -136,7 +136,7 @@ returns-in_default-clause-exact g c = λ bytes told pieces unread reads.
     (c.finish-in_default.ensures.counts criteria (frames_sent criteria i.0) i.2 i.3.keeps) in
     search rules
 
--- It said stop at this piece.
+-- The audience stopped at this PES packet.
 pub returns-then-reporter-clause-exact : goal.returns-then-reporter-clause-exact
 returns-then-reporter-clause-exact g c = λ bytes told pieces unread reads.
     let inv = c.pieces.invariant in
@@ -154,7 +154,7 @@ returns-then-reporter-clause-exact g c = λ bytes told pieces unread reads.
     so_far came.cut in
     search rules
 
--- What came to the device with a piece, whatever the pieces are.
+-- The device was told some events for a PES packet, whatever the packets are.
 pub returns-then-reporter-clause-some : goal.returns-then-reporter-clause-some
 returns-then-reporter-clause-some g c =
     let inv = c.pieces.invariant in
@@ -243,7 +243,7 @@ pieces-preserved g c =
           );
     }
 
--- It said stop before the next piece.
+-- The audience stopped before the next PES packet.
 pub returns-then-is_err-clause-exact : goal.returns-then-is_err-clause-exact
 returns-then-is_err-clause-exact g c = λ bytes told pieces unread reads.
     let i = c.pieces.invariant.told pieces unread bytes told reads in
@@ -253,7 +253,7 @@ returns-then-is_err-clause-exact g c = λ bytes told pieces unread reads.
     (c.hand_on_told.ensures.told.kept c.args.audience.now _ c.requires.still i.5) in
     search rules
 
--- ---- some was told
+-- ---- some events were told
 
 pub returns-in-Err-clause-some : goal.returns-in-Err-clause-some
 returns-in-Err-clause-some g c =
@@ -283,7 +283,7 @@ returns-in_default-clause-some g c =
     (c.finish-in_default.ensures.some _ k.0 k.1 k.2) in
     search rules
 
--- ---- what is held back where the source failed
+-- ---- flushed reports if the source failed
 
 pub returns-then-is_source_failure-clause-asked : goal.returns-then-is_source_failure-clause-asked
 returns-then-is_source_failure-clause-asked g c = λ none.

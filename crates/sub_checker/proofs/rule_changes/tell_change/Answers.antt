@@ -1,4 +1,4 @@
--- The first of the rules that are left, and then the others: told_first.
+-- The first of the remaining rules, and then the others: told_first.
 use Rattle.std.proofs.Common.{◌≡◌, ℕ, ◌+◌, ◌<◌, ◌++◌, List, arith, ap, drop, drop-cons}
 use Rattle.std.proofs.Common.{flat_map, get_or, length, suc, ◌∙◌}
 use Rattle.sub_io.proofs.TellingLemmas.{Tells-none, Tells-trans}

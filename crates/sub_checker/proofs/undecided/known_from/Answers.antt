@@ -1,4 +1,4 @@
--- By whether it is known what is due there, and was at the frames before: UndecidedLemmas.
+-- Whether the due page is known at the frame, and was at the frames before.
 use Rattle.std.proofs.Common.{◌∙◌, sym, arith}
 use Rattle.sub_checker.proofs.UndecidedLemmas.{known_last, known_never, known_none, known_not}
 use Rattle.sub_checker.proofs.undecided.known_from.Goals as goal

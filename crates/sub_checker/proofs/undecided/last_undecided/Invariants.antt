@@ -1,4 +1,4 @@
--- From the frame that was looked at last on it is known what is due.
+-- The due page is known from the frame that was examined last.
 use Rattle.std.proofs.Common.{◌≡◌, ℕ, ◌≤◌, false}
 use Rattle.stl_rows.specs.Judged.{is_undecided_in}
 use Rattle.sub_checker.proofs.undecided.last_undecided.Given as goal

@@ -1,4 +1,4 @@
--- The first frame, in time or too late.
+-- The first frame is reached, in time or too late.
 use Rattle.std.proofs.Common.{sym, subst}
 use Rattle.sub_checker.specs.CheckedFrames.{AfterEnd, BeforePackets}
 use Rattle.sub_checker.proofs.CheckedFramesLemmas.{arrives_first, first_reaching}

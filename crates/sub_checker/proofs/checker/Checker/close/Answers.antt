@@ -1,4 +1,4 @@
--- What stands broken has ended, and then the last fault.
+-- The active faults end, and the last fault follows.
 use Rattle.sub_checker.proofs.LastEventsLemmas.{closing_parts}
 use Rattle.sub_checker.proofs.EventPartsLemmas.{told_two}
 use Rattle.sub_checker.proofs.checker.Checker.close.Goals as goal

@@ -1,4 +1,4 @@
--- One end after another.
+-- Ends one frame after another.
 use Rattle.std.proofs.Common.{◌+◌, ◌-◌, ◌<◌, ◌∙◌, ap, sym, subst, arith, refl}
 use Rattle.sub_rules.specs.Events.{latest}
 use Rattle.sub_rules.specs.PieceEvents.{steps_of_gap}

@@ -1,4 +1,4 @@
--- What came at the ends so far, and what is kept there.
+-- The steps of the ends so far, and the state after them.
 use Rattle.std.proofs.Common.{◌≡◌, ℕ, ◌+◌, ◌-◌, ◌<◌, ◌≤◌, List}
 use Rattle.sub_rules.specs.Events.{latest}
 use Rattle.sub_rules.specs.PieceEvents.{steps_of_gap}

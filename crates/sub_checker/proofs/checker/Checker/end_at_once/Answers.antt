@@ -1,4 +1,4 @@
--- What changes is told: by EndingLemmas.
+-- The changes are reported.
 use Rattle.sub_checker.proofs.FrameEndLemmas.{once_steps}
 use Rattle.sub_checker.proofs.ReporterLemmas.{relays_told}
 use Rattle.sub_checker.proofs.checker.Checker.end_at_once.Goals as goal

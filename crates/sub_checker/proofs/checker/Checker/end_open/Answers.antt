@@ -1,4 +1,4 @@
--- The end, after which none is still to come: by TakingLemmas.
+-- After this end none is open.
 use Rattle.std.proofs.Common.{◌-◌, ◌<◌, ◌∙◌, length, arith, ap, false}
 use Rattle.sub_checker.specs.Checker.{CheckerValue}
 use Rattle.sub_checker.proofs.AfterPacketsLemmas.{header_more}

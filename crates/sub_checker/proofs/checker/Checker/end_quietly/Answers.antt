@@ -1,4 +1,4 @@
--- Within frames, since which one the page was not whole, and the step of the end; else nothing.
+-- Nothing is reported; if `within` is not 0, there are the steps that go back and end the frame.
 use Rattle.std.proofs.Common.{arith, refl}
 use Rattle.sub_checker.proofs.FrameEndLemmas.{quiet_once, quiet_within}
 use Rattle.sub_checker.proofs.ReporterLemmas.{relays_back, relays_nothing, relays_step, relays_two}

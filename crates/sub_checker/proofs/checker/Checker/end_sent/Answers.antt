@@ -1,4 +1,4 @@
--- Whether the first frame has a header of the page, and what stands broken: by HearingLemmas.
+-- The missing header of the first frame, and the changes of the active faults.
 use Rattle.std.proofs.Common.{◌∙◌, suc, ap, map, refl, sym, subst}
 use Rattle.sub_rules.specs.Trusted.{CheckStep}
 use Rattle.sub_rules.specs.Trusted.CheckStep.{Says}

@@ -1,4 +1,4 @@
--- Its end, where that is still to come: by TakingLemmas.
+-- The end of the last frame, if it is open.
 use Rattle.std.proofs.Common.{◌∙◌, ap, sym}
 use Rattle.sub_checker.specs.Checker.{CheckerValue}
 use Rattle.sub_checker.proofs.BetweenPiecesLemmas.{waiting_none}

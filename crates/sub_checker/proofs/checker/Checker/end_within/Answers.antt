@@ -1,4 +1,4 @@
--- Since when the page is not whole, and what changes is told: by EndingLemmas.
+-- The steps that go back and end the frame, and the changes of the active faults.
 use Rattle.std.proofs.Common.{ap, refl}
 use Rattle.sub_checker.specs.Checker.{back_steps}
 use Rattle.sub_checker.proofs.FrameEndLemmas.{within_steps}

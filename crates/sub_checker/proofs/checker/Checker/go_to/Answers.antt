@@ -1,4 +1,4 @@
--- Order, and the ends of the frames before.
+-- The order, and the ends of the frames before.
 use Rattle.std.proofs.Common.{◌∙◌, ap, map, refl, sym, subst}
 use Rattle.sub_rules.specs.Trusted.CheckStep.{Says}
 use Rattle.sub_checker.specs.CheckedFrames.{AfterEnd, BeforePackets}

@@ -1,4 +1,4 @@
--- Before the next edge, the due page and the next edge stay.
+-- Before its next change the due page stays the same.
 use Rattle.std.proofs.Common.{ap, ◌∙◌, sym}
 use Rattle.sub_checker.specs.Checker.{CheckerValue, at_frame}
 use Rattle.sub_checker.proofs.EdgeLemmas.{IsAtFrame-later, IsJudged-later, at_frame-stays}

@@ -1,4 +1,4 @@
--- Nothing is heard yet.
+-- No packet has been received.
 use Rattle.std.proofs.Common.{refl, arith}
 use Rattle.sub_checker.proofs.CheckedFramesLemmas.{BetweenPieces-none}
 use Rattle.sub_checker.proofs.checker.Checker.new.Goals as goal

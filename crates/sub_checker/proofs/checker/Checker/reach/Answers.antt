@@ -1,11 +1,11 @@
--- The first PES packet, or another one.
+-- The first PES packet, or a later one.
 use Rattle.std.proofs.Common.{◌≡◌, ◌∙◌, ◌<◌, ℕ, ap, arith, sym, subst}
 use Rattle.sub_checker.specs.CheckedFrames.{AfterEnd, BeforePackets, reaching_steps}
 use Rattle.sub_checker.specs.Relay.{ReporterRelays}
 use Rattle.sub_rules.specs.FrameRules.{frame_at}
 use Rattle.sub_checker.proofs.checker.Checker.reach.Goals as goal
 
--- A number that is not 0, by another one that is not.
+-- A number that equals one other than 0 is not 0.
 some : {n m : ℕ} → m ≡ n → (m ≡ 0 → ⊥) → 0 < n
 some same h = omega (arith, same, h)
 

@@ -1,4 +1,4 @@
--- Within no frame that of the frame itself counts: was-once.
+-- If `within` is 0, only the frame itself counts: was-once.
 use Rattle.std.proofs.Common.{◌∙◌}
 use Rattle.sub_checker.specs.Checker.{is_undecided_by}
 use Rattle.sub_checker.proofs.UndecidedLemmas.{was-once}

@@ -1,4 +1,4 @@
--- The way to its frame, its packets, and the end where that comes at once: by TakingLemmas.
+-- The frame is reached, its packets are received, and it ends if `within` is 0.
 use Rattle.std.proofs.Common.{◌∙◌, ◌+◌, ◌-◌, ℕ, nat_lt, true, ap, refl, sym, subst, arith}
 use Rattle.std.proofs.lemmas.List.{length-map}
 use Rattle.sub_rules.specs.FrameRules.{Criteria, packets_before}

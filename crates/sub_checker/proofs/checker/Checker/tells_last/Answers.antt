@@ -1,4 +1,4 @@
--- What is told after the last frame: by ClosingLemmas.
+-- The events after the last frame.
 use Rattle.std.proofs.lemmas.Bool.Decides.{nat_tests}
 use Rattle.std.proofs.Common.{◌≡◌, ◌∙◌, ◌||◌, Bool, ap, arith, false, is_some, not, true}
 use Rattle.sub_rules.specs.Trusted.{stands_none}

@@ -1,4 +1,4 @@
--- It comes to the device, or not.
+-- The event reaches the device, unless it said stop.
 use Rattle.std.proofs.Common.{◌∙◌, sym, refl}
 use Rattle.std.proofs.lemmas.Bool.{true≢false}
 use Rattle.sub_io.proofs.TellingLemmas.{Tells-one}

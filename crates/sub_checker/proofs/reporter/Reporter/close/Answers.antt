@@ -1,4 +1,4 @@
--- The end of the file: by RelayLemmas.
+-- The end of the file.
 use Rattle.sub_rules.specs.Trusted.CheckStep.{Closes}
 use Rattle.sub_checker.proofs.RelayLemmas.{relay_one}
 use Rattle.sub_checker.proofs.reporter.Reporter.close.Goals as goal

@@ -1,4 +1,4 @@
--- An event: by RelayLemmas.
+-- An event.
 use Rattle.std.proofs.Common.{[], ◌∷◌, ◌++◌, ◌∙◌, subst, sym}
 use Rattle.sub_io.proofs.TellingLemmas.{Tells-trans}
 use Rattle.sub_io.specs.Telling.{Tells, first_alone}
