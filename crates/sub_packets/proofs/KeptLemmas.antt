@@ -1,7 +1,7 @@
--- What is kept of packets where repeats may keep, one packet on: the last header,
--- `last_header-push` and `last_header-append`; whether a row is in the span, `has_row-push`; the
--- first of a row in the long span, `first_of_row-push`; and that a code that is no space came in a
--- row, `row_of_code`.
+-- One more packet when repeats may keep the page: the last header, `last_header-push` and
+-- `last_header-append`; whether a row came since that header, `has_row-push`; the first packet of a
+-- row since the text began, `first_of_row-push`. Each code other than a space came in a row:
+-- `row_of_code`.
 use Rattle.std.proofs.Common.{◌≡◌, ℕ, Bool, true, false, not, ◌&&◌, ◌||◌, ◌==◌, cond, List, [], ◌∷◌}
 use Rattle.std.proofs.Common.{◌++◌, Some, None, find, option_map, unwrap_or, refl, ap}
 use Rattle.std.proofs.Common.{arith}
@@ -25,14 +25,14 @@ use Rattle.sub_rules.specs.declared.packet_rule.Watched.{Watched}
 
 -- ---- the last header of the page
 
--- Of two lists, joined.
+-- The last header of two joined lists.
 pub last_header-append :
     (page : PageIdValue) (xs ys : List (List ℕ))
     → last_header page (xs ++ ys) ≡ option_or (last_header page ys) (last_header page xs)
 last_header-append page [] ys = grind (arith, nat_tests)
 last_header-append page (x ∷ xs) ys = grind (arith, nat_tests, (last_header-append page xs ys))
 
--- One packet on.
+-- The last header after one more packet.
 pub last_header-push :
     (page : PageIdValue) (xs : List (List ℕ)) (x : List ℕ)
     → last_header page (xs ++ x ∷ [])
@@ -41,7 +41,7 @@ last_header-push page xs x = last_header-append page xs (x ∷ [])
 
 -- ---- rows
 
--- Whether a test passes in a span, one packet on.
+-- Whether a packet since the last header passes a test, after one more packet.
 any-push :
     (k : PacketKind) (row : ℕ) (opened : Bool) (xs : List (List ℕ)) (p : List ℕ)
     (f : List ℕ → Bool)
@@ -50,7 +50,7 @@ any-push :
     ≡ cond (is_this_page k) false (list_any f xs || (opened && is_row row k))
 any-push k row opened xs p f e = grind (arith, nat_tests, list_any-append)
 
--- Whether a row is in the span, one packet on.
+-- Whether a row came since the last header, after one more packet.
 pub has_row-push :
     (page : PageIdValue) (heard : List (List ℕ)) (p : List ℕ) (row : ℕ)
     → has_row page (heard ++ p ∷ []) row
@@ -58,7 +58,7 @@ pub has_row-push :
     (has_row page heard row || (is_open_after (kind page) heard && is_row row (kind page p)))
 has_row-push page heard p row = grind (arith, nat_tests, span-push, any-push)
 
--- The first that passes a test in a long span, one packet on.
+-- The first packet since the text began that passes a test, after one more packet.
 find-push :
     (keeps : Bool) (k : PacketKind) (row : ℕ) (opened : Bool) (xs : List (List ℕ)) (p : List ℕ)
     (f : List ℕ → Bool)
@@ -70,7 +70,7 @@ find-push :
     (cond (opened && is_row row k) (option_or (find f xs) (Some p)) (find f xs))
 find-push keeps k row opened xs p f e = grind (arith, nat_tests, find-append)
 
--- The first packet of a row in the long span, one packet on.
+-- The first packet of a row since the text began, after one more packet.
 pub first_of_row-push :
     (keeps : Bool) (page : PageIdValue) (heard : List (List ℕ)) (p : List ℕ) (row : ℕ)
     → first_of_row page (text_span keeps (kind page) (heard ++ p ∷ [])) row
@@ -82,23 +82,22 @@ first_of_row-push keeps page heard p row = grind (arith, nat_tests, text_span-pu
 
 -- ---- where the text begins
 
--- It begins with no packet that is no header of the page.
+-- The text begins with no packet that is not a header of the page.
 pub begins_not : (keeps : Bool) (k : PacketKind)
     → is_this_page k ≡ false
     → begins_text keeps k ≡ false
 begins_not keeps k e = grind (arith, nat_tests)
 
--- The first or the others.
 pub or_assoc : (a b c : Bool) → ((a || b) || c) ≡ (a || (b || c))
 or_assoc a b c = grind (arith, nat_tests)
 
--- Whether it begins, one packet on.
+-- Whether the text begins with one of the packets, after one more.
 pub beginning-more : (w : Watched) (xs : List (List ℕ)) (x : List ℕ)
     → holds_beginning w.keeps (kind w.page) (xs ++ x ∷ [])
     ≡ (holds_beginning w.keeps (kind w.page) xs || begins_text w.keeps (kind w.page x))
 beginning-more w xs x = list_any-push (kind w.page) (λ y. begins_text w.keeps (kind w.page y)) xs x
 
--- From its beginning on what came before does not matter.
+-- Packets before the beginning of the text do not matter.
 from_begins : (keeps : Bool) (page : PageIdValue) (xs ys : List (List ℕ))
     → holds_beginning keeps (kind page) ys ≡ true
     → from_beginning keeps (kind page) (xs ++ ys) ≡ from_beginning keeps (kind page) ys
@@ -114,9 +113,9 @@ pub text_span-begins : (keeps : Bool) (page : PageIdValue) (xs ys : List (List �
 text_span-begins keeps page xs ys e =
     ap (while_open (kind page) false) (from_begins keeps page xs ys e)
 
--- ---- where repeats may not keep
+-- ---- if repeats may not keep the page
 
--- What was found passes.
+-- A packet that was found passes the test.
 any_found : (test : List ℕ → Bool) (ps : List (List ℕ)) (code : List ℕ → ℕ)
     → (unwrap_or (option_map code (find test ps)) space == space) ≡ false
     → list_any test ps ≡ true
@@ -124,7 +123,7 @@ any_found test [] code e = grind (arith, nat_tests)
 any_found test (p ∷ ps) code e =
     let rest = any_found test ps code in grind (arith, nat_tests)
 
--- A code that is no space came in a row of the span.
+-- Each code other than a space came in a row since the last header.
 pub row_of_code :
     (keeps : Bool) (page : PageIdValue) (heard : List (List ℕ)) (row column : ℕ)
     → keeps ≡ false

@@ -1,4 +1,4 @@
--- What is found of what is kept is what the packets say: `wrong_heard`, `undue_heard`,
+-- The properties of the kept page agree with the packets: `wrong_heard`, `undue_heard`,
 -- `incomplete_heard`.
 use Rattle.std.proofs.lemmas.Bool.Decides.{nat_tests}
 use Rattle.std.proofs.Common.{◌≡◌, ℕ, ◌&&◌, List, Bool, arith, ap, refl}

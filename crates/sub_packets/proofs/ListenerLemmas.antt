@@ -1,5 +1,5 @@
--- What is kept of the packets, one packet on: `knows_begins`, `knows_repeat`, `knows_still`,
--- `knows_again`, `knows_row`.
+-- The state after one more packet: `knows_begins`, `knows_repeat`, `knows_still`, `knows_again`,
+-- `knows_row`.
 use Rattle.std.proofs.Common.{◌≡◌, ℕ, ◌-◌, ◌≤◌, Bool, true, false, not, ◌&&◌, ◌||◌, List, [], ◌∷◌}
 use Rattle.std.proofs.Common.{◌++◌, Option, Some, None, option_map, length, get_or, set}
 use Rattle.std.proofs.Common.{replicate, refl, sym, ap, arith, get_or-set_other}
@@ -21,15 +21,13 @@ use Rattle.sub_rules.specs.Kept.{has_row, last_header}
 use Rattle.sub_packets.proofs.KeptLemmas.{first_of_row-push, has_row-push, last_header-push}
 use Rattle.sub_packets.specs.declared.listener.Listener.{Listener}
 
--- C11 of a header, if there is one.
 abbrev c11_of : Option Header → Option Bool
 c11_of o = option_map (λ (h : Header). c11 h) o
 
--- C11 of the first of two headers.
 c11-or : (a b : Option Header) → c11_of (option_or a b) ≡ option_or (c11_of a) (c11_of b)
 c11-or a b = grind (arith, nat_tests)
 
--- With nothing heard nothing is kept.
+-- The state before the first packet.
 pub knows_none :
     (s : Listener)
     → s.serial ≡ None
@@ -49,13 +47,13 @@ module _ (heard : List (List ℕ)) (p : List ℕ) (s : Listener) (read : Option 
   serial_more : serial ≡ c11_of (first_header (heard ++ p ∷ []))
   serial_more = grind (arith, c11-or, first_header-push, known.serial_is)
 
-  -- The subcode of the last header, where this is one of the page.
+  -- The subcode of the last header, if the packet is a header of the page.
   subcode_this : (h : Header) → kind s.watched.page p ≡ ThisPage h
       → Some h.subcode
       ≡ option_map (λ (x : Header). x.subcode) (last_header s.watched.page (heard ++ p ∷ []))
   subcode_this h is = rw (last_header-push s.watched.page heard p, is) refl
 
-  -- After a header of the page no row came since.
+  -- After a header of the page no row has come again.
   none_again : (h : Header) → kind s.watched.page p ≡ ThisPage h
       → (row : ℕ) → 1 ≤ row → row ≤ 24
       → get_or (replicate 24 false) (row - 1) false ≡ has_row s.watched.page (heard ++ p ∷ []) row
@@ -63,7 +61,7 @@ module _ (heard : List (List ℕ)) (p : List ℕ) (s : Listener) (read : Option 
       rw (has_row-push s.watched.page heard p row, is)
       (get_or-replicate 24 (row - 1) false false (omega arith))
 
-  -- A header of the page with which its text begins opens it, and nothing was sent.
+  -- A header that begins the text opens the page, and no row has been received.
   pub knows_begins : (h : Header) → kind s.watched.page p ≡ ThisPage h
       → (c4 h || not s.watched.keeps) ≡ true
       → Knows (heard ++ p ∷ []) (record s {
@@ -88,7 +86,7 @@ module _ (heard : List (List ℕ)) (p : List ℕ) (s : Listener) (read : Option 
     again_is = none_again h is;
   }
 
-  -- One that keeps it opens it, and what was sent stays.
+  -- A header that keeps the text opens the page, and the rows received stay.
   pub knows_repeat : (h : Header) → kind s.watched.page p ≡ ThisPage h
       → (c4 h || not s.watched.keeps) ≡ false
       → Knows (heard ++ p ∷ []) (record s {
@@ -101,7 +99,7 @@ module _ (heard : List (List ℕ)) (p : List ℕ) (s : Listener) (read : Option 
       grind (arith, nat_tests, serial_more, open-this, subcode_this, first_of_row-push, none_again)
 
   module _ (other : is_this_page (kind s.watched.page p) ≡ false) where
-    -- Then the last header stays.
+    -- Otherwise the last header stays the same.
     subcode_still : s.subcode
         ≡ option_map (λ (x : Header). x.subcode) (last_header s.watched.page (heard ++ p ∷ []))
     subcode_still =
@@ -109,7 +107,8 @@ module _ (heard : List (List ℕ)) (p : List ℕ) (s : Listener) (read : Option 
         let more = last_header-push s.watched.page heard p in
         grind (arith, nat_tests)
 
-    -- Any other packet may end it, and leaves the rows as they are, but for a row of the open page.
+    -- Any other packet may close the page and leaves its rows as they are, unless it is a row of
+    -- the open page.
     pub knows_still : (opened : Bool)
         → opened ≡ (s.is_open && not (ends_page (kind s.watched.page p)))
         → ((row : ℕ) → 1 ≤ row → row ≤ 24 → s.is_open ≡ true
@@ -153,7 +152,7 @@ module _ (heard : List (List ℕ)) (p : List ℕ) (s : Listener) (read : Option 
           let before = known.again_is row a b in
           grind (arith, nat_tests, known.open_is, get_or-set_at, get_or-set_other)
 
-      -- A row of the open page that was sent before is sent again.
+      -- A row of the open page that was received before is received again.
       pub knows_again : get_or s.sent (y - 1) false ≡ true
           → Knows (heard ++ p ∷ []) (record s {
             serial = serial;
@@ -175,7 +174,7 @@ module _ (heard : List (List ℕ)) (p : List ℕ) (s : Listener) (read : Option 
         again_is = again_more;
       }
 
-      -- One that was not sent before is sent, and held.
+      -- A row that was not received before is stored.
       pub knows_row : get_or s.sent (y - 1) false ≡ false
           → length s.sent ≡ 24 → length s.comparison.page ≡ 24
           → Knows (heard ++ p ∷ []) (record s {

@@ -1,5 +1,5 @@
--- What is told of the packets of a frame: of one that is passed, packets_told-passed; where they
--- break no rule, packets_told-none.
+-- The events of the packets of a frame, after one that need not be examined, packets_told-passed,
+-- and if no rule is broken, packets_told-none.
 use Rattle.std.proofs.lemmas.Bool.Decides.{nat_tests}
 use Rattle.std.proofs.Common.{◌≡◌, ℕ, zero, suc, ◌+◌, List, [], ◌++◌, map, take}
 use Rattle.std.proofs.Common.{◌∙◌, append-nil, arith, get_or, refl}
@@ -16,7 +16,7 @@ use Rattle.sub_rules.specs.declared.event.Event.TheVariants.{Told}
 use Rattle.sub_rules.specs.declared.packet_rule.PacketRule.{PacketRule}
 use Rattle.sub_rules.specs.declared.packet_rule.Watched.{Watched}
 
--- What is told of a packet by the tests of its rules.
+-- The events of a packet, from the tests of its rules.
 abbrev told_by : Watched → ℕ → ℕ → List (List ℕ) → List ℕ → List Event
 told_by w frame k before p =
     map (λ (r : PacketRule). Told (packet_fault r frame k))
@@ -29,14 +29,14 @@ unfolding rules_told broken_rules
 told_by-is w frame k before p = refl
 
 module _ (w : Watched) (frame from : ℕ) (before ps : List (List ℕ)) where
-  -- What is told of one packet more.
+  -- The events after one more packet.
   packets_told-more : (k : ℕ) (p : List ℕ) → get_or ps k [] ≡ p
       → packets_told w frame from before ps (k + 1)
       ≡ packets_told w frame from before ps k ++ told_by w frame (from + k) (before ++ take k ps) p
   unfolding packets_told
   packets_told-more k p e = grind (arith, nat_tests, told_by-is)
 
-  -- Nothing is told of a packet that breaks no rule.
+  -- A packet that breaks no rule adds no event.
   pub packets_told-passed : (k : ℕ)
       → rule_set (λ r. breaks r w (before ++ take k ps) (get_or ps k [])) packet_rules ≡ 0
       → packets_told w frame from before ps (k + 1) ≡ packets_told w frame from before ps k
@@ -45,7 +45,7 @@ module _ (w : Watched) (frame from : ℕ) (before ps : List (List ℕ)) where
       ∙ rw (no_rules (λ r. breaks r w (before ++ take k ps) (get_or ps k [])) packet_rules empty)
       (append-nil (packets_told w frame from before ps k))
 
-  -- Where they break no rule nothing is told.
+  -- Without broken rules there are no events.
   pub packets_told-none : (n : ℕ) → BreakNone w before ps n
       → packets_told w frame from before ps n ≡ []
   unfolding packets_told rules_told
@@ -56,13 +56,13 @@ module _ (w : Watched) (frame from : ℕ) (before ps : List (List ℕ)) where
   module _ (k : ℕ) (p : List ℕ) {D : Type 0} {IsTold : D → Event → D → Type 0} (a b c : D)
       (at : get_or ps k [] ≡ p)
       (told : Tells IsTold a b (packets_told w frame from before ps k)) where
-    -- One packet more. For `hear_all`.
+    -- The events of one more packet were told. For `hear_all`.
     pub told_one : Tells IsTold b c (told_by w frame (from + k) (before ++ take k ps) p)
         → Tells IsTold a c (packets_told w frame from before ps (k + 1))
     told_one more =
         rw (packets_told-more k p at) (Tells-trans a b c _ _ told more)
 
-  -- One packet more breaks no rule. For `hear_all`.
+  -- One more packet breaks no rule. For `hear_all`.
   pub clean_one : (k : ℕ) (p : List ℕ) → get_or ps k [] ≡ p → BreakNone w before ps k
       → rule_set (λ r. breaks r w (before ++ take k ps) p) packet_rules ≡ 0
       → BreakNone w before ps (k + 1)

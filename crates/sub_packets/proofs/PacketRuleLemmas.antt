@@ -1,4 +1,4 @@
--- The tests of a packet's rules: what each adds to the set of the rules that are broken.
+-- The rules for a single packet: which bits each kind of packet adds to the set of broken rules.
 use Rattle.std.proofs.lemmas.Bool.Decides.{nat_tests}
 use Rattle.std.proofs.lemmas.Bool.Decides.{same_from_decides}
 use Rattle.std.proofs.Common.{◌≡◌, ℕ, Bool, true, false, not, ◌&&◌, ◌==◌, cond}
@@ -24,7 +24,7 @@ use Rattle.sub_rules.specs.declared.packet_rule.Watched.{Watched}
 
 -- ---- code words
 
--- A test of the same fact, turned round.
+-- Two tests of the same fact have the same negation.
 turned : {P : Type 0} (r s : Bool) → Decides r P → Decides s P → not r ≡ not s
 turned r s d e = ap not (same_from_decides r s d e)
 
@@ -46,7 +46,7 @@ header_is_zero p h e = grind (arith, nat_tests)
 
 -- ---- the subcode of the last header
 
--- That of a header is the same where there was one, or none was. For `is_same_subcode`.
+-- The code's comparison of subcodes agrees with the rule. For `is_same_subcode`.
 pub same_some : (o : Option Header) (h : Header) (subcode : ℕ)
     → Some subcode ≡ option_map (λ (x : Header). x.subcode) o
     → (h.subcode == subcode) ≡ is_same_subcode o h
@@ -57,7 +57,7 @@ pub same_none : (o : Option Header) (h : Header)
     → true ≡ is_same_subcode o h
 same_none o h e = grind (arith, nat_tests)
 
--- ---- a packet by what it is
+-- ---- the kinds of packets
 
 -- A packet 25 to 28 is neither a header nor a row.
 enhancement_is_other :
@@ -67,14 +67,14 @@ enhancement_is_other :
 unfolding kind
 enhancement_is_other w p e = grind (arith, nat_tests)
 
--- A packet that is a header or a row is no packet 25 to 28.
+-- A header or a row is no packet 25 to 28.
 pub no_enhancement :
     (w : Watched) (p : List ℕ)
     → (kind w.page p ≡ Other → ⊥)
     → is_of_enhancement w.page (address p) ≡ false
 no_enhancement w p other = grind (arith, nat_tests, enhancement_is_other)
 
--- Other codes than those that are held of a row.
+-- The row differs from the codes received before.
 other_text :
     (o : Option (List ℕ)) (codes : List ℕ)
     → is_other_text o codes ≡ (is_some o && not (row_differing (held o) codes == 0))
@@ -82,7 +82,7 @@ other_text None codes = refl
 other_text (Some q) codes = refl
 
 module _ (w : Watched) (heard : List (List ℕ)) (p : List ℕ) where
-  -- A header of the page breaks no later rule but that of its control bits.
+  -- A header of the page can break only the rule for its control bits.
   pub later_this : (h : Header) → kind w.page p ≡ ThisPage h
       → rule_set (λ r. breaks r w heard p) (drop 3 packet_rules)
       ≡ cond (not (is_subtitle_header w heard h)) 1 0
@@ -91,7 +91,7 @@ module _ (w : Watched) (heard : List (List ℕ)) (p : List ℕ) where
       let none = no_enhancement w p (λ e. let both = sym k ∙ e in cc) in
       rw (k, none) (grind (arith, nat_tests))
 
-  -- A header that ends the page breaks none.
+  -- A header that ends the page breaks none of these rules.
   pub later_ends : kind w.page p ≡ EndsPage
       → rule_set (λ r. breaks r w heard p) (drop 3 packet_rules) ≡ 0
   unfolding breaks rule_set packet_rules
@@ -99,14 +99,15 @@ module _ (w : Watched) (heard : List (List ℕ)) (p : List ℕ) where
       let none = no_enhancement w p (λ e. let both = sym k ∙ e in cc) in
       rw (k, none) (grind (arith, nat_tests))
 
-  -- Any other packet that is no row may be one that enhances the page.
+  -- Any other packet that is no row breaks a rule only if it is an enhancement packet of the open
+  -- page.
   pub later_other : kind w.page p ≡ Other
       → rule_set (λ r. breaks r w heard p) (drop 3 packet_rules)
       ≡ 8 * cond (is_open_after (kind w.page) heard && is_of_enhancement w.page (address p)) 1 0
   unfolding breaks rule_set packet_rules
   later_other k = rw k (grind (arith, nat_tests))
 
-  -- A row may have an even byte, and other codes than those that are held of it.
+  -- A row may have a byte with even parity, and other codes than those received before.
   pub later_row : (y : ℕ) (o : Option (List ℕ)) → kind w.page p ≡ Row y
       → o ≡ first_of_row w.page (text_span w.keeps (kind w.page) heard) y
       → rule_set (λ r. breaks r w heard p) (drop 3 packet_rules)
@@ -118,7 +119,7 @@ module _ (w : Watched) (heard : List (List ℕ)) (p : List ℕ) where
   unfolding breaks rule_set packet_rules
   later_row y o k e = grind (arith, nat_tests, no_enhancement, other_text)
 
--- The rules of every packet, and then the later ones. For `broken_rules`.
+-- The rules for all packets, followed by the later ones. For `broken_rules`.
 pub rules_are :
     (w : Watched) (heard : List (List ℕ)) (p : List ℕ) (serial : Option Bool)
     → serial ≡ option_map (λ (h : Header). c11 h) (first_header heard)

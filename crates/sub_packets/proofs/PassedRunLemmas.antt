@@ -1,4 +1,4 @@
--- Packets of a frame that are passed, one after another, leave all as it is: `passed_run`,
+-- A run of packets that need not be examined leaves everything as it is: `passed_run`,
 -- `no_headers_passed`, `no_beginning_passed`.
 use Rattle.std.proofs.lemmas.Bool.Decides.{nat_tests}
 use Rattle.std.proofs.lemmas.Bool.{cases_lt}
@@ -18,8 +18,8 @@ use Rattle.sub_rules.specs.PacketRules.{header_count}
 use Rattle.sub_rules.specs.declared.packet_rule.Watched.{Watched}
 use Rattle.sub_rules.proofs.PacketLists.{header_count-push}
 
--- What is known after the first n packets of a frame, sent after these, where nothing was told of
--- the packets from a number on.
+-- The state after the first n packets of a frame, sent after these, if packet `start` and the
+-- following ones added no event.
 pub record IsPassedTo
     (w : Watched) (frame from : ℕ) (heard ps : List (List ℕ)) (s : Listener) (start n : ℕ) : Type 0
   where
@@ -27,7 +27,7 @@ pub record IsPassedTo
     pub told : packets_told w frame from heard ps n ≡ packets_told w frame from heard ps start
     pub clean : BreakNone w heard ps start → BreakNone w heard ps n
 
--- A packet and those after it. For `hear_all`.
+-- The first packet and those after it. For `hear_all`.
 pub passes_from : (a b : ℕ) (ps : List (List ℕ)) (s : Listener)
     → IsAlwaysPassed (get_or ps a []) s
     → ((k : ℕ) → a + 1 ≤ k → k < b → IsAlwaysPassed (get_or ps k []) s)
@@ -85,7 +85,7 @@ module _ (w : Watched) (ps : List (List ℕ)) (s : Listener) (same : s.watched �
       ap (λ k. holds_beginning w.keeps (kind w.page) (take k ps)) (sym next) ∙ step
 
   module _ (frame from : ℕ) (heard : List (List ℕ)) where
-    -- One packet more.
+    -- One more packet.
     passed_one : (k : ℕ) → k < length ps → IsAlwaysPassed (get_or ps k []) s
         → IsPassedTo w frame from heard ps s a k
         → IsPassedTo w frame from heard ps s a (k + 1)

@@ -1,5 +1,5 @@
--- Sets of rules: where one is empty no rule passes, `no_rules`; and what is told of the first of
--- those that are left of one, `told_next`.
+-- Sets of rules: if the set is empty no rule passes the test, `no_rules`; the events of the first
+-- remaining rule, `told_next`.
 use Rattle.std.proofs.Common.{◌≡◌, ℕ, suc, ◌+◌, ◌*◌, ◌/◌, ◌%◌, ◌<◌, Bool, true, false, ◌==◌}
 use Rattle.std.proofs.Common.{List, [], ◌∷◌, ◌++◌, length, get_or, drop, map, refl, ◌∙◌, ap}
 use Rattle.std.proofs.Common.{arith, cond, drop-cons}
@@ -8,14 +8,13 @@ use Rattle.std.proofs.lemmas.Bool.Decides.{nat_tests}
 use Rattle.sub_packets.specs.Listener.{rule_set}
 use Rattle.sub_rules.specs.declared.packet_rule.PacketRule.{PacketRule}
 
--- Where a set is empty no rule passes the test.
 pub no_rules : (test : PacketRule → Bool) (rules : List PacketRule) → rule_set test rules ≡ 0
     → filter test rules ≡ []
 unfolding rule_set
 no_rules test [] e = refl
 no_rules test (r ∷ rules) e = grind (arith, nat_tests, no_rules test rules)
 
--- ---- what is told of a set
+-- ---- the events of a set
 
 -- The lowest bit, and the others without it.
 lowest_bit : (b : Bool) (n : ℕ)
@@ -24,14 +23,14 @@ lowest_bit true n = let bit : (1 + 2 * n) % 2 ≡ 1 = omega arith in (rw bit ref
 lowest_bit false n = let bit : (0 + 2 * n) % 2 ≡ 0 = omega arith in (rw bit refl, omega arith)
 
 module _ {A : Type 0} (tell : PacketRule → A) (test : PacketRule → Bool) where
-  -- What is told of a list, by its first rule.
+  -- The events of a list, by its first rule.
   told_first : (r : PacketRule) (rules : List PacketRule)
       → map tell (filter test (r ∷ rules))
       ≡ cond (test r) (tell r ∷ []) [] ++ map tell (filter test rules)
   told_first r rules = grind (arith, nat_tests)
 
-  -- The first of the rules that are left: what is told of it and then of the others, and what is
-  -- left of the set. For `tell_rules`.
+  -- The events of the first remaining rule and of the others, and the rest of the set. For
+  -- `tell_rules`.
   pub told_next : (rules : List PacketRule) (i : ℕ) (d : PacketRule) (left : ℕ) (told : A)
       → i < length rules
       → told ≡ tell (get_or rules i d)

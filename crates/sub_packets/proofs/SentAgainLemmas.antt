@@ -1,4 +1,4 @@
--- Packets that are sent again break the same rules again, and what is kept stays:
+-- Packets that are sent again break the same rules, and the state stays the same:
 -- `law_of_sent_again`, `heard_again`, `kept_last`.
 use Rattle.std.proofs.lemmas.Bool.Decides.{nat_tests}
 use Rattle.std.proofs.Common.{◌≡◌, ℕ, zero, suc, ◌<◌, Bool, true, not, ◌&&◌, ◌||◌, cond, List, []}
@@ -41,9 +41,9 @@ header_of :
 unfolding kind
 header_of w p e = grind (arith, nat_tests)
 
--- ---- what a rule looks back to
+-- ---- what the rules look back to
 
--- Where each rule is broken alike, the broken rules are the same.
+-- If each rule is broken in both cases or in neither, the broken rules are the same.
 rules_alike :
     (w : Watched) (b c : List (List ℕ)) (p : List ℕ)
     → ((r : PacketRule) → breaks r w b p ≡ breaks r w c p)
@@ -60,17 +60,17 @@ breaks_alike :
 unfolding breaks
 breaks_alike w b c p same x = grind (arith, nat_tests)
 
--- What is kept after one list is what is kept after another that looks alike.
+-- The state fits either of two lists that look alike.
 knows_alike :
     (b c : List (List ℕ)) (s : Listener) → LookAlike s.watched b c → Knows b s → Knows c s
 knows_alike b c s same k = grind (arith, nat_tests)
 
--- With the same header again, the first stays.
+-- With the same header again, the first header stays.
 same_first : (o : Option Header) (h : Header)
     → option_or o (Some h) ≡ option_or (option_or o (Some h)) (Some h)
 same_first o h = grind arith
 
--- It is of another mode than the first one where it was before.
+-- Repeating a header does not change whether it contradicts the first one.
 same_mode : (o : Option Header) (h : Header)
     → is_other_mode (option_map (λ (x : Header). c11 x) (option_or o (Some h))) (Some (c11 h))
     ≡ is_other_mode (option_map (λ (x : Header). c11 x) o) (Some (c11 h))
@@ -81,14 +81,14 @@ module _
     (w : Watched) (heard : List (List ℕ)) (first : List ℕ)
     (is : begins_text w.keeps (kind w.page first) ≡ true)
   where
-    -- The first page header after a header of the page and others.
+    -- The first page header after a header of the page and other packets.
     first_after :
         (xs others : List (List ℕ)) (h : Header)
         → header first ≡ Some h
         → first_header (xs ++ first ∷ others) ≡ option_or (first_header xs) (Some h)
     first_after xs others h e = grind (arith, first_header-append)
 
-    -- It is one of the page.
+    -- It is a header of the page.
     is_header : is_this_page (kind w.page first) ≡ true
     is_header = begins_is_header w.keeps (kind w.page first) is
 
@@ -99,8 +99,8 @@ module _
     last_after xs more h e =
         let both = last_header-append w.page xs (first ∷ more) in grind (arith, nat_tests)
 
-    -- After a header with which the text begins what came before it does not matter, but for the
-    -- first header, which is then there.
+    -- After a header that begins the text, the packets before it no longer matter. Only the first
+    -- page header does, which exists by then.
     alike :
         (others more : List (List ℕ))
         → LookAlike w (heard ++ first ∷ more) ((heard ++ first ∷ others) ++ first ∷ more)
@@ -158,7 +158,6 @@ module _
         rw (append-nil heard, append-nil (heard ++ first ∷ others)) (sym (first_again others r)))
     breaks_again others (suc k) l = grind (arith, nat_tests, rules_alike, breaks_alike, alike)
 
--- Packets that begin with such a header break the same rules again.
 pub law_of_sent_again : LawOfSentAgain
 law_of_sent_again w heard packets begins =
     let first = begins.first in
@@ -170,9 +169,9 @@ law_of_sent_again w heard packets begins =
       alike w heard first begins.is_header others others,
     )
 
--- ---- what is kept of the packets heard last
+-- ---- the state for the last packets
 
--- The text begins with one of them, where it does with the first.
+-- If the text begins with the first packet, it begins with one of them.
 begun_by : (w : Watched) (ps : List (List ℕ))
     → BeginsWithHeader w ps
     → holds_beginning w.keeps (kind w.page) ps ≡ true
@@ -180,7 +179,7 @@ begun_by w ps begins =
     subst (λ (xs : List (List ℕ)). holds_beginning w.keeps (kind w.page) xs ≡ true)
     (sym begins.packets_are) (or_left _ _ begins.is_header)
 
--- The packets heard last, sent again. For `hear_sending`.
+-- The last packets, received again. For `hear_sending`.
 pub heard_again :
     (heard last ps : List (List ℕ)) (headers : ℕ) (s : Listener)
     → KnowsLast heard last s
@@ -213,7 +212,7 @@ heard_again heard last ps headers s known is same =
           (grind (arith, nat_tests))),
     )
 
--- What is kept of the packets heard last, where they were heard just now. For `hear_all`.
+-- The state for the last packets, after receiving them. For `hear_all`.
 pub kept_last :
     (w : Watched) (heard ps : List (List ℕ)) (headers from : ℕ) (before begun begins clean : Bool)
     (s : Listener)

@@ -1,5 +1,5 @@
--- The frames at which the same page is due, `due_same`; what was due within the last frames,
--- `left_first`, `left_more` and `left_all`; and the first cell that is left, `undue_is`.
+-- Frames with the same due page, `due_same`; codes that were due within the last frames,
+-- `left_first`, `left_more` and `left_all`; the first cell that is left, `undue_is`.
 use Rattle.std.proofs.lemmas.Bool.Decides.{nat_tests}
 use Rattle.std.proofs.lemmas.List.{get_or-replicate}
 use Rattle.std.proofs.Common.{◌≡◌, ℕ, zero, suc, ◌+◌, ◌-◌, ◌<◌, ◌≤◌}
@@ -20,9 +20,9 @@ use Rattle.sub_packets.proofs.WrongCellLemmas.{by_cells, cell-blank, first_cell-
 use Rattle.sub_packets.proofs.WrongCellLemmas.{first_difference}
 use Rattle.sub_rules.specs.Events.{was_due}
 
--- ---- frames at which the same page is due
+-- ---- frames with the same due page
 
--- Where no edge lies between two frames, the same page is due. For `frame_before`.
+-- Without a page change between two frames the same page is due. For `frame_before`.
 pub due_same : (programme : ProgrammeValue) (f at : ℕ)
     → f ≤ at
     → ((e : ℕ) → IsEdge programme.records e → f < e → e ≤ at → ⊥)
@@ -33,10 +33,10 @@ due_same programme f at until none =
     (due_back programme.drawing programme.records at (at - f) (omega arith)
     (λ e edge after low. none e edge (omega arith) low))
 
--- ---- what was due
+-- ---- codes that were due
 
 module _ (page : ℕ → Rows) (first f : ℕ) where
-  -- One frame more, at which the same page was due as at the one after it.
+  -- One more frame, with the same due page as the frame after it.
   was_due-one : (n row column code : ℕ)
       → (first + suc n ≤ f → page (f - suc n) ≡ page (f - n))
       → was_due page first f (suc n) row column code ≡ was_due page first f n row column code
@@ -45,7 +45,7 @@ module _ (page : ℕ → Rows) (first f : ℕ) where
       let here : f - 0 ≡ f = omega arith in grind (arith, nat_tests)
   was_due-one (suc n) row column code same = grind (arith, nat_tests)
 
-  -- More frames, at which the same page was due as at the last of them.
+  -- More frames, with the same due page as the last of them.
   was_due-same : (n m row column code : ℕ)
       → n ≤ m
       → ((j : ℕ) → n ≤ j → j < m → first + suc j ≤ f → page (f - suc j) ≡ page (f - j))
@@ -54,7 +54,7 @@ module _ (page : ℕ → Rows) (first f : ℕ) where
   was_due-same n (suc m) row column code low same =
       grind (arith, nat_tests, was_due-one, (was_due-same n m row column code))
 
-  -- The codes that are due at the frame itself are left out. For `left_of`.
+  -- The codes that are due at the frame itself are removed. For `left_of`.
   pub left_first : (shown left : Rows)
       → ((row column : ℕ) → IsCell row column
       → cell left row column ≡ unless_due (cell (page f) row column) (cell shown row column))
@@ -63,8 +63,8 @@ module _ (page : ℕ → Rows) (first f : ℕ) where
   left_first shown left cells row column is =
       let none : f - f ≡ 0 = omega arith in rw none (cells row column is)
 
-  -- And those that were due at a frame before, where the same page was due since the one after it.
-  -- For `left_of`.
+  -- So are those of an earlier frame, if the same page was due up to the frame examined before. For
+  -- `left_of`.
   pub left_more : (at before : ℕ) (shown left new : Rows)
       → before < at
       → at ≤ f
@@ -88,7 +88,7 @@ module _ (page : ℕ → Rows) (first f : ℕ) where
       ∙ sym (same (f - j) (omega arith) (omega arith))) in
       rw next (grind (arith, nat_tests))
 
-  -- Those of all these frames, where the same page was due since the earliest of them. For
+  -- So are those of all these frames, if the same page was due since the earliest of them. For
   -- `left_of`.
   pub left_all : (at n : ℕ) (shown left : Rows)
       → at ≤ f
@@ -100,7 +100,7 @@ module _ (page : ℕ → Rows) (first f : ℕ) where
 
 -- ---- the first cell that is left
 
--- The first cell that is left shows a code that was not due. For `first_undue`.
+-- The first cell that is left has a code that was not due. For `first_undue`.
 pub undue_is :
     (s : Listener) (page : ℕ → Rows) (first f n : ℕ) (left : Rows) (o : Option (ℕ × ℕ))
     → IsLeft page first f n s.comparison.page left
@@ -115,7 +115,7 @@ undue_is s page first f n left o is_left found =
     grind (arith, nat_tests))
     (by_cells left blank o (λ place. DiffersFirst left blank place.0 place.1) found)
 
--- Nothing is left of a page of spaces. For `first_undue`.
+-- Nothing is left of a blank page. For `first_undue`.
 pub undue_none :
     (s : Listener) (page : ℕ → Rows) (first f n : ℕ)
     → differing blank s.comparison.page ≡ 0

@@ -1,11 +1,11 @@
--- What a listener finds of the page that it keeps. Of the crates above, private functions alone
--- cite this.
+-- Properties of the page that a listener keeps. In other crates, only contracts of private
+-- functions use them.
 use Rattle.std.specs.Prelude.{ℕ, ◌-◌, ◌&&◌, ◌||◌, ◌==◌, Bool, Option, false, not, slice_index_or}
 use Rattle.ttx_page.specs.Page.{Rows, cell, space}
 use Rattle.sub_rules.specs.Events.{first_cell, was_due}
 use Rattle.sub_packets.specs.declared.listener.Listener.{Listener}
 
--- A cell is right: it shows what is due, and where repeats may keep the page, text in it came since
+-- A cell is right: it has the due code, and, if repeats may keep the page, text in it came since
 -- the last header of the page.
 abbrev pub is_right_kept : Listener → ℕ → ℕ → Bool
 is_right_kept s row column =
@@ -14,12 +14,12 @@ is_right_kept s row column =
     || cell s.comparison.due row column == space
     || slice_index_or s.again (row - 1) false)
 
--- The first cell that is not.
+-- The first wrong cell.
 unfoldable pub wrong_kept : Listener → Option (ℕ × ℕ)
 wrong_kept s = first_cell (λ row column. not (is_right_kept s row column))
 
--- The first cell that shows neither a space nor a code that was due there at frame f or at one of
--- the last n, from the first frame on.
+-- The first cell whose code is neither a space nor was due there at frame f or at one of the n
+-- frames before it, from `first` on.
 unfoldable pub undue_kept : Listener → (ℕ → Rows) → ℕ → ℕ → ℕ → Option (ℕ × ℕ)
 undue_kept s due first f n =
     first_cell
@@ -27,6 +27,6 @@ undue_kept s due first f n =
     not (cell s.comparison.page row column == space)
     && not (was_due due first f n row column (cell s.comparison.page row column)))
 
--- The page is open, where complete pages are asked for.
+-- Complete pages are required, and the page is still open.
 abbrev pub is_incomplete_kept : Listener → Bool
 is_incomplete_kept s = s.watched.complete && s.is_open

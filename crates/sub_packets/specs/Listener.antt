@@ -1,5 +1,5 @@
--- What a listener keeps of the packets that it heard, tied to the packets, whatever rules they
--- break. Of the crates above, private functions alone cite this.
+-- How the state of a listener follows from the packets that it received, whatever rules they break.
+-- In other crates, only contracts of private functions use it.
 use Rattle.std.specs.Prelude.{◌≡◌, ℕ, ◌-◌, ◌<◌, ◌≤◌, Bool, false, List, [], ◌∷◌, ◌++◌, Option}
 use Rattle.std.specs.Prelude.{None, Some, if◌then◌else◌, is_some, length, option_map, not}
 use Rattle.std.specs.Prelude.{◌+◌, ◌*◌, ◌&&◌, ◌||◌, ◌==◌, nat_lt, true}
@@ -20,25 +20,26 @@ use Rattle.sub_rules.specs.declared.packet_rule.Watched.{Watched}
 
 -- ---- a set of rules
 
--- The set of the rules of a list that pass a test: a bit for each, that of the first the lowest.
+-- The set of the rules of a list that pass a test: one bit for each, the first rule in the lowest
+-- bit.
 unfoldable pub rule_set : (PacketRule → Bool) → List PacketRule → ℕ
 rule_set test [] = 0
 rule_set test (r ∷ rules) = (if test r then 1 else 0) + 2 * rule_set test rules
 
--- ---- what is kept
+-- ---- the state
 
--- What is held of a row: the codes of its first packet; spaces, where there is none.
+-- The codes of a row, given its first packet; spaces if there is none.
 abbrev pub held : Option (List ℕ) → List ℕ
 held None = blank_row
 held (Some p) = codes_of p
 
--- What is kept is what the packets say, looking back over all of them.
+-- The state is what the definitions give, which look back over all packets.
 pub record Knows (heard : List (List ℕ)) (s : Listener) : Type 0 where
   pub serial_is : s.serial ≡ option_map (λ (h : Header). c11 h) (first_header heard)
   pub open_is : s.is_open ≡ is_open_after (kind s.watched.page) heard
   pub subcode_is :
       s.subcode ≡ option_map (λ (h : Header). h.subcode) (last_header s.watched.page heard)
-  -- The rows that the long span holds, and of each the codes of its first packet.
+  -- The rows received since the text began, and the codes of the first packet of each.
   pub sent_is : (row : ℕ) → 1 ≤ row → row ≤ 24
       → slice_index_or s.sent (row - 1) false
       ≡ is_some
@@ -47,17 +48,17 @@ pub record Knows (heard : List (List ℕ)) (s : Listener) : Type 0 where
       → row_at s.comparison.page row
       ≡ held
       (first_of_row s.watched.page (text_span s.watched.keeps (kind s.watched.page) heard) row)
-  -- The rows that the span holds.
+  -- The rows received since the last header of the page.
   pub again_is : (row : ℕ) → 1 ≤ row → row ≤ 24
       → slice_index_or s.again (row - 1) false ≡ has_row s.watched.page heard row
 
--- The first n packets of a frame, sent after these, break no rule.
+-- The first n packets of a frame, sent after those of `before`, break no rule.
 abbrev pub BreakNone : Watched → List (List ℕ) → List (List ℕ) → ℕ → Type 0
 BreakNone w before packets n =
     (k : ℕ) → k < n → broken_rules w (before ++ take k packets) (slice_index_or packets k []) ≡ []
 
--- The packets heard last begin with a header with which the text begins, hold `headers` headers of
--- the page, and break no rule.
+-- The last packets begin with a header that begins the text, contain `headers` headers of the page,
+-- and break no rule.
 pub record WereJudged (w : Watched) (heard last : List (List ℕ)) (headers : ℕ) : Type 0 where
   pub before : List (List ℕ)
   pub heard_is : heard ≡ before ++ last
@@ -65,39 +66,39 @@ pub record WereJudged (w : Watched) (heard last : List (List ℕ)) (headers : �
   pub clean : BreakNone w before last (length last)
   pub count : header_count w.page last ≡ headers
 
--- The text of the page begins with one of the packets of a frame: with one of the `from` packets of
--- it before these, or with one of these.
+-- The text of the page begins with a packet of a frame: with one of its first `from` packets, or
+-- with one of these.
 abbrev pub begins_frame : Watched → ℕ → Bool → List (List ℕ) → Bool
 begins_frame w from before packets =
     (nat_lt 0 from && before) || holds_beginning w.keeps (kind w.page) packets
 
--- What is kept of all packets heard, and of those heard last.
+-- The state for all packets, and for the last ones.
 pub record KnowsLast (heard last : List (List ℕ)) (s : Listener) : Type 0 where
   pub knows : Knows heard s
   pub last_is : (headers : ℕ) → s.last ≡ Some headers → WereJudged s.watched heard last headers
   pub begun_is : (headers : ℕ) → s.last ≡ Some headers → s.begun ≡ true
 
--- ---- packets that are passed
+-- ---- packets that need not be examined
 
--- A header with this C11 is of the mode of the first header, where there was one.
+-- A header with this C11 has the C11 of the first header. There was one.
 abbrev pub is_of_mode : Option Bool → Bool → Bool
 is_of_mode None serial = false
 is_of_mode (Some first) serial = is_same_bit first serial
 
--- A header of a magazine, in code words, is of the mode, is no header of the page, and does not end
--- the page while it is open.
+-- A header, without coding errors, has the C11 of the first header, is no header of the page, and
+-- does not end it while it is open.
 abbrev pub is_passed_header : ℕ → Header → Listener → Bool
 is_passed_header magazine h s =
     is_of_mode s.serial (c11 h)
     && (if s.is_open then not (magazine == s.watched.page.magazine) && not (c11 h)
     else not (magazine == s.watched.page.magazine && h.page == s.watched.page.page))
 
--- A packet that comes now breaks no rule, and leaves what is kept as it is.
+-- The packet, coming next, breaks no rule and leaves the state as it is.
 pub record IsPassed (heard : List (List ℕ)) (p : List ℕ) (s : Listener) : Type 0 where
   pub breaks_none : rule_set (λ r. breaks r s.watched heard p) packet_rules ≡ 0
   pub knows : Knows (heard ++ p ∷ []) s
 
--- Whenever the packet comes it is no header of the page, breaks no rule, and leaves what is kept as
+-- Whenever the packet comes, it is no header of the page, breaks no rule, and leaves the state as
 -- it is.
 pub record IsAlwaysPassed (p : List ℕ) (s : Listener) : Type 0 where
   pub no_header : is_this_page (kind s.watched.page p) ≡ false

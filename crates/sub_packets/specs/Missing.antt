@@ -1,12 +1,12 @@
--- The earlier of two cells. Of the crates above, private functions alone cite this.
+-- The earlier of two cells. In other crates, only contracts of private functions use it.
 use Rattle.std.specs.Prelude.{ℕ, ◌==◌, ◌&&◌, ◌||◌, Option, Some, None, nat_le, nat_lt, Bool}
 use Rattle.std.specs.Prelude.{if◌then◌else◌}
 
--- The one cell is not after the other: by its row, and then by its column.
+-- The first cell is not after the second, by row and then by column.
 abbrev pub is_not_after : ℕ × ℕ → ℕ × ℕ → Bool
 is_not_after a b = nat_lt a.0 b.0 || (a.0 == b.0 && nat_le a.1 b.1)
 
--- The earlier of two cells, where there are any.
+-- The earlier of two optional cells.
 abbrev pub earlier : Option (ℕ × ℕ) → Option (ℕ × ℕ) → Option (ℕ × ℕ)
 earlier None other = other
 earlier (Some a) None = Some a

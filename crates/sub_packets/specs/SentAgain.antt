@@ -1,4 +1,4 @@
--- Packets that are sent again: where the first of them is a header with which the text of the page
+-- Packets that are sent again. If the first of them is a header with which the text of the page
 -- begins, each breaks the same rules again.
 use Rattle.std.specs.Prelude.{◌≡◌, ℕ, ◌<◌, List, [], ◌∷◌, ◌++◌, length, IsTrue, slice_index_or}
 use Rattle.std.specs.Prelude.{take}
@@ -16,8 +16,9 @@ pub record BeginsWithHeader (w : Watched) (packets : List (List ℕ)) : Type 0 w
   pub packets_are : packets ≡ first ∷ others
   pub is_header : IsTrue (begins_text w.keeps (kind w.page first))
 
--- All that is looked back to is the same after two lists of packets: the first page header, the
--- last header of the page, whether the page is open, its span, and its long span.
+-- Both lists of packets leave everything that the rules look back to the same: the first page
+-- header, the last header of the page, whether the page is open, and the packets since its last
+-- header and since its text began.
 pub record LookAlike (w : Watched) (one other : List (List ℕ)) : Type 0 where
   pub header_is : first_header one ≡ first_header other
   pub last_is : last_header w.page one ≡ last_header w.page other
@@ -25,7 +26,7 @@ pub record LookAlike (w : Watched) (one other : List (List ℕ)) : Type 0 where
   pub span_is : span (kind w.page) one ≡ span (kind w.page) other
   pub text_is : text_span w.keeps (kind w.page) one ≡ text_span w.keeps (kind w.page) other
 
--- Each of these packets breaks the same rules, sent after the one list and after the other.
+-- Each of these packets breaks the same rules after the one list as after the other.
 abbrev pub BreakAlike : Watched → List (List ℕ) → List (List ℕ) → List (List ℕ) → Type 0
 BreakAlike w one other packets =
     (k : ℕ)
@@ -33,9 +34,9 @@ BreakAlike w one other packets =
     → broken_rules w (one ++ take k packets) (slice_index_or packets k [])
     ≡ broken_rules w (other ++ take k packets) (slice_index_or packets k [])
 
--- Packets that begin with such a header break the same rules again when they are sent again at
--- once, and leave all that is looked back to as they left it before.
--- So a checker need not look at a sending that broke none, sent again.
+-- Packets that begin with such a header break the same rules when they are sent again at once, and
+-- leave everything that the rules look back to as it was. So a checker need not examine packets
+-- that broke no rule when they are sent again.
 abbrev pub LawOfSentAgain : Type 0
 LawOfSentAgain =
     (w : Watched) (heard packets : List (List ℕ))

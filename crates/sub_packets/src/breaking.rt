@@ -1,4 +1,4 @@
-//! The rules that a packet breaks, by what is kept of the packets before it.
+//! The rules that a packet breaks, given the packets before it.
 ghost use Rattle.std.specs.Prelude.{◌≡◌, ℕ, ◌-◌, ◌<◌, ◌≤◌, ◌&&◌, ◌==◌, List, drop, false, is_some};
 ghost use Rattle.std.specs.Prelude.{not, slice_index_or};
 ghost use Rattle.ttx_packet.specs.PacketAddress.{address};
@@ -24,8 +24,8 @@ use ttx_page::PacketKind;
 impl Listener {
     ghost use Rattle.sub_packets.specs.Listener.{Knows};
 
-    /// The rules that a packet of this kind, with this page header, breaks which comes now. They
-    /// are put into the set from the last of their order to the first.
+    /// Returns the rules that the next packet breaks. `found` is its kind, and `page_header` its
+    /// page header. The set is built from the last rule to the first.
     #[inline(always)]
     pub(crate) fn broken_rules(
         &self,
@@ -45,7 +45,7 @@ impl Listener {
             .with_before(has_wrong_address(packet))
     }
 
-    // Those after the third of their order, which a packet breaks by what it is.
+    // Returns which of the rules after the third the packet breaks; these depend on its kind.
     #[inline(always)]
     fn broken_later(&self, packet: &Packet, found: PacketKind) -> RuleSet
         requires kind { found ≡ kind self.now.watched.page packet.now }
@@ -65,7 +65,8 @@ impl Listener {
         }
     }
 
-    // Whether a header of the page is a subtitle's, and may come now.
+    // Returns whether a header of the page has the control bits of a subtitle and may come at this
+    // point.
     fn is_subtitle(&self, header: &Header) -> bool
         ensures { (heard : List (List ℕ)) → Knows heard self.now
             → result ≡ is_subtitle_header self.now.watched heard header.now }
@@ -73,7 +74,7 @@ impl Listener {
         self.may_come(header) && has_subtitle_bits(self.watched.national, header)
     }
 
-    // Whether a header of the page erases it or, where repeats may keep it, repeats it.
+    // Returns whether a header of the page erases it, or repeats it if repeats may keep the page.
     fn may_come(&self, header: &Header) -> bool
         ensures { (heard : List (List ℕ)) → Knows heard self.now
             → result ≡ may_come self.now.watched heard header.now }
@@ -81,7 +82,7 @@ impl Listener {
         is_erasing(header) || (self.watched.keeps && self.repeats_page(header))
     }
 
-    // Whether a header of the page repeats it.
+    // Returns whether a header of the page repeats it.
     fn repeats_page(&self, header: &Header) -> bool
         ensures { (heard : List (List ℕ)) → Knows heard self.now → result
             ≡ repeats_page self.now.watched.complete self.now.watched.page heard header.now }
@@ -89,14 +90,14 @@ impl Listener {
         is_same_subcode(self.subcode, header) && !self.is_incomplete()
     }
 
-    // Whether the page is open, and a row's packet has an even byte.
+    // Returns whether the page is open and the packet of a row has a byte with even parity.
     fn has_even_row(&self, packet: &Packet) -> bool
         ensures { result ≡ (self.now.is_open && is_some (first_even_byte packet.now)) }
     {
         self.is_open && has_even_byte(packet)
     }
 
-    // Whether the page is open, and a row that was sent has other codes than a packet.
+    // Returns whether the page is open and the row was received before with other codes.
     fn has_changed(&self, row: u8, packet: &Packet) -> bool
         requires { IsRow row }
         ensures { result ≡ (self.now.is_open && slice_index_or self.now.sent (row - 1) false
@@ -106,7 +107,7 @@ impl Listener {
         self.is_open && self.sent[row as usize - 1] && self.comparison.differs_from(row, packet)
     }
 
-    // Whether the page is open, and a packet is X/25 to X/28 of its magazine.
+    // Returns whether the page is open and the packet is X/25 to X/28 of its magazine.
     fn is_enhanced(&self, packet: &Packet) -> bool
         ensures { result
             ≡ (self.now.is_open && is_of_enhancement self.now.watched.page (address packet.now)) }

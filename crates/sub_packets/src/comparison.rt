@@ -1,4 +1,5 @@
-//! The page that is kept beside the page that is due, and in how many cells they differ.
+//! The page that the packets show, next to the page that is due, and the number of cells that
+//! differ.
 ghost use Rattle.std.specs.Prelude.{◌≡◌, ◌↔◌, ℕ, ◌-◌, ◌≤◌, ◌==◌, not, IfSome, IsTrue, MatchOption};
 ghost use Rattle.std.specs.Prelude.{Some, slice_set};
 ghost use Rattle.ttx_page.specs.Differing.{row_differing};
@@ -18,16 +19,17 @@ use ttx_page::{Page, differing_columns};
 
 /// The page that is shown, and the page that is due.
 ///
-/// The number of cells in which they differ is kept from the first header on that follows where
-/// another page is due: a row that is shown changes it by the cells of the row.
+/// After another page becomes due, the number of differing cells is unknown up to the next header.
+/// From there on each row updates it.
 #[derive(Drop)]
 pub struct Comparison {
     page: Page,
     due: Page,
-    // In how many cells the two differ. `None` from where another page is due up to the next
-    // header, which most often comes before anybody asks.
+    // The number of differing cells. `None` after another page became due, up to the next header,
+    // which usually comes before the number is needed.
     wrong: Option<u16>,
-    // In how many the blank page differs from the due one: what `wrong` is after a header.
+    // The number of cells in which a blank page differs from the due page: the value of `wrong`
+    // after a header.
     blank_wrong: u16,
 }
 
@@ -42,7 +44,7 @@ impl Model for Comparison {
 }
 
 impl Comparison {
-    /// A blank page beside a page that is due.
+    /// Returns a blank page next to the page that is due.
     pub(crate) fn new(due: Page) -> Self
         ensures { result ≡ record { page = blank; due = due } }
     {
@@ -55,7 +57,7 @@ impl Comparison {
         }
     }
 
-    /// Another page is due, that of a programme at a frame; gives what `Programme::draw_due` does.
+    /// Draws the page that is due at a frame, and returns what `Programme::draw_due` returns.
     pub(crate) fn draw_due(
         &mut self,
         programme: &Programme,
@@ -72,7 +74,7 @@ impl Comparison {
         drawn
     }
 
-    /// A blank page is shown.
+    /// Blanks the page that is shown.
     pub(crate) fn clear(&mut self)
         ensures { self.new ≡ record self.old { page = blank } }
     {
@@ -80,7 +82,7 @@ impl Comparison {
         self.wrong = Some(self.blank_wrong);
     }
 
-    /// A row is shown.
+    /// Sets a row of the page that is shown.
     pub(crate) fn set_row(&mut self, row: u8, codes: &[u8; 40])
         requires row { IsRow row }
         requires codes { AreCodes codes.now }
@@ -95,7 +97,7 @@ impl Comparison {
         self.wrong = recounted(self.wrong, before, after);
     }
 
-    /// Whether a row that is shown holds other codes than a packet.
+    /// Returns whether the row that is shown has other codes than the packet.
     pub(crate) fn differs_from(&self, row: u8, packet: &Packet) -> bool
         requires { IsRow row }
         ensures { result
@@ -104,7 +106,7 @@ impl Comparison {
         differing_columns(self.page.row(row), &text_codes(packet)) != 0
     }
 
-    /// Whether the count tells that no cell differs from the due page.
+    /// Returns whether the count shows that no cell differs from the due page.
     #[inline(always)]
     #[tactic(auto, using(ttx_page::proofs::DifferingLemmas::cells_same))]
     pub(crate) fn is_known_right(&self) -> bool
@@ -114,21 +116,21 @@ impl Comparison {
         is_zero(self.wrong)
     }
 
-    /// The page that is shown.
+    /// Returns the page that is shown.
     pub(crate) fn shown(&self) -> &Page
         ensures { result.now ≡ self.now.page }
     {
         &self.page
     }
 
-    /// The page that is due.
+    /// Returns the page that is due.
     pub(crate) fn due(&self) -> &Page
         ensures { result.now ≡ self.now.due }
     {
         &self.due
     }
 
-    /// The first cell that differs from the due page, found by the count where there is one.
+    /// Returns the first cell that differs from the due page. Uses the count if it is known.
     #[tactic(auto, using(ttx_page::proofs::DifferingLemmas::cells_same))]
     pub(crate) fn first_wrong(&self) -> Option<(u8, u8)>
         ensures { MatchOption result
@@ -144,7 +146,7 @@ impl Comparison {
     }
 }
 
-// A count after a row with `before` cells that differ gave place to one with `after`.
+// Returns the count after a row changed from `before` to `after` differing cells.
 fn recounted(wrong: Option<u16>, before: u16, after: u16) -> Option<u16>
     requires wrong { IfSome wrong (λ n. (before ≤ n) × (n ≤ 960)) }
     requires after { after ≤ 40 }
@@ -156,7 +158,6 @@ fn recounted(wrong: Option<u16>, before: u16, after: u16) -> Option<u16>
     }
 }
 
-// Whether there is a count, and it is 0.
 fn is_zero(count: Option<u16>) -> bool
     ensures { IsTrue result ↔ (count ≡ Some 0) }
 {
@@ -166,7 +167,7 @@ fn is_zero(count: Option<u16>) -> bool
     }
 }
 
-// How many cells of a row differ on two pages.
+// Returns the number of cells of a row in which two pages differ.
 fn row_wrong(page: &Page, due: &Page, row: u8) -> u16
     requires { IsRow row }
     ensures value { result ≡ row_differing (row_at page.now row) (row_at due.now row) }

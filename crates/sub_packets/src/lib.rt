@@ -1,8 +1,8 @@
-//! The packets of a sending: which of the rules of one packet they break, and what is held of them.
+//! Checks the packets of a frame against the rules for single packets, and keeps the page that they
+//! show.
 //!
-//! Stands on `sub_rules`, which says what is asked of a packet, and on `ttx_page` for the page that
-//! packets show. The checker, `sub_checker`, hears each sending with it, and asks at the end of a
-//! frame what is held.
+//! `sub_rules` defines the rules, and `ttx_page` the page that packets show. The checker,
+//! `sub_checker`, passes each frame to this crate, and asks at its end what the page shows.
 //!
 //! ```text
 //! let mut listener = Listener::new(watched, due);

@@ -1,4 +1,4 @@
-//! What is kept of the packets that were heard, and the rules that the next packet breaks.
+//! Keeps what the rules need of the packets received so far.
 ghost use Rattle.std.specs.Prelude.{◌≡◌, ◌≢◌, ℕ, ◌+◌, ◌-◌, ◌<◌, ◌≤◌, ◌++◌, List, [], ◌∷◌};
 ghost use Rattle.std.specs.Prelude.{length, IsTrue, true, false, map};
 ghost use Rattle.std.specs.Prelude.{replicate};
@@ -32,40 +32,39 @@ use ttx_packet::{Header, Packet, SentPacket};
 use ttx_page::{PacketKind, Page};
 use ttx_pes::SentUnits;
 
-/// What is kept of the packets that were heard.
+/// What the rules need of the packets received so far.
 ///
-/// Which rules a packet breaks depends on the packets before it: on the first page header, on
-/// whether the page is open, on the subcode of its last header, and on the rows sent since the last
-/// one with which its text begins. So much is kept of them, and the page that they show beside the
-/// page that is due.
+/// Which rules a packet breaks depends on the packets before it: on the first page header, whether
+/// the page is open, the subcode of its last header, and the rows received since its text began.
+/// The listener keeps these, and the page that the packets show next to the page that is due.
 #[derive(Drop)]
 pub struct Listener {
-    /// The page, its national option, whether complete pages are asked for, and whether repeats may
+    /// The page, its national option, whether complete pages are required, and whether repeats may
     /// keep the page.
     pub watched: Watched,
-    // C11 of the first header.
+    // C11 of the first page header.
     pub(crate) serial: Option<bool>,
     // The page is open for rows.
     pub(crate) is_open: bool,
     // The subcode of the last header of the page.
     pub(crate) subcode: Option<u16>,
-    // The rows that were sent since the last header of the page with which its text begins.
+    // The rows received since the last header with which the text of the page began.
     pub(crate) sent: [bool; 24],
-    // Those that were sent since its last header.
+    // The rows received since the last header of the page.
     pub(crate) again: [bool; 24],
-    /// The page that the packets show, beside the page that is due.
+    /// The page that the packets show, next to the page that is due.
     pub comparison: Comparison,
     /// The text of the page begins with one of the packets of the last frame.
     pub begun: bool,
-    // How many headers of the page the packets heard last hold, where the text begins with the
-    // first of these.
+    // The number of headers of the page in the last packets, if the text begins with the first of
+    // them and none breaks a rule.
     last: Option<u8>,
 }
 
-// What a packet was that was heard.
+// The properties of a packet that was received.
 #[derive(Clone, Copy)]
 struct Heard {
-    // A header of the page.
+    // It is a header of the page.
     is_header: bool,
     // The text begins with it.
     begins: bool,
@@ -79,7 +78,7 @@ impl Listener {
     ghost use Rattle.sub_packets.specs.Listener.{begins_frame};
     ghost use Rattle.sub_packets.specs.Listener.{is_passed_header, rule_set};
 
-    /// Nothing was heard, and this page is due.
+    /// Returns the state before the first packet, with this page due.
     pub fn new(watched: Watched, due: Page) -> Self
         ensures watched { result.watched ≡ watched }
         ensures due { result.comparison.due ≡ due }
@@ -98,7 +97,7 @@ impl Listener {
         }
     }
 
-    /// Another page is due, that of a programme at a frame; gives what `Programme::draw_due` does.
+    /// Draws the page that is due at a frame, and returns what `Programme::draw_due` returns.
     pub fn draw_due(
         &mut self,
         programme: &Programme,
@@ -114,19 +113,19 @@ impl Listener {
         self.comparison.draw_due(programme, frame, guess)
     }
 
-    /// Whether complete pages are asked for, and the page is open.
+    /// Returns whether complete pages are required and the page is still open.
     pub fn is_incomplete(&self) -> bool
         ensures { result ≡ is_incomplete_kept self.now }
     {
         self.watched.complete && self.is_open
     }
 
-    /// Hears packets of a frame, tells which rules they break, and says how many headers of the
-    /// page are among them. `again` says that they are those heard last. `from` is the number of
-    /// the first of them in its frame: 0, but after PES packets of the same frame.
+    /// Receives packets of a frame, reports the rules that they break, and returns the number of
+    /// headers of the page. `again`: they equal the last packets. `from` is the number of the first
+    /// packet in its frame, which is 0 except after PES packets of the same frame.
     ///
-    /// Packets that begin with a header with which the text begins and broke no rule break none
-    /// again, and leave what is kept as it is: no packet is looked at.
+    /// If packets that begin the text and break no rule are sent again, they break none and change
+    /// nothing, so they are not examined.
     #[inline(always)]
     pub fn hear_sending<A: Taker>(
         &mut self,
@@ -158,7 +157,7 @@ impl Listener {
         self.hear_all(units, frame, from, taker)
     }
 
-    // Hears packets of a frame, and tells which rules they break.
+    // Receives packets of a frame, and reports the rules that they break.
     #[inline(never)]
     fn hear_all<A: Taker>(
         &mut self,
@@ -203,11 +202,12 @@ impl Listener {
         headers
     }
 
-    // The number of the first packet that is not passed, from a number on; how many packets there
-    // are, where each is passed.
+    // Returns the number of the first packet from `from` on that has to be examined, or the number
+    // of packets if none has.
     //
-    // Most packets of a service are passed. So that is a function of its own, whose loop keeps what
-    // it asks in registers, and is compiled for a page that is open and for one that is not.
+    // Most packets of a service need not be examined. So this is a function of its own, whose loop
+    // keeps its values in registers, and which is compiled once for an open page and once for a
+    // closed one.
     #[inline(never)]
     fn next_heard(&self, units: &SentUnits<'_>, from: usize) -> usize
         requires { from ≤ length units.now }
@@ -225,8 +225,8 @@ impl Listener {
         units.len()
     }
 
-    // Whether a packet breaks no rule and changes nothing of what is kept, as its first two bytes
-    // tell, or of a page header the first ten.
+    // Returns whether a packet breaks no rule and changes nothing, as its first two bytes show, or
+    // the first ten of a page header.
     #[inline(always)]
     fn is_passed(&self, is_open: bool, packet: &SentPacket<'_>) -> bool
         requires { is_open ≡ self.now.is_open }
@@ -247,7 +247,8 @@ impl Listener {
         self.passes_header(magazine, packet)
     }
 
-    // Whether a page header is of the page or ends it, by its magazine and its page number alone.
+    // Returns whether a page header is of the page or ends it, from its magazine and page number
+    // alone.
     #[inline(always)]
     fn is_for_page(&self, is_open: bool, magazine: u8, packet: &SentPacket<'_>) -> bool
         ensures { magazine ≢ self.now.watched.page.magazine → result ≡ false }
@@ -256,7 +257,7 @@ impl Listener {
             && (is_open || packet.exact_page() == Some(self.watched.page.page()))
     }
 
-    // Whether the page is not open, or a packet is of another magazine.
+    // Returns whether the page is closed or the packet is of another magazine.
     #[inline(always)]
     fn is_closed_to(&self, is_open: bool, magazine: u8) -> bool
         ensures { result ≡ not (is_open && magazine == self.now.watched.page.magazine) }
@@ -264,9 +265,9 @@ impl Listener {
         !(is_open && magazine == self.watched.page.magazine())
     }
 
-    // Whether a page header of a magazine breaks no rule and changes nothing of what is kept.
+    // Returns whether a page header breaks no rule and changes nothing.
     //
-    // Apart from `is_passed`, which would else keep less in registers for packets of other kinds.
+    // Kept out of `is_passed`, which would otherwise keep less in registers for other packets.
     #[inline(never)]
     fn passes_header(&self, magazine: u8, packet: &SentPacket<'_>) -> bool
         ensures { IsTrue result → HasExactHeader packet.now × ((h : Header)
@@ -279,8 +280,7 @@ impl Listener {
         }
     }
 
-    // Whether a page header that says this, in code words, breaks no rule and changes nothing of
-    // what is kept.
+    // Returns whether a page header without coding errors breaks no rule and changes nothing.
     #[inline(always)]
     fn is_passed_header(&self, magazine: u8, header: &Header) -> bool
         ensures { result ≡ is_passed_header magazine header.now self.now }
@@ -297,7 +297,7 @@ impl Listener {
         }
     }
 
-    // Hears a packet that is not passed.
+    // Receives a packet that has to be examined.
     #[inline(never)]
     fn judge<A: Taker>(&mut self, packet: &Packet, frame: u32, number: u32, taker: &mut A) -> Heard
         ensures watched { self.new.watched ≡ self.old.watched }
@@ -329,8 +329,8 @@ impl Listener {
         }
     }
 
-    // Hears a packet of this kind, and says whether it is a header of the page. Of a row that was
-    // sent, the first packet stays.
+    // Receives a packet, and returns whether it is a header of the page. If a row is received
+    // again, its first packet stays.
     #[inline(always)]
     fn hear(&mut self, packet: &Packet, found: PacketKind, page_header: Option<Header>) -> bool
         requires kind { found ≡ kind self.old.watched.page packet.now }
@@ -368,7 +368,7 @@ impl Listener {
         }
     }
 
-    // Whether the page is open, and a row was not sent.
+    // Returns whether the page is open and the row was not received yet.
     fn is_new(&self, row: u8) -> bool
         requires { IsRow row }
         ensures { result
@@ -377,7 +377,7 @@ impl Listener {
         self.is_open && !self.sent[row as usize - 1]
     }
 
-    // A header of the page with which its text begins: it is blank, and no row was sent.
+    // Begins the text of the page with a header: the page is blank, and no row has been received.
     fn start(&mut self, subcode: u16)
         ensures { self.new ≡ record self.old {
           is_open = true;
@@ -394,7 +394,7 @@ impl Listener {
         self.comparison.clear();
     }
 
-    // A header of the page that keeps it: each row is to come again.
+    // Repeats the header of the page, which keeps its text: each row has to come again.
     fn repeat(&mut self, subcode: u16)
         ensures { self.new ≡ record self.old {
           is_open = true;
@@ -407,7 +407,7 @@ impl Listener {
         self.again = [false; 24];
     }
 
-    // A row is sent.
+    // Stores a row.
     fn store(&mut self, row: u8, codes: &[u8; 40])
         requires row { (1 ≤ row) × (row ≤ 24) }
         requires codes { AreCodes codes.now }
@@ -425,7 +425,7 @@ impl Listener {
         self.comparison.set_row(row, codes);
     }
 
-    // A row that was sent is sent again.
+    // Notes that a row was received again.
     fn set_again(&mut self, row: u8)
         requires { (1 ≤ row) × (row ≤ 24) }
         ensures { self.new ≡ record self.old {

@@ -1,4 +1,4 @@
-//! The rules of a single packet: tests that the listener joins with what it keeps.
+//! The rules for a single packet. The listener combines them with what it keeps.
 ghost use Rattle.std.specs.Prelude.{◌≡◌, ◌&&◌, Bool, not, Option, is_some, option_map};
 ghost use Rattle.std.specs.Option.{option_or};
 ghost use Rattle.ttx_packet.specs.PacketAddress.{IsPacket, address};
@@ -19,7 +19,7 @@ use stl_rows::{National, NationalBits};
 use ttx_packet::{Control, Header, Packet, PageId};
 use ttx_page::PacketKind;
 
-// Whether a packet is X/0.
+// Returns whether a packet is X/0.
 fn is_header_packet(packet: &Packet) -> bool
     ensures { result ≡ is_of_header (address packet.now) }
 {
@@ -29,8 +29,8 @@ fn is_header_packet(packet: &Packet) -> bool
     }
 }
 
-/// Whether a packet is X/0 and one of its eight coded bytes is no code word. `page_header` is what
-/// they say.
+/// Returns whether a packet is X/0 and one of its eight coded bytes is no code word. `page_header`
+/// is its page header.
 #[tactic(auto, using(crate::proofs::PacketRuleLemmas::header_is_zero))]
 pub(crate) fn has_wrong_codes(packet: &Packet, page_header: Option<Header>) -> bool
     requires { page_header ≡ header packet.now }
@@ -42,28 +42,28 @@ pub(crate) fn has_wrong_codes(packet: &Packet, page_header: Option<Header>) -> b
     }
 }
 
-/// Whether one of the two address bytes is no code word.
+/// Returns whether one of the two address bytes is no code word.
 pub(crate) fn has_wrong_address(packet: &Packet) -> bool
     ensures { result ≡ not (are_code_words 0 2 packet.now) }
 {
     !packet.is_clean_address()
 }
 
-// Whether one of the eight coded bytes is no code word.
+// Returns whether one of the eight coded bytes is no code word.
 fn has_wrong_word(packet: &Packet) -> bool
     ensures { result ≡ not (are_code_words 2 8 packet.now) }
 {
     !packet.is_clean_header()
 }
 
-/// C11, magazine serial.
+/// Returns C11, magazine serial.
 pub(crate) fn is_serial(header: &Header) -> bool
     ensures { result ≡ c11 header.now }
 {
     header.control.contains(Control::C11)
 }
 
-/// Whether a header, where there is one, has another C11 than the first one.
+/// Returns whether the packet has a page header with another C11 than the first page header.
 pub(crate) fn is_other_mode(serial: Option<bool>, page_header: Option<Header>) -> bool
     ensures { result ≡ is_other_mode serial (option_map (λ (h : Header). c11 h) page_header) }
 {
@@ -73,7 +73,7 @@ pub(crate) fn is_other_mode(serial: Option<bool>, page_header: Option<Header>) -
     }
 }
 
-/// C11 of the first header, one packet with this header or none on.
+/// Returns C11 of the first page header, after one more packet.
 pub(crate) fn first_serial(serial: Option<bool>, page_header: Option<Header>) -> Option<bool>
     ensures { result ≡ option_or serial (option_map (λ (h : Header). c11 h) page_header) }
 {
@@ -86,14 +86,14 @@ pub(crate) fn first_serial(serial: Option<bool>, page_header: Option<Header>) ->
     }
 }
 
-/// Whether a control bit is set.
+/// Returns whether a control bit is set.
 fn is_bit(control: Control, flag: Control) -> bool
     ensures { result ≡ is_set control flag.0 }
 {
     control.contains(flag)
 }
 
-/// C12, C13 and C14 of a header, which name its national option.
+/// Returns C12, C13 and C14 of a header, which name its national option.
 fn national_bits(header: &Header) -> NationalBits
     ensures { result ≡ national_bits header.now }
 {
@@ -104,14 +104,14 @@ fn national_bits(header: &Header) -> NationalBits
     }
 }
 
-/// Whether two bits are the same.
 pub(crate) fn is_same_bit(one: bool, other: bool) -> bool
     ensures { result ≡ is_same_bit one other }
 {
     one == other
 }
 
-/// Whether a header with this C11 is of the mode of the first header.
+/// Returns whether a header with this C11 has the C11 of the first page header; `false` if there
+/// was none.
 pub(crate) fn is_of_mode(serial: Option<bool>, is_serial: bool) -> bool
     ensures { result ≡ is_of_mode serial is_serial }
 {
@@ -121,15 +121,15 @@ pub(crate) fn is_of_mode(serial: Option<bool>, is_serial: bool) -> bool
     }
 }
 
-/// Whether a header erases the page: C4 is set.
+/// Returns whether a header erases the page: C4 is set.
 pub(crate) fn is_erasing(header: &Header) -> bool
     ensures { result ≡ c4 header.now }
 {
     is_bit(header.control, Control::C4)
 }
 
-/// Whether the text of the page begins with a packet of this kind: with a header of it that erases
-/// it, or any, where repeats may not keep it.
+/// Returns whether the text of the page begins with a packet of this kind: a header of the page
+/// that erases it, or any header of it if repeats may not keep the page.
 pub(crate) fn begins_text(keeps: bool, found: &PacketKind) -> bool
     ensures { result ≡ begins_text keeps found.now }
 {
@@ -139,7 +139,7 @@ pub(crate) fn begins_text(keeps: bool, found: &PacketKind) -> bool
     }
 }
 
-/// Whether a header has the subcode of the last one, where there was one.
+/// Returns whether a header has the subcode of the last one; `true` if there was none.
 pub(crate) fn is_same_subcode(last: Option<u16>, header: &Header) -> bool
     ensures { (o : Option Header) → last ≡ option_map (λ (h : Header). h.subcode) o
         → result ≡ is_same_subcode o header.now }
@@ -150,8 +150,8 @@ pub(crate) fn is_same_subcode(last: Option<u16>, header: &Header) -> bool
     }
 }
 
-/// Whether a header is a subtitle's, whatever C4 is: C6 and C7 are set, C5 and C10 are clear, and
-/// C12, C13 and C14 are those of the national option.
+/// Returns whether a header has the control bits of a subtitle, whatever C4 is: C6 and C7 are set,
+/// C5 and C10 are clear, and C12, C13 and C14 are those of the national option.
 pub(crate) fn has_subtitle_bits(national: National, header: &Header) -> bool
     ensures { result ≡ has_subtitle_bits national header.now }
 {
@@ -163,7 +163,7 @@ pub(crate) fn has_subtitle_bits(national: National, header: &Header) -> bool
         && national_bits(header) == national.bits()
 }
 
-/// Whether a packet is X/25 to X/28 of the page's magazine.
+/// Returns whether a packet is X/25 to X/28 of the page's magazine.
 pub(crate) fn is_enhancement(page: PageId, packet: &Packet) -> bool
     ensures { result ≡ is_of_enhancement page (address packet.now) }
 {
@@ -175,14 +175,14 @@ pub(crate) fn is_enhancement(page: PageId, packet: &Packet) -> bool
     }
 }
 
-/// Whether one of the 40 bytes of a packet's text is even.
+/// Returns whether one of the 40 text bytes of a packet has even parity.
 pub(crate) fn has_even_byte(packet: &Packet) -> bool
     ensures { result ≡ is_some (first_even_byte packet.now) }
 {
     packet.first_even().is_some()
 }
 
-/// The 40 codes of a packet's text: each byte without its parity bit.
+/// Returns the 40 codes of a packet's text: each byte without its parity bit.
 pub(crate) fn text_codes(packet: &Packet) -> [u8; 40]
     ensures value { result ≡ codes_of packet.now }
     ensures codes { AreCodes result }

@@ -1,4 +1,4 @@
-//! The rules that a packet breaks, as a set, and how they are told.
+//! The set of rules that a packet breaks, and its reports.
 ghost use Rattle.std.specs.Prelude.{◌≡◌, ◌+◌, ◌*◌, ◌==◌, ◌<◌, ◌≤◌, Bool, map};
 ghost use Rattle.std.specs.Prelude.{if◌then◌else◌};
 ghost use Rattle.std.specs.List.{filter};
@@ -10,7 +10,7 @@ ghost use Rattle.sub_rules.specs.PacketTests.{packet_rules};
 use crate::taker::{Taker, tell_if};
 use sub_rules::{CheckFault, Event, PacketRule};
 
-// The rules, in the order in which they are told of a packet.
+// The rules, in the order of their reports.
 const RULES: [PacketRule; 7] = [
     PacketRule::Address,
     PacketRule::HeaderCode,
@@ -21,20 +21,20 @@ const RULES: [PacketRule; 7] = [
     PacketRule::Enhancement,
 ];
 
-/// The rules that a packet breaks, or the last of them in their order: a bit for each, that of the
-/// first the lowest. It may break several.
+/// The rules that a packet breaks, or the last ones of them in their order: one bit for each, the
+/// first rule in the lowest bit.
 #[derive(Clone, Copy)]
 pub(crate) struct RuleSet(u8);
 
 impl RuleSet {
-    /// No rule.
+    /// Returns the empty set.
     pub fn none() -> RuleSet
         ensures { result.0 ≡ 0 }
     {
         RuleSet(0)
     }
 
-    /// The set, with the rule before its first where that is broken.
+    /// Returns the set with one more rule in front of the others, which is in it if it is broken.
     #[inline(always)]
     pub fn with_before(self, is_broken: bool) -> RuleSet
         requires room { self.0 < 0x80 }
@@ -44,7 +44,7 @@ impl RuleSet {
         RuleSet(is_broken as u8 + 2 * self.0)
     }
 
-    /// Of the rules from Control on: those of a row.
+    /// Returns the set of the rules from Control on that a row breaks.
     #[inline(always)]
     pub fn of_row(has_even_byte: bool, has_changed: bool) -> RuleSet
         ensures { result.0
@@ -53,7 +53,7 @@ impl RuleSet {
         RuleSet(2 * (has_even_byte as u8) + 4 * (has_changed as u8))
     }
 
-    /// Of the rules from Control on: that of a packet X/25 to X/28, or none.
+    /// Returns the set of the rules from Control on that a packet X/25 to X/28 breaks.
     #[inline(always)]
     pub fn of_enhancement(is_broken: bool) -> RuleSet
         ensures { result.0 ≡ 8 * (if is_broken then 1 else 0) }
@@ -61,7 +61,7 @@ impl RuleSet {
         RuleSet(8 * (is_broken as u8))
     }
 
-    /// Whether it holds no rule.
+    /// Returns whether the set is empty.
     pub fn has_none(self) -> bool
         ensures { result ≡ (self.0 == 0) }
     {
@@ -69,7 +69,7 @@ impl RuleSet {
     }
 }
 
-/// Tells the rules of a set, broken at a packet of a frame, in their order.
+/// Reports the rules of a set, broken by a packet of a frame, in their order.
 pub(crate) fn tell_rules<A: Taker>(rules: RuleSet, frame: u32, packet: u32, taker: &mut A)
     ensures { (test : PacketRule → Bool) → rules.0 ≡ rule_set test packet_rules
         → Tells A.is_told taker.old taker.new
@@ -86,7 +86,7 @@ pub(crate) fn tell_rules<A: Taker>(rules: RuleSet, frame: u32, packet: u32, take
     }
 }
 
-// The refusal of a packet that breaks a rule.
+// Returns the fault of a packet that breaks a rule.
 fn fault_of(rule: PacketRule, frame: u32, packet: u32) -> CheckFault
     ensures { result ≡ packet_fault rule frame packet }
 {

@@ -1,4 +1,4 @@
-//! What a page shows that was not due there within the last frames.
+//! Cells whose code was not due within the last frames.
 ghost use Rattle.std.specs.Prelude.{◌≡◌, ℕ, ◌+◌, ◌-◌, ◌<◌, ◌≤◌, ◌==◌, MatchOption};
 ghost use Rattle.std.specs.Prelude.{if◌then◌else◌, slice_index};
 ghost use Rattle.ttx_page.specs.Page.{AreCodes, IsCell, IsPage, IsRow, blank_row, cell};
@@ -12,11 +12,12 @@ use ttx_page::{Page, differing_columns};
 impl Listener {
     ghost use Rattle.sub_packets.specs.KeptPage.{undue_kept};
 
-    /// The first cell that shows neither a space nor a code that was due there at a frame or at
-    /// one of the `within` frames before it, none of them before the frame `first`.
+    /// Returns the first cell whose code is neither a space nor due there at `frame` or at one of
+    /// the `within` frames before it, from the frame `first` on.
     ///
-    /// It is asked at a frame's end at which the page is not whole and need not be. So nothing is
-    /// kept for it: the pages that were due are drawn anew, each once. No memory is taken.
+    /// This is only needed at the end of a frame if the page is wrong and still has time to become
+    /// right. So nothing is stored for it: the due pages are drawn again, each once, without
+    /// allocating memory.
     pub fn first_undue(
         &self,
         programme: &Programme,
@@ -27,7 +28,7 @@ impl Listener {
         ensures { result ≡ undue_kept self.now (due_in programme.now) first frame within }
     {
         let shown = self.comparison.shown();
-        // Most often a header has erased the page, and its rows come in a later frame.
+        // Usually a header has erased the page, and its rows come in a later frame.
         if shown.cells_not_blank() == 0 {
             return None;
         }
@@ -36,7 +37,7 @@ impl Listener {
     }
 }
 
-// What is left of a page without the codes that were due within the last frames.
+// Returns the page without the codes that were due within the last frames.
 fn left_of(shown: &Page, programme: &Programme, first: u32, frame: u32, within: u32) -> Page
     ensures { IsLeft (due_in programme.now) first frame within shown.now result }
 {
@@ -51,7 +52,7 @@ fn left_of(shown: &Page, programme: &Programme, first: u32, frame: u32, within: 
     left
 }
 
-// The earliest frame whose due page counts: one of the last frames, and none before the first one.
+// Returns the later of `first` and the frame that is `within` frames before `frame`.
 fn earliest(first: u32, frame: u32, within: u32) -> u32
     ensures first { first ≤ result }
     ensures last { frame ≤ result + within }
@@ -61,8 +62,8 @@ fn earliest(first: u32, frame: u32, within: u32) -> u32
     if from < first { first } else { from }
 }
 
-// The last frame before one at which another page may be due than there. `None` where that is
-// before the least frame.
+// Returns the last frame before `at` at which another page may be due; `None` if that is before
+// `least`.
 fn frame_before(programme: &Programme, at: u32, least: u32) -> Option<u32>
     ensures { MatchOption result
         ((f : ℕ) → least ≤ f → f ≤ at → due_in programme.now f ≡ due_in programme.now at)
@@ -75,7 +76,7 @@ fn frame_before(programme: &Programme, at: u32, least: u32) -> Option<u32>
     if edge > least { Some(edge - 1) } else { None }
 }
 
-// Makes a space of each cell of a page that shows the code that is due there.
+// Replaces each cell of the page that has the due code by a space.
 fn excuse(left: &mut Page, due: &Page)
     ensures { (row column : ℕ) → IsCell row column → cell left.new row column
         ≡ unless_due (cell due.now row column) (cell left.old row column) }
@@ -85,7 +86,7 @@ fn excuse(left: &mut Page, due: &Page)
     }
 }
 
-/// Makes a space of each cell of a row that shows the code that is due there. Most rows are blank.
+/// Replaces each cell of a row that has the due code by a space. Most rows are blank.
 pub(crate) fn excuse_row(left: &mut Page, due: &Page, row: u8)
     requires { IsRow row }
     ensures { (r column : ℕ) → IsCell r column → cell left.new r column
@@ -100,7 +101,7 @@ pub(crate) fn excuse_row(left: &mut Page, due: &Page, row: u8)
     }
 }
 
-// The columns of a row of spaces.
+// Returns a row of spaces.
 #[tactic(auto, unfolding(ttx_page::specs::Page::blank_row))]
 fn spaces() -> [u8; 40]
     ensures { result ≡ blank_row }
@@ -108,7 +109,7 @@ fn spaces() -> [u8; 40]
     [0x20; 40]
 }
 
-// The codes of a row, with a space for each that is due.
+// Returns the codes of a row, with a space for each code that is due.
 fn excused(shown: &[u8; 40], due: &[u8; 40]) -> [u8; 40]
     requires { AreCodes shown.now }
     ensures value { (column : ℕ) → column < 40 → slice_index result column
@@ -122,7 +123,7 @@ fn excused(shown: &[u8; 40], due: &[u8; 40]) -> [u8; 40]
     codes
 }
 
-// A code that is shown, or a space where it is the one that is due.
+// Returns the code, or a space if it is the due one.
 #[inline(always)]
 fn unless_due(due: u8, shown: u8) -> u8
     ensures { result ≡ unless_due due shown }

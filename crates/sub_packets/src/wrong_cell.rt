@@ -1,4 +1,4 @@
-//! The first cell that is not right: where repeats may keep the page, rows have to come again too.
+//! The first wrong cell. If repeats may keep the page, its rows have to come again, too.
 ghost use Rattle.std.specs.Prelude.{◌≡◌, ℕ, ◌-◌, ◌==◌, IsTrue, None, false};
 ghost use Rattle.std.specs.Prelude.{if◌then◌else◌, slice_index_or};
 ghost use Rattle.ttx_page.specs.Page.{IsCell, cell, space};
@@ -11,8 +11,8 @@ use ttx_page::Page;
 impl Listener {
     ghost use Rattle.sub_packets.specs.KeptPage.{wrong_kept};
 
-    /// Whether it is known without looking that each cell is right: it is not where repeats may
-    /// keep the page, since rows may not have come again.
+    /// Returns whether each cell is known to be right without a comparison. If repeats may keep the
+    /// page it never is, since rows may not have come again.
     #[inline(always)]
     pub fn is_known_right(&self) -> bool
         ensures { IsTrue result → wrong_kept self.now ≡ None }
@@ -20,8 +20,8 @@ impl Listener {
         self.comparison.is_known_right() && !self.watched.keeps
     }
 
-    /// The first cell that is not right: what is kept there is not what is due; or that is text,
-    /// and its row did not come since the last header of the page.
+    /// Returns the first wrong cell: one with another code than the due page, or one with due text
+    /// whose row has not come since the last header of the page.
     pub fn first_wrong(&self) -> Option<(u8, u8)>
         ensures { result ≡ wrong_kept self.now }
     {
@@ -33,7 +33,7 @@ impl Listener {
         earlier(differing, missing.first_difference(&Page::blank()))
     }
 
-    // The page that is due, without the rows that came since the last header of the page.
+    // Returns the due page without the rows that came since the last header of the page.
     fn missing(&self) -> Page
         ensures { (row column : ℕ) → IsCell row column → cell result row column
             ≡ (if slice_index_or self.now.again (row - 1) false
@@ -51,7 +51,7 @@ impl Listener {
     }
 }
 
-// The earlier of two cells, by its row and then by its column.
+// Returns the earlier of two cells, by row and then by column.
 fn earlier(one: Option<(u8, u8)>, other: Option<(u8, u8)>) -> Option<(u8, u8)>
     ensures { result ≡ earlier one other }
 {

@@ -1,4 +1,4 @@
--- One code more: CodesLemmas.
+-- One more code: CodesLemmas.
 use Rattle.std.proofs.lemmas.Bool.Decides.{nat_tests}
 use Rattle.std.proofs.Common.{arith}
 use Rattle.std.proofs.lemmas.List.{get_or-drop, length-drop}

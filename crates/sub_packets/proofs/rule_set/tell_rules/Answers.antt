@@ -1,4 +1,4 @@
--- The first of the rules that are left: RuleSetLemmas.
+-- The first of the remaining rules: RuleSetLemmas.
 use Rattle.std.proofs.Common.{◌≡◌, ap, sym, ◌∙◌, arith, eqb-true}
 use Rattle.sub_io.proofs.TellingLemmas.{Tells-none, Tells-trans}
 use Rattle.sub_packets.proofs.RuleSetLemmas.{no_rules, told_next}

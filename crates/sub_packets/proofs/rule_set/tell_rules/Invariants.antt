@@ -1,4 +1,4 @@
--- What is left to be told of the rules that are left is told of all.
+-- The events of the remaining rules are those still to be told.
 use Rattle.std.proofs.Common.{◌≡◌, Bool, drop, map}
 use Rattle.std.specs.List.{filter}
 use Rattle.sub_io.specs.Telling.{Tells}

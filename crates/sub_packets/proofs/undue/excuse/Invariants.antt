@@ -1,4 +1,4 @@
--- The rows so far are without the codes that are due; the others are as they were.
+-- The due codes are removed from the rows so far; the others are unchanged.
 use Rattle.std.proofs.Common.{◌≡◌, ℕ, ◌<◌, ◌≤◌}
 use Rattle.ttx_page.specs.Page.{IsCell, cell}
 use Rattle.sub_packets.specs.Undue.{unless_due}

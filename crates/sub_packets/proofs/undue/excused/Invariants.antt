@@ -1,4 +1,4 @@
--- The columns so far are without the codes that are due.
+-- The due codes are removed from the columns so far.
 use Rattle.std.proofs.Common.{◌≡◌, ℕ, ◌<◌, length, slice_index}
 use Rattle.ttx_page.specs.Page.{AreCodes}
 use Rattle.sub_packets.specs.Undue.{unless_due}

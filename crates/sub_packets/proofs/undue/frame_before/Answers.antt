@@ -1,4 +1,4 @@
--- No edge lies between: due_same.
+-- The due page does not change in between: due_same.
 use Rattle.std.proofs.Common.{arith}
 use Rattle.sub_packets.proofs.UndueLemmas.{due_same}
 use Rattle.sub_packets.proofs.undue.frame_before.Goals as goal

@@ -1,4 +1,4 @@
--- The frames from the one that was looked at last on: UndueLemmas.
+-- The frames from the one that was examined last: UndueLemmas.
 use Rattle.std.proofs.Common.{arith}
 use Rattle.sub_plan.specs.Schedule.{due_in}
 use Rattle.sub_packets.proofs.UndueLemmas.{left_all, left_first, left_more}

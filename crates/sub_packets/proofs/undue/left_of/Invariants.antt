@@ -1,4 +1,4 @@
--- What is left is that of the frames from the one that was looked at last on.
+-- What is left, given the frames from the one that was examined last.
 use Rattle.std.proofs.Common.{◌+◌, ◌-◌, ◌≤◌}
 use Rattle.sub_packets.specs.Undue.{IsLeft}
 use Rattle.sub_plan.specs.Schedule.{due_in}

@@ -1,4 +1,4 @@
--- The rules of every packet, and then those of what the packet is: PacketRuleLemmas.
+-- The rules for all packets, and then those for its kind: PacketRuleLemmas.
 use Rattle.std.proofs.Common.{arith}
 use Rattle.sub_packets.proofs.PacketRuleLemmas.{rules_are}
 use Rattle.sub_packets.proofs.listener.Listener.broken_rules.Goals as goal

@@ -1,4 +1,4 @@
--- What is left of the page that is shown: UndueLemmas.
+-- The cells that are left of the page: UndueLemmas.
 use Rattle.std.proofs.Common.{MatchOption, ◌≡◌, sym, ◌∙◌, ap, arith, subst}
 use Rattle.ttx_page.specs.Differing.{differing}
 use Rattle.ttx_page.specs.Page.{DiffersFirst, Rows, blank}

@@ -1,4 +1,4 @@
--- What is kept is what the packets say: WrongCellLemmas.
+-- The kept page is that of the packets: WrongCellLemmas.
 use Rattle.std.proofs.lemmas.Bool.Decides.{nat_tests}
 use Rattle.std.proofs.Common.{arith, ◌≡◌, ◌∙◌, MatchOption, subst}
 use Rattle.ttx_page.specs.Page.{DiffersFirst, Rows}

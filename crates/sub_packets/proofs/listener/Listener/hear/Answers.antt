@@ -1,4 +1,4 @@
--- What is kept, one packet on: ListenerLemmas.
+-- The state after one more packet: ListenerLemmas.
 use Rattle.std.proofs.Common.{◌≡◌, true, [], ◌∷◌, ◌++◌, sym, ap, ◌∙◌, subst, arith}
 use Rattle.std.proofs.lemmas.Bool.Decides.{nat_tests}
 use Rattle.ttx_page.specs.PacketKind.{is_this_page}

@@ -1,4 +1,4 @@
--- The rules that the packets so far break are told, and what is kept is what they say.
+-- The broken rules of the packets so far were reported, and the state agrees with the packets.
 use Rattle.std.proofs.Common.{◌≡◌, ◌≤◌, ◌<◌, ℕ, List, [], ◌++◌, take, get_or, length}
 use Rattle.std.proofs.Common.{◌-◌, true}
 use Rattle.ttx_page.specs.PacketKind.{begins_text, kind}

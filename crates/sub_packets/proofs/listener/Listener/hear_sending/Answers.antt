@@ -1,4 +1,4 @@
--- Packets that broke no rule break none again: SentAgainLemmas.
+-- Packets that broke no rule break none when sent again: SentAgainLemmas.
 use Rattle.std.proofs.Common.{length}
 use Rattle.sub_io.proofs.TellingLemmas.{Tells-none}
 use Rattle.sub_rules.specs.PacketRules.{packets_of_units}

@@ -1,4 +1,4 @@
--- What is kept is what the packets say: WrongCellLemmas.
+-- The kept page is that of the packets: WrongCellLemmas.
 use Rattle.std.proofs.Common.{sym}
 use Rattle.std.proofs.lemmas.Bool.{not-true}
 use Rattle.sub_packets.proofs.WrongCellLemmas.{wrong_is}

@@ -1,4 +1,4 @@
--- A packet that is passed, by its address and its header: PassedLemmas.
+-- The address and the header show that the packet need not be examined: PassedLemmas.
 use Rattle.std.proofs.lemmas.Bool.{not-true}
 use Rattle.sub_packets.proofs.PassedLemmas.{no_header_passed, no_header_plain, passed_header}
 use Rattle.sub_packets.proofs.PassedLemmas.{passed_packet}

@@ -1,4 +1,4 @@
--- The rows so far are without those that came; the others are those that are due.
+-- The rows so far lack those that came; the others are those of the due page.
 use Rattle.std.proofs.Common.{◌≡◌, ℕ, ◌-◌, ◌<◌, ◌≤◌, cond, false, get_or}
 use Rattle.ttx_page.specs.Page.{IsCell, cell, space}
 use Rattle.sub_packets.proofs.listener.Listener.missing.Given as goal

@@ -1,4 +1,4 @@
--- With nothing heard nothing is kept.
+-- The state before the first packet.
 use Rattle.std.proofs.Common.{refl, arith}
 use Rattle.sub_packets.proofs.ListenerLemmas.{knows_none}
 use Rattle.sub_packets.proofs.listener.Listener.new.Goals as goal

@@ -1,4 +1,4 @@
--- A packet more that is passed.
+-- One more packet that need not be examined.
 use Rattle.std.proofs.Common.{◌≡◌, inl, inr, arith}
 use Rattle.std.proofs.lemmas.Bool.{cases_lt}
 use Rattle.sub_packets.proofs.listener.Listener.next_heard.Goals as goal

@@ -1,4 +1,4 @@
--- The packets so far are passed.
+-- The packets so far need not be examined.
 use Rattle.std.proofs.Common.{ℕ, ◌≤◌, ◌<◌, [], get_or}
 use Rattle.sub_packets.specs.Listener.{IsAlwaysPassed}
 use Rattle.sub_rules.specs.PacketRules.{packets_of_units}
