@@ -1,6 +1,6 @@
--- For `law_of_accepted_keeping` and `law_of_accepted_none_keeps`: what both files mean by some
--- options they mean by others, by which repeats may keep the page or may not, `mean-keeps`; and
--- what is good by the ones is good by the others, `good-keeps`.
+-- For `law_of_accepted_keeping` and `law_of_accepted_none_keeps`: whether repeats may keep the page
+-- does not change what both files mean, `mean-keeps`, and a transmission that is good with the one
+-- setting is good with the other, `good-keeps`.
 use Rattle.std.proofs.Common.{ℕ, Bool, true, List, sym, subst}
 use Rattle.stl_file.specs.Subtitle.{SubtitleValue}
 use Rattle.stl_rows.specs.Programme.{ProgrammeValue}
@@ -13,11 +13,11 @@ use Rattle.sub_check.specs.AcceptedKeeping.{LawOfAcceptedKeeping, LawOfAcceptedN
 use Rattle.sub_check.specs.CheckedFiles.{MeanWithin}
 use Rattle.sub_check.proofs.AcceptedWithinLemmas.{none_failed}
 
--- The same options, by which repeats may keep or may not.
+-- The same options, with or without repeats that may keep the page.
 abbrev by_keeps : Bool → OptionsValue → OptionsValue
 by_keeps may options = record options { keeps = may }
 
--- What the files mean goes by the clock alone.
+-- What the files mean depends only on the clock.
 mean-keeps :
     (may : Bool) (drawing : Drawing) (options : OptionsValue) (stl pes : List ℕ)
     (subtitles : List SubtitleValue) (t : Transmission)

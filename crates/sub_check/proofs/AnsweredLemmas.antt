@@ -1,6 +1,6 @@
--- What is told of the whole file decides the answer of `check`: `answered`, `accepted_none`,
--- `refused_first`; and of `check_all`, `checked_first`, `tells_events`. Where nothing of the
--- subtitle file is refused, `tells_known`.
+-- The events for the whole file decide the answers of `check`, `answered`, `accepted_none`,
+-- `refused_first`, and of `check_all`, `checked_first`, `tells_events`. If no subtitle was refused:
+-- `tells_known`.
 use Rattle.std.proofs.Common.{◌≡◌, ℕ, List, Option, Some, None}
 use Rattle.std.proofs.Common.{Result, Ok, Err, IfOk, false, refl}
 use Rattle.std.proofs.Common.{subst}
@@ -26,8 +26,8 @@ use Rattle.sub_check.proofs.RuleToldLemmas.{first_of_rule}
 use Rattle.sub_check.proofs.VerdictLemmas.{Decides, IsAllRead, ReadsSoFar, checked_at_once}
 use Rattle.sub_check.proofs.VerdictLemmas.{checked_by}
 
--- What `check` answers: by whatever options; and where each header has to erase the page, and that
--- has to be whole at the end of each frame.
+-- The answer of `check` with any options, and if each header has to erase the page, which has to be
+-- right at the end of each frame.
 pub record IsAnswered
     (programme : ProgrammeValue) (options : OptionsValue) (bytes : List ℕ)
     (answer : Result Accepted CheckFault)
@@ -36,7 +36,7 @@ pub record IsAnswered
   pub at_once :
       IsFalse options.keeps → options.within ≡ 0 → IsChecked programme options bytes answer
 
--- ---- what is told first is the answer
+-- ---- the first fault is the answer
 
 module _ (programme : ProgrammeValue) (options : OptionsValue) (fine : IsOptions options)
     (p : IsProgramme programme.drawing programme.records) (bytes : List ℕ) where
@@ -50,7 +50,7 @@ module _ (programme : ProgrammeValue) (options : OptionsValue) (fine : IsOptions
     at_once = checked_at_once programme options fine p bytes result decides so_far;
   }
 
-  -- Where no refusal is told, it is accepted.
+  -- If there is no fault, the file is accepted.
   pub accepted_none :
       (a : Accepted)
       → IsAllRead programme options bytes a
@@ -58,7 +58,7 @@ module _ (programme : ProgrammeValue) (options : OptionsValue) (fine : IsOptions
       → IsAnswered programme options bytes (Ok a)
   accepted_none a read none = answered (Ok a) (λ own. (read, none)) (λ pes is. cc)
 
-  -- Else the one that is told first is the answer.
+  -- Otherwise the first one is the answer.
   pub refused_first :
       (f : CheckFault)
       → first_told (all_events_of programme options bytes) ≡ Some f
@@ -67,7 +67,7 @@ module _ (programme : ProgrammeValue) (options : OptionsValue) (fine : IsOptions
       let own : IsRuleFault f = of_rule f (first_of_rule programme options bytes f first) in
       answered (Err f) (λ fine. first) (λ pes is. absurd (no_read f pes own is))
 
-  -- By all that is told. For `check_all`.
+  -- The answer follows from all events. For `check_all`.
   pub answered_first :
       (a : Accepted)
       → IsAllRead programme options bytes a
@@ -82,8 +82,8 @@ module _ (programme : ProgrammeValue) (options : OptionsValue) (fine : IsOptions
 
 -- ---- all events
 
--- What is told first is what `check` refuses the bytes for, and it accepts them where nothing is.
--- For `check_all`.
+-- The first fault among all events is the answer of `check`, which accepts if there is none. For
+-- `check_all`.
 pub checked_first :
     (programme : ProgrammeValue) (options : OptionsValue) (bytes : List ℕ)
     {D : Type 0} (IsTold : D → Event → D → Type 0) (old new : D)
@@ -99,7 +99,7 @@ checked_first programme options bytes IsTold old new (Ok (Some a)) fine p told =
 checked_first programme options bytes IsTold old new (Ok None) fine p told = tt
 checked_first programme options bytes IsTold old new (Err f) fine p told = tt
 
--- The two of it.
+-- Both parts of the answer.
 pub answers_by : (programme : ProgrammeValue) (options : OptionsValue) (bytes : List ℕ)
     (r : Result (Option Accepted) CheckFault)
     → IfOk r (λ counts. IfSome counts (λ a. IsAnswered programme options bytes
@@ -122,7 +122,7 @@ answers_at_once programme options bytes (Ok (Some a)) none at_once all = all.at_
 answers_at_once programme options bytes (Ok None) none at_once all = tt
 answers_at_once programme options bytes (Err f) none at_once all = tt
 
--- What was told of the file as one value. For `check_all`.
+-- The events for the file as one value. For `check_all`.
 pub tells_events :
     (judged : JudgedValue) (options : OptionsValue) (bytes : List ℕ)
     {D : Type 0} (IsTold : D → Event → D → Type 0) (old new : D)
@@ -137,8 +137,7 @@ tells_events judged options bytes IsTold old new (Ok None) told =
 tells_events judged options bytes IsTold old new (Err f) told =
     let file = piece_file_of (clock_of options) bytes in told file.pieces file.unread refl
 
--- What is told where nothing of the subtitle file is refused is told of its programme. For `check`
--- and `check_all`.
+-- If no subtitle was refused, the events are those for its programme. For `check` and `check_all`.
 pub tells_known :
     (judged : JudgedValue) (programme : ProgrammeValue) (options : OptionsValue)
     (bytes : List ℕ) {D : Type 0} (IsTold : D → Event → D → Type 0) (old new : D)
@@ -150,7 +149,7 @@ tells_known judged programme options bytes IsTold old new r is told =
     subst (λ (j : JudgedValue). TellsFile (criteria_of_judged j options) (clock_of options) bytes
     IsTold old new r) is told
 
--- Such a programme is one that `check` takes.
+-- `check` accepts such a programme as its argument.
 pub programme_known : (judged : JudgedValue) (programme : ProgrammeValue)
     → judged ≡ known programme
     → IsProgramme judged.programme.drawing judged.programme.records

@@ -1,6 +1,6 @@
--- What is told of both files, for `check_files`: `files_accepted`, `files_refused`, and by any
--- options `files_accepted_by`, `files_refused_by`. Both files are accepted where the one gives a
--- programme and the other has a good transmission of it: `as_accepted`, `of_accepted`.
+-- The answers for both files, for `check_files`: `files_accepted`, `files_refused`, and with any
+-- options `files_accepted_by`, `files_refused_by`. They are accepted exactly if the subtitle file
+-- gives a programme and the PES file has a good transmission of it: `as_accepted`, `of_accepted`.
 use Rattle.std.proofs.lemmas.Bool.Decides.{nat_tests}
 use Rattle.std.proofs.Common.{◌≡◌, ℕ, List, Result, Ok, Err, false, sym, ap, ◌∙◌, subst, arith}
 use Rattle.std.specs.Prelude.{IsTrue}
@@ -28,12 +28,12 @@ use Rattle.sub_laws.specs.Stretch.{HasPromises}
 use Rattle.sub_check.specs.CheckedFiles.{AreAccepted, AreAcceptedBy, IsAccepted, IsAcceptedBy}
 use Rattle.sub_check.specs.CheckedFiles.{IsChecked, IsCheckedBy, Mean, MeanWithin}
 
--- A file gives one programme. For `check_files`.
+-- A file gives only one programme. For `check_files`.
 pub same_programme :
     (a b : ProgrammeValue) (r : Result ProgrammeValue LoadFault) → r ≡ Ok a → r ≡ Ok b → a ≡ b
 same_programme a b r e f = let both = sym e ∙ f in cc
 
--- An answer that is no failure, of a subtitle file that was loaded, is none of a source.
+-- After the subtitle file was loaded, an answer that is no failure is no failed read.
 looked_at :
     (answer : Result Accepted CheckFault)
     → failed is_subtitle_fault answer ≡ false
@@ -41,11 +41,11 @@ looked_at :
     → failed is_pes_read answer ≡ false
 looked_at answer looked fine = grind (arith, nat_tests)
 
--- Where nothing is told of a file it gives this programme.
+-- A file without faults gives this programme.
 one_given : (faults : List LoadFault) (p q : ProgrammeValue) → unless_told faults p ≡ Ok q → p ≡ q
 one_given faults p q h = grind (arith, nat_tests)
 
--- The programme that a file gives is drawn as was asked.
+-- The programme of a file has the requested drawing.
 own_drawing : (drawing : Drawing) (stl : List ℕ) (programme : ProgrammeValue)
     → loaded drawing stl ≡ Ok programme
     → programme.drawing ≡ drawing
@@ -70,7 +70,7 @@ module _ (drawing : Drawing) (options : OptionsValue) (stl pes : List ℕ)
       (loading drawing stl subtitles).1
       (mean.gsi, mean.subtitle_file, mean.in_order, mean.drawable)
 
-  -- Files that are accepted give a programme. Also for `sub_answer`.
+  -- Accepted files give a programme. Also for `sub_answer`.
   pub accepted-loads : IsAccepted drawing options stl pes
       → (programme : ProgrammeValue) × (loaded drawing stl ≡ Ok programme)
   accepted-loads is = (
@@ -86,7 +86,7 @@ module _ (drawing : Drawing) (options : OptionsValue) (stl pes : List ℕ)
   )
 
   module _ (programme : ProgrammeValue) (given : loaded drawing stl ≡ Ok programme) where
-    -- What was loaded is the programme of any subtitles of the file.
+    -- The loaded programme is the one of any subtitles that the file means.
     programme_is : (subtitles : List SubtitleValue)
         → loaded drawing stl ≡ Ok (record { drawing = drawing; records = subtitles })
         → programme ≡ record { drawing = drawing; records = subtitles }
@@ -97,7 +97,7 @@ module _ (drawing : Drawing) (options : OptionsValue) (stl pes : List ℕ)
         ap (λ n. let p : ProgrammeValue = record { drawing = n; records = programme.records } in p)
         (own_drawing drawing stl programme given)
 
-    -- A good transmission of the programme is one of both files. Also for `sub_answer`.
+    -- A good transmission of the programme makes both files accepted. Also for `sub_answer`.
     pub as_accepted : (t : Transmission)
         × Carries options.origin pes t
         × Good programme t options
@@ -119,7 +119,7 @@ module _ (drawing : Drawing) (options : OptionsValue) (stl pes : List ℕ)
           complete = complete;
         }
 
-    -- One of both files is one of the programme. Also for `sub_answer`.
+    -- Accepted files have a good transmission of the programme. Also for `sub_answer`.
     pub of_accepted : IsAccepted drawing options stl pes
         → (t : Transmission)
         × Carries options.origin pes t
@@ -133,7 +133,7 @@ module _ (drawing : Drawing) (options : OptionsValue) (stl pes : List ℕ)
           is.complete,
         )
 
-    -- The same by any options.
+    -- The same with any options.
     pub as_accepted_by : (t : Transmission)
         × CarriesBy (clock_of options) options.within pes t
         × GoodBy options.keeps programme t options
@@ -168,7 +168,7 @@ module _ (drawing : Drawing) (options : OptionsValue) (stl pes : List ℕ)
 
     module _ (answer : Result Accepted CheckFault)
         (looked : failed is_subtitle_fault answer ≡ false) where
-      -- Both files, where the page has to be whole at the end of each frame. For `check_files`.
+      -- Both files, if the page has to be right at the end of each frame. For `check_files`.
       pub files_accepted : IsChecked programme options pes answer
           → AreAccepted drawing options stl pes answer
       files_accepted checked = record {
@@ -183,7 +183,7 @@ module _ (drawing : Drawing) (options : OptionsValue) (stl pes : List ℕ)
             );
       }
 
-      -- Both files, by any options. For `check_files`.
+      -- Both files, with any options. For `check_files`.
       pub files_accepted_by : IsCheckedBy programme options pes answer
           → AreAcceptedBy drawing options stl pes answer
       files_accepted_by checked = record {
@@ -196,7 +196,7 @@ module _ (drawing : Drawing) (options : OptionsValue) (stl pes : List ℕ)
             (checked.serves t mean.carries ok).1;
       }
 
--- A fault of loading that is no failure is the file's own.
+-- A fault of loading that is no failure is one of the file itself.
 own_fault :
     (drawing : Drawing) (stl : List ℕ) (programme : ProgrammeValue) (block : ℕ)
     (kind : LoadFaultKind)
@@ -206,7 +206,7 @@ own_fault :
     → ⊥
 own_fault drawing stl programme block kind told fine is = grind (arith, nat_tests)
 
--- Both files, where the subtitle file was refused. For `check_files`.
+-- Both files, if the subtitle file was refused. For `check_files`.
 module _ (drawing : Drawing) (options : OptionsValue) (stl pes : List ℕ) (f : LoadFault)
     (loading : LawOfLoading) (told : TellsFault drawing stl f.block f.kind) where
   pub files_refused : AreAccepted drawing options stl pes (Err (fault.Subtitles f))

@@ -1,5 +1,5 @@
--- What the device of `check` kept decides its answer: `nothing_kept`, `fault_kept`, `read_failed`,
--- `fails_at_packet`.
+-- The fault that the audience of `check` kept decides the answer: `nothing_kept`, `fault_kept`,
+-- `read_failed`, `fails_at_packet`.
 use Rattle.std.proofs.lemmas.Bool.Decides.{nat_tests}
 use Rattle.std.proofs.Common.{◌≡◌, ◌≤◌, ℕ, zero, suc, List, Option, Some, None, Result, Ok, Err}
 use Rattle.std.proofs.Common.{true, false, is_some, refl, sym, ◌∙◌, subst, arith, length, take}
@@ -32,14 +32,15 @@ use Rattle.ttx_pes.specs.declared.fault.PesFault.TheVariants as Pes
 use Rattle.sub_rules.specs.declared.fault.CheckFault.TheVariants as fault
 use Rattle.sub_check.proofs.AnsweredLemmas.{IsAnswered, accepted_none, answered, refused_first}
 
--- The bytes are read as pieces, and a device that keeps the first fault was told of them.
+-- The bytes are read as PES packets, and an audience that keeps the first fault was told their
+-- events.
 abbrev TellsFirst : ProgrammeValue → OptionsValue → List ℕ → Option CheckFault → Option CheckFault
     → Result (Option Accepted) CheckFault → Type 0
 TellsFirst programme options bytes empty kept r =
     TellsFile (criteria_of programme options) (clock_of options) bytes KeepsFirstFault empty kept r
 
 module _ (programme : ProgrammeValue) (options : OptionsValue) (bytes : List ℕ) where
-  -- The source failed, and the device had kept nothing: no refusal is told of the pieces before.
+  -- If the source failed and no fault was kept, the packets before have none.
   none_before : (empty kept : Option CheckFault) (f : CheckFault) (pes : ℕ)
       → empty ≡ None
       → is_some kept ≡ false
@@ -61,8 +62,8 @@ module _ (programme : ProgrammeValue) (options : OptionsValue) (bytes : List ℕ
             (λ g h. front_of_rule programme options bytes n g h) first.in_turn,
       )
 
-  -- All was told, and the device has kept nothing: no refusal is told. This and the next stand
-  -- apart from what is answered by them, of which each case would be checked anew.
+  -- If all events were told and no fault was kept, there is none. This lemma and the next are
+  -- separate from the answers that use them, which would otherwise check each case again.
   none_told : (empty kept : Option CheckFault) (a : Accepted)
       → empty ≡ None
       → is_some kept ≡ false
@@ -75,7 +76,7 @@ module _ (programme : ProgrammeValue) (options : OptionsValue) (bytes : List ℕ
       kept_is None (all_events_of programme options bytes) (first_of_rule programme options bytes)
       (told file.pieces file.unread refl).0.in_turn
 
-  -- It has kept a fault: that is told first.
+  -- A fault that was kept is the first one.
   fault_told : (empty kept : Option CheckFault) (f : CheckFault)
       → empty ≡ None
       → kept ≡ Some f
@@ -92,7 +93,7 @@ module _ (programme : ProgrammeValue) (options : OptionsValue) (bytes : List ℕ
       ∙ is)
 
   module _ (fine : IsOptions options) (p : IsProgramme programme.drawing programme.records) where
-    -- It kept nothing, and all was told. For `check`.
+    -- No fault was kept, and all events were told. For `check`.
     pub nothing_kept : (empty kept : Option CheckFault) (a : Accepted)
         → empty ≡ None
         → is_some kept ≡ false
@@ -103,7 +104,7 @@ module _ (programme : ProgrammeValue) (options : OptionsValue) (bytes : List ℕ
         accepted_none programme options fine p bytes a (told file.pieces file.unread refl).1
         (none_told empty kept a e quiet told)
 
-    -- It kept a fault. For `check`.
+    -- A fault was kept. For `check`.
     pub fault_kept : (empty kept : Option CheckFault) (f : CheckFault)
         → empty ≡ None
         → kept ≡ Some f
@@ -126,7 +127,7 @@ module _ (programme : ProgrammeValue) (options : OptionsValue) (bytes : List ℕ
 
 -- ---- the PES packet at which the source failed
 
--- Where the source tells nothing, its bytes may be any PES packets.
+-- If the bytes of the source are unknown, they may be any PES packets.
 any_packets : (n : ℕ)
     → AllByRecursion (λ b. (v : PesValue) × IsPesPacket v b)
     (replicate n (canonical_packet empty_value))
@@ -136,7 +137,8 @@ any_packets (suc n) =
     record { pts = omega arith; few = omega arith; each = tt; in_order = tt } in
     ((empty_value, canonical_is_packet empty_value is), any_packets n)
 
--- It failed within a piece, before which none was passed over: within a PES packet. For `check`.
+-- The source failed after PES packets none of which was skipped, so it failed within a PES packet.
+-- For `check`.
 pub fails_at_packet : (programme : ProgrammeValue) (options : OptionsValue)
     (empty kept : Option CheckFault) (f : CheckFault) (pes : ℕ) (old new : Option (List ℕ))
     → empty ≡ None

@@ -1,5 +1,5 @@
--- A device that keeps the first fault of a rule keeps what is told first, `kept_is`; and where that
--- is a cell that is not right, receivers show what is kept there: `different_of_first`.
+-- An audience that keeps the first fault of a rule keeps the first fault among the events,
+-- `kept_is`; if that is a wrong cell, receivers show the kept code there: `different_of_first`.
 use Rattle.std.proofs.lemmas.Bool.Decides.{nat_tests}
 use Rattle.std.proofs.Common.{◌≡◌, ℕ, List, [], ◌∷◌, length, Option, Some, None, Result, Err, refl}
 use Rattle.std.proofs.Common.{sym, subst, arith, All, true}
@@ -35,7 +35,7 @@ use Rattle.sub_laws.proofs.ReadFileLemmas.{file_sound}
 use Rattle.sub_check.specs.CheckedFiles.{all_events_of}
 use Rattle.sub_rules.proofs.FrameEvents.{events}
 
--- Each packet that is read is whole.
+-- Each packet that is read has 42 bytes.
 pub each_whole :
     (frames : Transmission)
     → AllByRecursion (λ (s : SentFrame). AllByRecursion IsPacket s.packets) frames
@@ -44,11 +44,10 @@ each_whole [] h = tt
 each_whole (s ∷ frames) h =
     (All-from_recursion IsPacket s.packets h.0, each_whole frames h.1)
 
--- What the test says.
 pub of_rule : (f : CheckFault) → is_of_rule f ≡ true → IsRuleFault f
 of_rule f e = grind (arith, nat_tests)
 
--- A rule tells no failed read. For `check`.
+-- A failed read is no fault of a rule. For `check`.
 pub no_read : (f : CheckFault) (pes : ℕ)
     → IsRuleFault f
     → (let r : Result Accepted CheckFault = Err f in r) ≡ Err (fault.Pes pes Read)
@@ -56,15 +55,15 @@ pub no_read : (f : CheckFault) (pes : ℕ)
 no_read f pes own is =
     grind (arith, nat_tests, true≢false)
 
--- ---- what the device keeps
+-- ---- what the audience keeps
 
--- Once it keeps one it is told no more.
+-- After it has kept a fault it is told no more.
 kept_last : (f : CheckFault) (new : Option CheckFault) (xs : List Event)
     → TellsInTurn KeepsFirstFault (Some f) new xs → new ≡ Some f
 kept_last f new [] told = told
 kept_last f new (x ∷ xs) (mid, keeps, rest) = let none = keeps.0 in cc
 
--- Of events it keeps the refusal that is told first, if that is of a rule.
+-- It keeps the first fault among the events, if that is one of a rule.
 pub kept_is : (new : Option CheckFault) (xs : List Event)
     → ((f : CheckFault) → first_told xs ≡ Some f → is_of_rule f ≡ true)
     → TellsInTurn KeepsFirstFault None new xs
@@ -81,7 +80,7 @@ kept_is new (PassedUntil f ∷ xs) named (mid, keeps, rest) =
 
 -- ---- a wrong cell
 
--- Where a wrong cell is told, what is so of each that is found broken is so of it.
+-- What holds for each cell that is found wrong holds for a cell that is reported as wrong.
 module _ (g : Criteria) (frames : Transmission) (packets_whole : EachPacket IsPacket frames)
     (IsSo : ℕ → ℕ → ℕ → Type 0)
     (so : (n f : ℕ) (x : ℕ × ℕ) → IsReadTo g frames n f → broken_cell g frames n f ≡ Some x
@@ -131,7 +130,7 @@ module _ (programme : ProgrammeValue) (options : OptionsValue) (bytes : List ℕ
   abbrev file : PesFileValue
   file = pes_file_of (clock_of options) bytes
 
-  -- Of each packet of a frame of the file, within frames.
+  -- The packets of each frame of the file have 42 bytes, also after merging.
   file_whole : EachPacket IsPacket (joined options.within file.frames)
   file_whole =
       All-from_recursion (λ (s : SentFrame). All IsPacket s.packets)
@@ -140,7 +139,7 @@ module _ (programme : ProgrammeValue) (options : OptionsValue) (bytes : List ℕ
       (joined_after-read IsPacket options.within [] file.frames tt
       (file_sound (clock_of options) 0 bytes)))
 
-  -- Where the page is refused at a cell, it is not right there. For `check`.
+  -- If the page is refused at a cell, it is wrong there. For `check`.
   pub different_of_first : (frame row column : ℕ)
       → first_told (all_events_of programme options bytes)
       ≡ Some (fault.Content frame row column)

@@ -1,5 +1,5 @@
--- What is read and told of a PES file up to the first piece that is passed over, by what is where
--- reading goes on: main lemmas: `read_whole`, `first_of_taken`, `all_are_sent`.
+-- The frames and events of a PES file up to its first skipped PES packet, compared with those of
+-- reading on: main lemmas: `read_whole`, `first_of_taken`, `all_are_sent`.
 use Rattle.std.proofs.Common.{◌≡◌, ℕ, suc, ◌≤◌, List, [], ◌∷◌, ◌++◌, length, take, drop, Option}
 use Rattle.std.proofs.Common.{Some, None, refl, sym, ap, ◌∙◌}
 use Rattle.std.proofs.lemmas.List.{length-take-le, take-append-drop}
@@ -22,7 +22,7 @@ use Rattle.sub_check.specs.CheckedFiles.{events_of_first_pieces}
 use Rattle.sub_rules.specs.PieceEvents.{events_of_pieces}
 use Rattle.sub_rules.specs.Trusted.{told_after}
 
--- Where pieces are read to their end, none of them is passed over.
+-- If the PES packets are read to the end of the file, none of them is skipped.
 all_sent : (pieces : List Piece) (unread : Option Unread)
     → (read_until_passed pieces unread).unread ≡ None
     → ((read_until_passed pieces unread).frames ≡ frames_of pieces)
@@ -35,7 +35,7 @@ all_sent (Sent s ∷ pieces) unread none =
     (ap (λ (fs : Transmission). s ∷ fs) rest.0, ap suc rest.1, rest.2)
 all_sent (Passed u ∷ pieces) unread none = cc
 
--- Where a file is read to its end its frames are those of its pieces, each of which is sent.
+-- If a file is read to its end, its frames are those of its PES packets, each of which is sent.
 pub read_whole : (clock : Clock) (bytes : List ℕ) (frames : Transmission)
     → ReadsAs clock 0 bytes frames None
     → (frames_of (piece_file_of clock bytes).pieces ≡ frames)
@@ -48,7 +48,7 @@ read_whole clock bytes frames reads =
     let sent = all_sent file.pieces file.unread (ap (λ (f : PesFileValue). f.unread) reads) in
     (sym sent.0 ∙ ap (λ (f : PesFileValue). f.frames) reads, sent.1, sent.2)
 
--- What is told first of the first pieces is told first of all.
+-- The first fault of the first PES packets is the first of all.
 first_of_some : (xs ys : List Event) (f : CheckFault) → first_told xs ≡ Some f
     → first_told (xs ++ ys) ≡ Some f
 first_of_some xs ys f is = first_of_two xs ys ∙ rw is refl
@@ -58,9 +58,9 @@ pub first_of_taken : (n : ℕ) (xs : List Event) (f : CheckFault) → first_told
 first_of_taken n xs f is =
     ap first_told (sym (take-append-drop n xs)) ∙ first_of_some (take n xs) (drop n xs) f is
 
--- ---- nothing is told first of the first pieces
+-- ---- the first PES packets without faults
 
--- So the first n pieces are n frames, where nothing is told first of them.
+-- The first n PES packets are n frames if they have no fault.
 pub all_are_sent : (programme : ProgrammeValue) (options : OptionsValue) (bytes : List ℕ) (n : ℕ)
     → n ≤ length (piece_file_of (clock_of options) bytes).pieces
     → first_told (events_of_first_pieces programme options bytes n) ≡ None

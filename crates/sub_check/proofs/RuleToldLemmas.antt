@@ -1,5 +1,5 @@
--- Each refusal that is told of a PES file is of a rule: of all its pieces, `first_of_rule`, and of
--- the first ones, `front_of_rule`.
+-- Each fault that is reported of a PES file is one of a rule: among all its PES packets,
+-- `first_of_rule`, and among the first ones, `front_of_rule`.
 use Rattle.std.proofs.lemmas.Bool.Decides.{nat_tests}
 use Rattle.std.proofs.Common.{◌≡◌, ℕ, zero, suc, Bool, true, false, not, List, [], ◌∷◌, length}
 use Rattle.std.proofs.Common.{subst, take, map, Option, Some, None, refl, sym, ap, ◌∙◌, arith}
@@ -39,7 +39,7 @@ use Rattle.sub_rules.specs.PieceEvents.{events_of_pieces}
 use Rattle.sub_rules.specs.Trusted.{told_after}
 use Rattle.sub_rules.specs.declared.standing.Standing.{Standing}
 
--- A refusal is of no rule.
+-- The fault is one of no rule.
 abbrev is_foreign : CheckFault → Bool
 is_foreign f = not (is_of_rule f)
 
@@ -49,7 +49,7 @@ at_any pes f own = grind (arith, nat_tests)
 abbrev foreign : Event → Bool
 foreign e = tells_bad is_foreign at_any e
 
--- ---- what is told of frames
+-- ---- the events of frames
 
 end_own : (old : Standing) (before : ℕ) (new : Standing) (f : ℕ)
     → list_any foreign (end_events old before new f) ≡ false
@@ -82,7 +82,7 @@ frames_own g = record {
   of_header = header_own g;
 }
 
--- ---- what is told of bytes that are no frame
+-- ---- the events of bytes that are no frame
 
 unread_own : (pes : ℕ) (u : Unread) → ((f : PesFault) → u ≡ BadPacket f → IsOfBytes f)
     → foreign (Told (unread_fault pes (Some u))) ≡ false
@@ -103,7 +103,7 @@ passed_own pes (Passed (BadPacket f) ∷ pieces) sound = (
 )
 passed_own pes (Passed NoFrame ∷ pieces) sound = (refl, passed_own (suc pes) pieces sound.1)
 
--- Those of the first pieces.
+-- The same for the first PES packets.
 first_sound : (n : ℕ) (pieces : List Piece) → AllByRecursion IsSoundPiece pieces
     → AllByRecursion IsSoundPiece (take n pieces)
 first_sound zero pieces sound = tt
@@ -147,7 +147,7 @@ module _ (g : Criteria) (left : (f : PesFault) → g.unread ≡ Some (BadPacket 
   all_closing_own frames (suc pes) zero = unread_told (suc pes) g.unread refl
   all_closing_own frames (suc pes) (suc n) = closing_own frames (suc n)
 
-  -- ---- all that is told
+  -- ---- all events
 
   pieces_own : (pieces : List Piece) → AllByRecursion IsSoundPiece pieces
       → list_any foreign (told_of_pieces g pieces) ≡ false
@@ -167,7 +167,7 @@ module _ (g : Criteria) (left : (f : PesFault) → g.unread ≡ Some (BadPacket 
       closes pes are_left more es own =
           record { none = (says_pass (says_bad is_foreign at_any) es own).none }
 
--- ---- what is told first
+-- ---- the first fault
 
 not_foreign : (f : CheckFault) → is_foreign f ≡ false → is_of_rule f ≡ true
 not_foreign f e = grind (arith, nat_tests)
@@ -179,7 +179,7 @@ module _ (programme : ProgrammeValue) (options : OptionsValue) (bytes : List ℕ
   sound : ArePiecesSound file
   sound = file_pieces_sound (clock_of options) 0 bytes
 
-  -- Of all pieces. For `check`.
+  -- Among all PES packets. For `check`.
   pub first_of_rule : (f : CheckFault)
       → first_told (all_events_of programme options bytes) ≡ Some f
       → is_of_rule f ≡ true
@@ -191,7 +191,7 @@ module _ (programme : ProgrammeValue) (options : OptionsValue) (bytes : List ℕ
       (pieces_own g sound.fault file.pieces sound.each)
       (sym (all_first (told_of_pieces g file.pieces)) ∙ is))
 
-  -- Of the first n.
+  -- Among the first n.
   pub front_of_rule : (n : ℕ) (f : CheckFault)
       → first_told (events_of_first_pieces programme options bytes n) ≡ Some f
       → is_of_rule f ≡ true

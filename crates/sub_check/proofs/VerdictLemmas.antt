@@ -1,6 +1,6 @@
--- What is told of the whole file decides what is accepted and what it keeps: by whatever options,
--- `checked_by`; and where each header has to erase the page, and that has to be whole at the end of
--- each frame, `checked_at_once`.
+-- The events for the whole file decide what is accepted and which promises it keeps: with any
+-- options, `checked_by`; and if each header has to erase the page, which has to be right at the end
+-- of each frame, `checked_at_once`.
 use Rattle.std.proofs.lemmas.Bool.Decides.{nat_tests}
 use Rattle.std.proofs.lemmas.Slice.Zip.{AllZip-long}
 use Rattle.std.proofs.Common.{◌≡◌, ◌≢◌, ◌↔◌, ℕ, ◌≤◌, List, [], Bool, All, Some, None}
@@ -56,14 +56,14 @@ use Rattle.sub_check.specs.CheckedFiles.{events_of_first_pieces, frames_read}
 use Rattle.sub_check.proofs.FirstToldLemmas.{different_of_first, each_whole}
 use Rattle.sub_check.proofs.ReadOnLemmas.{read_whole}
 
--- All pieces of the bytes were read.
+-- All PES packets of the bytes were read.
 abbrev pub IsAllRead : ProgrammeValue → OptionsValue → List ℕ → Accepted → Type 0
 IsAllRead programme options bytes a =
     let file = piece_file_of (clock_of options) bytes in
     IsReadOn (criteria_of programme options file.unread) (clock_of options) bytes file.pieces a
 
--- What the steps show of a file that is read: no refusal is told of what is accepted, and a refusal
--- is told first.
+-- What the check of a file shows: an accepted file has no fault, and the returned fault is the
+-- first.
 abbrev pub Decides : ProgrammeValue → OptionsValue → List ℕ → Result Accepted CheckFault → Type 0
 Decides programme options bytes result =
     MatchResult result
@@ -71,7 +71,7 @@ Decides programme options bytes result =
     × (first_told (all_events_of programme options bytes) ≡ None))
     (λ f. first_told (all_events_of programme options bytes) ≡ Some f)
 
--- What they show where the source failed within a PES packet: no refusal is told of those before.
+-- What it shows if the source failed within a PES packet: those before have no fault.
 abbrev pub ReadsSoFar : ProgrammeValue → OptionsValue → List ℕ → Result Accepted CheckFault → Type 0
 ReadsSoFar programme options bytes result =
     (pes : ℕ)
@@ -81,7 +81,7 @@ ReadsSoFar programme options bytes result =
 
 module _ (programme : ProgrammeValue) (options : OptionsValue) (is : IsOptions options)
     (p : IsProgramme programme.drawing programme.records) (bytes : List ℕ) where
-  -- The file, and the frames that are sent by its pieces.
+  -- The file, and the frames of its PES packets.
   abbrev file : PieceFileValue
   file = piece_file_of (clock_of options) bytes
 
@@ -98,8 +98,7 @@ module _ (programme : ProgrammeValue) (options : OptionsValue) (is : IsOptions o
       (joined_after-read IsPacket options.within [] (frames_of file.pieces) tt
       (sent_whole file.pieces (file_pieces_sound (clock_of options) 0 bytes).each)))
 
-  -- No refusal is told exactly where each piece is sent, what they send is good, and nothing is
-  -- left.
+  -- There is no fault exactly if each PES packet is sent, the frames are good, and nothing is left.
   told_none :
       (first_told (all_events_of programme options bytes) ≡ None)
       ↔ ((length (frames_of file.pieces) ≡ length file.pieces)
@@ -116,7 +115,7 @@ module _ (programme : ProgrammeValue) (options : OptionsValue) (is : IsOptions o
         λ all. none.1 (all.0, ap first_told (law.1 (all.1, all.2))),
       )
 
-  -- The bytes carry that then.
+  -- The bytes carry these frames then.
   carried :
       (a : Accepted)
       → IsAllRead programme options bytes a
@@ -146,7 +145,7 @@ module _ (programme : ProgrammeValue) (options : OptionsValue) (is : IsOptions o
         rising = good.rules.rising;
       }
 
-  -- What the bytes carry is what is sent.
+  -- The transmission that the bytes carry is these frames.
   carried_sent :
       (frames : Transmission)
       → CarriesBy (clock_of options) options.within bytes frames
@@ -158,7 +157,7 @@ module _ (programme : ProgrammeValue) (options : OptionsValue) (is : IsOptions o
       let all = read_whole (clock_of options) bytes carries.sendings reads in
       (carries.are ∙ ap (joined options.within) (sym all.0), all.1, all.2)
 
-  -- What is good is not refused.
+  -- A good transmission is not refused.
   not_refused :
       (f : CheckFault)
       → first_told (all_events_of programme options bytes) ≡ Some f
@@ -168,7 +167,7 @@ module _ (programme : ProgrammeValue) (options : OptionsValue) (is : IsOptions o
       → ⊥
   not_refused f first all good none = none-some f (sym (told_none.1 (all, good, none)) ∙ first)
 
-  -- Accepted exactly where the bytes carry a good transmission.
+  -- The file is accepted exactly if the bytes carry a good transmission.
   accepted_from :
       (result : Result Accepted CheckFault)
       → Decides programme options bytes result
@@ -188,7 +187,7 @@ module _ (programme : ProgrammeValue) (options : OptionsValue) (is : IsOptions o
         (subst (λ (t : Transmission). GoodBy options.keeps programme t options) same any.2) none),
   )
 
-  -- What is accepted is good, whatever transmission the bytes carry.
+  -- If it is accepted, whatever transmission the bytes carry is good.
   accepted_is :
       (frames : Transmission) (result : Result Accepted CheckFault)
       → (failed is_pes_read result ≡ false → Decides programme options bytes result)
@@ -202,7 +201,7 @@ module _ (programme : ProgrammeValue) (options : OptionsValue) (is : IsOptions o
       (told_none.0 told.1).1
   accepted_is frames (Err f) decides carries ok = cc
 
-  -- The counts of what is accepted.
+  -- The counts of an accepted file.
   sent_counts :
       (frames : Transmission) (a : Accepted)
       → GoodBy options.keeps programme frames options
@@ -231,7 +230,7 @@ module _ (programme : ProgrammeValue) (options : OptionsValue) (is : IsOptions o
       (sent_counts sent a (told_none.0 told.1).1 told.0.counts)
   counts_from frames (Err f) decides carries = tt
 
-  -- A refusal is told first.
+  -- The returned fault is the first.
   first_from :
       (result : Result Accepted CheckFault)
       → Decides programme options bytes result
@@ -265,7 +264,7 @@ module _ (programme : ProgrammeValue) (options : OptionsValue) (is : IsOptions o
   module _ (result : Result Accepted CheckFault)
       (decides : failed is_pes_read result ≡ false → Decides programme options bytes result)
       (so_far : ReadsSoFar programme options bytes result) where
-    -- A cell that the page is refused at is told first.
+    -- The cell at which the page is refused is that of the first fault.
     cell_told : (frame row column : ℕ)
         → result ≡ Err (fault.Content frame row column)
         → first_told (all_events_of programme options bytes)
@@ -275,7 +274,7 @@ module _ (programme : ProgrammeValue) (options : OptionsValue) (is : IsOptions o
         (λ r. IfErr r (λ f. first_told (all_events_of programme options bytes) ≡ Some f)) e
         (first_from result (decides (ap (failed is_pes_read) e)))
 
-    -- What is told of a PES file, from what the steps show.
+    -- The answer for a PES file follows.
     pub checked_by : IsCheckedBy programme options bytes result
     checked_by = record {
       accepted = λ looked fine. accepted_from result (decides fine);
@@ -292,8 +291,8 @@ module _ (programme : ProgrammeValue) (options : OptionsValue) (is : IsOptions o
           plan_accepted serial result written some slow (decides fine);
     }
 
-    -- What is checked where each header has to erase the page, and that has to be whole at the end
-    -- of each frame.
+    -- The answer if each header has to erase the page, which has to be right at the end of each
+    -- frame.
     pub checked_at_once : options.keeps ≡ false
         → options.within ≡ 0
         → IsChecked programme options bytes result
@@ -329,7 +328,7 @@ module _ (programme : ProgrammeValue) (options : OptionsValue) (is : IsOptions o
             ↔ Carries options.origin bytes t
         exact t = law_of_exact_frames options bytes t at_once
 
-        -- What is good by these options is good.
+        -- `GoodBy` these options is `Good`.
         good_is : (t : Transmission)
             → GoodBy options.keeps programme t options
             ↔ (Good programme t options

@@ -1,5 +1,5 @@
--- What is accepted where each header of the page has to erase it is accepted where repeats may keep
--- it; and the other way, where none keeps it.
+-- What is accepted if each header of the page has to erase it is accepted if repeats may keep it;
+-- and conversely, if no header keeps it.
 use Rattle.std.specs.Prelude.{◌≡◌, ℕ, true, false, List, IsFalse, IsOk, Result}
 use Rattle.sub_io.specs.Device.{failed}
 use Rattle.ttx_page.specs.Noise.{ErasesPage}
@@ -12,13 +12,12 @@ use Rattle.sub_rules.specs.declared.fault.CheckFault.{CheckFault}
 use Rattle.sub_checker.specs.declared.accepted.Accepted.{Accepted}
 use Rattle.sub_check.specs.CheckedFiles.{AreAcceptedBy, MeanWithin}
 
--- The same options, by which repeats may keep the page.
+-- The same options, except that repeats may keep the page.
 abbrev pub keeping : OptionsValue → OptionsValue
 keeping options = record options { keeps = true }
 
--- Where the bytes of a subtitle file and of a PES file are accepted though no header may keep the
--- page, and are checked where repeats may, they are accepted there too, but for sources that failed
--- and memory that was refused.
+-- If the bytes of a subtitle file and of a PES file are accepted although no header may keep the
+-- page, they are also accepted when repeats may, unless a source fails or an allocation is refused.
 abbrev pub LawOfAcceptedKeeping : Type 0
 LawOfAcceptedKeeping =
     (drawing : Drawing) (options : OptionsValue) (stl pes : List ℕ)
@@ -30,8 +29,8 @@ LawOfAcceptedKeeping =
     → IsOk answer
     → IsOk later
 
--- Where they are accepted though repeats may keep the page, and in what they mean each header of
--- the page erases it, they are accepted where no header may keep it.
+-- If they are accepted when repeats may keep the page, and each header of the page in the
+-- transmission erases it, they are also accepted when no header may keep it.
 abbrev pub LawOfAcceptedNoneKeeps : Type 0
 LawOfAcceptedNoneKeeps =
     (drawing : Drawing) (options : OptionsValue) (stl pes : List ℕ)

@@ -1,4 +1,4 @@
--- What is accepted within some frames is accepted within more.
+-- What is accepted with some `within` is accepted with a greater one.
 use Rattle.std.specs.Prelude.{◌≡◌, ℕ, ◌^◌, ◌<◌, ◌≤◌, List, false, IsOk, Result}
 use Rattle.sub_io.specs.Device.{failed}
 use Rattle.stl_rows.specs.declared.layout.Drawing.{Drawing}
@@ -9,9 +9,8 @@ use Rattle.sub_laws.specs.DelayOfFiles.{within_frames}
 use Rattle.sub_checker.specs.declared.accepted.Accepted.{Accepted}
 use Rattle.sub_check.specs.CheckedFiles.{AreAcceptedBy}
 
--- Where the bytes of a subtitle file and of a PES file are accepted within some frames, or within
--- none, and are checked within more, they are accepted there too, but for sources that failed and
--- memory that was refused.
+-- If the bytes of a subtitle file and of a PES file are accepted with some `within`, 0 included,
+-- they are also accepted with a greater one, unless a source fails or an allocation is refused.
 abbrev pub LawOfAcceptedWithinMore : Type 0
 LawOfAcceptedWithinMore =
     (drawing : Drawing) (options : OptionsValue) (more : ℕ) (stl pes : List ℕ)

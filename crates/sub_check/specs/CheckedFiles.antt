@@ -1,4 +1,4 @@
--- What the checker tells of the bytes of a subtitle file and a PES file.
+-- The checker's answer for the bytes of a subtitle file and a PES file.
 use Rattle.std.specs.Prelude.{◌≡◌, ◌≢◌, ◌↔◌, ℕ, ◌≤◌, length, take, List, [], Bool, false, true}
 use Rattle.std.specs.Prelude.{Option, Some, None, All, Contains, IsOk, Result, Ok, Err, IfOk, IfErr}
 use Rattle.std.specs.Prelude.{IfSome, IsFalse, IsTrue, ◌+◌, ◌++◌, flat_map, ⊤}
@@ -42,15 +42,15 @@ use Rattle.sub_checker.specs.declared.accepted.Accepted.{Accepted}
 use Rattle.sub_rules.specs.declared.fault.CheckFault.{CheckFault}
 use Rattle.sub_rules.specs.declared.fault.CheckFault.TheVariants as fault
 
--- ---- what an answer tells, and counts
+-- ---- faults and counts of an answer
 
--- What is told of the subtitle file by an answer that refuses it.
+-- If the answer refuses the subtitle file, its fault is that of the file.
 abbrev pub TellsSubtitles : Drawing → List ℕ → Result Accepted CheckFault → Type 0
 TellsSubtitles drawing file (Err (fault.Subtitles f)) = TellsFault drawing file f.block f.kind
 TellsSubtitles drawing file _ = ⊤
 
--- What is told of an accepted transmission: the frames of the day from the first to the last, and
--- the headers of the page.
+-- The counts of an accepted transmission: the frames of the day from the first to the last, and the
+-- headers of the page.
 pub record HasCounts (page : PageIdValue) (frames : Transmission) (a : Accepted) : Type 0 where
   pub frames_are : a.frames + first_frame frames ≡ last_frame frames + 1
   pub transmissions_are :
@@ -63,19 +63,19 @@ pub record Mean
     (drawing : Drawing) (origin : ℕ) (stl pes : List ℕ)
     (subtitles : List SubtitleValue) (transmission : Transmission)
     : Type 0 where
-  -- The one is a GSI block and the TTI blocks of these subtitles (EBU Tech 3264).
+  -- The subtitle file is a GSI block and the TTI blocks of these subtitles (EBU Tech 3264).
   pub gsi : List ℕ
   pub subtitle_file : IsFileFor drawing.scope stl gsi subtitles
-  -- They are in order and disjoint, and each has a page.
+  -- The subtitles are in order and disjoint, and each has a page.
   pub in_order : AreInOrder subtitles
   pub drawable : All (λ t. IsOk (drawn drawing t)) subtitles
-  -- The other is PES packets, joined (EN 300 472), one for each frame of the transmission, with the
-  -- PTS and the Teletext packets of that frame.
+  -- The PES file is joined PES packets (EN 300 472), one for each frame of the transmission, with
+  -- the PTS and the Teletext packets of that frame.
   pub carries : Carries origin pes transmission
 
--- The bytes of both files are accepted, where the page has to be whole at the end of each frame:
--- they mean some subtitles and a good transmission of these, of complete pages where the options
--- ask for them.
+-- The bytes of both files are accepted if the page has to be right at the end of each frame: they
+-- mean some subtitles and a good transmission of these, with complete pages if the options require
+-- them.
 pub record IsAccepted
     (drawing : Drawing) (options : OptionsValue) (stl pes : List ℕ) : Type 0 where
   pub subtitles : List SubtitleValue
@@ -84,17 +84,16 @@ pub record IsAccepted
   pub good : Good (record { drawing = drawing; records = subtitles }) transmission options
   pub complete : IsTrue options.asks_complete → Complete transmission options
 
--- What is answered for the bytes of both files, where the page has to be whole at the end of each
--- frame.
+-- The answer for the bytes of both files if the page has to be right at the end of each frame.
 pub record AreAccepted
     (drawing : Drawing) (options : OptionsValue) (stl pes : List ℕ)
     (answer : Result Accepted CheckFault)
     : Type 0 where
-  -- It is `Ok` exactly where they are accepted, but for sources that failed and memory that was
-  -- refused.
+  -- It is `Ok` exactly if they are accepted, unless a source fails or an allocation is refused.
   pub accepted :
       failed is_failure answer ≡ false → IsOk answer ↔ IsAccepted drawing options stl pes
-  -- What is accepted keeps all promises; and its pages are complete where the options ask for it.
+  -- An accepted transmission keeps all promises, and its pages are complete if the options require
+  -- it.
   pub serves :
       (subtitles : List SubtitleValue) (transmission : Transmission)
       → Mean drawing options.origin stl pes subtitles transmission
@@ -102,11 +101,10 @@ pub record AreAccepted
       → HasPromises (record { drawing = drawing; records = subtitles }) transmission options
       × (IsTrue options.asks_complete → Complete transmission options)
 
--- ---- both files, by any options
+-- ---- both files, with any options
 
--- The bytes of a subtitle file and of a PES file mean these subtitles and this transmission, by the
--- clock of the options: as in `Mean`, but that a PTS may be a little early or late, and PES packets
--- of one frame are sent as one.
+-- As `Mean`, but with the clock of the options: a PTS may be slightly early or late, and PES
+-- packets of one frame are merged.
 pub record MeanWithin
     (drawing : Drawing) (options : OptionsValue) (stl pes : List ℕ)
     (subtitles : List SubtitleValue) (transmission : Transmission)
@@ -117,8 +115,8 @@ pub record MeanWithin
   pub drawable : All (λ t. IsOk (drawn drawing t)) subtitles
   pub carries : CarriesBy (clock_of options) options.within pes transmission
 
--- The bytes of both files are accepted by options, whatever these are: they mean some subtitles and
--- a transmission of these that is good by them.
+-- The bytes of both files are accepted with any options: they mean some subtitles and a
+-- transmission of these that is good by the options.
 pub record IsAcceptedBy
     (drawing : Drawing) (options : OptionsValue) (stl pes : List ℕ) : Type 0 where
   pub subtitles : List SubtitleValue
@@ -127,16 +125,15 @@ pub record IsAcceptedBy
   pub good :
       GoodBy options.keeps (record { drawing = drawing; records = subtitles }) transmission options
 
--- What is answered for the bytes of both files by options, whatever these are.
+-- The answer for the bytes of both files with any options.
 pub record AreAcceptedBy
     (drawing : Drawing) (options : OptionsValue) (stl pes : List ℕ)
     (answer : Result Accepted CheckFault)
     : Type 0 where
-  -- It is `Ok` exactly where they are accepted so, but for sources that failed and memory that was
-  -- refused.
+  -- It is `Ok` exactly if they are accepted, unless a source fails or an allocation is refused.
   pub accepted :
       failed is_failure answer ≡ false → IsOk answer ↔ IsAcceptedBy drawing options stl pes
-  -- What is accepted keeps the promises of a transmission that is good by them.
+  -- An accepted transmission keeps the promises of one that is good by the options.
   pub serves :
       (subtitles : List SubtitleValue) (transmission : Transmission)
       → MeanWithin drawing options stl pes subtitles transmission
@@ -146,33 +143,33 @@ pub record AreAcceptedBy
 
 -- ---- a PES file, against a programme
 
--- All that is told of the bytes of a PES file, checked against a programme: reading goes on after a
--- piece that is passed over; and which frames may be trusted.
+-- All events for the bytes of a PES file, checked against a programme. Reading goes on after
+-- skipped PES packets; trusted frames are included.
 abbrev pub all_events_of : ProgrammeValue → OptionsValue → List ℕ → List Event
 all_events_of programme options bytes =
     let file = piece_file_of (clock_of options) bytes in
     all_of_pieces (criteria_of programme options file.unread) file.pieces
 
--- The frames that are sent by its pieces, within frames those of PES packets of one frame as one.
+-- The frames of its PES packets; if `within` is not 0, consecutive packets of one frame are merged.
 abbrev pub frames_read : OptionsValue → List ℕ → Transmission
 frames_read options bytes =
     joined options.within (frames_of (piece_file_of (clock_of options) bytes).pieces)
 
--- What is told of its first n pieces.
+-- The events for its first n PES packets.
 abbrev pub events_of_first_pieces : ProgrammeValue → OptionsValue → List ℕ → ℕ → List Event
 events_of_first_pieces programme options bytes n =
     let file = piece_file_of (clock_of options) bytes in
     events_of_pieces (criteria_of programme options file.unread) (take n file.pieces)
 
--- What is told of the bytes of a PES file, checked against a programme by options, whatever these
--- are. A refusal of the subtitle file, which is then want of memory or its failing source, tells
--- nothing of them.
+-- The answer for the bytes of a PES file, checked against a programme with any options. An answer
+-- that refuses the subtitle file, for a failed source or allocation, says nothing about these
+-- bytes.
 pub record IsCheckedBy
     (programme : ProgrammeValue) (options : OptionsValue) (bytes : List ℕ)
     (answer : Result Accepted CheckFault)
     : Type 0 where
-  -- Failing devices and want of memory aside, they are accepted exactly where they are a PES file
-  -- that carries a transmission of the programme that is good by the options.
+  -- Unless a device fails or an allocation is refused, they are accepted exactly if they are a PES
+  -- file that carries a transmission of the programme that is good by the options.
   pub accepted :
       failed is_subtitle_fault answer ≡ false
       → failed is_pes_read answer ≡ false
@@ -180,40 +177,40 @@ pub record IsCheckedBy
       ↔ ((transmission : Transmission)
       × CarriesBy (clock_of options) options.within bytes transmission
       × GoodBy options.keeps programme transmission options)
-  -- What is accepted is such a transmission, and keeps its promises.
+  -- An accepted transmission is good by the options, and keeps the promises of one.
   pub serves :
       (transmission : Transmission)
       → CarriesBy (clock_of options) options.within bytes transmission
       → IsOk answer
       → GoodBy options.keeps programme transmission options
       × HasPromisesBy options.keeps programme transmission options
-  -- The counts of what is accepted are those of the transmission.
+  -- The counts of an accepted file are those of the transmission.
   pub counts :
       (transmission : Transmission)
       → CarriesBy (clock_of options) options.within bytes transmission
       → IfOk answer (HasCounts options.page transmission)
-  -- A refusal is what is told first.
+  -- The returned fault is the first one among the events.
   pub first :
       failed is_subtitle_fault answer ≡ false
       → failed is_pes_read answer ≡ false
       → IfErr answer (λ f. first_told (all_events_of programme options bytes) ≡ Some f)
-  -- That the source failed is told at the PES packet that could not be read: those before it were
-  -- read, and no refusal is told of them.
+  -- A failure of the source is reported for the PES packet that could not be read: those before it
+  -- were read, and there is no fault among their events.
   pub read :
       (pes : ℕ)
       → answer ≡ Err (fault.Pes pes Read)
       → (pes ≤ length (piece_file_of (clock_of options) bytes).pieces)
       × (first_told (events_of_first_pieces programme options bytes pes) ≡ None)
-  -- Where the page is refused at a cell, it is not right there, and receivers that start at the
-  -- first packet, with no bit wrong, show what is kept there; and where that end is not late, it is
-  -- no code that is due there at a frame within these before it.
+  -- If the page is refused at a cell, it is wrong there, and receivers that start at the first
+  -- packet, and receive each bit correctly, show the kept code there. If the page still has time to
+  -- become right, that code is not due there at any frame within these before.
   pub content :
       (frame row column : ℕ)
       → answer ≡ Err (fault.Content frame row column)
       → IsDifferentEverywhere programme options
       (joined options.within (pes_file_of (clock_of options) bytes).frames) frame row column
-  -- What `schedule` writes of the programme with the same options is accepted, where no pace is
-  -- asked for that is less than the repeat bound.
+  -- The output of `schedule` for the programme and the same options is accepted, unless the maximum
+  -- distance of PES packets is less than the repeat bound.
   pub schedule :
       (serial : Bool)
       → bytes ≡ plan programme options serial
@@ -223,16 +220,15 @@ pub record IsCheckedBy
       → failed is_pes_read answer ≡ false
       → IsOk answer
 
--- What is answered where each header of the page has to erase it, and the page has to be whole at
--- the end of each frame: in the words of the seven rules. All else that `IsCheckedBy` says is said
--- of that too.
+-- The answer if each header of the page has to erase it, and the page has to be right at the end of
+-- each frame, in terms of the seven rules. Everything in `IsCheckedBy` holds as well.
 pub record IsChecked
     (programme : ProgrammeValue) (options : OptionsValue) (bytes : List ℕ)
     (answer : Result Accepted CheckFault)
     : Type 0 where
-  -- Failing devices and want of memory aside, they are accepted exactly where they are a PES file
-  -- that carries a good transmission of the programme, of complete pages where the options ask for
-  -- them.
+  -- Unless a device fails or an allocation is refused, they are accepted exactly if they are a PES
+  -- file that carries a good transmission of the programme, with complete pages if the options
+  -- require them.
   pub accepted :
       failed is_subtitle_fault answer ≡ false
       → failed is_pes_read answer ≡ false
@@ -241,35 +237,35 @@ pub record IsChecked
       × Carries options.origin bytes transmission
       × Good programme transmission options
       × (IsTrue options.asks_complete → Complete transmission options))
-  -- What is accepted keeps all promises; and its pages are complete where the options ask for it.
+  -- An accepted transmission keeps all promises, and its pages are complete if the options require
+  -- it.
   pub serves :
       (transmission : Transmission)
       → Carries options.origin bytes transmission
       → IsOk answer
       → HasPromises programme transmission options
       × (IsTrue options.asks_complete → Complete transmission options)
-  -- Where the page is refused at a cell, every receiver that starts at the first packet, with no
-  -- bit wrong, shows another code there than is due.
+  -- If the page is refused at a cell, every receiver that starts at the first packet, and receives
+  -- each bit correctly, shows another code there than the due one.
   pub content :
       (frame row column : ℕ)
       → answer ≡ Err (fault.Content frame row column)
       → IsWrongEverywhere programme options (pes_file_of (clock_of options) bytes).frames frame row
       column
 
--- What is told of the bytes of a subtitle file, and of those of a PES file where its source tells
--- them.
+-- The answer for the bytes of a subtitle file, and for those of a PES file if they are known.
 pub record AreChecked
     (drawing : Drawing) (options : OptionsValue) (file : List ℕ) (pes : Option (List ℕ))
     (answer : Result Accepted CheckFault)
     : Type 0 where
-  -- A refusal of the subtitle file is its first fault, or else that its source failed or memory
-  -- was refused.
+  -- If the answer refuses the subtitle file, its fault is the first of the file, or its source
+  -- failed or an allocation was refused.
   pub subtitles : TellsSubtitles drawing file answer
   -- A subtitle file that gives no programme is refused.
   pub refused :
       ((programme : ProgrammeValue) → loaded drawing file ≢ Ok programme)
       → failed is_subtitle_fault answer ≡ true
-  -- The PES file is checked against the programme that the subtitle file gives.
+  -- The PES file is checked against the programme of the subtitle file.
   pub checked :
       (programme : ProgrammeValue)
       → loaded drawing file ≡ Ok programme
@@ -281,32 +277,32 @@ pub record AreChecked
       → loaded drawing file ≡ Ok programme
       → IfKnown pes (λ bytes. IsCheckedBy programme options bytes answer)
 
--- The answer of `check` by what is told first: these counts where it is nothing.
+-- The answer of `check`, given the first fault: the counts if there is none.
 abbrev pub answer_by : Option CheckFault → Accepted → Result Accepted CheckFault
 answer_by None a = Ok a
 answer_by (Some f) a = Err f
 
--- The answer of a check by all that is told.
+-- The answer of `check`, given all events.
 abbrev pub first_answer : List Event → Accepted → Result Accepted CheckFault
 first_answer events a = answer_by (first_told events) a
 
 -- ---- a PES file, against what can be judged of a subtitle file
 
--- All that is told of the bytes of a PES file, checked against what can be judged of a subtitle
--- file. Where nothing of that is refused, it is what is told of them against its programme.
+-- All events for the bytes of a PES file, checked against what can be judged of a subtitle file. If
+-- no subtitle was refused, they are the events for its programme.
 abbrev pub all_events_by : JudgedValue → OptionsValue → List ℕ → List Event
 all_events_by judged options bytes =
     let file = piece_file_of (clock_of options) bytes in
     all_of_pieces (criteria_of_judged judged options file.unread) file.pieces
 
--- What is told of its first n pieces.
+-- The events for its first n PES packets.
 abbrev pub events_of_first_by : JudgedValue → OptionsValue → List ℕ → ℕ → List Event
 events_of_first_by judged options bytes n =
     let file = piece_file_of (clock_of options) bytes in
     events_of_pieces (criteria_of_judged judged options file.unread) (take n file.pieces)
 
--- Frames that are told as trusted may stay on air as they are, whatever is on air elsewhere: in the
--- part of the transmission in which frames rise, receivers recover there.
+-- Frames that are reported as trusted may stay on air as they are, whatever is on air elsewhere: in
+-- the part of the transmission in which the frames rise, receivers recover there.
 abbrev pub TellsWhatMayStay : JudgedValue → OptionsValue → List ℕ → Type 0
 TellsWhatMayStay judged options bytes =
     let file = piece_file_of (clock_of options) bytes in
@@ -315,8 +311,8 @@ TellsWhatMayStay judged options bytes =
     → StaysAsRead (criteria_of_judged judged options file.unread) file.pieces from to
     (λ on_air. MayStay judged.programme on_air options from to)
 
--- So they may by any options, within frames, and whether repeats may keep or not: by receivers that
--- may forget the page, too.
+-- So they may with any options, whatever `within` is, and whether repeats may keep the page or not:
+-- for receivers that may forget the page, too.
 abbrev pub TellsWhatMayStayBy : JudgedValue → OptionsValue → List ℕ → Type 0
 TellsWhatMayStayBy judged options bytes =
     let file = piece_file_of (clock_of options) bytes in
@@ -325,8 +321,8 @@ TellsWhatMayStayBy judged options bytes =
     → StaysAsRead (criteria_of_judged judged options file.unread) file.pieces from to
     (λ on_air. MayStayBy judged.programme on_air options from to)
 
--- At each of these frames it is known what is due; and within frames at each of so many before one
--- of them that is not before the first frame that was read.
+-- At each of these frames the due page is known, and it was known at each of the `within` frames
+-- before, from the first frame that was read.
 abbrev pub TellsWhatIsKnown : JudgedValue → OptionsValue → List ℕ → Type 0
 TellsWhatIsKnown judged options bytes =
     let file = piece_file_of (clock_of options) bytes in
@@ -339,8 +335,8 @@ TellsWhatIsKnown judged options bytes =
     → from ≤ frame + options.within
     → IsFalse (is_due_undecided judged frame)
 
--- What is told of its first pieces, wherever the source failed, begins what is told of all. So what
--- is promised of trusted frames holds of those that were told before.
+-- The events for the first PES packets, wherever the source fails, are a prefix of all events. So
+-- the promises for trusted frames hold for those that were reported before.
 abbrev pub BeginsWhatIsTold : JudgedValue → OptionsValue → List ℕ → Type 0
 BeginsWhatIsTold judged options bytes =
     (n : ℕ)
@@ -348,9 +344,9 @@ BeginsWhatIsTold judged options bytes =
     × (all_events_by judged options bytes
     ≡ events_of_first_by judged options bytes n ++ rest)
 
--- What a device was told of the bytes of a PES file, checked against what can be judged: where it
--- did not say stop, all events, and the answer counts what was read; else the events up to there,
--- and nothing is counted. Where the source failed, the events of the pieces that were read whole.
+-- The events that a device was told for the bytes of a PES file, checked against what can be
+-- judged. If it did not say stop: all events, and the answer has the counts. Otherwise: a prefix of
+-- the events, and no counts. If the source failed: the events of the PES packets before.
 abbrev pub TellsEvents : {D : Type 0} → JudgedValue → OptionsValue → List ℕ
     → (D → Event → D → Type 0) → D → D → Result (Option Accepted) CheckFault → Type 0
 TellsEvents judged options bytes IsTold old new (Ok (Some a)) =

@@ -1,4 +1,4 @@
-//! The exact checker: the pieces of a PES file against a programme.
+//! The exact checker: checks the PES packets of a file against a programme.
 ghost use Rattle.std.specs.Prelude.{◌≡◌, ℕ, Err, IfErr, IfOk, IfSome, IsFalse, false, is_none};
 ghost use Rattle.std.specs.Prelude.{true};
 ghost use Rattle.sub_io.specs.Device.{CanFail, CountsIf, failed};
@@ -27,31 +27,31 @@ use sub_plan::Options;
 use sub_rules::{CheckFault, Event};
 use ttx_pes::{PesFault, Pieces};
 
-/// Checks the pieces of a PES file against a programme, as `check` does those of a source.
+/// Checks the PES packets of a file against a programme, as `check` does those of a source.
 ///
 /// # Errors
 ///
-/// Those of `check`.
+/// Returns the faults of `check`.
 pub fn check_pieces<P: Pieces>(
     programme: &Programme,
     source: &mut P,
     options: &Options,
 ) -> Result<Accepted, CheckFault>
     requires { CanFail (P.failure_count source.old) }
-    // Where the source tells its bytes, these decide the answer: they are accepted exactly where
+    // If the bytes of the source are known, they decide the answer: they are accepted exactly if
     // they are a PES file that carries a good transmission of the programme, which is then robust.
     ensures checked { IsFalse options.now.keeps → options.now.within ≡ 0
         → IfKnown (P.remaining source.old) (λ bytes.
         IsChecked programme.now options.now bytes result) }
-    // By whatever options, where these allow for frames that are late, and where repeats may keep
-    // the page, they are accepted exactly where it is good by that.
+    // With any options, including those that allow late frames or repeats that keep the page, they
+    // are accepted exactly if the transmission is good by these options.
     ensures checked_by { IfKnown (P.remaining source.old) (λ bytes.
         IsCheckedBy programme.now options.now bytes result) }
-    // That the source failed is told at the PES packet within which it failed: those before it were
-    // taken.
+    // A failure of the source is reported for the PES packet in which it happened; the packets
+    // before it were consumed.
     ensures read { (pes : ℕ) → result ≡ Err (CheckFault.Pes pes PesFault.Read)
         → FailsAtPacket pes (P.remaining source.old) (P.left source.new) }
-    // No answer refuses a subtitle file, nothing is written, and `Read` is told exactly where the
+    // No answer refuses a subtitle file, nothing is written, and `Read` is returned exactly if the
     // source failed in this call.
     ensures own { failed is_subtitle_fault result ≡ false }
     ensures no_write { failed is_pes_write result ≡ false }
@@ -66,8 +66,8 @@ pub fn check_pieces<P: Pieces>(
     }
 }
 
-// Tells all that is broken of a PES file, checked against a programme of a subtitle file of which
-// nothing is refused.
+// Reports everything that is broken in a PES file, checked against a programme whose subtitle file
+// has no refused subtitles.
 fn tell_known<P: Pieces, A: LiveAudience<Event>>(
     programme: &Programme,
     source: &mut P,
@@ -93,12 +93,13 @@ fn tell_known<P: Pieces, A: LiveAudience<Event>>(
     tell_pieces(&Judging::known(programme), source, options, audience)
 }
 
-/// Checks the pieces of a PES file against what can be judged of a subtitle file, and tells all
-/// that is broken, as `check_all` does those of a source.
+/// Checks the PES packets of a file against what can be judged of a subtitle file, and reports
+/// everything that is broken, as `check_all` does for those of a source.
 ///
 /// # Errors
 ///
-/// `Pes` with `Read` where a device failed: then the events are those of the pieces before.
+/// Returns `Pes` with `Read` if a device failed. The events of all packets before that have been
+/// reported.
 pub fn check_all_pieces<P: Pieces, A: LiveAudience<Event>>(
     judging: &Judging<'_>,
     source: &mut P,
@@ -108,11 +109,11 @@ pub fn check_all_pieces<P: Pieces, A: LiveAudience<Event>>(
     requires failures { CanFail (P.failure_count source.old) }
     requires goes_on { A.has_stopped audience.old ≡ false }
     requires still { A.is_waiting audience.old ≡ false }
-    // Where the source tells its bytes, these decide what the device is told.
+    // If the bytes of the source are known, they decide what the audience is told.
     ensures told { IfKnown (P.remaining source.old) (λ bytes.
         TellsEvents judging.now options.now bytes A.is_told audience.old audience.new result) }
-    // Where all was told, and nothing of the subtitle file is refused, `check` answers by the first
-    // fault of it, or else with these counts.
+    // If all events were told and no subtitle was refused, `check` returns the first fault among
+    // them, or else these counts.
     ensures first { (programme : ProgrammeValue)
         → judging.now ≡ known programme
         → IsFalse options.now.keeps
@@ -125,35 +126,35 @@ pub fn check_all_pieces<P: Pieces, A: LiveAudience<Event>>(
         → IfKnown (P.remaining source.old) (λ bytes.
         IfOk result (λ counts. IfSome counts (λ a. IsCheckedBy programme options.now bytes
         (first_answer (all_events_of programme options.now bytes) a)))) }
-    // The next four are laws of what it is told: they name neither the answer nor the device, and
-    // stand here so that this call carries them.
-    // What is told as trusted may stay on air as it is, whatever is on air elsewhere.
+    // The next four clauses are laws about the events. They name neither the answer nor the
+    // audience, and are here so that callers get them. Trusted frames may stay on air as they are,
+    // whatever is on air elsewhere.
     ensures trusted { IsFalse options.now.keeps → options.now.within ≡ 0
         → IfKnown (P.remaining source.old) (λ bytes.
         TellsWhatMayStay judging.now options.now bytes) }
-    // So it may by any options, with a delay within frames, and by receivers that may forget the
-    // page where repeats may keep it.
+    // So they may with any options: with frames of delay, and for receivers that may forget the
+    // page if repeats may keep it.
     ensures trusted_by { IfKnown (P.remaining source.old) (λ bytes.
         TellsWhatMayStayBy judging.now options.now bytes) }
-    // It is known there what is due.
+    // At trusted frames the due page is known.
     ensures known { IfKnown (P.remaining source.old) (λ bytes.
         TellsWhatIsKnown judging.now options.now bytes) }
-    // What is told where the source failed begins what is told of all.
+    // The events before a failure of the source are a prefix of all events.
     ensures begins { IfKnown (P.remaining source.old) (λ bytes.
         BeginsWhatIsTold judging.now options.now bytes) }
-    // Nothing is counted exactly where the device said stop.
+    // No counts are returned exactly if the audience said stop.
     ensures stopped { IfOk result (λ counts. A.has_stopped audience.new ≡ is_none counts) }
-    // Whatever the source tells, the device was told some events, and did not say stop where the
+    // Whatever the source contains, the audience was told some events, and had not said stop if the
     // source failed.
     ensures some { TellsSome A.is_told audience.old audience.new }
     ensures goes_on { IfErr result (λ _. A.has_stopped audience.new ≡ false) }
-    // That the source failed is told at the piece within which it failed: those before it were
-    // taken. There is no other `Err`.
+    // A failure of the source is reported for the PES packet in which it happened; the packets
+    // before it were consumed. There is no other `Err`.
     ensures read { (pes : ℕ) → result ≡ Err (CheckFault.Pes pes PesFault.Read)
         → FailsAtPiece pes (P.remaining source.old) (P.left source.new) }
     ensures only { IfErr result (λ f. is_pes_read f ≡ true) }
-    // Where the source may have to ask its device, all that was told before is handed on: each such
-    // call may fail, and where one did nothing is held back.
+    // Before the source may ask its device, which may fail, all reports are flushed. So if it
+    // failed, none is held back.
     ensures asked { A.held audience.old ≡ 0 → IfErr result (λ _. A.held audience.new ≡ 0) }
     ensures device { P.device source.new ≡ P.device source.old }
     ensures count { CountsIf P.failure_count source.old (failed is_pes_read result) source.new }

@@ -1,4 +1,4 @@
-//! The exact checker: a PES file against a programme.
+//! The exact checker: checks a PES file against a programme.
 ghost use Rattle.std.specs.Prelude.{◌≡◌, ℕ, Err, IfErr, IfOk, IfSome, IsFalse, Option};
 ghost use Rattle.std.specs.Prelude.{false, is_none, true};
 ghost use Rattle.sub_io.specs.Device.{CanFail, CountsIf, failed};
@@ -23,48 +23,50 @@ use sub_plan::Options;
 use sub_rules::{CheckFault, Event};
 use ttx_pes::{FilePieces, PesFault};
 
-/// Checks a PES file against a programme: it is accepted exactly where it carries a good
-/// transmission of it, of complete pages if the options ask for them, and a refusal is the first
-/// fault that `check_all` tells.
+/// Checks a PES file against a programme. The file is accepted exactly if it carries a good
+/// transmission of the programme, with complete pages if the options require them. Otherwise the
+/// result is the first fault that `check_all` reports.
 ///
-/// It reads one PES packet at a time and takes no memory: beside numbers it keeps one PES packet,
-/// one page, the page that is due, and a mark for each row sent since the last header of the page.
-/// The due page is drawn anew only where a subtitle begins or ends. Packets that begin with a
-/// header of the page and are those of the PES packet before, byte for byte, are not looked at
-/// again.
+/// It reads one PES packet at a time and allocates no memory: besides numbers it keeps one PES
+/// packet, one page, the due page, and a flag for each row received since the last header of the
+/// page. The due page is drawn again only when a subtitle begins or ends. If the packets begin with
+/// a header of the page and equal those of the PES packet before, byte for byte, they are not
+/// examined again.
 ///
 /// # Errors
 ///
 /// For each PES packet in turn: its own fault as `Pes`, `OffFrame`, `Order`; `Early` for the first;
 /// at each frame before it `Content`, then `Gap`; its packets in order, `Address` to `Enhancement`;
-/// `NoFirstHeader` for the first; `Content`, `Gap`, and where complete pages are asked for
-/// `Incomplete`. At the end `Empty` or `Late`. `Pes` with `Read` where the source failed in this
-/// call, and only there. Within frames a frame ends where a PES packet of another one comes, or
-/// none; `Incomplete` is told only at an end by which the page had to be whole, and at another one
-/// `Content` only of a code that was not due within these frames. `Late` is also told where the
-/// page is not whole at the last end, and need not be by then. Where repeats may keep the page,
-/// `Control` passes a header that repeats it, and `Content` is told where a row with text is not
-/// sent again.
+/// `NoFirstHeader` for the first; `Content`, `Gap`, and `Incomplete` if complete pages are
+/// required. At the end of the file `Empty` or `Late`. Returns `Pes` with `Read` exactly if the
+/// source failed in this call.
+///
+/// If `within` is not 0, a frame ends when a PES packet of another frame or the end of the file
+/// follows. `Incomplete` is then returned only at an end by which the page has to be right, and
+/// `Content` at an earlier end only for a code that was not due within these frames. `Late` is also
+/// returned if the page is not right at the last end but still had time. If repeats may keep the
+/// page, `Control` allows a header that repeats it, and `Content` is returned if a row with text is
+/// not sent again.
 pub fn check<S: Source>(
     programme: &Programme,
     source: &mut S,
     options: &Options,
 ) -> Result<Accepted, CheckFault>
     requires { CanFail (S.failure_count source.old) }
-    // Where the source tells its bytes, these decide the answer: they are accepted exactly where
+    // If the bytes of the source are known, they decide the answer: they are accepted exactly if
     // they are a PES file that carries a good transmission of the programme, which is then robust.
     ensures checked { IsFalse options.now.keeps → options.now.within ≡ 0
         → IfKnown (S.remaining source.old) (λ bytes.
         IsChecked programme.now options.now bytes result) }
-    // By whatever options, where these allow for frames that are late, and where repeats may keep
-    // the page, they are accepted exactly where it is good by that.
+    // With any options, including those that allow late frames or repeats that keep the page, they
+    // are accepted exactly if the transmission is good by these options.
     ensures checked_by { IfKnown (S.remaining source.old) (λ bytes.
         IsCheckedBy programme.now options.now bytes result) }
-    // That the source failed is told at the PES packet within which it failed: those before it were
-    // taken.
+    // A failure of the source is reported for the PES packet in which it happened; the packets
+    // before it were consumed.
     ensures read { (pes : ℕ) → result ≡ Err (CheckFault.Pes pes PesFault.Read)
         → FailsAtPacket pes (S.remaining source.old) (S.remaining source.new) }
-    // No answer refuses a subtitle file, nothing is written, and `Read` is told exactly where the
+    // No answer refuses a subtitle file, nothing is written, and `Read` is returned exactly if the
     // source failed in this call.
     ensures own { failed is_subtitle_fault result ≡ false }
     ensures no_write { failed is_pes_write result ≡ false }
@@ -74,28 +76,32 @@ pub fn check<S: Source>(
     check_pieces(programme, &mut pieces, options)
 }
 
-/// Checks a PES file, as `check` does, against what can be judged of a subtitle file, and tells all
-/// that is broken to a device of the caller's, one event after another, until it says stop.
+/// Checks a PES file like `check`, but against what can be judged of a subtitle file, and reports
+/// everything that is broken to `audience`, one event after another, until it says stop.
 ///
-/// The events are those of `check`'s list, each where it is broken: all rules that a packet breaks;
-/// of a rule that is asked at the end of each frame, where it begins to be broken and where it has
-/// ended. Beside them it tells which frames may stay on air as they are, each run of them where it
-/// is over. A piece that begins as a PES packet does and is as long as its length field says, but
-/// is none that can be read, or whose PTS is that of no frame of the day, is passed over: its fault
-/// is told, of pieces one directly after the other with one fault that of the first, and up to
-/// which one they go. Where the bytes can't be read on, that is the last event. Where subtitles of
-/// the file are refused, no cell is asked for at the frames at which it is not known for that what
-/// is due; `Undecided` is told there, and what is trusted always. It counts what was
-/// read: the frames of the day from the first PES packet's to the latest one's, and the headers of
-/// the page. `None` where the device said stop: the PES packet at which it did was read in part.
+/// The events are the faults that `check` lists, each at the place where it occurs: all rules that
+/// a packet breaks; for a rule that applies to the end of each frame, where it begins to be broken
+/// and where that has ended. Further events say which frames are trusted to be right on air, at the
+/// end of each run of them. A PES packet that can't be read, or whose PTS is that of no frame of
+/// the day, is skipped if it has a start code and as many bytes as its length field says. Of
+/// consecutive skipped packets with the same fault, the first is reported, and up to which one they
+/// go. If the bytes can't be read on, that is the last event.
 ///
-/// It takes no memory, and reads as `check` does but for what it passes over. What the device holds
-/// back it hands on before a piece is read that the source does not lend whole, and so may have to
-/// wait for: what a PES packet settles is seen before the next one has come.
+/// If subtitles were refused, cells are not checked at frames whose due page is unknown for that
+/// reason; `Undecided` is reported there, and the trusted frames always.
+///
+/// Returns the counts of what was read: the frames of the day from that of the first PES packet to
+/// the greatest one, and the headers of the page. Returns `None` if the audience said stop; it may
+/// have done so within a PES packet.
+///
+/// It allocates no memory, and reads like `check` except for skipped packets. It flushes the
+/// audience before it reads a PES packet for which the source may have to wait. So the events of a
+/// PES packet are seen before the next one has arrived.
 ///
 /// # Errors
 ///
-/// `Pes` with `Read` where the source failed: then the events are those of the pieces before.
+/// Returns `Pes` with `Read` if the source failed. The events of all packets before that have been
+/// reported.
 pub fn check_all<S: Source, A: LiveAudience<Event>>(
     judging: &Judging<'_>,
     source: &mut S,
@@ -105,11 +111,11 @@ pub fn check_all<S: Source, A: LiveAudience<Event>>(
     requires failures { CanFail (S.failure_count source.old) }
     requires goes_on { A.has_stopped audience.old ≡ false }
     requires still { A.is_waiting audience.old ≡ false }
-    // Where the source tells its bytes, these decide what the device is told.
+    // If the bytes of the source are known, they decide what the audience is told.
     ensures told { IfKnown (S.remaining source.old) (λ bytes.
         TellsEvents judging.now options.now bytes A.is_told audience.old audience.new result) }
-    // Where all was told, and nothing of the subtitle file is refused, `check` answers by the first
-    // fault of it, or else with these counts.
+    // If all events were told and no subtitle was refused, `check` returns the first fault among
+    // them, or else these counts.
     ensures first { (programme : ProgrammeValue)
         → judging.now ≡ known programme
         → IsFalse options.now.keeps
@@ -122,35 +128,35 @@ pub fn check_all<S: Source, A: LiveAudience<Event>>(
         → IfKnown (S.remaining source.old) (λ bytes.
         IfOk result (λ counts. IfSome counts (λ a. IsCheckedBy programme options.now bytes
         (first_answer (all_events_of programme options.now bytes) a)))) }
-    // The next four are laws of what it is told: they name neither the answer nor the device, and
-    // stand here so that this call carries them.
-    // What is told as trusted may stay on air as it is, whatever is on air elsewhere.
+    // The next four clauses are laws about the events. They name neither the answer nor the
+    // audience, and are here so that callers get them. Trusted frames may stay on air as they are,
+    // whatever is on air elsewhere.
     ensures trusted { IsFalse options.now.keeps → options.now.within ≡ 0
         → IfKnown (S.remaining source.old) (λ bytes.
         TellsWhatMayStay judging.now options.now bytes) }
-    // So it may by any options, with a delay within frames, and by receivers that may forget the
-    // page where repeats may keep it.
+    // So they may with any options: with frames of delay, and for receivers that may forget the
+    // page if repeats may keep it.
     ensures trusted_by { IfKnown (S.remaining source.old) (λ bytes.
         TellsWhatMayStayBy judging.now options.now bytes) }
-    // It is known there what is due.
+    // At trusted frames the due page is known.
     ensures known { IfKnown (S.remaining source.old) (λ bytes.
         TellsWhatIsKnown judging.now options.now bytes) }
-    // What is told where the source failed begins what is told of all.
+    // The events before a failure of the source are a prefix of all events.
     ensures begins { IfKnown (S.remaining source.old) (λ bytes.
         BeginsWhatIsTold judging.now options.now bytes) }
-    // Nothing is counted exactly where the device said stop.
+    // No counts are returned exactly if the audience said stop.
     ensures stopped { IfOk result (λ counts. A.has_stopped audience.new ≡ is_none counts) }
-    // Whatever the source tells, the device was told some events, and did not say stop where the
+    // Whatever the source contains, the audience was told some events, and had not said stop if the
     // source failed.
     ensures some { TellsSome A.is_told audience.old audience.new }
     ensures goes_on { IfErr result (λ _. A.has_stopped audience.new ≡ false) }
-    // That the source failed is told at the piece within which it failed: those before it were
-    // taken. There is no other `Err`.
+    // A failure of the source is reported for the PES packet in which it happened; the packets
+    // before it were consumed. There is no other `Err`.
     ensures read { (pes : ℕ) → result ≡ Err (CheckFault.Pes pes PesFault.Read)
         → FailsAtPiece pes (S.remaining source.old) (S.remaining source.new) }
     ensures only { IfErr result (λ f. is_pes_read f ≡ true) }
-    // Where the source may have to ask its device, all that was told before is handed on: each such
-    // call may fail, and where one did nothing is held back.
+    // Before the source may ask its device, which may fail, all reports are flushed. So if it
+    // failed, none is held back.
     ensures asked { A.held audience.old ≡ 0 → IfErr result (λ _. A.held audience.new ≡ 0) }
     ensures count { CountsIf S.failure_count source.old (failed is_pes_read result) source.new }
 {

@@ -1,4 +1,4 @@
-//! The device that `check` tells what is broken to.
+//! The audience that `check` passes to the checker.
 ghost use Rattle.std.specs.Prelude.{◌≡◌, Option, None, Some, IfSome, is_some, false, not, true};
 ghost use Rattle.std.proofs.Common.{refl, subst, sym};
 ghost use Rattle.sub_check.specs.FirstTold.{IsRuleFault, KeepsFirstFault, is_of_rule};
@@ -9,9 +9,9 @@ use sub_io::{Audience, Live, LiveAudience, Stopped};
 use sub_rules::{CheckFault, Event};
 use ttx_pes::PesFault;
 
-/// Keeps the first fault that a rule tells, and says stop at it. All else passes.
+/// Keeps the first fault of a rule and says stop then. Ignores all other events.
 ///
-/// Contracts see it as what it keeps.
+/// In contracts its value is what it keeps.
 #[derive(Drop)]
 pub struct FirstFault {
     fault: Option<CheckFault>,
@@ -26,14 +26,14 @@ impl Model for FirstFault {
 }
 
 impl FirstFault {
-    /// One that was told nothing yet.
+    /// Returns an audience that was told nothing yet.
     pub fn new() -> Self
         ensures { result ≡ None }
     {
         FirstFault { fault: None }
     }
 
-    /// The fault that it keeps, once it said stop.
+    /// Returns the fault that it keeps, after it said stop.
     pub fn into_fault(self) -> CheckFault
         requires { is_some self ≡ true }
         ensures kept { self ≡ Some result }
@@ -51,7 +51,7 @@ impl Audience<Event> for FirstFault {
 
     ghost has_stopped = { λ f. is_some f };
 
-    // Keeps it where it is a fault of a rule.
+    // Keeps the event if it is a fault of a rule.
     #[tactic(auto, using(sub_io::proofs::TellingLemmas::tellings))]
     fn tell(&mut self, item: Event) -> Result<(), Stopped> {
         match item {
@@ -71,12 +71,12 @@ impl Live for FirstFault {
 
     ghost is_handed_on = { λ old ok new. (new ≡ old) × (is_some new ≡ not ok) };
 
-    // Never: it keeps what it was told.
+    // Never waits: it keeps what it was told.
     fn waits(&self) -> bool {
         false
     }
 
-    // Nothing is done.
+    // There is nothing to flush.
     fn hand_on(&mut self) -> Result<(), Stopped> {
         if self.fault.is_some() {
             return Err(Stopped);
@@ -94,7 +94,7 @@ impl LiveAudience<Event> for FirstFault {
     } };
 }
 
-// Rules tell all faults but those of the subtitle file and of failed devices.
+// All faults are of a rule except those of the subtitle file and of failed devices.
 fn is_of_rule(fault: &CheckFault) -> bool
     ensures is { result ≡ is_of_rule fault.now }
     ensures own { result ≡ true → IsRuleFault fault.now }

@@ -1,14 +1,14 @@
 //! The exact checker of a PES file against a programme, and the headline: a good transmission of a
 //! programme is robust.
 //!
-//! Joins `sub_checker`, which tells all that is broken, with `sub_laws` and `sub_trusted`, whose
-//! laws say what that means, and gives their names, those of `sub_rules`, and the law of
+//! Joins `sub_checker`, which reports everything that is broken, with `sub_laws` and `sub_trusted`,
+//! whose laws say what that means, and re-exports their names, those of `sub_rules`, and the law of
 //! `sub_packets`. `check` accepts exactly the good transmissions (`Good` of `sub_rules`), and
-//! answers for any other with the first fault that is told of it (`Events`):
+//! returns the first reported fault (`Events`) for any other:
 //!
 //! ```text
 //! check(&programme, &mut source, &options)?; // Accepted { frames: 51, transmissions: 2 }
-//! check_all(&programme, &mut source, &options, &mut audience)?; // tells every broken place
+//! check_all(&programme, &mut source, &options, &mut audience)?; // reports every fault
 //! law_of_good: Good programme transmission options → HasPromises programme transmission options
 //! ```
 #![tactic(auto)]

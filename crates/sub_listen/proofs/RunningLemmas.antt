@@ -1,5 +1,5 @@
--- What is run is a receiver of those that may forget, and of the relation where it does not begin
--- anew, with a screen or without: `law_of_listening`.
+-- What is run is a receiver of those that may forget, and one of the relation unless it starts
+-- again, with a screen or without: `law_of_listening`.
 use Rattle.std.proofs.lemmas.Bool.Decides.{nat_tests}
 use Rattle.std.proofs.Common.{◌≡◌, ◌∙◌, ℕ, Bool, true, false, List, [], ◌∷◌, ap, arith}
 use Rattle.ttx_packet.specs.PageId.{PageIdValue}
@@ -12,7 +12,7 @@ use Rattle.ttx_page.proofs.RunLemmas.{RunsBy-as}
 use Rattle.sub_listen.specs.Reception.{LawOfListening, TakesPacket, begins_anew}
 
 module _ (asks_complete anew : Bool) (leaves : ℕ → ℕ) (w : PageIdValue) where
-  -- A packet is heard by a step of the relation where the receiver does not begin anew.
+  -- Unless the receiver starts again, a packet is a step of the relation.
   steps :
       anew ≡ false
       → (old : Display) (packet : List ℕ) (new : Display)
@@ -20,7 +20,7 @@ module _ (asks_complete anew : Bool) (leaves : ℕ → ℕ) (w : PageIdValue) wh
       → Step w old.held packet new.held
   steps keeps old packet new takes = let step = takes.step in grind (arith, nat_tests)
 
-  -- It is one of those of receivers that may forget.
+  -- It is a step of a receiver that may forget.
   forgets :
       (old : Display) (packet : List ℕ) (new : Display)
       → TakesPacket asks_complete anew leaves w old packet new
@@ -43,7 +43,7 @@ module _ (asks_complete anew : Bool) (leaves : ℕ → ℕ) (w : PageIdValue) wh
         stays = grind (arith, nat_tests);
       }
 
-  -- Without one the screen stays.
+  -- Without one the screen stays as it is.
   stays :
       asks_complete ≡ false
       → (packets : List (List ℕ)) (old new : Display)
@@ -53,7 +53,6 @@ module _ (asks_complete anew : Bool) (leaves : ℕ → ℕ) (w : PageIdValue) wh
   stays without (p ∷ ps) old new (mid, takes, rest) =
       stays without ps mid new rest ∙ (let screen = takes.screen in grind (arith, nat_tests))
 
--- The law.
 pub law_of_listening : LawOfListening
 law_of_listening l leaves w packets old new run =
     let asks_complete = l.options.asks_complete in

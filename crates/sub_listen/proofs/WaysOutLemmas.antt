@@ -1,4 +1,4 @@
--- What each way out of the loop of `listen` shows of the whole file.
+-- What each exit of the loop of `listen` shows about the whole file.
 use Rattle.std.proofs.lemmas.Bool.Decides.{nat_tests}
 use Rattle.std.proofs.Common.{◌≡◌, ◌∙◌, ap, refl, sym, subst, arith, add-one, ℕ, zero, suc, ◌+◌}
 use Rattle.std.proofs.Common.{◌<◌, ◌≤◌, ◌==◌, ◌&&◌, not, cond, inl, inr, true, List, ◌++◌, length}
@@ -39,7 +39,7 @@ use Rattle.sub_rules.specs.declared.fault.CheckFault.TheVariants as check
 use Rattle.sub_listen.specs.declared.listening.ListenFault.{ListenFault}
 use Rattle.sub_listen.specs.declared.listening.ListenFault.TheVariants as fault
 
--- The run up to n frames, and what is left of the file.
+-- The run up to n frames, and the rest of the file.
 pub record Reaches
     (leaves : ℕ → ℕ) (l : Listening) (frames : Transmission) (unread : Option Unread)
     (w : PageIdValue) (old : Display) (remaining : Option (List ℕ)) (n number sent least : ℕ)
@@ -57,7 +57,7 @@ pub record Reaches
   pub sent_is : sent ≡ sent_in_frame l.options.within frames n
   pub least_is : least ≡ least_frame l.options.within frames n
 
--- The number of a PES packet's first packet in its frame, by what is kept of the one before it.
+-- The number of a PES packet's first packet in its frame, from the state after the one before.
 first_packet_number_is :
     (within : ℕ) (frames : Transmission) (n sent least frame : ℕ)
     → sent ≡ sent_in_frame within frames n
@@ -69,7 +69,7 @@ first_packet_number_is within frames zero sent least frame sent_is least_is fram
 first_packet_number_is within frames (suc n) sent least frame sent_is least_is frame_is =
     grind (arith, nat_tests)
 
--- How many packets of the frame are sent, one PES packet on.
+-- The number of packets of the frame, after one more PES packet.
 sent_next :
     (within : ℕ) (frames : Transmission) (n before : ℕ) (packets : List (List ℕ))
     → before ≡ first_in_frame within frames n
@@ -78,7 +78,7 @@ sent_next :
 sent_next within frames n before packets before_is packets_are =
     rw add-one (grind (arith, nat_tests))
 
--- The source failed after the packets that were heard.
+-- The source failed after the packets that were received.
 pub fails_listening : (l : Listening) (n : ℕ) (f : CheckFault) (old mid new : Option (List ℕ))
     → TakesPackets n old mid
     → (is_pes_read f ≡ true → f ≡ check.Pes n pes.Read)
@@ -100,7 +100,7 @@ module _
         (reached : Reaches leaves l frames unread w old remaining n number sent least now)
         (left : Option (List ℕ))
       where
-        -- What is heard ends here.
+        -- Reception ends here.
         ends_so :
             (result : Result (Unit {0}) ListenFault)
             → MatchResult result (λ _. EndsAfter l frames unread n) (RefusesAfter l frames unread n)
@@ -123,7 +123,7 @@ module _
             ends_so (Ok tt) (inl (omega (arith, at.0), at.1))
             (λ more. absurd (omega (arith, more, at.0)))
 
-        -- It is not read on.
+        -- It can't be read on.
         pub ends_unread :
             (v : PesValue) (answer : Result (Option NextPiece) CheckFault) (f : CheckFault)
             → TellsNext (clock_of l.options) n reached.rest v answer
@@ -157,7 +157,7 @@ module _
                 reads_next (clock_of l.options) n reached.rest frames unread v sending
                 reached.left is
 
-            -- Its frame is not after the one before.
+            -- Its next frame is not after the one before.
             pub ends_order :
                 frame < least
                 → HearsFile leaves l frames unread told left w old now
@@ -168,7 +168,7 @@ module _
                 ends_so (Err (fault.File (check.Order n))) (refl, next.sent.there, omega arith)
                 (λ there. taken)
 
-            -- It is after TIME.
+            -- Its next frame is after TIME.
             pub ends_late :
                 least ≤ frame
                 → l.at < frame
@@ -178,7 +178,7 @@ module _
                 let least_is = reached.least_is in
                 ends_so (Ok tt) (inr (next.sent.there, omega arith, omega arith)) (λ there. taken)
 
-            -- The number, in its frame, of its first packet.
+            -- The number, within its frame, of its first packet.
             first_is :
                 (before : ℕ)
                 → before ≡ cond (not (l.options.within == 0) && (frame == least)) sent 0
@@ -188,7 +188,7 @@ module _
                 ∙ first_packet_number_is l.options.within frames n sent least frame reached.sent_is
                 reached.least_is next.sent.frame_is
 
-            -- A page header of it is lost.
+            -- One of its page headers is lost.
             pub ends_lost :
                 (before place : ℕ)
                 → before ≡ cond (not (l.options.within == 0) && (frame == least)) sent 0
@@ -205,7 +205,7 @@ module _
                 (grind (arith, next.sent.there, next.sent.frame_is, next.sent.packets_are))
                 (λ there. taken)
 
-            -- It is heard.
+            -- The frame is received.
             pub reaches_next :
                 (before : ℕ) (after : Display)
                 → before ≡ cond (not (l.options.within == 0) && (frame == least)) sent 0

@@ -1,5 +1,5 @@
--- What a receiver gets of the packets of a file: some are passed over, some are lost, and bits are
--- flipped (own); and what it hears of that. Packets are numbered from 0 over the whole file.
+-- What arrives of the packets of a file: some are skipped, some are lost, and bits are flipped
+-- (own); and what the receiver uses of that. Packets are numbered from 0 over the whole file.
 use Rattle.std.specs.Prelude.{◌≡◌, ℕ, ◌+◌, Bool, true, false, not, ◌&&◌, List, [], ◌∷◌}
 use Rattle.std.specs.Prelude.{MatchBool, Option, Some, None, option_map}
 use Rattle.std.specs.Prelude.{if◌then◌else◌, ◌==◌, nat_le}
@@ -19,26 +19,26 @@ use Rattle.sub_request.specs.declared.listening.ReceiverKind.{ReceiverKind}
 use Rattle.sub_request.specs.declared.listening.ReceiverKind.TheVariants.{Anew, Blank}
 use Rattle.sub_request.specs.declared.listening.ReceiverKind.TheVariants.{DropRow, Keep}
 
--- What a request says of the packets: how many are passed over, which are lost, which bits are
+-- The part of a request about packets: how many are skipped, which are lost, which bits are
 -- flipped.
 pub record Reception : Type 0 where
   pub skip : ℕ
   pub lost : List ℕ
   pub flips : List Flip
 
--- What a request for a listening says of them.
+-- That part of a request for a run of `listen`.
 abbrev pub reception_of : Listening → Reception
 reception_of l = record { skip = l.skip; lost = l.lost.items; flips = l.flips.items }
 
--- The packet of a number is not passed over, and is listed as lost.
+-- Packet `number` is not skipped, and is listed as lost.
 abbrev pub is_lost : Reception → ℕ → Bool
 is_lost r number = nat_le r.skip number && list_any (λ n. n == number) r.lost
 
--- It is neither passed over nor lost.
+-- Packet `number` is neither skipped nor lost.
 abbrev pub is_heard : Reception → ℕ → Bool
 is_heard r number = nat_le r.skip number && not (list_any (λ n. n == number) r.lost)
 
--- What the receiver gets of packets of which the first has a number.
+-- What arrives of packets of which the first has this number.
 abbrev pub as_received : Reception → ℕ → List (List ℕ) → List (List ℕ)
 as_received r number [] = []
 as_received r number (packet ∷ packets) =
@@ -46,47 +46,48 @@ as_received r number (packet ∷ packets) =
     then with_flips r.flips number packet ∷ as_received r (number + 1) packets
     else as_received r (number + 1) packets
 
--- Whether a receiver of page w takes a packet that it gets: one that drops rows passes over a row
--- of its page with a byte of even parity.
+-- Whether a receiver of page w uses a packet that arrives: one that drops rows ignores a row of its
+-- page with a byte of even parity.
 abbrev pub is_taken : ReceiverKind → PageIdValue → List ℕ → Bool
 is_taken DropRow w packet = not (is_dropped w packet)
 is_taken _ w packet = true
 
--- What the receiver hears of packets of which the first has a number: what is received of them,
--- without the rows that it drops.
+-- What the receiver uses of packets of which the first has this number: those that arrive, without
+-- the rows that it drops.
 abbrev pub as_heard : Listening → ℕ → List (List ℕ) → List (List ℕ)
 as_heard l number packets =
     filter (is_taken l.receiver l.options.page) (as_received (reception_of l) number packets)
 
--- What a receiver leaves in a cell whose byte has even parity, of the code that was there. One that
--- drops rows hears none with such a byte.
+-- The code that a receiver leaves in a cell whose byte has even parity, given the code that was
+-- there. One that drops rows uses no row with such a byte.
 abbrev pub left_by : ReceiverKind → ℕ → ℕ
 left_by Keep = λ was. was
 left_by Blank = λ was. space
 left_by DropRow = λ was. was
 left_by Anew = λ was. space
 
--- Whether a receiver begins anew at each header of its page.
+-- Whether a receiver starts again at each header of its page.
 abbrev pub begins_anew : ReceiverKind → Bool
 begins_anew Anew = true
 begins_anew _ = false
 
--- What becomes of a receiver of page w at a packet that it hears.
+-- A receiver of page w goes from one state to another at a packet that it uses.
 pub record TakesPacket
     (asks_complete anew : Bool) (leaves : ℕ → ℕ) (w : PageIdValue)
     (old : Display) (packet : List ℕ) (new : Display)
     : Type 0 where
-  -- What it holds goes by a step of the receiver relation, with its choice at each even byte. But
-  -- one that begins anew is open with a blank page after each header of its page.
+  -- The page goes by a step of the receiver relation, with its choice for each byte of even parity.
+  -- But a receiver that starts again is open with a blank page after each header of its page.
   pub step :
       MatchBool (anew && is_this_page (kind w packet))
       (new.held ≡ record { heard = true; is_open = true; page = blank })
       (Step w old.held packet new.held)
   pub cells : LeavesCells leaves w old.held packet new.held
-  -- Where complete pages are asked for, it has a screen that waits; else the screen stays as it is.
+  -- If complete pages are required it has a screen that waits for the end of a page; otherwise the
+  -- screen stays as it is.
   pub screen : new.screen ≡ (if asks_complete then screen_after old new.held else old.screen)
 
--- What becomes of it as it hears these packets, one after another.
+-- The receiver uses these packets, one after another.
 abbrev pub RunsThrough :
     Listening → (ℕ → ℕ) → PageIdValue → Display → List (List ℕ) → Display → Type 0
 RunsThrough l leaves w old packets new =
@@ -97,7 +98,7 @@ abbrev pub may_be_lost_at : Option PacketAddress → Bool
 may_be_lost_at None = false
 may_be_lost_at (Some a) = not (a.packet_number == 0)
 
--- The first of these packets that is lost and may not be, by its place among them.
+-- The first of these packets that is listed as lost but may not be, by its place among them.
 abbrev pub first_lost_header : Reception → ℕ → List (List ℕ) → Option ℕ
 first_lost_header r number [] = None
 first_lost_header r number (packet ∷ packets) =
@@ -105,9 +106,10 @@ first_lost_header r number (packet ∷ packets) =
     then Some 0
     else option_map (λ place. place + 1) (first_lost_header r (number + 1) packets)
 
--- What is run is a receiver of those that may forget, and it begins anew where that was asked for;
--- else it is a receiver of the relation. With a screen it is one with a screen, and without one the
--- screen stays. So what is proved of every receiver is proved of what `listen` prints.
+-- What is run is a receiver of those that may forget, starting again if that was requested;
+-- otherwise it is a receiver of the relation. If complete pages are required it has a screen,
+-- otherwise the screen stays. So what is proved of every receiver is proved of the output of
+-- `listen`.
 abbrev pub LawOfListening : Type 0
 LawOfListening =
     (l : Listening) (leaves : ℕ → ℕ) (w : PageIdValue) (packets : List (List ℕ))

@@ -1,7 +1,7 @@
--- How a PES file is heard: the frames up to TIME, what ends them, and the run of a receiver.
+-- How a PES file is received: the frames up to TIME, why reception ends, and the run of a receiver.
 --
--- The list has a frame for each PES packet. Within frames several PES packets may be of one frame,
--- and all are heard.
+-- The list has one frame for each PES packet. If `within` is not 0, several PES packets may belong
+-- to one frame, and all are received.
 use Rattle.std.specs.Prelude.{◌≡◌, ℕ, zero, suc, ◌+◌, ◌<◌, ◌≤◌, ◌⊎◌, ◌&&◌, ◌==◌, Bool, false, not}
 use Rattle.std.specs.Prelude.{if◌then◌else◌, length, Option, Some, None, Result, option_map}
 use Rattle.std.specs.Prelude.{List, MatchResult}
@@ -34,10 +34,10 @@ abbrev pub is_stl_fault : ListenFault → Bool
 is_stl_fault (fault.File f) = is_subtitle_fault f
 is_stl_fault (fault.LostHeader frame packet) = false
 
--- ---- what is heard
+-- ---- the frames that are received
 
--- The least frame that a PES packet may have after one of this frame: within 0 frames the next one,
--- else the same.
+-- The least frame that a PES packet may have after one of this frame: the next one if `within` is
+-- 0, otherwise the same.
 abbrev pub least_after : ℕ → ℕ → ℕ
 least_after within frame = if within == 0 then frame + 1 else frame
 
@@ -46,20 +46,20 @@ abbrev pub least_frame : ℕ → Transmission → ℕ → ℕ
 least_frame within frames zero = 0
 least_frame within frames (suc i) = least_after within (frame_at frames i)
 
--- Within frames PES packet i of the list is of the frame of the one before it.
+-- `within` is not 0, and PES packet i of the list belongs to the frame of the one before.
 abbrev pub is_of_same_frame : ℕ → Transmission → ℕ → Bool
 is_of_same_frame within frames zero = false
 is_of_same_frame within frames (suc i) =
     not (within == 0) && (frame_at frames (suc i) == frame_at frames i)
 
--- How many packets of the frame of the last one are in the first n PES packets of the list.
+-- How many packets of the frame of the last PES packet are in the first n PES packets of the list.
 abbrev pub sent_in_frame : ℕ → Transmission → ℕ → ℕ
 sent_in_frame within frames zero = 0
 sent_in_frame within frames (suc i) =
     (if is_of_same_frame within frames i then sent_in_frame within frames i else 0)
     + length (packets_of_frame frames i)
 
--- The number, in its frame, of the first packet of PES packet i of the list.
+-- The number, within its frame, of the first packet of PES packet i of the list.
 abbrev pub first_in_frame : ℕ → Transmission → ℕ → ℕ
 first_in_frame within frames i =
     if is_of_same_frame within frames i then sent_in_frame within frames i else 0
@@ -68,15 +68,15 @@ first_in_frame within frames i =
 abbrev pub first_packet_number : Transmission → ℕ → ℕ
 first_packet_number frames i = length (packets_before frames i)
 
--- The first packet of PES packet i of the list that is lost and may not be, by its number in its
+-- The first packet of PES packet i that is listed as lost but may not be, by its number within its
 -- frame.
 abbrev pub lost_header : Listening → Transmission → ℕ → Option ℕ
 lost_header l frames i =
     option_map (λ place. first_in_frame l.options.within frames i + place)
     (first_lost_header (reception_of l) (first_packet_number frames i) (packets_of_frame frames i))
 
--- Frame i of the list is heard: it is after the one before, or within frames not before it, not
--- after TIME, and no page header of it is lost.
+-- Frame i of the list is received: it is after the one before (not before it, if `within` is not
+-- 0), not after TIME, and none of its page headers is listed as lost.
 pub record IsHeard (l : Listening) (frames : Transmission) (i : ℕ) : Type 0 where
   pub there : i < length frames
   pub rises : least_frame l.options.within frames i ≤ frame_at frames i
@@ -85,20 +85,20 @@ pub record IsHeard (l : Listening) (frames : Transmission) (i : ℕ) : Type 0 wh
       first_lost_header (reception_of l) (first_packet_number frames i) (packets_of_frame frames i)
       ≡ None
 
--- The first n frames of the list are heard.
+-- The first n frames of the list are received.
 abbrev pub AreHeard : Listening → Transmission → ℕ → Type 0
 AreHeard l frames n = (i : ℕ) → i < n → IsHeard l frames i
 
--- What is heard ends after n frames: the file ends, or the next frame is after TIME.
+-- Reception ends after n frames: the file ends, or the next frame is after TIME.
 abbrev pub EndsAfter : Listening → Transmission → Option Unread → ℕ → Type 0
 EndsAfter l frames unread n =
     ((n ≡ length frames) × (unread ≡ None))
     ⊎ ((n < length frames) × (least_frame l.options.within frames n ≤ frame_at frames n)
     × (l.at < frame_at frames n))
 
--- After n frames the file is refused by this fault, as it stands: it is not read on, its next frame
--- is not after the one before, or within frames before it, or a page header of the next frame is
--- lost.
+-- After n frames the file is refused for this fault: it can't be read on, its next frame is not
+-- after the one before (before it, if `within` is not 0), or a page header of the next frame is
+-- listed as lost.
 abbrev pub RefusesAfter : Listening → Transmission → Option Unread → ℕ → ListenFault → Type 0
 RefusesAfter l frames unread n (fault.File (check.Order index)) =
     (index ≡ n) × (n < length frames)
@@ -113,7 +113,7 @@ RefusesAfter l frames unread n f =
     (u : Unread) × (n ≡ length frames) × (unread ≡ Some u)
     × (f ≡ fault.File (unread_fault n (Some u)))
 
--- The source failed at a PES packet: those before it were taken, and their frames were heard.
+-- The source failed at a PES packet: those before it were consumed, and their frames were received.
 pub record FailsListening (l : Listening) (known left : Option (List ℕ)) (f : ListenFault) : Type 0
   where
     pub index : ℕ
@@ -126,8 +126,8 @@ pub record FailsListening (l : Listening) (known left : Option (List ℕ)) (f : 
 
 -- ---- the run of a receiver
 
--- What becomes of a receiver that hears a file, and leaves this code in a cell whose byte has even
--- parity: it runs through what it hears of the packets up to TIME, or the file is refused.
+-- The run of a receiver that leaves the code `leaves` in a cell whose byte has even parity: it goes
+-- through what it uses of the packets up to TIME, or the file is refused.
 pub record Runs
     (leaves : ℕ → ℕ) (l : Listening) (frames : Transmission) (unread : Option Unread)
     (w : PageIdValue) (old new : Display) (result : Result (Unit {0}) ListenFault)
@@ -140,13 +140,12 @@ pub record Runs
   pub ends :
       MatchResult result (λ _. EndsAfter l frames unread n) (RefusesAfter l frames unread n)
 
--- What becomes of a receiver that hears a file, of which these bytes were to be read before, and
--- these are left after.
+-- The same with the bytes of the source: `known` before, `left` afterwards.
 pub record HearsFile
     (leaves : ℕ → ℕ) (l : Listening) (frames : Transmission) (unread : Option Unread)
     (known left : Option (List ℕ)) (w : PageIdValue) (old new : Display)
     (result : Result (Unit {0}) ListenFault)
     : Type 0 where
   pub runs : Runs leaves l frames unread w old new result
-  -- Where there is a frame after those that are heard, nothing was read after its PES packet.
+  -- If there is a frame after those that are received, nothing was read after its PES packet.
   pub stops : runs.n < length frames → TakesPackets (runs.n + 1) known left

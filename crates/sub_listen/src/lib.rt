@@ -1,10 +1,10 @@
-//! One receiver that hears a PES file, with the flips and losses of a request.
+//! Simulates one receiver of a PES file, with the bit errors and lost packets of a request.
 //!
-//! Stands on `sub_rules` for how a PES file is read, on `sub_request` for what is asked for, and on
-//! `ttx_page` for the receivers. Nothing is checked here.
+//! `sub_rules` defines how a PES file is read, `sub_request` what is requested, and `ttx_page` the
+//! receivers. Nothing is checked here.
 //!
 //! ```text
-//! listen(&mut receiver, &mut source, &listening)?; // the receiver holds what it heard
+//! listen(&mut receiver, &mut source, &listening)?; // the receiver has decoded the file
 //! ```
 #![tactic(auto)]
 

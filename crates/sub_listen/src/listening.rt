@@ -1,4 +1,4 @@
-//! How a PES file is heard, by one receiver.
+//! Passes the packets of a PES file to one receiver.
 
 ghost use Rattle.std.specs.Prelude.{◌≡◌, ◌+◌, ◌<◌, ◌≤◌, ◌&&◌, ◌==◌, IfErr, Option, false, true};
 ghost use Rattle.std.specs.Prelude.{if◌then◌else◌, not};
@@ -20,17 +20,17 @@ use sub_rules::{CheckFault, NextPiece, next_piece};
 use ttx_page::{Page, Receiver};
 use ttx_pes::{ComparingReader, FilePieces, Pieces};
 
-/// Why a PES file is not heard.
+/// Why a PES file can't be received.
 #[derive(Clone, Copy, Debug, PartialEq, Eq)]
 pub enum ListenFault {
-    /// It is not read on, or a frame is not after the one before: what `check` tells of it.
+    /// It can't be read on, or a frame is not after the one before: the fault that `check` reports.
     File(CheckFault),
     /// A packet that is listed as lost is a page header, or has no address.
     LostHeader {
         /// The frame of the day.
         frame: u32,
-        /// The packet, counted from 0 among the Teletext units of its PES packet, or, where frames
-        /// are allowed within which the page has to be whole, of the PES packets of its frame.
+        /// The number of the packet, counted from 0 among the Teletext units of its PES packet; if
+        /// `within` is not 0, of the PES packets of its frame.
         packet: u32,
     },
 }
@@ -38,7 +38,7 @@ pub enum ListenFault {
 impl ListenFault {
     ghost use Rattle.sub_listen.specs.Fault.{listen_code};
 
-    /// The number and the name by which the fault is told (own).
+    /// Returns the number and name of the fault in reports (own).
     pub fn code(self) -> FaultCode
         ensures { result ≡ listen_code self }
     {
@@ -57,19 +57,19 @@ impl From<CheckFault> for ListenFault {
     }
 }
 
-/// Lets a receiver with a screen hear the PES packets of a file up to the frame `at`. Where no
-/// complete pages are asked for, the screen is left as it is.
+/// Passes the PES packets of a file, up to the frame `at`, to a receiver with a screen. The screen
+/// is left as it is unless complete pages are required.
 ///
-/// It hears the packets as they are read, but for those that are passed over or lost, each with its
-/// flips, and for the rows that it drops. At the first PES packet after that frame nothing more is
-/// read; its own faults are still told. Where frames are allowed within which the page has to be
-/// whole, several PES packets may be of one frame, one after another, and each is heard.
+/// The receiver gets the packets as they are read, with their bit errors, except for skipped and
+/// lost packets and the rows that it drops. Nothing is read after the first PES packet behind that
+/// frame; faults of that PES packet itself are still returned. If `within` is not 0, consecutive
+/// PES packets may belong to one frame, and each is received.
 ///
 /// # Errors
 ///
-/// For each PES packet in turn `File` with the fault that `check` tells where it does not read on
-/// there, or with `Order`; `LostHeader` where a page header of it, or a packet without an address,
-/// is lost.
+/// For each PES packet in turn, returns `File` with the fault that `check` reports if it can't read
+/// on there, or with `Order`; `LostHeader` if a page header of it, or a packet without an address,
+/// is listed as lost.
 pub fn listen<R: Receiver + Drop, S: Source>(
     receiver: &mut R,
     screen: &mut Option<Page>,
@@ -95,11 +95,12 @@ pub fn listen<R: Receiver + Drop, S: Source>(
     listen_pieces(receiver, screen, &mut pieces, listening)
 }
 
-/// Lets a receiver with a screen hear the pieces of a PES file, as `listen` does those of a source.
+/// Passes the PES packets of a file to a receiver with a screen, as `listen` does those of a
+/// source.
 ///
 /// # Errors
 ///
-/// Those of `listen`.
+/// Returns the faults of `listen`.
 pub fn listen_pieces<R: Receiver + Drop, P: Pieces>(
     receiver: &mut R,
     screen: &mut Option<Page>,
@@ -159,8 +160,8 @@ pub fn listen_pieces<R: Receiver + Drop, P: Pieces>(
     }
 }
 
-// The number, in its frame, of the first packet of a PES packet: `sent` are those of the frame of
-// the one before it, after which the least frame is `least`.
+// Returns the number, within its frame, of the first packet of a PES packet. `sent` packets belong
+// to the frame of the PES packet before, after which the least frame is `least`.
 fn first_in_frame(within: u64, frame: u32, least: u32, sent: u32) -> u32
     ensures value { result ≡ (if not (within == 0) && (frame == least) then sent else 0) }
     ensures most { result ≤ sent }
@@ -172,7 +173,7 @@ fn first_in_frame(within: u64, frame: u32, least: u32, sent: u32) -> u32
     }
 }
 
-// The least frame that a PES packet may have after one of this frame.
+// Returns the least frame that a PES packet may have after one of this frame.
 fn least_after(within: u64, frame: u32) -> u32
     requires { frame < u32.MAX }
     ensures value { result ≡ least_after within frame }

@@ -1,5 +1,5 @@
-//! What a receiver gets of the packets of a file, and hears: packets passed over, lost packets,
-//! flips, dropped rows, headers at which it begins anew.
+//! What a receiver gets of the packets of a file: skipped packets, lost packets, bit errors,
+//! dropped rows, and headers at which it starts again.
 ghost use Rattle.std.specs.Prelude.{◌≡◌, ℕ, ◌+◌, ◌-◌, ◌^◌, ◌<◌, ◌≤◌, ◌&&◌, ◌∷◌, List};
 ghost use Rattle.std.specs.Prelude.{IfSome, IsTrue, length, not, true};
 ghost use Rattle.std.specs.List.{filter};
@@ -19,8 +19,8 @@ use ttx_packet::{Packet, PageId, SentPacket};
 use ttx_page::{PacketKind, Page, Receiver, is_dropped, show};
 use ttx_pes::SentUnits;
 
-/// The first of the packets of a PES packet that is lost and may not be, since it is a page header
-/// or has no address. `number` is that of the first packet.
+/// Returns the first packet of a PES packet that is listed as lost but may not be, since it is a
+/// page header or has no address. `number` is that of the first packet.
 pub fn first_lost_header(listening: &Listening, number: u64, units: &SentUnits<'_>) -> Option<u32>
     requires few { length units.now ≤ most_units }
     requires number { number + most_units < u64.MAX }
@@ -39,8 +39,8 @@ pub fn first_lost_header(listening: &Listening, number: u64, units: &SentUnits<'
     None
 }
 
-/// Lets a receiver hear what it hears of the packets of a PES packet, with its screen where
-/// complete pages are asked for. `number` is that of the first.
+/// Passes the packets of a PES packet to a receiver, with its screen if complete pages are
+/// required. `number` is that of the first packet.
 pub fn hear_units<R: Receiver + Drop>(
     receiver: &mut R,
     screen: &mut Option<Page>,
@@ -62,7 +62,7 @@ pub fn hear_units<R: Receiver + Drop>(
     }
 }
 
-// Lets a receiver hear what it hears of a packet. So what comes after it goes on from there.
+// Passes one packet to a receiver. The contract allows the packets after it to continue from there.
 fn hear_packet<R: Receiver + Drop>(
     receiver: &mut R,
     screen: &mut Option<Page>,
@@ -85,7 +85,7 @@ fn hear_packet<R: Receiver + Drop>(
     }
 }
 
-// Lets a receiver hear a packet that it gets, if it takes it.
+// Passes a packet that arrives to a receiver, unless it drops the packet.
 #[inline(always)]
 fn take<R: Receiver + Drop>(
     receiver: &mut R,
@@ -107,17 +107,17 @@ fn take<R: Receiver + Drop>(
         return;
     }
     if is_beginning(listening.receiver, receiver.watched(), packet) {
-        // The screen stays: no page is ended.
+        // The screen stays as it is: no page has ended.
         begin_anew(receiver, packet);
     } else if listening.options.asks_complete() {
         show(receiver, screen, packet);
     } else {
-        // The screen stays: no page is copied to one that is not looked at.
+        // The screen stays as it is: nobody looks at it, so no page is copied.
         receiver.hear(packet);
     }
 }
 
-// Whether the receiver takes a packet that it gets: one that drops rows passes over a row with a
+// Returns whether the receiver uses a packet that arrives: one that drops rows ignores a row with a
 // byte of even parity.
 fn is_taken(listening: &Listening, packet: &Packet) -> bool
     ensures { result ≡ is_taken listening.now.receiver listening.now.options.page packet.now }
@@ -128,8 +128,8 @@ fn is_taken(listening: &Listening, packet: &Packet) -> bool
     }
 }
 
-// Whether a receiver of the page begins anew at the packet: it is asked to, and the packet is a
-// header of its page.
+// Returns whether a receiver starts again at the packet: the request asks for it, and the packet is
+// a header of its page.
 fn is_beginning(receiver: ReceiverKind, page_id: PageId, packet: &Packet) -> bool
     ensures { result ≡ (begins_anew receiver && is_this_page (kind page_id packet.now)) }
 {
@@ -139,7 +139,7 @@ fn is_beginning(receiver: ReceiverKind, page_id: PageId, packet: &Packet) -> boo
     }
 }
 
-// Whether a packet is a header of the page.
+// Returns whether a packet is a header of the page.
 fn is_header(page_id: PageId, packet: &Packet) -> bool
     ensures { result ≡ is_this_page (kind page_id packet.now) }
 {
@@ -149,7 +149,8 @@ fn is_header(page_id: PageId, packet: &Packet) -> bool
     }
 }
 
-// Lets a receiver hear a header of its page as one that is tuned in with a blank page.
+// Passes a header of its page to a receiver that starts again, as if just tuned in with a blank
+// page.
 fn begin_anew<R: Receiver + Drop>(receiver: &mut R, header: &Packet)
     requires header { IsTrue (is_this_page (kind (R.tuned_to receiver.old) header.now)) }
     ensures state { R.state receiver.new
@@ -160,7 +161,7 @@ fn begin_anew<R: Receiver + Drop>(receiver: &mut R, header: &Packet)
     receiver.hear(header);
 }
 
-// Whether a packet is lost that may not be.
+// Returns whether a packet is listed as lost but may not be.
 fn is_lost_header(listening: &Listening, number: u64, packet: &SentPacket<'_>) -> bool
     ensures { result
         ≡ (is_lost (reception_of listening.now) number
@@ -169,21 +170,21 @@ fn is_lost_header(listening: &Listening, number: u64, packet: &SentPacket<'_>) -
     is_lost(listening, number) && !may_be_lost(&packet.packet())
 }
 
-// Whether a packet is lost.
+// Returns whether a packet is lost.
 fn is_lost(listening: &Listening, number: u64) -> bool
     ensures { result ≡ is_lost (reception_of listening.now) number }
 {
     listening.skip <= number && listening.lost.contains(&number)
 }
 
-// Whether a packet is heard: it is neither passed over nor lost.
+// Returns whether a packet arrives: it is neither skipped nor lost.
 fn is_heard(listening: &Listening, number: u64) -> bool
     ensures { result ≡ is_heard (reception_of listening.now) number }
 {
     listening.skip <= number && !listening.lost.contains(&number)
 }
 
-// Whether a packet may be lost: it has an address, and is no page header.
+// Returns whether a packet may be lost: it has an address, and is no page header.
 fn may_be_lost(packet: &Packet) -> bool
     ensures { result ≡ may_be_lost_at (address packet.now) }
 {
@@ -193,7 +194,7 @@ fn may_be_lost(packet: &Packet) -> bool
     }
 }
 
-// A packet as it is received, with its flips.
+// Returns a packet with its bit errors.
 fn flipped(flips: &[Flip], number: u64, packet: &Packet) -> Packet
     ensures { result ≡ with_flips flips.now number packet.now }
 {
@@ -204,7 +205,7 @@ fn flipped(flips: &[Flip], number: u64, packet: &Packet) -> Packet
     Packet::new(bytes)
 }
 
-// Changes the bit of a flip, where it is one of this packet.
+// Flips a bit, if the flip belongs to this packet.
 fn flip_bit(flip: &Flip, number: u64, bytes: &mut [u8; 42])
     ensures { bytes.new ≡ with_flip flip.now number bytes.old }
 {
@@ -213,7 +214,7 @@ fn flip_bit(flip: &Flip, number: u64, bytes: &mut [u8; 42])
     }
 }
 
-// The value of a bit of a byte: bit 1 is the lowest.
+// Returns the value of a bit of a byte: bit 1 is the lowest.
 fn bit_value(bit: u8) -> u8
     requires { (1 ≤ bit) × (bit ≤ 8) }
     ensures { result ≡ 2 ^ (bit - 1) }

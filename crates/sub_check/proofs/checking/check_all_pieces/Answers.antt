@@ -1,4 +1,4 @@
--- What is told of the file as one value, and what `check` answers: AnsweredLemmas.
+-- The events for the file as one value, and the answer of `check`: AnsweredLemmas.
 use Rattle.std.proofs.Common.{drop, sym, take}
 use Rattle.std.proofs.lemmas.List.{take-append-drop}
 use Rattle.stl_rows.specs.Judged.{has_refused}

@@ -1,5 +1,5 @@
--- The programme that is loaded is the file's one: `same_programme`; what is told of both files:
--- `files_accepted`, `files_refused`, and by any options.
+-- The loaded programme is the one of the file: `same_programme`; the answers for both files:
+-- `files_accepted`, `files_refused`, and those with any options.
 use Rattle.std.proofs.lemmas.Bool.Decides.{nat_tests}
 use Rattle.std.proofs.Common.{arith}
 use Rattle.stl_rows.specs.Layout.{drawing_within}

@@ -1,4 +1,4 @@
--- What is said of the pieces is said of the bytes of the source.
+-- The clauses for the PES packets hold for the bytes of the source.
 use Rattle.std.proofs.Common.{rules}
 use Rattle.sub_listen.proofs.listening.listen.Goals as goal
 

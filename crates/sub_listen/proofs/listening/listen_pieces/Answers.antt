@@ -1,4 +1,4 @@
--- Each way out of the loop tells what the file is; by WaysOutLemmas.
+-- Each exit of the loop shows how the file ends; by WaysOutLemmas.
 use Rattle.std.proofs.Common.{◌+◌, ◌≤◌, ◌∙◌, Err, List, Ok, Option, Result, Some, ap, arith, length}
 use Rattle.std.proofs.Common.{refl, subst, sym}
 use Rattle.std.proofs.lemmas.Result.{err_from_is_err_and}

@@ -1,4 +1,4 @@
--- After so many PES packets the receiver ran through what it hears of their packets.
+-- After so many PES packets the receiver has gone through what it uses of their packets.
 use Rattle.std.proofs.Common.{◌≡◌, ◌*◌, ◌-◌, ◌≤◌, ℕ, List, Option, Some}
 use Rattle.ttx_page.specs.Screen.{display}
 use Rattle.ttx_pes.specs.PesPacket.{most_units}

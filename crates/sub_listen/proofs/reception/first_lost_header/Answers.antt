@@ -1,4 +1,4 @@
--- With no packet listed as lost; one packet more that is not lost, or may be. By
+-- No packet is listed as lost; or one more packet is not lost, or may be. By
 -- first_lost_header-none, lost_here and lost_later.
 use Rattle.std.proofs.lemmas.Bool.Decides.{nat_tests}
 use Rattle.std.proofs.Common.{◌<◌, ℕ, length, arith, rules, sym, ◌∙◌}

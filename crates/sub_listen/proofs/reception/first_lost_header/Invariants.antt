@@ -1,4 +1,4 @@
--- None of the packets so far is lost that may not be.
+-- Each packet so far is not lost or may be.
 use Rattle.std.proofs.Common.{◌≡◌, ◌+◌, drop, option_map}
 use Rattle.sub_rules.specs.PacketRules.{packets_of_units}
 use Rattle.sub_listen.specs.Reception.{first_lost_header, reception_of}

@@ -1,4 +1,4 @@
--- The flips that are left make of the bytes what all make of the packet.
+-- The remaining flips turn the bytes into what all flips make of the packet.
 use Rattle.std.proofs.Common.{◌≡◌, drop}
 use Rattle.sub_request.specs.Flips.{with_flips}
 use Rattle.sub_listen.proofs.reception.flipped.Given as goal

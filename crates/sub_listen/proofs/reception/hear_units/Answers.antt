@@ -1,4 +1,4 @@
--- One packet on: next_packet.
+-- One more packet: next_packet.
 use Rattle.std.proofs.Common.{◌≡◌, ◌+◌, ◌<◌, ℕ, ◌∷◌, List, drop, length, arith, rules, subst, ◌∙◌}
 use Rattle.std.proofs.lemmas.List.{length-map}
 use Rattle.ttx_packet.specs.PageId.{PageIdValue}

@@ -1,4 +1,4 @@
--- A run through what is heard of the packets that are left makes one through all.
+-- A run through the remaining packets makes one through all.
 use Rattle.std.proofs.Common.{◌≡◌, ◌+◌, drop}
 use Rattle.sub_rules.specs.PacketRules.{packets_of_units}
 use Rattle.ttx_page.specs.Screen.{Display, display}
