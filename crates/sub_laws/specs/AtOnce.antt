@@ -1,5 +1,5 @@
--- Where no frame may be late and no repeat may keep the page, what is good by options is good, and
--- what may be trusted of it is what the headline says.
+-- If no frame may be late and no repeat may keep the page, `GoodBy` is `Good`, and the promises are
+-- those of the headline.
 use Rattle.std.specs.Prelude.{◌≡◌, ◌↔◌, ℕ, false, IsTrue}
 use Rattle.stl_rows.specs.Programme.{IsProgramme, ProgrammeValue}
 use Rattle.sub_plan.specs.Options.{OptionsValue}
@@ -10,8 +10,8 @@ use Rattle.sub_laws.specs.OnScreen.{Complete}
 use Rattle.sub_laws.specs.Repeats.{MayBeTrustedBy}
 use Rattle.sub_laws.specs.Stretch.{MayBeTrusted}
 
--- Within no frame a transmission is good by them exactly where it is good, and of complete pages
--- where these are asked for.
+-- If `within` is 0, a transmission is good by the options exactly if it is good, with complete
+-- pages if these are required.
 abbrev pub LawOfNoDelay : Type 0
 LawOfNoDelay =
     (programme : ProgrammeValue) (transmission : Transmission) (options : OptionsValue)
@@ -21,7 +21,7 @@ LawOfNoDelay =
     ↔ (Good programme transmission options
     × (IsTrue options.asks_complete → Complete transmission options))
 
--- And what may be trusted within no frame may be trusted: the promises are one.
+-- What may be trusted by the options then may be trusted: the promises are the same.
 abbrev pub LawOfTrustWithoutDelay : Type 0
 LawOfTrustWithoutDelay =
     (programme : ProgrammeValue) (transmission : Transmission) (options : OptionsValue) (a b : ℕ)

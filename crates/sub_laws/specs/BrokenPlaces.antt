@@ -1,5 +1,5 @@
--- What is told of a transmission, place by place: it is told exactly where what is asked is broken.
--- The list `all_of_pieces` has the places in their order.
+-- The events for a transmission, place by place: a fault is reported exactly if a rule is broken
+-- there. The list `all_of_pieces` has the places in order.
 use Rattle.std.specs.Prelude.{◌≡◌, ◌↔◌, ℕ, suc, ◌<◌, ◌≤◌, List, [], length, map, Option}
 use Rattle.std.specs.Prelude.{Some, None, IsTrue, IsFalse}
 use Rattle.ttx_packet.specs.PacketAddress.{IsPacket}
@@ -25,15 +25,15 @@ use Rattle.sub_rules.specs.declared.packet_rule.PacketRule.TheVariants as rule
 use Rattle.sub_rules.specs.declared.packet_rule.Watched.{Watched}
 use Rattle.sub_laws.specs.OnScreen.{Complete}
 
--- The first cell that is not right after n frames of the list, at the end of frame f.
+-- The first wrong cell after n frames of the list, at the end of frame f.
 pub record WrongFirst (g : Criteria) (frames : Transmission) (n f row column : ℕ) : Type 0 where
   pub is_cell : IsCell row column
   pub broken : ShowsDue g frames n f row column → ⊥
   pub above : (r k : ℕ) → IsCell r k → r < row → ShowsDue g frames n f r k
   pub before : (k : ℕ) → k < column → ShowsDue g frames n f row k
 
--- What each rule of a frame's end asks at the end of frame f, after n frames of the list. Where it
--- is not known what is due, any code may be in any cell.
+-- What each rule of a frame's end requires at the end of frame f, after n frames of the list. If
+-- the due page is unknown, any code may be in any cell.
 abbrev pub IsKept : EndRule → Criteria → Transmission → ℕ → ℕ → Type 0
 IsKept end.Content g frames n f =
     IsFalse (g.undecided f)
@@ -45,8 +45,8 @@ IsKept end.Incomplete g frames n f = IsEnded g frames n
 IsKept end.Undecided g frames n f = IsFalse (g.undecided f)
 IsKept end.Silent g frames n f = IsPaced g frames n f
 
--- What stands broken there: a rule exactly where it is not kept; content at the first cell that is
--- wrong.
+-- The active faults there: a rule is among them exactly if it is broken; content at the first wrong
+-- cell.
 pub record StandsBroken (g : Criteria) (frames : Transmission) (n f : ℕ) : Type 0 where
   pub rules :
       (rule : EndRule)
@@ -56,53 +56,52 @@ pub record StandsBroken (g : Criteria) (frames : Transmission) (n f : ℕ) : Typ
       → (standing_at g frames n f).content ≡ Some x
       → WrongFirst g frames n f x.0 x.1
 
--- A packet after whole packets that keep all rules, whole itself, of a code word for an address,
--- and of odd parity where it is a row of the open page. Two such packets of one row that have the
--- same codes are equal.
+-- A packet of 42 bytes after packets that keep all rules, with a code word for an address, and with
+-- odd parity if it is a row of the open page. Two such packets of one row are equal if they have
+-- the same codes.
 pub record IsComparable (w : Watched) (before : List (List ℕ)) (p : List ℕ) : Type 0 where
   pub clean : AreClean w before
   pub whole : IsPacket p
   pub exact : KeepsRule rule.Address w before p
   pub odd : KeepsRule rule.Parity w before p
 
--- Each place of a transmission, and what is told of it.
+-- Each place of a transmission, and what is reported there.
 pub record TellsBroken (g : Criteria) (frames : Transmission) : Type 0 where
-  -- The first frame is not after the first TCI, and each later one is after the one before.
+  -- The first frame is not after the first TCI, and each later frame is after the one before.
   pub start :
       (order_events g frames 0 ≡ [])
       ↔ ((first : ℕ) → g.first_in ≡ Some first → frame_at frames 0 ≤ first)
   pub order :
       (i : ℕ) → (order_events g frames (suc i) ≡ []) ↔ (frame_at frames i < frame_at frames (suc i))
-  -- A packet's rule. Rows are compared by their codes, which tell the bytes of packets that keep
-  -- the rules before it.
+  -- The rules of a packet. Rows are compared by their codes, which determine the bytes of packets
+  -- that keep the rules before it.
   pub rules :
       (r : PacketRule) (before : List (List ℕ)) (p : List ℕ)
       → (r ≡ rule.RowChanged → IsComparable g.watched before p)
       → IsFalse (breaks r g.watched before p) ↔ KeepsRule r g.watched before p
   -- The first frame has a header of the page.
   pub header : (first_header_events g frames 0 ≡ []) ↔ HasHeader g frames 0
-  -- What stands broken at an end; it is told where it does not stand at the end before.
+  -- The active faults at an end. A fault is reported if it was not active at the end before.
   pub ends : (n f : ℕ) → n ≤ length frames → StandsBroken g frames n f
-  -- The last subtitle is over.
+  -- The last subtitle has ended.
   pub late :
       (late_events g frames ≡ [])
       ↔ ((last : ℕ) → g.last_out ≡ Some last → last ≤ end_frame frames)
-  -- Where anything is told of whole packets, a refusal is. Beside what is refused of the subtitle
-  -- file what is trusted is told whatever else is.
+  -- If there is any event for packets of 42 bytes, there is a fault. If subtitles were refused,
+  -- trusted frames are reported even without one.
   pub first :
       IsFalse g.any_refused
       → EachPacket IsPacket frames
       → first_told (all_of_pieces g (map Sent frames)) ≡ None
       → all_of_pieces g (map Sent frames) ≡ []
 
--- So what is told first is the first place that is broken.
+-- So the first fault is the first broken place.
 abbrev pub LawOfBrokenPlaces : Type 0
 LawOfBrokenPlaces = (g : Criteria) (frames : Transmission) → g.within ≡ 0 → TellsBroken g frames
 
--- Nothing is told of the pieces of a PES file exactly where each of them is sent, none being passed
--- over, what they send is good within the frames that the options allow, where repeats may keep the
--- page or may not, and the PES file was read to its end. PES packets of one frame that follow one
--- another are one within frames.
+-- There is no event for the PES packets of a file exactly if none of them is skipped, their frames
+-- are good by the options, and the file was read to its end. If `within` is not 0, consecutive PES
+-- packets of one frame are merged.
 abbrev pub LawOfNothingToldRepeats : Type 0
 LawOfNothingToldRepeats =
     (programme : ProgrammeValue) (options : OptionsValue) (unread : Option Unread)
@@ -115,8 +114,8 @@ LawOfNothingToldRepeats =
     × GoodBy options.keeps programme (joined options.within (frames_of pieces)) options
     × (unread ≡ None))
 
--- Where no repeat may keep, within 0 frames, it is so exactly where what they send is good, of
--- complete pages where these are asked for.
+-- If no repeat may keep the page and `within` is 0, that means that the frames are good, with
+-- complete pages if these are required.
 abbrev pub LawOfNothingTold : Type 0
 LawOfNothingTold =
     (programme : ProgrammeValue) (options : OptionsValue) (unread : Option Unread)

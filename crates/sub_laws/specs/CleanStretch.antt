@@ -1,5 +1,5 @@
--- A clean stretch: frames of which nothing is told that a receiver depends on, where frames rise,
--- whatever else is told of them, and whatever is told outside of them.
+-- A clean stretch: frames in rising order without reports of faults that a receiver depends on,
+-- whatever else is reported of them, and whatever is reported elsewhere.
 use Rattle.std.specs.Prelude.{Bool, None, Option, IsFalse, IsTrue}
 use Rattle.std.specs.Prelude.{◌≡◌, ℕ, ◌-◌, ◌<◌, ◌≤◌, ◌⊎◌, List, [], ◌++◌, length, take}
 use Rattle.std.specs.Prelude.{slice_index_or}
@@ -17,8 +17,8 @@ use Rattle.sub_laws.specs.Sufficient.{IsSufficient}
 
 -- ---- packets and ends of a stretch
 
--- A fact holds of each packet at a frame from a to b, and of all packets that were sent before it,
--- from the first of the transmission on.
+-- A property holds for each packet of the frames from a to b, given all packets that were sent
+-- before it, from the first of the transmission.
 abbrev pub AtPackets :
     (List (List ℕ) → List ℕ → Type 0) → Transmission → ℕ → ℕ → Type 0
 AtPackets Holds frames a b =
@@ -30,8 +30,8 @@ AtPackets Holds frames a b =
     → Holds (packets_before frames i ++ take k (packets_of_frame frames i))
     (slice_index_or (packets_of_frame frames i) k [])
 
--- An end: that of frame n - 1 of the list, where its first n frames count; or that of a frame of
--- the day after all of these and before the next one, which has no packets of its own.
+-- An end: that of frame n - 1 of the list, after its first n frames; or that of a frame of the day
+-- after these and before the next one, which has no packets of its own.
 abbrev pub IsEnd : Transmission → ℕ → ℕ → Type 0
 IsEnd frames n f =
     (0 < n)
@@ -41,28 +41,28 @@ IsEnd frames n f =
     × (f < frame_at frames n)
     × ((i : ℕ) → i < n → frame_at frames i < f)))
 
--- A fact holds at each end of a frame from a to b: of the number of frames that count, and the
+-- A property holds at each end of a frame from a to b, given the number of frames so far and the
 -- frame.
 abbrev pub AtEnds : (ℕ → ℕ → Type 0) → Transmission → ℕ → ℕ → Type 0
 AtEnds Holds frames a b = (n f : ℕ) → IsEnd frames n f → a ≤ f → f ≤ b → Holds n f
 
--- The frames from a to b are some of the transmission's.
+-- The frames from a to b are within the transmission.
 pub record IsStretch (frames : Transmission) (a b : ℕ) : Type 0 where
   pub not_empty : 0 < length frames
   pub from : first_frame frames ≤ a
   pub in_order : a ≤ b
   pub to : b ≤ last_frame frames
 
--- ---- what is told of it
+-- ---- reports of a stretch
 
--- A receiver depends on the rule of a packet: a frame is quiet no more where that is told.
+-- A receiver depends on this rule for packets: a frame in which it is broken is not clean.
 abbrev pub is_needed : PacketRule → Bool
 is_needed r = (fault_row (packet_fault r 0 0)).doubts
 
--- Of a stretch nothing is told that a receiver depends on: where frames rise, as is asked of the
--- whole transmission, no packet at a frame of it breaks one of these rules, and at no end of it
--- wrong content or a gap stands, whether it is told there or was before; and at each end it is
--- known what is due, and within some frames what was so few frames ago.
+-- There is no report of the stretch that a receiver depends on: the frames of the whole
+-- transmission rise; no packet of the stretch breaks one of these rules; at no end of it wrong
+-- content or a missing header is active, whether it is reported there or was before; and at each
+-- end the due page is known, and was known at the `within` frames before.
 pub record IsUntold (g : Criteria) (frames : Transmission) (a b : ℕ) : Type 0 where
   pub stretch : IsStretch frames a b
   pub rising : IsRising frames
@@ -74,25 +74,24 @@ pub record IsUntold (g : Criteria) (frames : Transmission) (a b : ℕ) : Type 0 
   pub gap : AtEnds (λ n f. IsFalse (standing_at g frames n f).gap) frames a b
   pub undecided : AtEnds (λ n f. IsFalse (standing_at g frames n f).undecided) frames a b
 
--- At no end of the frames from a to b the page stands open.
+-- The page is open at no end of the frames from a to b.
 abbrev pub NoneOpen : Criteria → Transmission → ℕ → ℕ → Type 0
 NoneOpen g frames a b =
     AtEnds (λ n f. IsFalse (standing_at g frames n f).incomplete) frames a b
 
--- The criteria of a programme and options, where subtitles of the file may be refused beside those
--- of the programme, and it is not known for that at these frames what is due. Where none is, they
--- are the criteria of the programme and options.
+-- The criteria of a programme and options, if subtitles of the file may have been refused and the
+-- due page is unknown at these frames for that reason.
 abbrev pub criteria_unsure :
     ProgrammeValue → OptionsValue → Option Unread → Bool → (ℕ → Bool) → Criteria
 criteria_unsure programme options unread any_refused undecided =
     record (criteria_of programme options unread)
     { any_refused = any_refused; undecided = undecided }
 
--- Where no repeat may keep the page, such a stretch has the parts of the rules that suffice, so it
--- may be trusted (`LawOfStretch`); and where complete pages are asked for, and the page stands open
--- at no end of it, its pages are complete, so that what is due is on the screens too. So who reads
--- what is told of a refused transmission knows what to trust of the rest: where frames rise, from
--- the first header of the page in a stretch on.
+-- If no repeat may keep the page, such a stretch has the sufficient parts of the rules, so it may
+-- be trusted (`LawOfStretch`). If complete pages are required, and the page is open at no end of
+-- the stretch, its pages are complete, so the due page is on screens, too. So the reports of a
+-- refused transmission tell which rest may be trusted: frames in rising order, from the first
+-- header of the page in a stretch.
 abbrev pub LawOfUntoldStretch : Type 0
 LawOfUntoldStretch =
     (programme : ProgrammeValue) (transmission : Transmission) (options : OptionsValue)

@@ -1,4 +1,4 @@
--- What a PES file carries within more frames than before, and that it stays good.
+-- The transmission that a PES file carries with a greater `within`, which stays good.
 use Rattle.std.specs.Prelude.{ℕ, ◌^◌, ◌<◌, ◌≤◌, Bool, List}
 use Rattle.stl_rows.specs.Programme.{ProgrammeValue}
 use Rattle.sub_plan.specs.FrameTime.{clock_of}
@@ -7,14 +7,14 @@ use Rattle.sub_rules.specs.PesFrames.{CarriesBy}
 use Rattle.sub_rules.specs.Repeats.{GoodBy}
 use Rattle.sub_rules.specs.Transmission.{Transmission}
 
--- The same options, but for so many frames.
+-- The same options, except for `within`.
 abbrev pub within_frames : ℕ → OptionsValue → OptionsValue
 within_frames more options = record options { within = more }
 
--- Bytes that carry a transmission within some frames carry it within more: a PTS that is that of a
--- frame is in its ticks, and of frames that rise none is sent by two PES packets. Where the
--- transmission is good within some, it is good within more.
--- So bytes that are accepted are accepted with more frames too.
+-- Bytes that carry a transmission with some `within` carry it with a greater one: the PTS of a
+-- frame is within its tolerance, and in rising frames no frame is sent by two PES packets. If the
+-- transmission is good with the one, it is good with the other. So accepted bytes are accepted with
+-- more frames, too.
 abbrev pub LawOfLongerDelayOfFiles : Type 0
 LawOfLongerDelayOfFiles =
     (keeps : Bool) (programme : ProgrammeValue) (options : OptionsValue) (more : ℕ)

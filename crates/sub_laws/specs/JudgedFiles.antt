@@ -1,5 +1,5 @@
--- What a transmission is judged by of a subtitle file of which something is refused, or of which a
--- part is asked for.
+-- What a transmission is compared with if subtitles of the file were refused, or only a part of the
+-- file is requested.
 use Rattle.std.specs.Prelude.{◌≡◌, ℕ, true, List, ◌++◌, length, None, Option}
 use Rattle.std.specs.List.{AllByRecursion, concat}
 use Rattle.stl_file.specs.Gsi.{gsi_size}
@@ -14,10 +14,9 @@ use Rattle.sub_rules.specs.FrameRules.{Unread, criteria_of_judged, is_due_undeci
 use Rattle.sub_rules.specs.PieceEvents.{all_of_pieces}
 use Rattle.sub_rules.specs.Pieces.{Piece}
 
--- What can be relied on in a part of a file is what can be in the file from which the blocks of all
--- other subtitles were taken out, where nothing ends reading; and a transmission is judged by the
--- one exactly where it is by the other.
--- So a part is judged as the file that holds no more than it.
+-- A part of a file is judged like the file from which the blocks of all other subtitles were
+-- removed, if nothing ends reading: the same subtitles can be relied on, and a transmission can be
+-- judged by both or by neither.
 abbrev pub LawOfJudgedParts : Type 0
 LawOfJudgedParts =
     (drawing : Drawing) (gsi : List ℕ) (blocks : List (List ℕ))
@@ -29,10 +28,9 @@ LawOfJudgedParts =
     × (judges drawing (gsi ++ concat blocks)
     ≡ judges (of_day drawing) (gsi ++ concat (taken_out drawing.scope None blocks)))
 
--- Where the subtitles that can be relied on are the same in two files, and so are the frames at
--- which it is not known what is due, and something of both is refused or of none, the same is told
--- of a PES file by both.
--- So nothing else of what is refused has a say in what is told: neither its texts nor its times.
+-- If two files agree on the subtitles that can be relied on, on the frames whose due page is
+-- unknown, and on whether subtitles were refused, the events for a PES file are the same. So
+-- nothing else of refused subtitles matters, neither their texts nor their times.
 abbrev pub LawOfJudgedAlike : Type 0
 LawOfJudgedAlike =
     (one other : JudgedValue) (options : OptionsValue) (unread : Option Unread)

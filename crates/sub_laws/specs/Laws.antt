@@ -1,4 +1,4 @@
--- The headline's laws: a good transmission keeps what is promised of it.
+-- The laws of the headline: a good transmission keeps its promises.
 use Rattle.std.specs.Prelude.{◌↔◌, ℕ, ◌+◌, ◌≤◌, All, Bool, IsTrue, List}
 use Rattle.ttx_page.specs.PacketKind.{kind}
 use Rattle.ttx_page.specs.Span.{holds_header}
@@ -10,9 +10,8 @@ use Rattle.sub_laws.specs.Robust.{IsListening, Robust}
 use Rattle.sub_laws.specs.LostRows.{IsRobustWithLosses}
 use Rattle.sub_laws.specs.Stretch.{HasPromises}
 
--- The law of the window: a start at any packet of a good transmission meets a header of the page by
--- the end of frame g + every.
--- So no receiver waits longer for its page than the repeat bound.
+-- A receiver that starts at any packet of frame g of a good transmission gets a header of the page
+-- by the end of frame g + every. So no receiver waits longer for its page than the repeat bound.
 abbrev pub LawOfWindow : Type 0
 LawOfWindow =
     (programme : ProgrammeValue) (transmission : Transmission) (options : OptionsValue)
@@ -22,16 +21,16 @@ LawOfWindow =
     → g + options.every ≤ f
     → IsTrue (holds_header (kind options.page) (on_air transmission g j f))
 
--- A good transmission is robust, with lost rows too; receivers of both classes recover by it from
--- whatever they held before, so what was on the air before, and what noise made of it, is over with
--- the next header; and where its pages are complete, what is due is on their screens.
+-- A good transmission is robust, also with lost rows. Receivers of both classes recover whatever
+-- they contained before, so earlier transmissions and errors no longer matter after the next
+-- header. If its pages are complete, the due page is on their screens.
 abbrev pub LawOfGood : Type 0
 LawOfGood =
     (programme : ProgrammeValue) (transmission : Transmission) (options : OptionsValue)
     → Good programme transmission options
     → HasPromises programme transmission options
 
--- With all packets kept, robust to lost rows is robust.
+-- Robust to lost rows, if no packet is lost, is robust.
 abbrev pub LawOfAllKept : Type 0
 LawOfAllKept =
     (programme : ProgrammeValue) (transmission : Transmission) (options : OptionsValue)

@@ -1,5 +1,5 @@
--- What is on the screen of a receiver that shows a page only when a later header has ended it,
--- wherever it starts, whatever bits are wrong and whatever rows are lost.
+-- The screen of a receiver that shows a page only after a later header has ended it, wherever the
+-- receiver starts, whatever bits are wrong and whatever rows are lost.
 use Rattle.std.specs.Prelude.{◌≡◌, ℕ, ◌≤◌, Bool, List, [], Some, IsTrue, IsFalse}
 use Rattle.ttx_page.specs.DroppedRows.{ExcusedBy}
 use Rattle.ttx_page.specs.LostRows.{IsHitOrLost, arrivals_of}
@@ -17,8 +17,8 @@ use Rattle.sub_rules.specs.Transmission.{Transmission, first_frame, last_frame, 
 use Rattle.sub_rules.specs.Transmission.{on_air_until}
 
 -- Complete pages in the frames from a to b: at the end of each of them, with packets of its own or
--- not, where a header of the page was sent so far, a header after its last one ends the span. So
--- the page is not open then.
+-- not, the last header of the page, if there was one, was followed by a header that ends the page.
+-- So the page is not open then.
 abbrev pub CompleteWithin : Transmission → OptionsValue → ℕ → ℕ → Type 0
 CompleteWithin transmission options a b =
     (f : ℕ)
@@ -27,15 +27,15 @@ CompleteWithin transmission options a b =
     → IsTrue (holds_header (kind options.page) (on_air_until transmission f))
     → IsFalse (is_unended (kind options.page) (on_air_until transmission f))
 
--- Complete pages: in all frames.
+-- Complete pages in all frames.
 abbrev pub Complete : Transmission → OptionsValue → Type 0
 Complete transmission options =
     CompleteWithin transmission options (first_frame transmission) (last_frame transmission)
 
--- The frames from a to b are shown by receivers of the class: wherever one starts and stops there,
--- whatever is got, whatever a receiver held and showed before, and whatever its choices, once a
--- header of its page was sent a page is on its screen, and it is the one that is due, but for
--- spaces that are excused as in `RecoversWithin`.
+-- Receivers of the class show the frames from a to b: wherever one starts and stops there, whatever
+-- it receives, whatever it contained and showed before, and whatever it chooses, after a header of
+-- its page was sent its screen has a page. That is the due page, except for spaces that are excused
+-- as in `RecoversWithin`.
 abbrev pub ShownWithin :
     ReceiverClass → ProgrammeValue → Transmission → OptionsValue → ℕ → ℕ → Type 0
 ShownWithin class programme transmission options a b =
@@ -50,7 +50,8 @@ ShownWithin class programme transmission options a b =
     (IsHitOrLost options.page (on_air transmission g j f) (arrivals_of arrived got)))
     page
 
--- The schedule of a programme that has a subtitle is one of complete pages, in both modes.
+-- The schedule of a programme with at least one subtitle has complete pages, in both transmission
+-- modes.
 abbrev pub LawOfCompletePlan : Type 0
 LawOfCompletePlan =
     (programme : ProgrammeValue) (options : OptionsValue) (serial : Bool)

@@ -1,5 +1,5 @@
--- What every receiver holds of a transmission, whatever it held before: wherever it starts,
--- whatever bits are wrong and whatever rows are lost.
+-- The page that every receiver has of a transmission, whatever it contained before: wherever it
+-- starts, whatever bits are wrong and whatever rows are lost.
 use Rattle.std.specs.Prelude.{ℕ, Bool, List}
 use Rattle.ttx_page.specs.DroppedRows.{ExcusedBy}
 use Rattle.ttx_page.specs.LostRows.{IsHitOrLost, arrivals_of}
@@ -11,9 +11,9 @@ use Rattle.sub_laws.specs.Robust.{IsServed}
 use Rattle.sub_rules.specs.Transmission.{Transmission, on_air}
 
 -- Receivers of the class recover in the frames from a to b: wherever one starts and stops there,
--- whatever is got, whatever a receiver held before, heard or not, open or not, with any page, and
--- whatever its choices, it is served. A space is excused only where its byte was hit or its row
--- lost; by a receiver that drops rows, where any byte of its row was hit, or the row lost.
+-- whatever it receives, whatever it contained before (any page, open or not, with or without a
+-- header), and whatever it chooses, it is served. A space is excused only if its byte was hit or
+-- its row lost; for a receiver that drops rows, if any byte of its row was hit, or the row lost.
 abbrev pub RecoversWithin :
     ReceiverClass → ProgrammeValue → Transmission → OptionsValue → ℕ → ℕ → Type 0
 RecoversWithin class programme transmission options a b =

@@ -1,4 +1,5 @@
--- What every receiver holds of a transmission, wherever it starts and whatever bits are wrong.
+-- The page that every receiver has of a transmission, wherever it starts and whatever bits are
+-- wrong.
 use Rattle.std.specs.Prelude.{◌≡◌, ℕ, ◌+◌, ◌≤◌, ◌⊎◌, ◌||◌, List, length, IsTrue, IsFalse}
 use Rattle.std.specs.List.{AllZip}
 use Rattle.ttx_packet.specs.OneBit.{AreNear}
@@ -12,15 +13,15 @@ use Rattle.sub_plan.specs.Options.{OptionsValue}
 use Rattle.sub_rules.specs.Transmission.{Transmission, first_frame, last_frame, packets_of, on_air}
 use Rattle.sub_plan.specs.Schedule.{due_in}
 
--- A start at packet j of frame g, and a stop at the end of frame f, within the frames from a to b.
--- With j the number of packets of frame g, one starts after all of them.
+-- A receiver starts at packet j of frame g and stops at the end of frame f, within the frames from
+-- a to b. If j is the number of packets of frame g, it starts after all of them.
 pub record IsListening (transmission : Transmission) (a b g j f : ℕ) : Type 0 where
   pub from : a ≤ g
   pub in_order : g ≤ f
   pub to : f ≤ b
   pub in_frame : j ≤ length (packets_of transmission g)
 
--- Each cell of a page holds the code of the page that is due at the frame, or is an excused space.
+-- Each cell of a page has the code of the page that is due at the frame, or an excused space.
 abbrev pub HoldsDuePage : ProgrammeValue → ℕ → (ℕ → ℕ → Type 0) → Rows → Type 0
 HoldsDuePage programme f IsExcused page =
     (row column : ℕ)
@@ -28,28 +29,28 @@ HoldsDuePage programme f IsExcused page =
     → (cell page row column ≡ cell (due_in programme f) row column)
     ⊎ ((cell page row column ≡ space) × IsExcused row column)
 
--- What is promised to a receiver that listened from frame g to the end of frame f, where these
--- packets were sent, and its state was the one before, and is now the other.
+-- The promise to a receiver that listened from frame g to the end of frame f: these packets were
+-- sent, and its state went from `old` to `new`.
 pub record IsServed
     (programme : ProgrammeValue) (options : OptionsValue) (g f : ℕ)
     (sent : List (List ℕ)) (IsExcused : ℕ → ℕ → Type 0) (old new : State)
     : Type 0 where
   -- By the end of frame g + every a header of its page was sent.
   pub in_time : g + options.every ≤ f → IsTrue (holds_header (kind options.page) sent)
-  -- It has heard its page exactly where it had before, or a header of it was sent.
+  -- It has received a header of its page exactly if it had before or one was sent.
   pub heard : new.heard ≡ (old.heard || holds_header (kind options.page) sent)
-  -- Once one was sent, each cell holds the due page's code, or it is an excused space.
+  -- After a header was sent, each cell has the code of the due page, or an excused space.
   pub cells :
       IsTrue (holds_header (kind options.page) sent)
       → HoldsDuePage programme f IsExcused new.page
-  -- And the page is open exactly where no header after its last one ends the span.
+  -- Then the page is open exactly if no page header after its last header ended it.
   pub is_open :
       IsTrue (holds_header (kind options.page) sent)
       → new.is_open ≡ is_unended (kind options.page) sent
 
--- A robust transmission: wherever one starts and stops, whatever is got with at most one bit wrong
--- in each byte, whatever old page a receiver holds that has not heard its page yet, and whatever
--- its choices, it is served, and a space is excused only where its byte was hit.
+-- A robust transmission: wherever a receiver starts and stops, whatever it receives with at most
+-- one wrong bit in each byte, whatever old page it contains before its first header, and whatever
+-- it chooses, it gets the promise, and a space is excused only if its byte was hit.
 abbrev pub Robust : ProgrammeValue → Transmission → OptionsValue → Type 0
 Robust programme transmission options =
     (g j f : ℕ) (got : List (List ℕ)) (old new : State)

@@ -1,4 +1,4 @@
--- What may be trusted of a stretch of frames, and what is promised of a whole transmission.
+-- The promises for a stretch of frames, and for a whole transmission.
 use Rattle.std.specs.Prelude.{ℕ}
 use Rattle.ttx_page.specs.Receiver.{ReceiverClass}
 use Rattle.ttx_page.specs.Receiver.ReceiverClass.{Storing}
@@ -10,34 +10,34 @@ use Rattle.sub_laws.specs.Recovery.{RecoversWithin}
 use Rattle.sub_laws.specs.Robust.{Robust}
 use Rattle.sub_rules.specs.Transmission.{Transmission, first_frame, last_frame}
 
--- What may be trusted of the frames from a to b, by receivers of each class.
+-- The frames from a to b may be trusted by receivers of each class.
 pub record MayBeTrusted
     (programme : ProgrammeValue) (transmission : Transmission) (options : OptionsValue) (a b : ℕ)
     : Type 0 where
   -- They recover there.
   pub recovers : (class : ReceiverClass) → RecoversWithin class programme transmission options a b
-  -- Where pages are complete there, what is due is on their screens.
+  -- If the pages of the stretch are complete, the due page is on their screens.
   pub shown :
       CompleteWithin transmission options a b
       → (class : ReceiverClass)
       → ShownWithin class programme transmission options a b
 
--- What is promised of a whole transmission.
+-- The promises for a whole transmission.
 pub record HasPromises
     (programme : ProgrammeValue) (transmission : Transmission) (options : OptionsValue)
     : Type 0 where
   -- The headline.
   pub robust : Robust programme transmission options
-  -- With lost rows too.
+  -- The same with lost rows.
   pub to_loss : RobustToAnyLoss programme transmission options
-  -- In all frames receivers recover from whatever they held before, and where pages are complete,
-  -- what is due is on their screens.
+  -- In all frames receivers recover whatever they contained before; if pages are complete, the due
+  -- page is on their screens.
   pub trusted :
       MayBeTrusted programme transmission options (first_frame transmission)
       (last_frame transmission)
 
--- The headline, with lost rows too, follows from recovery in all frames alone.
--- So whoever shows recovery of a stretch has shown the headline there too.
+-- The headline, with lost rows or without, follows from recovery in all frames alone. So a proof of
+-- recovery in a stretch is one of the headline there.
 abbrev pub LawOfWholeRecovery : Type 0
 LawOfWholeRecovery =
     (programme : ProgrammeValue) (transmission : Transmission) (options : OptionsValue)
@@ -46,7 +46,7 @@ LawOfWholeRecovery =
     → Robust programme transmission options
     × RobustToAnyLoss programme transmission options
 
--- All of it is what may be trusted of all frames.
+-- All promises follow if all frames may be trusted.
 abbrev pub LawOfWholeStretch : Type 0
 LawOfWholeStretch =
     (programme : ProgrammeValue) (transmission : Transmission) (options : OptionsValue)

@@ -1,5 +1,5 @@
--- The parts of the seven rules that suffice for the headline, in a stretch of frames or in all: the
--- others are asked for reasons of their own.
+-- The parts of the seven rules that suffice for the headline, in a stretch of frames or in all. The
+-- other parts have purposes of their own.
 use Rattle.std.specs.Prelude.{◌≡◌, ℕ, ◌+◌, ◌<◌, ◌≤◌}
 use Rattle.ttx_page.specs.Noise.{IsSound}
 use Rattle.ttx_page.specs.Page.{cell, IsCell}
@@ -12,18 +12,18 @@ use Rattle.sub_rules.specs.Transmission.{on_air_until}
 use Rattle.sub_rules.specs.Good.{Good, HoldsHeader}
 use Rattle.sub_laws.specs.Stretch.{MayBeTrusted}
 
--- What the headline needs of the frames from a to b, but for what is shown. Nothing is asked of
--- packets in frames before them, which may be as wrong as they like, but that frames rise.
+-- What the headline needs of the frames from a to b, apart from their text. Packets in earlier
+-- frames may be anything, but the frames rise.
 pub record IsSoundStretch (transmission : Transmission) (options : OptionsValue) (a b : ℕ) : Type 0
   where
     pub first : first_frame transmission ≤ a
-    -- The frames rise.
     pub rising : IsRising transmission
-    -- What is on air from frame a to the end of each frame is sound: address bytes, and the coded
-    -- bytes of each packet X/0, are code words with no bit wrong; each header of the page has C4,
-    -- erase page, set; in the span rows have odd parity and stay as they are.
+    -- What is on air from frame a to the end of each frame is sound: the address bytes, and the
+    -- coded bytes of each packet X/0, are code words without a wrong bit; each header of the page
+    -- has C4, erase page, set; the rows since its last header have odd parity and are repeated
+    -- unchanged.
     pub sound : (f : ℕ) → a ≤ f → f ≤ b → IsSound options.page (on_air transmission a 0 f)
-    -- A header of the page comes again within the repeat bound.
+    -- A header of the page is repeated within the repeat bound.
     pub repeats :
         (start : ℕ)
         → a ≤ start
@@ -33,12 +33,12 @@ pub record IsSoundStretch (transmission : Transmission) (options : OptionsValue)
         × (f < start + options.every)
         × HoldsHeader options.page transmission f
 
--- What the headline needs of them.
+-- What the headline needs of the frames from a to b.
 pub record IsSufficient
     (programme : ProgrammeValue) (transmission : Transmission) (options : OptionsValue) (a b : ℕ)
     : Type 0 where
   pub stretch : IsSoundStretch transmission options a b
-  -- At each frame's end the page that is due is shown.
+  -- At the end of each frame the due page is shown.
   pub content :
       (f row column : ℕ)
       → a ≤ f
@@ -47,16 +47,15 @@ pub record IsSufficient
       → shown options.page (on_air_until transmission f) row column
       ≡ cell (due_in programme f) row column
 
--- A stretch that has these parts may be trusted, whatever was on air before it.
+-- A stretch with these parts may be trusted, whatever was on air before it.
 abbrev pub LawOfStretch : Type 0
 LawOfStretch =
     (programme : ProgrammeValue) (transmission : Transmission) (options : OptionsValue) (a b : ℕ)
     → IsSufficient programme transmission options a b
     → MayBeTrusted programme transmission options a b
 
--- A good transmission has these parts in all frames.
--- So the headline is true without the other parts of the rules: all that is promised of a good
--- transmission is what may be trusted of a stretch that has these, where that is all frames.
+-- A good transmission has these parts in all its frames. So the headline holds without the other
+-- parts of the rules, and all promises follow from these.
 abbrev pub LawOfSufficientParts : Type 0
 LawOfSufficientParts =
     (programme : ProgrammeValue) (transmission : Transmission) (options : OptionsValue)

@@ -1,5 +1,4 @@
--- What may be relied on of frames of which nothing is told that a receiver depends on, where
--- repeats may keep the page.
+-- The promises for frames without reports that a receiver depends on, if repeats may keep the page.
 use Rattle.std.specs.Prelude.{◌≡◌, ℕ, ◌≤◌, Bool, Option}
 use Rattle.stl_rows.specs.Programme.{IsProgramme, ProgrammeValue}
 use Rattle.sub_plan.specs.Options.{OptionsValue}
@@ -16,9 +15,9 @@ pub record IsSufficientRepeats
     : Type 0 where
   -- What recovery needs of them (`LawOfRepeatedStretch`).
   pub stretch : IsRepeatedStretch keeps transmission options a b
-  -- At each frame's end what is kept in a cell is a space, or was due there within these frames.
+  -- At the end of each frame the code of a cell is a space, or was due there within these frames.
   pub codes : KeepsDueCodes keeps programme transmission options a b
-  -- And within no frame each cell is right there.
+  -- If `within` is 0, each cell is right there.
   pub whole :
       options.within ≡ 0
       → (f : ℕ)
@@ -26,10 +25,10 @@ pub record IsSufficientRepeats
       → f ≤ b
       → IsWholePage keeps programme options.page transmission f
 
--- A stretch of which nothing is told that a receiver depends on has what suffices, within however
--- many frames, and where the page stands open at no end of it, its frames are finished in time.
--- So who reads what is told of a refused transmission knows what to trust of the rest: from the
--- first header in a stretch with which a text begins on, whatever a receiver held before.
+-- A stretch without reports that a receiver depends on is sufficient, whatever `within` is; and if
+-- the page is open at no end of it, its frames are finished in time. So the reports of a refused
+-- transmission tell which rest may be trusted: from the first header in a stretch that begins the
+-- text of the page, whatever a receiver contained before.
 abbrev pub LawOfUntoldRepeats : Type 0
 LawOfUntoldRepeats =
     (programme : ProgrammeValue) (transmission : Transmission) (options : OptionsValue)

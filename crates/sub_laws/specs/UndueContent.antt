@@ -1,4 +1,4 @@
--- What every receiver shows where the content of a transmission is refused.
+-- What every receiver shows if the content of a transmission is refused.
 use Rattle.std.specs.Prelude.{◌≡◌, ℕ, length, None, IsFalse, IsTrue, false}
 use Rattle.ttx_page.specs.Page.{cell}
 use Rattle.ttx_page.specs.PacketKind.{kind}
@@ -16,11 +16,11 @@ use Rattle.sub_rules.specs.Repeats.{IsDueWithin}
 use Rattle.sub_rules.specs.Transmission.{Transmission, on_air_until}
 use Rattle.sub_rules.specs.WrongContent.{AreReadUpTo}
 
--- At the end of frame f the cell is not right, by the frames that are read up to it; and every
--- receiver that keeps its page, and starts at the first packet with no bit wrong, holds there what
--- is kept, where its page was blank and not open or a header has erased it: where no repeat may
--- keep, every one. So where what is kept is not what is due, it is wrong on the screen; and where
--- it is what is due, the row did not come again.
+-- At the end of frame f the cell is wrong, given the frames read up to it. Every receiver that
+-- keeps its page, and starts at the first packet with no wrong bit, has the kept code there if its
+-- page was blank and closed or a header has erased it; if no repeat may keep the page, every
+-- receiver has. So if the kept code is not the due one, the screen is wrong; if it is, the row was
+-- not sent again.
 pub record IsDifferentEverywhere
     (programme : ProgrammeValue) (options : OptionsValue) (frames : Transmission)
     (f row column : ℕ)
@@ -37,8 +37,8 @@ pub record IsDifferentEverywhere
       → IsFresh options.keeps false options.page (on_air_until read f) old
       → cell new.page row column
       ≡ kept options.keeps options.page (on_air_until read f) row column
-  -- Where that end is not late, what is kept is no space and no code that is due there in frame f
-  -- or in one of the `within` frames before it.
+  -- If the page still has time to become right, the kept code is not a space, and was not due there
+  -- in frame f or in one of the `within` frames before.
   pub undue :
       IsFalse (is_late (criteria_of programme options None) read (length read) f)
       → IsDueWithin programme read options f row column

@@ -1,6 +1,6 @@
-//! A good transmission is robust, and its rules packet by packet.
+//! A good transmission is robust, and further laws about its rules.
 //!
-//! The functions do nothing: the contract of each is a law over the definitions of `specs/`.
+//! The functions do nothing: the contract of each is a law about the definitions of `specs/`.
 ghost use Rattle.sub_laws.specs.AtOnce.{LawOfNoDelay, LawOfTrustWithoutDelay};
 ghost use Rattle.sub_laws.specs.BrokenPlaces.{LawOfBrokenPlaces, LawOfNothingTold};
 ghost use Rattle.sub_laws.specs.BrokenPlaces.{LawOfNothingToldRepeats};
@@ -24,92 +24,93 @@ ghost use Rattle.sub_laws.specs.ToldRepeats.{LawOfUntoldRepeats};
 
 use stl_file::law_of_scope;
 
-/// A start at any packet of a good transmission meets a header of the page within the repeat bound.
+/// A receiver that starts at any packet of a good transmission gets a header of the page within the
+/// repeat bound.
 #[tactic(auto, using(crate::proofs::RobustLemmas::law_of_window))]
 pub fn law_of_window()
     ensures { LawOfWindow }
 {}
 
 /// A good transmission is robust: for every start, every old page, every receiver, and at most one
-/// wrong bit in each byte, each cell holds the due page's code or, where its byte was hit, a space.
-/// So it is where packets are lost, any but page headers: beside each stands whether it arrived,
-/// and a cell of a lost row counts as hit. The same holds whatever a receiver held before, of
-/// those that drop rows too, where a byte of the cell's row was hit; and of the screens of those
-/// that show a page only when a later header has ended it, where pages are complete.
+/// wrong bit in each byte, each cell has the code of the due page or, if its byte was hit, a space.
+/// The same holds if packets other than page headers are lost, where a cell of a lost row counts as
+/// hit; whatever a receiver contained before; for receivers that drop rows, if a byte of the cell's
+/// row was hit; and for the screens of those that show a page only after a later header has ended
+/// it, if pages are complete.
 pub fn law_of_good()
     ensures { LawOfGood }
 {}
 
-/// A good transmission has the parts of the rules that suffice for it: frames rise; code words have
-/// no bit wrong; headers erase the page; rows are odd, and stay as they are; a header comes within
-/// the repeat bound; what is due is shown.
+/// A good transmission has the sufficient parts of the rules: frames rise; code words have no wrong
+/// bit; headers erase the page; rows have odd parity and are repeated unchanged; a header is
+/// repeated within the repeat bound; the due page is shown.
 #[tactic(auto, using(crate::proofs::RobustLemmas::suffices))]
 pub fn law_of_sufficient_parts()
     ensures { LawOfSufficientParts }
 {}
 
-/// What these parts of the rules say of a stretch of frames suffices there, whatever was on air
-/// before it: every receiver that starts in it recovers, and where pages are complete in it, what
-/// is due is on its screen.
+/// If a stretch of frames has these parts, that suffices there, whatever was on air before: every
+/// receiver that starts in it recovers, and if pages are complete in it, the due page is on its
+/// screen.
 #[tactic(auto, using(crate::proofs::StretchLemmas::law_of_stretch))]
 pub fn law_of_stretch()
     ensures { LawOfStretch }
 {}
 
-/// Within no frame, where no repeat may keep the page, what is good by options is good, and of
-/// complete pages where these are asked for, and the other way.
+/// If `within` is 0 and no repeat may keep the page, a transmission is good by the options exactly
+/// if it is good, with complete pages if these are required.
 pub fn law_of_no_delay()
     ensures { LawOfNoDelay }
 {}
 
-/// And what may be trusted there of a stretch by options may be trusted.
+/// If a stretch may be trusted by the options then, it may be trusted.
 #[tactic(auto, using(crate::proofs::DelayLemmas::law_of_trust_without_delay))]
 pub fn law_of_trust_without_delay()
     ensures { LawOfTrustWithoutDelay }
 {}
 
-/// Bytes that carry within some frames a transmission that is good within these carry it within
-/// more, where it is good too, whether repeats may keep the page or not.
+/// Bytes that carry a good transmission with some `within` carry it with a greater one, with which
+/// it is good, too, whether repeats may keep the page or not.
 pub fn law_of_longer_delay_of_files()
     ensures { LawOfLongerDelayOfFiles }
 {}
 
-/// A stretch of which nothing is told that a receiver depends on has what suffices, whatever else
-/// is told, there or elsewhere, and where repeats may keep the page too; and where the page stands
-/// open at no end of it, its frames are finished in time.
+/// A stretch without reports that a receiver depends on is sufficient, whatever else is reported,
+/// there or elsewhere, also if repeats may keep the page; and if the page is open at no end of it,
+/// its frames are finished in time.
 pub fn law_of_untold_repeats()
     ensures { LawOfUntoldRepeats }
 {}
 
-/// Where none may keep it, it is what suffices of a good transmission; and where the page stands
-/// open at no end of the stretch, its pages are complete.
+/// If none may keep it, the stretch has the sufficient parts of the rules; and if the page is open
+/// at no end of the stretch, its pages are complete.
 pub fn law_of_untold_stretch()
     ensures { LawOfUntoldStretch }
 {}
 
-/// Where receivers recover in all frames of a transmission it is robust, with lost rows too.
+/// If receivers recover in all frames of a transmission, it is robust, also with lost rows.
 pub fn law_of_whole_recovery()
     ensures { LawOfWholeRecovery }
 {}
 
-/// What may be trusted of all frames of a transmission is what is promised of it.
+/// If all frames of a transmission may be trusted, it keeps all promises.
 #[tactic(auto, using(crate::proofs::StretchLemmas::law_of_whole_stretch))]
 pub fn law_of_whole_stretch()
     ensures { LawOfWholeStretch }
 {}
 
-/// With all packets marked as kept, robust to lost rows is robust.
+/// Robust to lost rows, if no packet is lost, is robust.
 pub fn law_of_all_kept()
     ensures { LawOfAllKept }
 {}
 
-/// The schedule of a programme that has a subtitle is a good transmission of it, in both modes and
-/// for both national options.
+/// The schedule of a programme with at least one subtitle is a good transmission of it, in both
+/// transmission modes and for both national options.
 pub fn law_of_plan()
     ensures { LawOfPlan }
 {}
 
-/// It is one of complete pages, in both modes.
+/// It has complete pages, in both transmission modes.
 #[tactic(auto, using(crate::proofs::PlanLemmas::law_of_complete_plan))]
 pub fn law_of_complete_plan()
     ensures { LawOfCompletePlan }
@@ -121,117 +122,118 @@ pub fn law_of_plan_read()
     ensures { LawOfPlanRead }
 {}
 
-/// Within 0 frames the transmissions that the bytes carry by the clock of the options are those
-/// that they carry by the PTS of each frame: so what is said within frames is said of these too.
+/// If `within` is 0, the transmissions that bytes carry by the clock of the options are those that
+/// they carry by the PTS of each frame. So what holds by the clock holds for these, too.
 pub fn law_of_exact_frames()
     ensures { LawOfExactFrames }
 {}
 
-/// Each broken place of a transmission is told, in the order of the list, and no other: so what is
-/// told first is the first place that is broken.
+/// Each broken place of a transmission is reported, in the order of the list, and no other. So the
+/// first fault is the first broken place.
 pub fn law_of_broken_places()
     ensures { LawOfBrokenPlaces }
 {}
 
-/// Of a PES file that is read on behind what can't be read, the refusal is told first that is told
-/// where reading stops there.
+/// Whether reading a PES file stops at its first skipped PES packet or goes on, the first fault is
+/// the same.
 #[tactic(auto, using(sub_rules::proofs::PieceEventLemmas::first_told_is))]
 pub fn law_of_first_told()
     ensures { LawOfFirstTold }
 {}
 
-/// Nothing is told of the pieces of a PES file exactly where none of them is passed over, what they
-/// send is good within the frames that the options allow, where repeats may keep the page or may
-/// not, and the file was read to its end.
+/// There is no event for the PES packets of a file exactly if none of them is skipped, their frames
+/// are good by the options, whether repeats may keep the page or not, and the file was read to its
+/// end.
 #[tactic(auto, using(crate::proofs::NothingToldLemmas::law_of_nothing_told_repeats))]
 pub fn law_of_nothing_told_repeats()
     ensures { LawOfNothingToldRepeats }
 {}
 
-/// Where none may keep it, within 0 frames, that is a good transmission, of complete pages where
-/// these are asked for.
+/// If none may keep it and `within` is 0, that means a good transmission, with complete pages if
+/// these are required.
 #[tactic(auto, using(crate::proofs::NothingToldLemmas::law_of_nothing_told))]
 pub fn law_of_nothing_told()
     ensures { LawOfNothingTold }
 {}
 
-/// Where repeats may keep the page, whatever receivers do at a header that does not erase it: in a
-/// stretch whose repeats send what was sent before, those recover that begin anew at each header,
-/// those whose page was blank when they were tuned in, and every other one from the next header on
-/// that erases the page; and what is due is on their screens. Where its frames are finished in time
-/// it may be trusted: where no frame may be late, they hold what is due at the end of each.
+/// If repeats may keep the page, whatever receivers do at a header that does not erase it: in a
+/// stretch whose repeats send the same as before, receivers recover that start again at each header
+/// or whose page was blank when they were tuned in, and all others from the next header that erases
+/// the page; and the due page is on their screens. If the frames of the stretch are finished in
+/// time it may be trusted; if no frame may be late, receivers have the due page at the end of each.
 pub fn law_of_repeated_stretch()
     ensures { LawOfRepeatedStretch }
 {}
 
-/// A transmission that is good within as many frames as the options allow, whether repeats may keep
-/// the page or not, is one in all its frames. So it keeps what is promised: once what a receiver
-/// held before is forgotten, it holds spaces, and codes that are due or were so few frames ago; and
-/// at the end of one frame at least of each `within` and one more, and of one of each subtitle,
-/// what is due.
+/// A transmission that is good by the options, whether repeats may keep the page or not, is such a
+/// stretch in all its frames, so it keeps its promises: after a receiver's old contents are gone,
+/// it has only spaces, and codes that are due or were at most `within` frames ago; and at the end
+/// of at least one of any `within` + 1 frames, and of one frame of each subtitle, it has the due
+/// page.
 pub fn law_of_good_repeats()
     ensures { LawOfGoodRepeats }
 {}
 
-/// Where repeats may not keep the page, a cell is right exactly where it shows what is due.
+/// If repeats may not keep the page, a cell is right exactly if it shows the due code.
 pub fn law_of_right_cells()
     ensures { LawOfRightCells }
 {}
 
-/// And there rules 1 to 6 are those of a good transmission.
+/// And rules 1 to 6 are those of a good transmission then.
 pub fn law_of_no_repeats()
     ensures { LawOfNoRepeats }
 {}
 
-/// What is good where repeats may not keep the page is good where they may.
+/// A transmission that is good if repeats may not keep the page is good if they may.
 pub fn law_of_may_keep()
     ensures { LawOfMayKeep }
 {}
 
-/// What is good where they may, and has no header that keeps, is good where they may not: so what
-/// is promised of a good transmission is promised of it whole.
+/// A transmission that is good if they may, and in which no header keeps the page, is good if they
+/// may not. So all promises of a good transmission hold for it.
 pub fn law_of_none_keeps()
     ensures { LawOfNoneKeeps }
 {}
 
-/// What is good within some frames is good within more, whether repeats may keep the page or not.
+/// A transmission that is good with some `within` is good with a greater one, whether repeats may
+/// keep the page or not.
 pub fn law_of_longer_repeats()
     ensures { LawOfLongerRepeats }
 {}
 
-/// The schedule of a programme that has a subtitle is good within any number of frames, in both
-/// modes, whether repeats may keep the page or not.
+/// The schedule of a programme with at least one subtitle is good for any `within`, in both
+/// transmission modes, whether repeats may keep the page or not.
 pub fn law_of_plan_repeats()
     ensures { LawOfPlanRepeats }
 {}
 
-/// A stretch of which each packet may follow those that were sent before it, whatever these are,
-/// has what recovery needs of it, where repeats may keep the page too.
+/// A stretch in which each packet may follow those sent before it, whatever these are, has what
+/// recovery needs, also if repeats may keep the page.
 pub fn law_of_followed_stretch()
     ensures { LawOfFollowedStretch }
 {}
 
-/// With no wrong bit a receiver that keeps its page holds what is kept, at the end of each frame.
+/// If no bit is wrong, a receiver that keeps its page has the kept codes at the end of each frame.
 pub fn law_of_kept_on_air()
     ensures { LawOfKeptOnAir }
 {}
 
-/// Where text goes or changes a header that erases the page is sent, within some frames up to so
-/// many later: so old text is gone there at the latest, whatever a receiver held before.
+/// If text ends or changes, a header that erases the page is sent then, or at most `within` frames
+/// later. So old text is gone there at the latest, whatever a receiver contained before.
 pub fn law_of_old_text()
     ensures { LawOfOldText }
 {}
 
-/// What can be relied on in a part of a subtitle file, and whether a transmission is judged by it,
-/// is that of the file from which the blocks of all other subtitles were taken out.
+/// A part of a subtitle file is judged like the file from which the blocks of all other subtitles
+/// were removed.
 pub fn law_of_judged_parts()
     ensures { LawOfJudgedParts }
 {
     law_of_scope();
 }
 
-/// By two subtitle files in which the same can be relied on, and it is not known at the same frames
-/// what is due, the same is told of a PES file.
+/// Two subtitle files with the same reliable subtitles, and the same frames whose due page is
+/// unknown, give the same events for a PES file.
 pub fn law_of_judged_alike()
     ensures { LawOfJudgedAlike }
 {}

@@ -1,8 +1,8 @@
-//! The laws of transmissions: the headline, a good transmission is robust; and how rules, places
-//! and what is told of them hang together.
+//! The laws of transmissions: the headline, that a good transmission is robust, and how rules,
+//! broken places and reports are related.
 //!
-//! Stands on `sub_rules` for what is asked, and on `ttx_page` for receivers and noise. There is no
-//! program in it: `specs/` says what every receiver makes of a transmission, `Robust` and its kin,
+//! `sub_rules` defines the rules, and `ttx_page` receivers and noise. This crate contains no
+//! program: `specs/` defines what every receiver makes of a transmission, `Robust` and the like,
 //! and each function is a law.
 //!
 //! ```text

@@ -1,7 +1,7 @@
--- The seven rules of a good transmission. All are read on the packets as they are sent.
+-- The seven rules of a good transmission. They apply to the packets as they are transmitted.
 --
--- That pages are complete is no eighth rule: the headline is true without it, and transmissions on
--- air break it. So an option, `--complete`, asks for it.
+-- That pages are complete is not among them: the headline holds without it, and real transmissions
+-- do not always have complete pages. The option `--complete` requires it.
 use Rattle.std.specs.Prelude.{◌≡◌, ℕ, ◌+◌, ◌<◌, ◌≤◌, List, Some, length, take}
 use Rattle.std.specs.Prelude.{All, IfSome, IsTrue, IsFalse, Option}
 use Rattle.ttx_packet.specs.declared.header.Header.{Header}
@@ -25,16 +25,16 @@ use Rattle.sub_rules.specs.FrameRules.{frame_at}
 use Rattle.sub_rules.specs.Transmission.{Transmission, IsRising, EachPacket, first_frame}
 use Rattle.sub_rules.specs.Transmission.{last_frame, packets_of, on_air_until}
 
--- Two packets are in one mode, parallel or serial: where both are page headers, they agree on C11,
--- magazine serial.
+-- Two packets agree on the transmission mode, parallel or serial: if both are page headers, they
+-- have the same C11, magazine serial (EN 300 706).
 abbrev pub IsInOneMode : List ℕ → List ℕ → Type 0
 IsInOneMode one other =
     (h k : Header) → header one ≡ Some h → header other ≡ Some k → c11 h ≡ c11 k
 
--- The control bits of a subtitle's header: the page is erased, C4; it is a subtitle, C6, and no
--- newsflash, C5; the header row is suppressed, C7; display is not inhibited, C10; and C12 to C14
--- name the national option. C8, update indicator, and C9, interrupted sequence, may be set or
--- clear.
+-- The control bits of the header of a subtitle page (EN 300 706): C4, erase page, is set; C5,
+-- newsflash, is clear; C6, subtitle, is set; C7, suppress header, is set; C10, inhibit display, is
+-- clear; C12 to C14 name the national option. C8, update indicator, and C9, interrupted sequence,
+-- may have any value.
 pub record IsSubtitleHeader (national : National) (h : Header) : Type 0 where
   pub erases : IsTrue (c4 h)
   pub no_newsflash : IsFalse (c5 h)
@@ -43,36 +43,38 @@ pub record IsSubtitleHeader (national : National) (h : Header) : Type 0 where
   pub displayed : IsFalse (c10 h)
   pub option : national_bits h ≡ (sub_set national).bits
 
--- Where the packet is a header of the page, it is a subtitle's.
+-- If the packet is a header of the page, it has the control bits of a subtitle.
 abbrev pub IsControlled : National → PageIdValue → List ℕ → Type 0
 IsControlled national page packet =
     (h : Header) → kind page packet ≡ ThisPage h → IsSubtitleHeader national h
 
--- A packet X/25 to X/28 of the page's magazine, which would change more of the page than its rows.
+-- A packet X/25 to X/28 of the page's magazine, which could change more of the page than its rows.
 abbrev pub IsEnhancement : PageIdValue → List ℕ → Type 0
 IsEnhancement page packet =
     (a : PacketAddress) × (address packet ≡ Some a) × (a.magazine ≡ page.magazine)
     × (25 ≤ a.packet_number) × (a.packet_number ≤ 28)
 
--- A clean span: each row has 40 bytes of odd parity, two packets of one row are equal, and no
--- packet X/25 to X/28 is among them.
+-- The rows of a span have 40 bytes of odd parity, two packets of one row are equal, and there is no
+-- packet X/25 to X/28. A span is what follows a header of the page, up to the next page header that
+-- ends the page.
 pub record IsCleanSpan (page : PageIdValue) (packets : List (List ℕ)) : Type 0 where
   pub odd : All (IsOddRow page) packets
   pub same : All (λ first. All (IsSameRow page first) packets) packets
   pub plain : All (λ packet. IsEnhancement page packet → ⊥) packets
 
--- Wherever one stops to listen, in a frame or at its end, the span is clean.
+-- At any packet and at the end of any frame, the packets since the last header of the page are such
+-- a span.
 abbrev pub HasCleanSpans : PageIdValue → Transmission → Type 0
 HasCleanSpans page transmission =
     (f n : ℕ) → f ≤ last_frame transmission
     → IsCleanSpan page (span (kind page) (take n (on_air_until transmission f)))
 
--- The frame holds a header of the page.
+-- The frame contains a header of the page.
 abbrev pub HoldsHeader : PageIdValue → Transmission → ℕ → Type 0
 HoldsHeader page transmission f = IsTrue (holds_header (kind page) (packets_of transmission f))
 
--- Of `every` frames of the day that follow one another, from the first frame of the transmission to
--- the last, one at least holds a header of the page.
+-- Among any `every` consecutive frames of the day, from the first frame of the transmission to the
+-- last, at least one contains a header of the page.
 abbrev pub Repeats : PageIdValue → ℕ → Transmission → Type 0
 Repeats page every transmission =
     (start : ℕ)
@@ -80,8 +82,8 @@ Repeats page every transmission =
     → start + every ≤ last_frame transmission + 1
     → (f : ℕ) × (start ≤ f) × (f < start + every) × HoldsHeader page transmission f
 
--- Where a pace is asked for, each frame from the first to the last is one of the transmission's, or
--- one of these is less than so many frames before it.
+-- If a maximum distance of PES packets is required, each frame from the first to the last is less
+-- than so many frames after a frame of the transmission, or is one itself.
 abbrev pub KeepsPace : Option ℕ → Transmission → Type 0
 KeepsPace pace transmission =
     (frames f : ℕ)
@@ -92,8 +94,8 @@ KeepsPace pace transmission =
     × (frame_at transmission j ≤ f)
     × (f < frame_at transmission j + frames)
 
--- At the end of each frame from the first to the last, with packets of its own or not, the page
--- that is due is shown.
+-- At the end of each frame from the first to the last, whether it has packets of its own or not,
+-- each cell shows the code of the page that is due.
 abbrev pub ShowsDuePages : ProgrammeValue → PageIdValue → Transmission → Type 0
 ShowsDuePages programme page transmission =
     (f row column : ℕ)
@@ -101,40 +103,42 @@ ShowsDuePages programme page transmission =
     → IsCell row column
     → shown page (on_air_until transmission f) row column ≡ cell (due_in programme f) row column
 
--- Rules 1 to 6, of all but what is shown: a transmission of a programme on a page, with a repeat
--- bound. The origin of the options is not looked at: it tells how PES packets are a transmission.
+-- Rules 1 to 6, which are about everything but the text that is shown, for a transmission of a
+-- programme on a page with a repeat bound. The origin of the options plays no role here: it is the
+-- PTS of frame 0 in a PES file.
 pub record KeepsRules
     (programme : ProgrammeValue) (transmission : Transmission) (options : OptionsValue)
     : Type 0 where
-  -- 1. There is a frame, the frames rise, packets are 42 bytes, and the frames reach from the first
-  -- TCI to the last TCO.
+  -- 1. There is at least one frame, the frames are in rising order, and packets have 42 bytes. The
+  -- first frame is not after the first TCI, and the last frame is not before the last TCO.
   pub not_empty : 0 < length transmission
   pub rising : IsRising transmission
   pub whole : EachPacket (λ packet. length packet ≡ 42) transmission
   pub starts : IfSome (first_in programme.records) (λ tci. first_frame transmission ≤ tci)
   pub lasts : IfSome (last_out programme.records) (λ tco. tco ≤ last_frame transmission)
-  -- 2. The address bytes of each packet, and all eight coded bytes of each packet X/0, are code
-  -- words with no bit wrong.
+  -- 2. The address bytes of each packet, and all eight coded bytes of each packet X/0, are Hamming
+  -- 8/4 code words without a wrong bit.
   pub exact : EachPacket HasExactWords transmission
-  -- 3. All page headers, of any page, agree on C11.
+  -- 3. All page headers, of any page, have the same C11.
   pub serial : EachPacket (λ one. EachPacket (IsInOneMode one) transmission) transmission
-  -- 4. Each header of the page is a subtitle's, of the programme's national option.
+  -- 4. Each header of the page has the control bits of a subtitle, with the national option of the
+  -- programme.
   pub control : EachPacket (IsControlled programme.drawing.national options.page) transmission
-  -- 5. While the page is open each row has odd parity and stays as it is, and no packet X/25 to
-  -- X/28 of its magazine comes.
+  -- 5. While the page is open, each row has odd parity and is repeated unchanged, and there is no
+  -- packet X/25 to X/28 of its magazine.
   pub spans : HasCleanSpans options.page transmission
-  -- 6. The first frame holds a header of the page, and so does one of each `every` that follow one
-  -- another.
+  -- 6. The first frame contains a header of the page, and so does at least one of any `every`
+  -- consecutive frames.
   pub opens : HoldsHeader options.page transmission (first_frame transmission)
   pub repeats : Repeats options.page options.every transmission
-  -- And where a pace is asked for, PES packets are at most so many frames apart.
+  -- PES packets are no further apart than required, if there is such a requirement.
   pub paced : KeepsPace options.pace transmission
 
--- A good transmission of a programme.
+-- A good transmission of a programme: one that keeps all seven rules.
 pub record Good
     (programme : ProgrammeValue) (transmission : Transmission) (options : OptionsValue)
     : Type 0 where
-  -- 1 to 6.
+  -- Rules 1 to 6.
   pub rules : KeepsRules programme transmission options
-  -- 7. At each frame's end the page that is due is shown.
+  -- 7. At the end of each frame, the page that is due is shown.
   pub content : ShowsDuePages programme options.page transmission
