@@ -1,4 +1,5 @@
--- The order of bits: reverse_bits is the definition's mirror, and mirroring twice gives the byte.
+-- The order of bits: std's reverse_bits agrees with the definition of mirror, and mirroring twice
+-- gives the byte.
 use Rattle.std.proofs.Common.{◌≡◌, ℕ, ◌<◌, List, length, map, slice_index, arith, sym, ◌∙◌}
 use Rattle.std.proofs.Common.{eqb-true}
 use Rattle.std.proofs.lemmas.Bool.Decides.{nat_tests}
@@ -7,7 +8,7 @@ use Rattle.std.proofs.lemmas.Bool.{agree_below_at}
 use Rattle.std.proofs.lemmas.List.{get_or-map, length-map, ext_get_or}
 use Rattle.ttx_packet.specs.BitOrder.{mirror}
 
--- What std calls the bits in the other order: 256 cases, computed.
+-- std's reversal of bits is `mirror`: 256 cases, computed.
 pub mirror_is_reversal : (b : ℕ) → b < 0x100 → reverse_bits_onto 8 b 0 ≡ mirror b
 unfolding reverse_bits_onto mirror
 mirror_is_reversal b l = grind (arith, nat_tests, eqb-true, agree_below_at)
@@ -17,7 +18,7 @@ pub mirror-mirror : (b : ℕ) → b < 0x100 → mirror (mirror b) ≡ b
 unfolding mirror
 mirror-mirror b l = grind (arith, nat_tests, eqb-true, agree_below_at)
 
--- A list that holds f of each element of another, place by place, is f mapped over it.
+-- A list whose elements are f of those of another, place by place, is f mapped over it.
 pub map-from_places : (f : ℕ → ℕ) (xs ys : List ℕ) (n : ℕ)
     → length xs ≡ n
     → length ys ≡ n

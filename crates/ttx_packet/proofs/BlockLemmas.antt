@@ -1,5 +1,5 @@
--- Lists gone over in blocks: block_of, what a store of a block leaves (block_more), and the first
--- item that passes a test, by the masks of blocks (first_so_far).
+-- Lists processed in blocks: block_of, the effect of storing a block (block_more), and the first
+-- item that passes a test, found by the masks of blocks (first_so_far).
 use Rattle.std.proofs.Common.{◌≡◌, ℕ, zero, suc, ◌+◌, ◌*◌, ◌/◌, ◌^◌, ◌<◌, ◌≤◌, Bool, true, false}
 use Rattle.std.proofs.Common.{not, List, [], ◌++◌, map, length, get_or, take, drop, sym, ap, ap₂}
 use Rattle.std.proofs.Common.{◌∙◌, take_all, arith, w16}
@@ -26,7 +26,7 @@ block_at n (suc k) xs (suc i) l =
     block_at n k (drop n xs) i (omega arith)
     ∙ ap (take n) (drop-drop (n * i) n xs ∙ ap (λ m. drop m xs) e)
 
--- A block that `as_chunks` gives is the chunk at its place.
+-- A block from `as_chunks` is the chunk at its place.
 pub block_of : (blocks : List (List ℕ)) (n : ℕ) (xs : List ℕ) (i : ℕ)
     → blocks ≡ first_chunks n (length xs / n) xs
     → i < length xs / n
@@ -40,7 +40,7 @@ pub last_block : (a n : ℕ) (xs ys : List ℕ)
     → ys ≡ chunk a n xs
 last_block a n xs ys size e = grind (arith, nat_tests, take_all, length-drop)
 
--- What is so of all bytes of a list, and of 0, is so of those of a block.
+-- A bound on all elements of a list, and on 0, holds for those of a block.
 pub below_in_chunk : (b a n : ℕ) (xs : List ℕ)
     → a + n ≤ length xs
     → ((k : ℕ) → get_or xs k 0 < b)
@@ -49,14 +49,14 @@ pub below_in_chunk : (b a n : ℕ) (xs : List ℕ)
 below_in_chunk b a n xs room below k =
     let here = below (a + k) in grind (arith, nat_tests, get_or-chunk, get_or_past, length-chunk)
 
--- ---- lists that are made block by block
+-- ---- lists that are built block by block
 
--- The first bytes of a list of n are f of those of another.
+-- The first bytes of a list of length n are f of those of another.
 pub record IsMadeTo (f : ℕ → ℕ) (xs : List ℕ) (n to : ℕ) (out : List ℕ) : Type 0 where
   pub size : length out ≡ n
   pub done : take to out ≡ map f (take to xs)
 
--- A block of f of the next bytes makes them more.
+-- Storing f of the next block extends them.
 pub block_more : (f : ℕ → ℕ) (xs out ys : List ℕ) (n a w k m : ℕ)
     → m ≡ a + w
     → k ≡ w
@@ -77,7 +77,7 @@ block_more f xs out ys n a w k m e width size room block to =
           ∙ ap (map f) (sym (take-add a w xs) ∙ ap (λ n. take n xs) (sym e));
     }
 
--- Where all bytes are made, the list is f mapped over the other.
+-- When all bytes are done, the list is f mapped over the other.
 pub made_whole : (f : ℕ → ℕ) (xs out : List ℕ) (n : ℕ)
     → length xs ≡ n
     → IsMadeTo f xs n n out
@@ -86,7 +86,7 @@ made_whole f xs out n size to = grind (arith, nat_tests, take_all)
 
 -- ---- the first item that passes a test, by the masks of blocks of 16
 
--- An empty mask: none up to the end of the block passes, where none did before it.
+-- If the mask is empty and no earlier item passes, none up to the end of the block passes.
 pub none_so_far : {X : Type 0} (p : X → Bool) (xs : List X) (a m : ℕ) (d : X)
     → a + 16 ≤ length xs
     → m ≡ mask_l (map p (chunk a 16 xs))
@@ -103,7 +103,7 @@ pub record IsFirst {X : Type 0} (p : X → Bool) (xs : List X) (place : ℕ) (d 
   pub passes : p (get_or xs place d) ≡ true
   pub before : (k : ℕ) → k < place → p (get_or xs k d) ≡ false
 
--- Another mask: its lowest bit tells the first item that passes, in the block.
+-- Otherwise the lowest bit of the mask is the first item of the block that passes.
 pub first_so_far : {X : Type 0} (p : X → Bool) (xs : List X) (a m : ℕ) (d : X)
     → a + 16 ≤ length xs
     → m ≡ mask_l (map p (chunk a 16 xs))

@@ -1,4 +1,4 @@
--- Hamming 8/4: the definition by nearness, the function, and what one wrong bit leaves
+-- Hamming 8/4: the definition by nearness, the function, and the effect of one wrong bit
 -- (decoded-near).
 use Rattle.std.proofs.Common.{rules, ◌≡◌, ℕ, ◌^◌, ◌<◌, inl, inr, Bool, true, false, not, cond, ◌==◌}
 use Rattle.std.proofs.Common.{◌||◌, Option, Some, None, bit_xor, ◌∙◌, ◌%◌, refl, sym, get_or, arith}
@@ -12,12 +12,11 @@ use Rattle.ttx_packet.proofs.OneBitLemmas.{first_below_is, near_from_test}
 
 -- ---- decoding against nearness
 
--- Whether a number is what was found.
+-- The result is this number.
 abbrev is_number : Option ℕ → ℕ → Bool
 is_number None n = false
 is_number (Some m) n = m == n
 
--- What the test says.
 is_number_true : (o : Option ℕ) (n : ℕ) → is_number o n ≡ true → o ≡ Some n
 is_number_true o n e = grind (arith, nat_tests)
 
@@ -46,41 +45,39 @@ decoded_from g n (l, inr changed) =
     (agree_below_at (λ bit. is_number (decoded (bit_xor (code_word n) (2 ^ bit))) n) (λ bit. true)
     8 changed.0 row changed.1))
 
--- A byte that decodes to a number is within one bit of its code word.
+-- A byte that decodes to a number is within one bit of that number's code word.
 pub decodes_from : (g n : ℕ) → decoded g ≡ Some n → Decodes g n
 unfolding decoded
 decodes_from g n e = let r = first_below_is 16 (λ n. is_near (code_word n) g) n e in
     (r.0, near_from_test (code_word n) g r.1)
 
--- A byte near a code word decodes to what the code word does.
+-- A byte near a code word decodes to the same number.
 pub decoded-near : (sent got : ℕ) → IsCodeWord sent → IsNear sent got → decoded got ≡ decoded sent
 decoded-near sent got (n, l, is) near =
     decoded_from got n (l, rw is at near) ∙ sym (decoded_from sent n (l, inl is))
 
 -- ---- code words
 
--- The code word of a number is a code word.
 pub code_word_is_exact : (n : ℕ) → n < 16 → IsCodeWord (code_word n)
 code_word_is_exact n l = (n, l, refl)
 
 -- ---- the table of 256 entries
 
--- What an entry of the table says.
+-- The number of an entry of the table.
 abbrev entry : ℕ → Option ℕ
 entry b = cond (nat_eq (get_or DECODED b 0) 255) None (Some (get_or DECODED b 0 % 16))
 
--- Whether two answers are the same.
+-- Two results are the same.
 abbrev same_answer : Option ℕ → Option ℕ → Bool
 same_answer None None = true
 same_answer None (Some y) = false
 same_answer (Some x) None = false
 same_answer (Some x) (Some y) = nat_eq x y
 
--- What the test says.
 same_answer-true : (a b : Option ℕ) → same_answer a b ≡ true → a ≡ b
 same_answer-true a b e = grind (arith, nat_tests)
 
--- Each entry is what the definition gives: 256 cases, computed.
+-- Each entry agrees with the definition: 256 cases, computed.
 pub decoded-by_table : (b : ℕ) → b < 0x100 → decoded b ≡ entry b
 unfolding decoded is_near
 decoded-by_table b l =

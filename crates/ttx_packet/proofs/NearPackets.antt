@@ -20,19 +20,19 @@ decoded_at-near : (sent got : List ℕ) (k : ℕ) → AreNear sent got → IsCod
     → decoded_at got k ≡ decoded_at sent k
 decoded_at-near sent got k near exact = decoded-near _ _ exact (near_at sent got k near)
 
--- A near packet has the address of a packet with an exact address.
+-- A near packet has the same address if all its address bytes were code words.
 pub address-near : (sent got : List ℕ) → HasExactAddress sent → AreNear sent got
     → address got ≡ address sent
 unfolding address
 address-near sent got exact near = grind (arith, nat_tests, decoded_at-near)
 
--- Near coded bytes say the header of exact ones.
+-- Near coded bytes decode to the same header if they were code words.
 coded_header-near : (sent got : List ℕ) → HasExactHeader sent → AreNear sent got
     → coded_header got ≡ coded_header sent
 unfolding coded_header
 coded_header-near sent got exact near = grind (arith, nat_tests, decoded_at-near)
 
--- A near packet has the header of a packet with exact words.
+-- A near packet has the same header if its coded bytes were code words.
 pub header-near : (sent got : List ℕ) → HasExactWords sent → AreNear sent got
     → header got ≡ header sent
 unfolding header

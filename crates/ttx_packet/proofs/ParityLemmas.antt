@@ -1,5 +1,5 @@
--- Odd parity: one changed bit makes the count of ones even (even_from_changed), and what odd_byte
--- gives.
+-- Odd parity: one changed bit makes the number of ones even (even_from_changed), and the properties
+-- of odd_byte.
 use Rattle.std.proofs.Common.{◌≡◌, ◌≢◌, ℕ, zero, suc, ◌+◌, ◌*◌, ◌/◌, ◌%◌, ◌^◌, ◌<◌, inl, inr, true}
 use Rattle.std.proofs.Common.{bit_xor, refl, arith, IsTrue, IsFalse, div-add-mod', pow-suc}
 use Rattle.std.specs.Int.RustNames.{count_ones}
@@ -11,13 +11,12 @@ use lib.Bits.{xor_zero_r}
 use Rattle.ttx_packet.specs.OneBit.{IsNear}
 use Rattle.ttx_packet.specs.Parity.{is_odd, code_of, odd_byte}
 
--- ---- one changed bit makes one more or one fewer of the ones
+-- ---- one changed bit adds or removes a one
 
--- The number 1 has one one.
 one_one : count_ones 1 ≡ 1
 one_one = let step = ones_step 1 in let none = ones_le_self 0 in omega arith
 
--- A change in the lowest bit makes the two counts of ones an odd sum.
+-- Changing the lowest bit makes the sum of both numbers of ones odd.
 flip_lowest : (q r : ℕ) → r < 2
     → (count_ones (bit_xor (q * 2 ^ 1 + r) (0 * 2 ^ 1 + 1)) + count_ones (q * 2 ^ 1 + r)) % 2 ≡ 1
 flip_lowest q zero l =
@@ -38,7 +37,7 @@ flip_lowest q (suc zero) l =
     rw split (rw same (omega arith))
 flip_lowest q (suc (suc r)) l = absurd (omega arith)
 
--- A change in a higher bit makes an odd sum, where it does so of the bits above the lowest.
+-- Changing a higher bit makes the sum odd if it does so for the bits above the lowest.
 flip_higher : (q r m : ℕ) → r < 2 → (count_ones (bit_xor q m) + count_ones q) % 2 ≡ 1
     → (count_ones (bit_xor (q * 2 ^ 1 + r) (m * 2 ^ 1 + 0)) + count_ones (q * 2 ^ 1 + r)) % 2 ≡ 1
 flip_higher q r m l h =
@@ -48,7 +47,7 @@ flip_higher q r m l h =
     let ones_new = ones_cat 1 (bit_xor q m) r l in
     rw split (rw same (omega arith))
 
--- A change in any bit makes the two counts of ones an odd sum.
+-- Changing any bit makes the sum of both numbers of ones odd.
 pub flip : (k b : ℕ) → (count_ones (bit_xor b (2 ^ k)) + count_ones b) % 2 ≡ 1
 flip zero b = grind (arith, nat_tests, div-add-mod' b 2, flip_lowest)
 flip (suc k) b =
@@ -72,6 +71,6 @@ pub odd_of_code : (c : ℕ) → c < 128 → is_odd (odd_byte c) ≡ true
 unfolding is_odd count_ones ones_in
 odd_of_code c l = agree_below_at (λ c. is_odd (odd_byte c)) (λ c. true) 128 c refl l
 
--- The odd byte of a code has that code.
+-- The odd byte of a code contains that code.
 pub code_of_odd : (c : ℕ) → c < 128 → code_of (odd_byte c) ≡ c
 code_of_odd c l = grind (arith, nat_tests)

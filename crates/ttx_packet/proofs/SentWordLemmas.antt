@@ -23,7 +23,7 @@ entry_small b l =
     in
     grind (arith, nat_tests)
 
--- An entry that is a number is that of the code word: 256 cases, computed.
+-- An entry other than 256 is the number of the code word: 256 cases, computed.
 word_of_entry : (b : ℕ) → b < 0x100 → (get_or SENT_WORDS b 0 ≡ 256 → ⊥)
     → (get_or SENT_WORDS b 0 < 16) × (mirror b ≡ code_word (get_or SENT_WORDS b 0))
 unfolding mirror
@@ -34,7 +34,7 @@ word_of_entry b l some =
     let passes = agree_below_at test (λ b. true) 0x100 b refl l in
     grind (arith, nat_tests)
 
--- What an entry that is a number says of its byte. For `sent_entry`.
+-- The meaning of an entry other than 256. For `sent_entry`.
 pub word_from_sent : (b : ℕ) → b < 0x100
     → (get_or SENT_WORDS b 0 ≡ 256 → ⊥)
     → (get_or SENT_WORDS b 0 < 16) × IsCodeWord (mirror b)
@@ -58,10 +58,10 @@ no_word_from_sent b l none (n, small, is) =
     let number : get_or SENT_WORDS b 0 ≡ n = rw (← back) (eqb-true _ _ entry) in
     omega (arith, none, number, small)
 
--- ---- a packet that is read as it is sent
+-- ---- a packet that is read in the order of transmission
 
 module _ (packet bytes : List ℕ) (is : map mirror bytes ≡ packet) (long : length bytes ≡ 42) where
-  -- Its byte at a place.
+  -- The byte at a place of the packet.
   pub sent_at : (k : ℕ) → k < 42 → mirror (slice_index bytes k) ≡ slice_index packet k
   sent_at k l = rw (← is, get_or-map mirror bytes k 0 0 (omega arith)) refl
 
@@ -95,7 +95,7 @@ exact_coded_words p b2 b3 b4 b5 b6 b7 b8 b9 k low high =
       | inr l ↦ grind (arith, cases_eq k 6, cases_eq k 7, cases_eq k 8, cases_eq k 9)
     ]
 
--- What the address bytes say.
+-- The address, from its decoded bytes.
 pub address_of : (p : List ℕ) (low high : ℕ)
     → decoded_at p 0 ≡ Some low
     → decoded_at p 1 ≡ Some high
@@ -107,7 +107,7 @@ pub address_of : (p : List ℕ) (low high : ℕ)
 unfolding address
 address_of p low high first second = rw (first, second) refl
 
--- What the eight coded bytes say.
+-- The header, from its eight decoded bytes.
 pub coded_header_of : (p : List ℕ) (units tens s1 s2_c4 s3 s4_c6 c7_c10 c11_c14 : ℕ) (h : Header)
     → decoded_at p 2 ≡ Some units → decoded_at p 3 ≡ Some tens → decoded_at p 4 ≡ Some s1
     → decoded_at p 5 ≡ Some s2_c4 → decoded_at p 6 ≡ Some s3 → decoded_at p 7 ≡ Some s4_c6
@@ -121,7 +121,7 @@ coded_header_of p units tens s1 s2_c4 s3 s4_c6 c7_c10 c11_c14 h
     a b c d e f g i page subcode control =
     rw (a, b, c, d, e, f, g, i, ← page, ← subcode, ← control) refl
 
--- What the two bytes of the page number say.
+-- The page number, from its two decoded bytes.
 pub coded_page_of : (p : List ℕ) (units tens : ℕ)
     → decoded_at p 2 ≡ Some units
     → decoded_at p 3 ≡ Some tens

@@ -2,7 +2,7 @@
 -- (EN 300 472, data field syntax).
 use Rattle.std.specs.Prelude.{ℕ, ◌+◌, ◌*◌, ◌/◌, ◌%◌}
 
--- The byte with its eight bits in the other order: bit 1 becomes bit 8, bit 2 bit 7, and so on.
+-- The byte with its eight bits reversed: bit 1 becomes bit 8, bit 2 becomes bit 7, and so on.
 unfoldable pub mirror : ℕ → ℕ
 mirror b =
     0x80 * (b % 2)

@@ -5,26 +5,25 @@
 use Rattle.std.specs.Prelude.{◌≡◌, ℕ, ◌<◌, List, [], ◌∷◌, Option, slice_index}
 use Rattle.ttx_packet.specs.OneBit.{IsNear, first_below, is_near}
 
--- The code words of the numbers 0 to 15. Each two of them differ in at least four bits.
+-- The code words of the numbers 0 to 15. Any two of them differ in at least four bits.
 abbrev pub code_words : List ℕ
 code_words =
     0x15 ∷ 0x02 ∷ 0x49 ∷ 0x5E ∷ 0x64 ∷ 0x73 ∷ 0x38 ∷ 0x2F
     ∷ 0xD0 ∷ 0xC7 ∷ 0x8C ∷ 0x9B ∷ 0xA1 ∷ 0xB6 ∷ 0xFD ∷ 0xEA
     ∷ []
 
--- The code word of a number.
 abbrev pub code_word : ℕ → ℕ
 code_word n = slice_index code_words n
 
--- The byte is a code word, with no bit wrong.
+-- The byte is a code word, without a wrong bit.
 abbrev pub IsCodeWord : ℕ → Type 0
 IsCodeWord b = (n : ℕ) × (n < 16) × (b ≡ code_word n)
 
--- The byte decodes to a number: it is within one bit of the number's code word.
+-- The byte decodes to n: it is within one bit of the code word of n.
 abbrev pub Decodes : ℕ → ℕ → Type 0
 Decodes b n = (n < 16) × IsNear (code_word n) b
 
--- The number that a byte decodes to, as a function: none for the 112 bytes that are two bits away
--- from the nearest code words.
+-- The number to which a byte decodes, as a function. `None` for the 112 bytes that are two bits
+-- away from the nearest code words.
 unfoldable pub decoded : ℕ → Option ℕ
 decoded b = first_below 16 (λ n. is_near (code_word n) b)

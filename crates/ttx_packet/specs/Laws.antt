@@ -1,4 +1,5 @@
--- What one wrong bit in each byte leaves of a packet, and what is read of a packet that was made.
+-- Laws of packets: the effect of one wrong bit in each byte, and that created packets can be read
+-- back.
 use Rattle.std.specs.Prelude.{◌≡◌, ◌≢◌, ◌↔◌, ℕ, ◌<◌, ◌≤◌, List, length, Some, None, All, IsTrue}
 use Rattle.std.specs.Prelude.{IsFalse, slice_index}
 use Rattle.ttx_packet.specs.declared.header.Header.{Header}
@@ -11,13 +12,13 @@ use Rattle.ttx_packet.specs.PageHeader.{header, HasExactWords, HasOddHeaderText,
 use Rattle.ttx_packet.specs.PageHeader.{IsHeader}
 use Rattle.ttx_packet.specs.RowPacket.{text_byte, HasOddText, row_packet}
 
--- A byte decodes to a number exactly where it is within one bit of the number's code word; so it
--- decodes to no second one.
+-- A byte decodes to a number exactly if it is within one bit of that number's code word. So it
+-- decodes to at most one number.
 abbrev pub LawOfDecoding : Type 0
 LawOfDecoding = (b n : ℕ) → decoded b ≡ Some n ↔ Decodes b n
 
--- One wrong bit in each byte leaves an address of code words as it was.
--- So a receiver that corrects Hamming 8/4 never takes such noise for another packet.
+-- One wrong bit in each byte does not change an address of code words. So a receiver that corrects
+-- Hamming 8/4 never takes such noise for another packet.
 abbrev pub LawOfAddress : Type 0
 LawOfAddress =
     (sent got : List ℕ)
@@ -25,8 +26,8 @@ LawOfAddress =
     → AreNear sent got
     → address got ≡ address sent
 
--- One wrong bit in each byte leaves the header of a packet of code words as it was.
--- So a receiver that corrects Hamming 8/4 never takes such noise for another page.
+-- One wrong bit in each byte does not change the header of a packet of code words. So a receiver
+-- that corrects Hamming 8/4 never takes such noise for another page.
 abbrev pub LawOfHeader : Type 0
 LawOfHeader =
     (sent got : List ℕ)
@@ -34,8 +35,8 @@ LawOfHeader =
     → AreNear sent got
     → header got ≡ header sent
 
--- A byte of odd parity with one bit changed has even parity.
--- So a receiver sees each such hit in a row.
+-- A byte of odd parity with one bit changed has even parity. So a receiver detects each such error
+-- in a row.
 abbrev pub LawOfParity : Type 0
 LawOfParity =
     (sent got : ℕ)
@@ -44,12 +45,12 @@ LawOfParity =
     → got ≢ sent
     → IsFalse (is_odd got)
 
--- A byte mirrored twice is the byte.
+-- Reversing the bits of a byte twice gives the same byte.
 abbrev pub LawOfMirror : Type 0
 LawOfMirror = (b : ℕ) → b < 0x100 → mirror (mirror b) ≡ b
 
--- What is read of a packet that was made from a header: that header, in code words alone, and a
--- text of odd parity.
+-- Reading a created header packet gives its header back; its coded bytes are code words, and its
+-- text bytes are odd.
 pub record IsMadeHeader (magazine : ℕ) (h : Header) (packet : List ℕ) : Type 0 where
   pub whole : length packet ≡ 42
   pub address : address packet ≡ Some (record { magazine = magazine; packet_number = 0 })
@@ -57,7 +58,7 @@ pub record IsMadeHeader (magazine : ℕ) (h : Header) (packet : List ℕ) : Type
   pub exact : HasExactWords packet
   pub odd : HasOddHeaderText packet
 
--- A header packet says the header that it was made from.
+-- A header packet decodes to the header that it was created from.
 abbrev pub LawOfHeaderPacket : Type 0
 LawOfHeaderPacket =
     (magazine : ℕ) (h : Header)
@@ -65,7 +66,7 @@ LawOfHeaderPacket =
     → IsHeader h
     → IsMadeHeader magazine h (header_packet magazine h)
 
--- What is read of a packet that was made from a row of codes: those codes, in bytes of odd parity.
+-- Reading a created row packet gives its codes back, in bytes of odd parity.
 pub record IsMadeRow (magazine row : ℕ) (codes packet : List ℕ) : Type 0 where
   pub whole : length packet ≡ 42
   pub address : address packet ≡ Some (record { magazine = magazine; packet_number = row })
@@ -76,7 +77,7 @@ pub record IsMadeRow (magazine row : ℕ) (codes packet : List ℕ) : Type 0 whe
       → code_of (text_byte packet column) ≡ slice_index codes column
   pub odd : HasOddText packet
 
--- A row packet says the row and the codes that it was made from.
+-- A row packet decodes to the row and the codes that it was created from.
 abbrev pub LawOfRowPacket : Type 0
 LawOfRowPacket =
     (magazine row : ℕ) (codes : List ℕ)

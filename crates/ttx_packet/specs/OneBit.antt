@@ -1,14 +1,14 @@
--- At most one wrong bit in a byte: the noise that every layer of the product speaks of (own).
+-- At most one wrong bit in each byte: the noise model of the whole product (own).
 use Rattle.std.specs.Prelude.{◌≡◌, ℕ, zero, suc, ◌^◌, ◌<◌, ◌⊎◌, Bool, ◌||◌, List, Option, Some}
 use Rattle.std.specs.Prelude.{None, is_some, ◌==◌, if◌then◌else◌, bit_xor}
 use Rattle.std.specs.List.{AllZip}
 use Rattle.std.specs.Option.{option_or}
 
--- The byte got is the byte sent, or the byte sent with exactly one of its eight bits changed.
+-- The received byte is the byte sent, or differs from it in exactly one of its eight bits.
 abbrev pub IsNear : ℕ → ℕ → Type 0
 IsNear sent got = (got ≡ sent) ⊎ ((bit : ℕ) × (bit < 8) × (got ≡ bit_xor sent (2 ^ bit)))
 
--- Two lists of bytes are of one length, and near place by place.
+-- Two lists of bytes have the same length, and corresponding bytes are near.
 abbrev pub AreNear : List ℕ → List ℕ → Type 0
 AreNear sent got = AllZip IsNear sent got
 
@@ -17,6 +17,6 @@ abbrev pub first_below : ℕ → (ℕ → Bool) → Option ℕ
 first_below zero test = None
 first_below (suc n) test = option_or (first_below n test) (if test n then Some n else None)
 
--- Whether a byte is near another, tried bit by bit: `IsNear` as a test.
+-- `IsNear` as a computable test.
 unfoldable pub is_near : ℕ → ℕ → Bool
 is_near sent got = got == sent || is_some (first_below 8 (λ bit. got == bit_xor sent (2 ^ bit)))

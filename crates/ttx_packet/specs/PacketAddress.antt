@@ -1,32 +1,32 @@
 -- Magazine and packet address (EN 300 706): the first two bytes of each packet.
 --
---   byte 0   D1 to D3: magazine number, 0 standing for magazine 8   D4: the lowest bit of Y
+--   byte 0   D1 to D3: magazine number, 0 means magazine 8   D4: the lowest bit of Y
 --   byte 1   D1 to D4: the four higher bits of the packet number Y
 use Rattle.std.specs.Prelude.{◌≡◌, ℕ, ◌+◌, ◌*◌, ◌/◌, ◌%◌, ◌<◌, List, [], ◌∷◌, length}
 use Rattle.std.specs.Prelude.{Option, Some, slice_index, option_and_then}
 use Rattle.ttx_packet.specs.Hamming84.{IsCodeWord, code_word, decoded}
 
--- A packet is 42 bytes: run-in and framing code are left out.
+-- A packet has 42 bytes: run-in and framing code are left out.
 pub record IsPacket (packet : List ℕ) : Type 0 where
   pub size : length packet ≡ 42
   pub bytes : (place : ℕ) → slice_index packet place < 0x100
 
 infixl 10 ◌>>=◌
--- What follows from a value, where there is one.
+-- Continues with a value, if there is one.
 abbrev pub ◌>>=◌ : {A B : Type 0} → Option A → (A → Option B) → Option B
 o >>= f = option_and_then f o
 
--- What the byte at a place of a packet decodes to.
+-- The number to which the byte at this place of a packet decodes.
 abbrev pub decoded_at : List ℕ → ℕ → Option ℕ
 decoded_at packet place = decoded (slice_index packet place)
 
--- Packet X/Y: its magazine, 0 to 7, and its packet number, 0 to 31.
+-- The address of packet X/Y: its magazine, 0 to 7, and its packet number, 0 to 31.
 pub record PacketAddress : Type 0 where
   pub magazine : ℕ
   pub packet_number : ℕ
 
--- The address of a packet: magazine + 8 * Y is the number whose low four bits are the first byte's
--- and whose high four are the second's. None where one of the two decodes to nothing.
+-- The address of a packet. The number magazine + 8 * Y has its low four bits in the first byte and
+-- its high four bits in the second. `None` if one of the two cannot be decoded.
 unfoldable pub address : List ℕ → Option PacketAddress
 address packet = do
   low ← decoded_at packet 0
@@ -37,11 +37,11 @@ address packet = do
         packet_number = (low + 0x10 * high) / 8;
       })
 
--- An address as the pair that the program answers.
+-- An address as the pair that `Packet::address` returns.
 abbrev pub address_pair : PacketAddress → ℕ × ℕ
 address_pair a = (a.magazine, a.packet_number)
 
--- Both address bytes are code words, with no bit wrong.
+-- Both address bytes are code words, without a wrong bit.
 abbrev pub HasExactAddress : List ℕ → Type 0
 HasExactAddress packet = (place : ℕ) → place < 2 → IsCodeWord (slice_index packet place)
 

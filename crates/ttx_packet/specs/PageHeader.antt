@@ -23,11 +23,11 @@ use Rattle.ttx_packet.specs.PacketAddress.{HasExactAddress, address_words}
 use Rattle.ttx_packet.specs.declared.control.Control.{Control}
 use Rattle.ttx_packet.specs.declared.header.Header.{Header}
 
--- Whether a bit of the control bits is set. C4 is bit 1 of their number, C14 is bit 11.
+-- A control bit is set. C4 is bit 1 of the number, C14 is bit 11.
 abbrev pub is_set : Control → ℕ → Bool
 is_set control bit = bit_and control.0 bit == bit
 
--- Erase page: the page is blanked before what follows the header.
+-- Erase page: the page is blanked before the packets after the header.
 abbrev pub c4 : Header → Bool
 c4 h = is_set h.control 1
 
@@ -71,15 +71,16 @@ c13 h = is_set h.control 0x200
 abbrev pub c14 : Header → Bool
 c14 h = is_set h.control 0x400
 
--- The page number that a header says, page tens above page units, whatever the address: none where
--- one of its two bytes decodes to nothing.
+-- The page number of a header, with page tens in the upper half, whatever the address. `None` if
+-- one of its two bytes cannot be decoded.
 unfoldable pub coded_page : List ℕ → Option ℕ
 coded_page packet = do
   units ← decoded_at packet 2
   tens ← decoded_at packet 3
   Some (units + 0x10 * tens)
 
--- What the eight coded bytes say, whatever the address: none where one of them decodes to nothing.
+-- The contents of the eight coded bytes, whatever the address. `None` if one of them cannot be
+-- decoded.
 unfoldable pub coded_header : List ℕ → Option Header
 coded_header packet = do
   units ← decoded_at packet 2
@@ -97,23 +98,23 @@ coded_header packet = do
         control = record { 0 = s2_c4 / 8 + 2 * (s4_c6 / 4) + 8 * c7_c10 + 0x80 * c11_c14 };
       })
 
--- The header of a packet with packet number 0: none for another packet.
+-- The header of a packet with packet number 0; `None` for any other packet.
 unfoldable pub header : List ℕ → Option Header
 header packet = do
   a ← address packet
   if a.packet_number == 0 then coded_header packet else None
 
--- The eight coded bytes of a header are code words, with no bit wrong.
+-- The eight coded bytes of a header are code words, without a wrong bit.
 abbrev pub HasExactHeader : List ℕ → Type 0
 HasExactHeader packet =
     (place : ℕ) → 2 ≤ place → place < 10 → IsCodeWord (slice_index packet place)
 
--- The two bytes of the page number are code words, with no bit wrong.
+-- The two bytes of the page number are code words, without a wrong bit.
 abbrev pub HasExactPage : List ℕ → Type 0
 HasExactPage packet = IsCodeWord (slice_index packet 2) × IsCodeWord (slice_index packet 3)
 
--- Both address bytes are code words, and in a packet with packet number 0 the eight coded bytes
--- too.
+-- Both address bytes are code words; in a packet with packet number 0, so are the eight coded
+-- bytes.
 abbrev pub HasExactWords : List ℕ → Type 0
 HasExactWords packet =
     HasExactAddress packet
@@ -127,18 +128,18 @@ abbrev pub HasOddHeaderText : List ℕ → Type 0
 HasOddHeaderText packet =
     (place : ℕ) → 10 ≤ place → place < 42 → IsTrue (is_odd (slice_index packet place))
 
--- ---- headers as they are made
+-- ---- creating header packets
 
 -- A bit as a number.
 abbrev pub bit : Bool → ℕ
 bit true = 1
 bit false = 0
 
--- The number whose data bits D1 to D4 are these.
+-- The number with these data bits D1 to D4.
 abbrev pub nibble : Bool → Bool → Bool → Bool → ℕ
 nibble d1 d2 d3 d4 = bit d1 + 2 * bit d2 + 4 * bit d3 + 8 * bit d4
 
--- The eight numbers of a header, placed as in the table above.
+-- The eight numbers of a header, arranged as in the table above.
 abbrev pub header_numbers : Header → List ℕ
 header_numbers h =
     (h.page % 0x10)
@@ -151,13 +152,13 @@ header_numbers h =
     ∷ nibble (c11 h) (c12 h) (c13 h) (c14 h)
     ∷ []
 
--- The header as a packet of a magazine, with 32 spaces as its text.
+-- The header packet of a magazine, with 32 spaces as its text.
 unfoldable pub header_packet : ℕ → Header → List ℕ
 header_packet magazine h =
     address_words magazine 0 ++ map code_word (header_numbers h) ++ replicate 32 0x20
 
--- A header without the bits that have no place in the table above: of its sub-code the bits of 3F7F
--- stay, of its control bits C4 to C14.
+-- Drops the bits of a header that have no place in the table above: the bits of 3F7F remain of the
+-- sub-code, C4 to C14 of the control bits.
 abbrev pub placed : Header → Header
 placed h = record {
   page = h.page;
@@ -165,8 +166,8 @@ placed h = record {
   control = record { 0 = h.control.0 % 0x800 };
 }
 
--- What a header can say: a page number of two digits, a subcode with no bit outside 3F7F, and no
--- control bit but C4 to C14.
+-- The header fits in a packet: a page number of two hexadecimal digits, a sub-code with no bit
+-- outside 3F7F, and no control bit but C4 to C14.
 pub record IsHeader (h : Header) : Type 0 where
   pub page : h.page < 0x100
   pub subcode : h.subcode < 0x4000

@@ -1,19 +1,19 @@
--- Page numbers as people write them (EN 300 706, page number): a magazine digit 1 to 8 and two
+-- Page numbers as users type them (EN 300 706, page number): a magazine digit 1 to 8 and two
 -- hexadecimal digits, 100 to 8FE.
 use Rattle.std.specs.Prelude.{ℕ, ◌+◌, ◌-◌, ◌*◌, ◌%◌, Bool, ◌&&◌, List, [], ◌∷◌, Option, Some, None}
 use Rattle.std.specs.Prelude.{◌==◌, nat_le, if◌then◌else◌, not}
 use Rattle.ttx_packet.specs.PacketAddress.{◌>>=◌}
 
--- A page: its magazine, 0 to 7, where 0 is magazine 8, and its page number.
+-- A page: its magazine, 0 to 7 (0 means magazine 8), and its page number.
 pub record PageIdValue : Type 0 where
   pub magazine : ℕ
   pub page : ℕ
 
--- Whether a byte is one of the ASCII characters from one to another.
+-- A byte is an ASCII character from `first` to `last`.
 abbrev pub is_from : ℕ → ℕ → ℕ → Bool
 is_from first last b = nat_le first b && nat_le b last
 
--- The value of a hexadecimal digit, of either case, in ASCII.
+-- The value of a hexadecimal digit of either case, in ASCII.
 abbrev pub hexadecimal_digit : ℕ → Option ℕ
 hexadecimal_digit b =
     if is_from 0x30 0x39 b then Some (b - 0x30)
@@ -28,7 +28,7 @@ page_of_numbers digit page =
     then Some (record { magazine = (digit - 0x30) % 8; page = page })
     else None
 
--- The page that a text names.
+-- The page of a text, if it is valid.
 unfoldable pub page_of_text : List ℕ → Option PageIdValue
 page_of_text (magazine ∷ tens ∷ units ∷ []) = do
   high ← hexadecimal_digit tens

@@ -1,7 +1,7 @@
--- Odd parity (EN 300 706, 8.1): seven code bits, and bit 8 that makes the count of ones odd.
+-- Odd parity (EN 300 706, 8.1): seven code bits, and bit 8, which makes the number of ones odd.
 use Rattle.std.specs.Prelude.{ℕ, ◌+◌, ◌%◌, Bool, ◌==◌, if◌then◌else◌, count_ones}
 
--- Whether the count of ones in a byte is odd.
+-- The byte has an odd number of ones.
 unfoldable pub is_odd : ℕ → Bool
 is_odd b = count_ones b % 2 == 1
 
@@ -9,6 +9,6 @@ is_odd b = count_ones b % 2 == 1
 abbrev pub code_of : ℕ → ℕ
 code_of b = b % 0x80
 
--- The byte of odd parity with these seven code bits.
+-- Adds the odd parity bit to a code.
 abbrev pub odd_byte : ℕ → ℕ
 odd_byte code = if is_odd code then code else code + 0x80

@@ -1,4 +1,4 @@
-//! The order of bits in a byte: Teletext's, and that of a DVB data unit.
+//! The order of bits in a byte: Teletext's, and that of DVB data units.
 ghost use Rattle.std.specs.Prelude.{◌≡◌, map};
 ghost use Rattle.ttx_packet.specs.BitOrder.{mirror};
 
@@ -6,17 +6,18 @@ mod lanes;
 
 use self::lanes::mirrored_block;
 
-/// The byte with its bits in the other order: what a DVB data unit carries of a Teletext byte, and
-/// the other way round (EN 300 472, data field syntax).
+/// Reverses the bits of a byte. A DVB data unit carries each Teletext byte that way (EN 300 472,
+/// data field syntax).
 pub fn mirror(byte: u8) -> u8
     ensures { result ≡ mirror byte }
 {
     byte.reverse_bits()
 }
 
-/// The 42 bytes of a packet, each with its bits in the other order. One kernel for both directions.
+/// Reverses the bits of each of the 42 bytes of a packet. The same function serves both directions.
 ///
-/// The last ten are those of a block that begins six bytes before them, so that none goes alone.
+/// The last 10 bytes are handled by a block that starts 6 bytes before them, so no byte is handled
+/// alone.
 #[inline(always)]
 pub fn mirrored(bytes: &[u8; 42]) -> [u8; 42]
     ensures { result ≡ map mirror bytes.now }

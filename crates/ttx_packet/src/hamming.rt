@@ -1,4 +1,4 @@
-//! Hamming 8/4: bytes of four data bits, in which one wrong bit is corrected.
+//! Hamming 8/4: bytes of four data bits, which allow one wrong bit to be corrected.
 ghost use Rattle.std.specs.Prelude.{◌≡◌, ◌<◌, ◌↔◌, ℕ, IfSome, IsTrue, Some};
 ghost use Rattle.ttx_packet.specs.Hamming84.{Decodes, IsCodeWord, code_word, decoded};
 
@@ -7,15 +7,15 @@ const CODE_WORDS: [u8; 16] = [
     0x15, 0x02, 0x49, 0x5E, 0x64, 0x73, 0x38, 0x2F, 0xD0, 0xC7, 0x8C, 0x9B, 0xA1, 0xB6, 0xFD, 0xEA,
 ];
 
-/// What stands in `DECODED` at a byte that decodes to nothing.
+/// The entry of `DECODED` for a byte that cannot be decoded.
 const NOTHING: u8 = 255;
 
-/// What stands in `DECODED` above a number that is decoded by changing a bit.
+/// Added to an entry of `DECODED` if a bit was corrected.
 const CORRECTED: u8 = 16;
 
-/// The number that each byte decodes to, and `CORRECTED` on top where that is no code word. Made
-/// from the code words by changing each bit of each; the check computes the definitions over all
-/// 256 bytes and compares.
+/// The number to which each byte decodes, plus `CORRECTED` if the byte is no code word. Generated
+/// by changing each bit of each code word; the check computes the definitions for all 256 bytes and
+/// compares.
 #[rattlefmt::skip]
 const DECODED: [u8; 256] = [
      17, 255,   1,  17, 255,  16,  17, 255, 255,  18,  17, 255,  26, 255, 255,  23,
@@ -38,8 +38,8 @@ const DECODED: [u8; 256] = [
 
 /// Decodes a Hamming 8/4 byte and corrects one wrong bit (EN 300 706, 8.2).
 ///
-/// `None` for the 112 bytes that are two bits away from the nearest code words. `is_word` tells
-/// whether there was nothing to correct.
+/// Returns `None` for the 112 bytes that are two bits away from the nearest code words. Use
+/// `is_word` to find out whether a bit was corrected.
 pub fn unham(byte: u8) -> Option<u8>
     ensures value { result ≡ decoded byte }
     ensures decodes { (n : ℕ) → (result ≡ Some n) ↔ Decodes byte n }
@@ -53,7 +53,7 @@ pub fn unham(byte: u8) -> Option<u8>
     }
 }
 
-/// The Hamming 8/4 code word of a number below 16 (EN 300 706, 8.2).
+/// Returns the Hamming 8/4 code word of a number below 16 (EN 300 706, 8.2).
 pub fn ham(number: u8) -> u8
     requires { number < 16 }
     ensures { result ≡ code_word number }
@@ -61,7 +61,7 @@ pub fn ham(number: u8) -> u8
     CODE_WORDS[number as usize]
 }
 
-/// Whether a byte is a Hamming 8/4 code word, with no bit to correct (EN 300 706, 8.2).
+/// Returns whether a byte is a Hamming 8/4 code word, without a wrong bit (EN 300 706, 8.2).
 pub fn is_word(byte: u8) -> bool
     ensures { IsTrue result ↔ IsCodeWord byte }
 {

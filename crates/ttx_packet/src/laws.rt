@@ -1,20 +1,21 @@
-//! What one wrong bit in each byte leaves of a packet, and what is read of a packet that was made.
+//! Laws of packets: the effect of one wrong bit in each byte, and that created packets can be read
+//! back.
 ghost use Rattle.ttx_packet.specs.Laws.{LawOfAddress, LawOfDecoding, LawOfHeader};
 ghost use Rattle.ttx_packet.specs.Laws.{LawOfHeaderPacket, LawOfMirror, LawOfParity};
 ghost use Rattle.ttx_packet.specs.Laws.{LawOfRowPacket};
 
-/// A byte decodes to a number exactly where it is within one bit of the number's code word.
+/// A byte decodes to a number exactly if it is within one bit of that number's code word.
 pub fn law_of_decoding()
     ensures { LawOfDecoding }
 {}
 
-/// One wrong bit in each byte leaves an address of code words as it was.
+/// One wrong bit in each byte does not change an address of code words.
 #[tactic(auto, using(crate::proofs::NearPackets::near_laws))]
 pub fn law_of_address()
     ensures { LawOfAddress }
 {}
 
-/// One wrong bit in each byte leaves the header of a packet of code words as it was.
+/// One wrong bit in each byte does not change the header of a packet of code words.
 #[tactic(auto, using(crate::proofs::NearPackets::near_laws))]
 pub fn law_of_header()
     ensures { LawOfHeader }
@@ -26,17 +27,19 @@ pub fn law_of_parity()
     ensures { LawOfParity }
 {}
 
-/// A byte mirrored twice is the byte.
+/// Reversing the bits of a byte twice gives the same byte.
 pub fn law_of_mirror()
     ensures { LawOfMirror }
 {}
 
-/// A header packet says the header that it was made from, in code words alone.
+/// A header packet decodes to the header that it was created from, and all its coded bytes are code
+/// words.
 pub fn law_of_header_packet()
     ensures { LawOfHeaderPacket }
 {}
 
-/// A row packet says the row and the codes that it was made from, in bytes of odd parity.
+/// A row packet decodes to the row and the codes that it was created from, and all its bytes have
+/// odd parity.
 pub fn law_of_row_packet()
     ensures { LawOfRowPacket }
 {}

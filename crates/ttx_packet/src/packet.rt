@@ -1,4 +1,4 @@
-//! A packet of 42 bytes: its address, its header, its text.
+//! Packets of 42 bytes: address, header and text.
 ghost use Rattle.std.specs.Prelude.{◌≡◌, ◌+◌, ◌*◌, ◌/◌, ◌%◌, ◌≤◌, ◌<◌, ◌↔◌, ℕ, IfSome, IsNone};
 ghost use Rattle.std.specs.Prelude.{IsTrue};
 ghost use Rattle.std.specs.Prelude.{drop, map, option_map, slice_index};
@@ -18,8 +18,9 @@ use crate::parity::{is_odd, odd_bytes};
 use bitflags::Flags;
 use std::marker::Model;
 
-/// A Teletext packet (EN 300 706): two address bytes and 40 data bytes, in the order of sending,
-/// bit 1 the least significant bit of a byte. Run-in and framing code are left out.
+/// A Teletext packet (EN 300 706): two address bytes and 40 data bytes in the order of
+/// transmission. Bit 1 is the least significant bit of a byte. Run-in and framing code are left
+/// out.
 #[derive(Clone, Copy, Debug, PartialEq, Eq)]
 pub struct Packet {
     bytes: [u8; 42],
@@ -42,14 +43,14 @@ impl Packet {
     ghost use Rattle.ttx_packet.specs.PageHeader.{HasExactHeader, coded_header, header};
     ghost use Rattle.ttx_packet.specs.PageHeader.{header_packet, placed};
 
-    /// The packet of these 42 bytes, whatever they are.
+    /// Creates a packet of any 42 bytes.
     pub fn new(bytes: [u8; 42]) -> Packet
         ensures { result ≡ bytes }
     {
         Packet { bytes }
     }
 
-    /// The 42 bytes.
+    /// Returns the 42 bytes.
     pub fn bytes(&self) -> &[u8; 42]
         ensures value { result.now ≡ self.now }
         ensures whole { IsPacket self.now }
@@ -57,25 +58,25 @@ impl Packet {
         &self.bytes
     }
 
-    /// The 40 data bytes, which follow the address: of a row, the byte of each column.
+    /// Returns the 40 data bytes after the address. In a row, there is one for each column.
     pub fn data(&self) -> &[u8; 40]
         ensures { result.now ≡ drop 2 self.now }
     {
         self.bytes.last_chunk().unwrap()
     }
 
-    /// The 42 bytes as a DVB data unit carries them, each with its bits in the other order (EN 300
-    /// 472, data field syntax).
+    /// Returns the 42 bytes as a DVB data unit carries them, with the bits of each byte reversed
+    /// (EN 300 472, data field syntax).
     pub fn mirrored(&self) -> [u8; 42]
         ensures { result ≡ map mirror self.now }
     {
         mirrored(&self.bytes)
     }
 
-    /// The magazine, 0 to 7, and the packet number Y, 0 to 31, each wrong bit corrected (EN 300
-    /// 706, magazine and packet address). Magazine 0 is magazine 8.
+    /// Returns the magazine, 0 to 7, and the packet number Y, 0 to 31, with single wrong bits
+    /// corrected (EN 300 706, magazine and packet address). Magazine 0 means magazine 8.
     ///
-    /// `None` where an address byte decodes to nothing.
+    /// Returns `None` if an address byte cannot be decoded.
     #[tactic(auto, unfolding(crate::specs::PacketAddress::address))]
     pub fn address(&self) -> Option<(u8, u8)>
         ensures value { result ≡ option_map address_pair (address self.now) }
@@ -87,10 +88,10 @@ impl Packet {
         Some((number % 8, number / 8))
     }
 
-    /// What the page header says, each wrong bit corrected (EN 300 706, page header).
+    /// Returns the page header, with single wrong bits corrected (EN 300 706, page header).
     ///
-    /// `None` where the packet is no packet X/0, or one of the eight coded bytes decodes to
-    /// nothing.
+    /// Returns `None` if the packet is no packet X/0, or if one of the eight coded bytes cannot be
+    /// decoded.
     #[tactic(auto, unfolding(crate::specs::PageHeader::header))]
     pub fn header(&self) -> Option<Header>
         ensures { result ≡ header self.now }
@@ -102,10 +103,10 @@ impl Packet {
         self.coded_header()
     }
 
-    /// What the eight coded bytes of a header say, whatever the address: for a caller that has read
-    /// the address already.
+    /// Decodes the eight coded bytes of a header without checking the address, for callers that
+    /// have read it already.
     ///
-    /// `None` where one of them decodes to nothing.
+    /// Returns `None` if one of them cannot be decoded.
     #[inline(always)]
     #[tactic(auto, unfolding(crate::specs::PageHeader::coded_header))]
     pub fn coded_header(&self) -> Option<Header>
@@ -122,15 +123,15 @@ impl Packet {
         Some(header_of(&[units, tens, s1, s2_c4, s3, s4_c6, c7_c10, c11_c14]))
     }
 
-    /// Whether both address bytes are code words, with no bit to correct (EN 300 706, 8.2).
+    /// Returns whether both address bytes are code words, without a wrong bit (EN 300 706, 8.2).
     pub fn is_clean_address(&self) -> bool
         ensures { IsTrue result ↔ HasExactAddress self.now }
     {
         is_word(self.bytes[0]) && is_word(self.bytes[1])
     }
 
-    /// Whether the eight coded bytes of a header are code words, with no bit to correct (EN 300
-    /// 706, 8.2). The address is not looked at.
+    /// Returns whether the eight coded bytes of a header are code words, without a wrong bit (EN
+    /// 300 706, 8.2). Ignores the address.
     pub fn is_clean_header(&self) -> bool
         ensures { IsTrue result ↔ HasExactHeader self.now }
     {
@@ -142,7 +143,8 @@ impl Packet {
         true
     }
 
-    /// The first of the 40 data bytes with even parity, 0 to 39. `None` where all are odd.
+    /// Returns the index, 0 to 39, of the first data byte with even parity, or `None` if all are
+    /// odd.
     pub fn first_even(&self) -> Option<u8>
         ensures value { result ≡ first_even_byte self.now }
         ensures odd { IsNone result ↔ HasOddText self.now }
@@ -162,22 +164,23 @@ impl Packet {
         None
     }
 
-    /// The header of a page of a magazine as a packet, with 32 spaces as its text (EN 300 706, page
-    /// header).
+    /// Creates the header packet of a page in a magazine, with 32 spaces as its text (EN 300 706,
+    /// page header).
     ///
-    /// `magazine` is 0 to 7. A bit that has no place in a page header is left out: of the sub-code
-    /// each outside `0x3F7F`, of the control bits each but C4 to C14.
+    /// `magazine` is 0 to 7. Bits without a place in a page header are dropped: those of the
+    /// sub-code outside `0x3F7F`, and those of the control bits other than C4 to C14.
     pub fn of_header(magazine: u8, header: &Header) -> Packet
         requires { magazine < 8 }
         ensures value { result ≡ header_packet magazine header.now }
-        // What is read of it: the header without those bits, in code words, and odd text.
+        // Reading it back gives the header without the dropped bits, with code words and odd text
+        // bytes.
         ensures made { IsMadeHeader magazine (placed header.now) result }
     {
         Packet::new(header_bytes(magazine, header))
     }
 
-    /// A row of a page as packet X/1 to X/24: 40 bytes of odd parity (EN 300 706, packets for
-    /// direct display).
+    /// Creates a row of a page as packet X/1 to X/24, with 40 bytes of odd parity (EN 300 706,
+    /// packets for direct display).
     ///
     /// `magazine` is 0 to 7, `row` 1 to 24, and the codes are below 128.
     pub fn of_row(magazine: u8, row: u8, codes: &[u8; 40]) -> Packet
@@ -186,14 +189,14 @@ impl Packet {
         requires last { row ≤ 24 }
         requires codes { (k : ℕ) → slice_index codes.now k < 0x80 }
         ensures value { result ≡ row_packet magazine row codes.now }
-        // What is read of it: the row and its codes, in code words and odd bytes.
+        // Reading it back gives the row and its codes, with code words and odd bytes.
         ensures made { IsMadeRow magazine row codes.now result }
     {
         Packet::new(row_bytes(magazine, row, codes))
     }
 }
 
-// The header that the numbers of its eight coded bytes say.
+// Builds a header from the numbers of its eight coded bytes.
 #[inline(always)]
 pub(crate) fn header_of(numbers: &[u8; 8]) -> Header
     requires { (k : ℕ) → slice_index numbers.now k < 16 }
@@ -227,7 +230,7 @@ pub(crate) fn header_of(numbers: &[u8; 8]) -> Header
     }
 }
 
-// A control bit as a number.
+// Returns a control bit as 0 or 1.
 fn bit_of(control: Control, flag: Control) -> u8
     ensures value { result ≡ bit (is_set control flag.0) }
     ensures small { result < 2 }
@@ -235,7 +238,7 @@ fn bit_of(control: Control, flag: Control) -> u8
     if control.contains(flag) { 1 } else { 0 }
 }
 
-// The code word whose data bits D1 to D4 are these control bits.
+// Returns the code word with these control bits as data bits D1 to D4.
 fn nibble_word(control: Control, d1: Control, d2: Control, d3: Control, d4: Control) -> u8
     ensures { result ≡ code_word (nibble (is_set control d1.0) (is_set control d2.0)
         (is_set control d3.0) (is_set control d4.0)) }
@@ -248,7 +251,7 @@ fn nibble_word(control: Control, d1: Control, d2: Control, d3: Control, d4: Cont
     )
 }
 
-// The bytes of a header.
+// Returns the bytes of a header packet.
 #[tactic(auto, unfolding(crate::specs::PageHeader::header_packet))]
 fn header_bytes(magazine: u8, header: &Header) -> [u8; 42]
     requires { magazine < 8 }
@@ -280,7 +283,7 @@ fn header_bytes(magazine: u8, header: &Header) -> [u8; 42]
     bytes
 }
 
-// The bytes of a row.
+// Returns the bytes of a row packet.
 fn row_bytes(magazine: u8, row: u8, codes: &[u8; 40]) -> [u8; 42]
     requires magazine { magazine < 8 }
     requires first { 1 ≤ row }

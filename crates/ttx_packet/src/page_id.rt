@@ -1,4 +1,4 @@
-//! Page numbers as people write them.
+//! Page numbers as users type them.
 ghost use Rattle.std.specs.Prelude.{◌≡◌, ◌<◌, [], ◌∷◌, IfSome, ok_or};
 ghost use Rattle.ttx_packet.specs.PageId.{hexadecimal_digit, page_of_numbers, page_of_text};
 
@@ -25,7 +25,7 @@ impl Model for PageId {
     ghost inverse = { λ v. record { magazine = v.magazine; page = v.page } };
 }
 
-/// Why a text names no page.
+/// The error of parsing a page number.
 #[derive(Clone, Copy, Debug, PartialEq, Eq)]
 pub enum PageFault {
     /// The text is not a digit 1 to 8 and two hexadecimal digits, or its page number is FF.
@@ -33,12 +33,11 @@ pub enum PageFault {
 }
 
 impl PageId {
-    /// The page that a text names: a magazine digit 1 to 8 and two hexadecimal digits of either
-    /// case.
+    /// Parses a magazine digit 1 to 8 followed by two hexadecimal digits of either case.
     ///
     /// # Errors
     ///
-    /// `BadPage` for any other text, and for page number FF.
+    /// Returns `BadPage` for any other text, and for page number FF.
     pub fn parse(text: &str) -> Result<PageId, PageFault>
         ensures { result ≡ ok_or (page_of_text text.now) PageFault.BadPage }
     {
@@ -49,7 +48,7 @@ impl PageId {
         page_of_digits(text[0], text[1], text[2]).ok_or(PageFault::BadPage)
     }
 
-    /// The magazine, 0 to 7: 0 is magazine 8.
+    /// Returns the magazine, 0 to 7; 0 means magazine 8.
     pub fn magazine(self) -> u8
         ensures value { result ≡ self.magazine }
         ensures small { result < 8 }
@@ -57,7 +56,7 @@ impl PageId {
         self.magazine
     }
 
-    /// The page number, `0x00` to `0xFE`: page tens above page units.
+    /// Returns the page number, `0x00` to `0xFE`, with page tens in the upper half.
     pub fn page(self) -> u8
         ensures value { result ≡ self.page }
         ensures small { result < 0xFF }
@@ -66,7 +65,7 @@ impl PageId {
     }
 }
 
-// The value of a hexadecimal digit of either case.
+// Returns the value of a hexadecimal digit of either case.
 fn hexadecimal_digit(byte: u8) -> Option<u8>
     ensures value { result ≡ hexadecimal_digit byte }
     ensures small { IfSome result (λ n. n < 16) }
@@ -79,7 +78,7 @@ fn hexadecimal_digit(byte: u8) -> Option<u8>
     }
 }
 
-// The page of a magazine digit and two digits of a page number.
+// Returns the page of a magazine digit and two hexadecimal digits.
 #[tactic(auto, unfolding(crate::specs::PageId::page_of_text))]
 fn page_of_digits(magazine: u8, tens: u8, units: u8) -> Option<PageId>
     ensures { result ≡ page_of_text (magazine ∷ tens ∷ units ∷ []) }
@@ -89,7 +88,7 @@ fn page_of_digits(magazine: u8, tens: u8, units: u8) -> Option<PageId>
     page_of_numbers(magazine, 16 * high + low)
 }
 
-// The page of a magazine digit and a page number.
+// Returns the page of a magazine digit and a page number.
 fn page_of_numbers(digit: u8, page: u8) -> Option<PageId>
     ensures { result ≡ page_of_numbers digit page }
 {

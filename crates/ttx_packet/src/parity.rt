@@ -1,4 +1,4 @@
-//! Odd parity: seven code bits, and one bit that shows a single wrong bit.
+//! Odd parity: seven code bits, and a parity bit that reveals a single wrong bit.
 ghost use Rattle.std.specs.Prelude.{◌≡◌, ◌<◌, ℕ, map, slice_index};
 ghost use Rattle.ttx_packet.specs.Parity.{is_odd, odd_byte};
 
@@ -6,7 +6,7 @@ pub(crate) mod lanes;
 
 use self::lanes::odd_block;
 
-/// Whether the count of ones in a byte is odd (EN 300 706, 8.1).
+/// Returns whether a byte has an odd number of ones (EN 300 706, 8.1).
 #[tactic(auto, unfolding(crate::specs::Parity::is_odd))]
 pub fn is_odd(byte: u8) -> bool
     ensures { result ≡ is_odd byte }
@@ -14,7 +14,7 @@ pub fn is_odd(byte: u8) -> bool
     byte.count_ones() % 2 == 1
 }
 
-/// The byte of odd parity with a code below 128 (EN 300 706, 8.1).
+/// Adds the odd parity bit to a code below 128 (EN 300 706, 8.1).
 pub fn par(code: u8) -> u8
     requires { code < 0x80 }
     ensures { result ≡ odd_byte code }
@@ -22,7 +22,7 @@ pub fn par(code: u8) -> u8
     if is_odd(code) { code } else { code + 0x80 }
 }
 
-/// The bytes of odd parity of 40 codes, each below 128: those of a row.
+/// Adds the odd parity bit to each of the 40 codes of a row, all below 128.
 pub(crate) fn odd_bytes(codes: &[u8; 40]) -> [u8; 40]
     requires { (k : ℕ) → slice_index codes.now k < 0x80 }
     ensures { result ≡ map odd_byte codes.now }

@@ -1,4 +1,4 @@
-//! A packet as a data unit carries it, read without turning its bits round.
+//! Teletext packets as data units carry them, read without reversing their bits.
 ghost use Rattle.std.specs.Prelude.{◌≡◌, ◌≢◌, ◌<◌, ◌≤◌, MatchOption, Some, map};
 ghost use Rattle.ttx_packet.specs.BitOrder.{mirror};
 ghost use Rattle.ttx_packet.specs.Hamming84.{IsCodeWord, decoded};
@@ -9,11 +9,12 @@ use crate::header::Header;
 use crate::packet::{Packet, header_of};
 use std::marker::Model;
 
-/// What stands in `SENT_WORDS` at a byte that is no code word: more than two numbers make.
+/// The entry of `SENT_WORDS` for a byte that is no code word. It is greater than any number that
+/// two code words make.
 const NOTHING: u32 = 256;
 
-/// The number of the Hamming 8/4 code word that each byte is, where the bit that is sent first is
-/// the highest. Made from the code words; the check computes the definitions over all 256 bytes and
+/// The number whose Hamming 8/4 code word each byte is, with the bit that is sent first as the
+/// highest. Generated from the code words; the check computes the definitions for all 256 bytes and
 /// compares.
 #[rattlefmt::skip]
 const SENT_WORDS: [u16; 256] = [
@@ -35,7 +36,7 @@ const SENT_WORDS: [u16; 256] = [
     256, 256, 256, 256,   7, 256, 256, 256, 256, 256, 256, 256, 256, 256, 256, 256,
 ];
 
-// The number of the code word that a byte is, where the bit that is sent first is the highest.
+// Returns the number whose code word `byte` is, with the bit that is sent first as the highest, or
 // `NOTHING` for any other byte.
 #[inline(always)]
 fn sent_entry(byte: u8) -> u32
@@ -47,7 +48,7 @@ fn sent_entry(byte: u8) -> u32
     SENT_WORDS[byte as usize] as u32
 }
 
-// The number of the code word that a byte is, where the bit that is sent first is the highest.
+// Returns the number whose code word `byte` is, with the bit that is sent first as the highest, or
 // `None` for any other byte.
 #[inline(always)]
 fn sent_number(byte: u8) -> Option<u8>
@@ -62,12 +63,12 @@ fn sent_number(byte: u8) -> Option<u8>
     }
 }
 
-/// A Teletext packet as a DVB data unit carries it: 42 bytes, of each the bit that is sent first
-/// the highest (EN 300 472, data field syntax). It lends the bytes.
+/// A Teletext packet as a DVB data unit carries it: 42 borrowed bytes, with the bit that is sent
+/// first as the highest (EN 300 472, data field syntax).
 ///
-/// Contracts see it as the packet, its bytes in Teletext's own order of bits. Most packets of a
-/// service are of other pages, which their first bytes tell: so those alone are looked at, by
-/// tables, and no other byte is turned round.
+/// Its model is the packet with its bytes in Teletext's own bit order. Most packets of a service
+/// belong to other pages, and their first bytes show that. So only these are read, by table, and
+/// the other bytes are never reversed.
 #[derive(Drop)]
 pub struct SentPacket<'a> {
     bytes: &'a [u8; 42],
@@ -89,7 +90,7 @@ impl<'a> SentPacket<'a> {
     ghost use Rattle.ttx_packet.specs.PageHeader.{coded_page};
     ghost use Rattle.ttx_packet.specs.declared.header.Header.{Header};
 
-    /// The packet that a data unit carries as these 42 bytes.
+    /// Creates the packet that a data unit carries as these 42 bytes.
     #[inline(always)]
     pub fn new(bytes: &'a [u8; 42]) -> Self
         ensures { result ≡ map mirror bytes.now }
@@ -97,7 +98,7 @@ impl<'a> SentPacket<'a> {
         SentPacket { bytes }
     }
 
-    /// The packet in Teletext's own order of bits: each byte is turned round.
+    /// Returns the packet in Teletext's own bit order, by reversing each byte.
     #[inline(always)]
     pub fn packet(&self) -> Packet
         ensures { result ≡ self.now }
@@ -105,11 +106,11 @@ impl<'a> SentPacket<'a> {
         Packet::new(mirrored(self.bytes))
     }
 
-    /// The magazine, 0 to 7, and the packet number Y, 0 to 31, where both address bytes are code
-    /// words, with no bit to correct (EN 300 706, magazine and packet address). Magazine 0 is
+    /// Returns the magazine, 0 to 7, and the packet number Y, 0 to 31, if both address bytes are
+    /// code words, without a wrong bit (EN 300 706, magazine and packet address). Magazine 0 means
     /// magazine 8.
     ///
-    /// `None` where one of them is not.
+    /// Otherwise returns `None`.
     #[inline(always)]
     #[tactic(auto, unfolding(crate::specs::PacketAddress::address))]
     pub fn exact_address(&self) -> Option<(u8, u8)>
@@ -117,7 +118,7 @@ impl<'a> SentPacket<'a> {
             (λ a. HasExactAddress self.now × (address self.now
             ≡ Some (record { magazine = a.0; packet_number = a.1 }))) }
     {
-        // It is asked of each packet of a service, so the two are compared at once.
+        // Every packet of a service comes here, so one comparison covers both bytes.
         let low = sent_entry(self.bytes[0]);
         let high = sent_entry(self.bytes[1]);
         let number = low + 16 * high;
@@ -128,11 +129,11 @@ impl<'a> SentPacket<'a> {
         }
     }
 
-    /// The page number that a header says, page tens above page units, where both are code words,
-    /// with no bit to correct (EN 300 706, page header). The address and the other six coded bytes
-    /// are not looked at: two bytes most often tell whose header it is.
+    /// Returns the page number of a header, with page tens in the upper half, if both of its bytes
+    /// are code words, without a wrong bit (EN 300 706, page header). Ignores the address and the
+    /// other six coded bytes: these two usually suffice to see that a header is of another page.
     ///
-    /// `None` where one of them is not.
+    /// Otherwise returns `None`.
     #[inline(always)]
     pub fn exact_page(&self) -> Option<u8>
         ensures { MatchOption result (HasExactPage self.now → ⊥)
@@ -143,10 +144,10 @@ impl<'a> SentPacket<'a> {
         Some(units + 0x10 * tens)
     }
 
-    /// What the eight coded bytes of a header say, where they are code words, with no bit to
-    /// correct (EN 300 706, page header). The address is not looked at.
+    /// Decodes the eight coded bytes of a header if all are code words, without a wrong bit (EN 300
+    /// 706, page header). Ignores the address.
     ///
-    /// `None` where one of them is not.
+    /// Otherwise returns `None`.
     #[inline(always)]
     #[tactic(auto, unfolding(crate::specs::PageHeader::coded_header))]
     pub fn exact_header(&self) -> Option<Header>

@@ -1,6 +1,6 @@
-//! The order of bits turned round in 16 bytes at once, a byte in each lane of a vector.
+//! Reverses the bits of 16 bytes at once, one byte per lane of a vector.
 //!
-//! Three steps, for n = 4, 2, 1 and the mask of the lower n bits of each 2 n:
+//! Three steps, for n = 4, 2, 1, each with a mask of the lower n bits of every 2 n:
 //!
 //! ```text
 //! lane = (lane >> n & mask) | (lane & mask) << n
@@ -11,7 +11,7 @@ ghost use Rattle.ttx_packet.specs.Lanes.{swapped};
 
 use std::simd::prelude::*;
 
-// Each byte with its halves swapped.
+// Swaps the halves of each byte.
 #[inline(always)]
 fn swap_halves(bytes: u8x16) -> u8x16
     ensures lanes { result ≡ map (swapped 4 0x0F) bytes }
@@ -22,7 +22,7 @@ fn swap_halves(bytes: u8x16) -> u8x16
     ((bytes >> n) & mask) | ((bytes & mask) << n)
 }
 
-// Each byte with the two pairs of bits of each half swapped.
+// Swaps the two pairs of bits in each half.
 #[inline(always)]
 fn swap_pairs(bytes: u8x16) -> u8x16
     ensures { result ≡ map (swapped 2 0x33) bytes }
@@ -32,7 +32,7 @@ fn swap_pairs(bytes: u8x16) -> u8x16
     ((bytes >> n) & mask) | ((bytes & mask) << n)
 }
 
-// Each byte with the two bits of each pair swapped.
+// Swaps the two bits of each pair.
 #[inline(always)]
 fn swap_bits(bytes: u8x16) -> u8x16
     ensures { result ≡ map (swapped 1 0x55) bytes }
@@ -42,7 +42,7 @@ fn swap_bits(bytes: u8x16) -> u8x16
     ((bytes >> n) & mask) | ((bytes & mask) << n)
 }
 
-// Each byte with its bits in the other order.
+// Reverses the bits of each byte.
 #[inline(always)]
 pub(super) fn mirrored_block(block: &[u8; 16]) -> [u8; 16]
     ensures { result ≡ map mirror block.now }

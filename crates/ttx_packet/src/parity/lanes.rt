@@ -1,7 +1,6 @@
-//! The parity of 16 bytes at once, a byte in each lane of a vector.
+//! Parity of 16 bytes at once, one byte per lane of a vector.
 //!
-//! Three steps, for n = 4, 2, 1, after which bit 1 of a lane tells whether its count of ones is
-//! odd:
+//! Three steps, for n = 4, 2, 1. After them, bit 1 of a lane is set if its number of ones is odd:
 //!
 //! ```text
 //! lane = lane ^ lane >> n
@@ -12,7 +11,7 @@ ghost use Rattle.ttx_packet.specs.Parity.{odd_byte};
 
 use std::simd::prelude::*;
 
-// Each byte with its high half folded onto its low half.
+// Folds the high half of each byte onto its low half.
 #[inline(always)]
 fn fold_halves(bytes: u8x16) -> u8x16
     ensures lanes { result ≡ map (folded 4) bytes }
@@ -21,7 +20,7 @@ fn fold_halves(bytes: u8x16) -> u8x16
     bytes ^ (bytes >> u8x16::splat(4))
 }
 
-// Each byte folded by a pair of bits.
+// Folds each byte by two bits.
 #[inline(always)]
 fn fold_pairs(bytes: u8x16) -> u8x16
     ensures { result ≡ map (folded 2) bytes }
@@ -29,7 +28,7 @@ fn fold_pairs(bytes: u8x16) -> u8x16
     bytes ^ (bytes >> u8x16::splat(2))
 }
 
-// Each byte folded by a bit.
+// Folds each byte by one bit.
 #[inline(always)]
 fn fold_bits(bytes: u8x16) -> u8x16
     ensures { result ≡ map (folded 1) bytes }
@@ -37,7 +36,7 @@ fn fold_bits(bytes: u8x16) -> u8x16
     bytes ^ (bytes >> u8x16::splat(1))
 }
 
-// A bit for each byte of even parity, the lowest for the first.
+// Returns a mask with a bit for each byte of even parity; the lowest bit is the first byte.
 #[inline(always)]
 pub(crate) fn evens(block: &[u8; 16]) -> u64
     ensures { result ≡ evens_mask block.now }
@@ -48,7 +47,7 @@ pub(crate) fn evens(block: &[u8; 16]) -> u64
         .to_bitmask()
 }
 
-// The bytes of odd parity of 16 codes.
+// Adds the odd parity bit to each of 16 codes.
 #[inline(always)]
 pub(super) fn odd_block(block: &[u8; 16]) -> [u8; 16]
     requires { (k : ℕ) → slice_index block.now k < 0x80 }

@@ -1,4 +1,4 @@
--- Each block is made, and the last: block_more.
+-- Each block, and the last one, are mirrored: block_more.
 use Rattle.std.proofs.Common.{◌≡◌, ◌+◌, ◌*◌, ◌/◌, ◌<◌, map, length, take, drop, arith, rules, ◌∙◌}
 use Rattle.std.proofs.Common.{ap}
 use Rattle.std.proofs.lemmas.List.{drop-drop, drop-map, take-map}

@@ -1,4 +1,4 @@
--- Each block is made, block_more, and each byte of the rest.
+-- Each block gets odd parity, block_more, and so does each remaining byte.
 use Rattle.std.proofs.Common.{◌+◌, ◌*◌, ◌/◌, ◌<◌, map, length, arith, rules, ◌∙◌, ap}
 use Rattle.ttx_packet.specs.Parity.{odd_byte}
 use Rattle.ttx_packet.proofs.BlockLemmas.{below_in_chunk, block_of, block_more}

@@ -1,4 +1,4 @@
--- What the entry tells: SentWordLemmas.
+-- The meaning of an entry: SentWordLemmas.
 use Rattle.std.proofs.Common.{arith}
 use Rattle.ttx_packet.proofs.SentWordLemmas.{entry_small, no_word_from_sent, word_from_sent}
 use Rattle.ttx_packet.proofs.sent_packet.sent_entry.Goals as goal

@@ -2,10 +2,10 @@ use Rattle.std.proofs.Common.{◌≡◌, ℕ, ◌+◌, ◌*◌, ◌<◌, true, s
 use Rattle.ttx_packet.specs.Parity.{is_odd}
 use Rattle.ttx_packet.proofs.packet.Packet.first_even.Given as goal
 
--- The data bytes of the blocks before are odd.
+-- The data bytes of the earlier blocks are odd.
 abbrev pub invariant-loop-i : goal.invariant-loop-i
 invariant-loop-i l = (k : ℕ) → k < 16 * l.i → is_odd (slice_index (drop 2 l.self) k) ≡ true
 
--- The data bytes before are odd.
+-- The earlier data bytes are odd.
 abbrev pub invariant-loop-j : goal.invariant-loop-j
 invariant-loop-j l = (k : ℕ) → k < 32 + l.j → is_odd (slice_index (drop 2 l.self) k) ≡ true
