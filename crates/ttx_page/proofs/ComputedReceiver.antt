@@ -1,6 +1,6 @@
--- A receiver that computes, for examples that are decided: of the model receivers the one that
--- keeps the cells of even bytes. It is one of the relation: `heard_so`. And a test of near packets:
--- `packets_tested`.
+-- A computable receiver, for examples that are decided by computation: the model receiver that
+-- keeps the cells of bytes with even parity. It follows the receiver relation: `heard_so`. And a
+-- test of near packets: `packets_tested`.
 use Rattle.std.proofs.Common.{◌≡◌, ℕ, ◌-◌, Bool, true, false, ◌&&◌, List, [], ◌∷◌, map, get_or}
 use Rattle.std.proofs.Common.{refl, ap, ◌∙◌, arith, inl, inr}
 use Rattle.std.specs.Prelude.{◌==◌, if◌then◌else◌}
@@ -62,7 +62,7 @@ code_stored packet y page row column =
     then code_after KeepsCell (text_byte packet column) (cell page row column)
     else cell page row column
 
--- The page then.
+-- The page after row y was stored.
 abbrev pub row_stored : List ℕ → ℕ → Rows → Rows
 row_stored packet y page = page_of_cells (code_stored packet y page)
 
@@ -91,13 +91,13 @@ cell-page_of_cells code row column named =
     ∙ get_or-map-range_with_len (λ column. code row column) 0 40 column column 0 named.2
     (omega arith)
 
--- A row is stored as it may be.
+-- Storing a row agrees with the relation.
 row_is_stored :
     (packet : List ℕ) (y : ℕ) (page : Rows) → StoresRow packet y page (row_stored packet y page)
 row_is_stored packet y page row column named =
     grind (arith, nat_tests, cell-page_of_cells (code_stored packet y page) row column named)
 
--- Each packet is a step of the relation.
+-- Each step agrees with the relation.
 stepped : (k : PacketKind) (packet : List ℕ) (old : State)
     → StepAt k packet old (state_at k packet old)
 stepped (ThisPage h) packet old = refl

@@ -1,4 +1,4 @@
--- A receiver that drops rows hears what is left of the packets: `law_of_dropping`.
+-- A receiver that drops rows receives the other packets: `law_of_dropping`.
 use Rattle.std.proofs.Common.{◌≡◌, ◌↔◌, ℕ, Bool, true, false, not, List, [], ◌∷◌, filter, inl, inr}
 use Rattle.std.proofs.Common.{refl, arith}
 use Rattle.std.proofs.lemmas.Bool.{cases_Bool}
@@ -9,7 +9,7 @@ use Rattle.ttx_page.specs.Receiver.{RunsBy, Step, StepBy, is_dropped}
 use Rattle.ttx_page.specs.Receiver.ReceiverClass.{Dropping}
 use Rattle.ttx_page.specs.Screen.{Display, ShowsAt}
 
--- A run of steps that pass over dropped packets is one of other steps without these.
+-- A run of steps that ignore dropped packets is a run of other steps without these packets.
 module _
     {S : Type 0} (StepsBy PassesBy : S → List ℕ → S → Type 0) (dropped : List ℕ → Bool)
     (over : (old : S) (packet : List ℕ) (new : S)
@@ -40,13 +40,12 @@ module _
           )
     ]
 
--- A dropped row leaves what is held and the screen as they are.
+-- A dropped row changes neither the page nor the screen.
 shows_over : (w : PageIdValue) (old : Display) (packet : List ℕ) (new : Display)
     → is_dropped w packet ≡ true
     → StepBy Dropping w old.held packet new.held × ShowsAt w old packet new ↔ (new ≡ old)
 shows_over w old packet new drop = grind (arith, nat_tests, cases_Bool)
 
--- The law of dropping.
 pub law_of_dropping : LawOfDropping
 law_of_dropping w packets = (
   runs_without (Step w) (StepBy Dropping w) (is_dropped w)

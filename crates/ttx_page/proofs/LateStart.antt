@@ -1,4 +1,4 @@
--- Who starts late: what was sent before a header of the page does not matter, `sends-later` and
+-- A receiver that starts late: packets before a header of the page do not matter, `sends-later` and
 -- `shown-later`.
 use Rattle.std.proofs.Common.{◌≡◌, ℕ, Bool, true, List, [], ◌∷◌, ◌++◌}
 use Rattle.std.proofs.Common.{unwrap_or, All, subst, arith}
@@ -14,7 +14,7 @@ use Rattle.ttx_page.specs.Span.{holds_header, is_open_after, is_unended, span, t
 use Rattle.ttx_page.proofs.SpanLists.{after-append, holds-append_right}
 use Rattle.ttx_page.proofs.TextSpan.{text_span-later}
 
--- What holds of two lists joined holds of the second.
+-- A property of all elements of two joined lists holds for the second.
 All-later : {A : Type 0} (P : A → Type 0) (xs ys : List A)
     → All P (xs ++ ys)
     → All P ys
@@ -28,7 +28,7 @@ pub codes_of_same : (w : PageIdValue) (packets : List (List ℕ))
 codes_of_same w packets same i d l j e m row column one two below = grind (arith, nat_tests)
 
 module _ (w : PageIdValue) (before heard : List (List ℕ)) where
-  -- Where all that was sent is sent as a text, so is what is heard.
+  -- If all packets send a text, so do those that were received.
   pub sends-later : (keeps : Bool) (text : ℕ → ℕ → ℕ)
       → SendsText keeps w (before ++ heard) text
       → SendsText keeps w heard text
@@ -45,23 +45,25 @@ module _ (w : PageIdValue) (before heard : List (List ℕ)) where
         codes = of_text (HasCodes w text) sends.codes;
       }
 
-  -- With a header of the page among it, its span is that of all.
+  -- If the packets received contain a header of the page, their span is that of all packets.
   pub span-later : holds_header (kind w) heard ≡ true
       → span (kind w) (before ++ heard) ≡ span (kind w) heard
   span-later holds = grind (arith, nat_tests, after-append)
 
-  -- With a header of the page among what is heard, it shows what all shows.
+  -- If the packets received contain a header of the page, they show the same as all packets.
   pub shown-later : holds_header (kind w) heard ≡ true
       → (row column : ℕ)
       → shown w (before ++ heard) row column ≡ shown w heard row column
   shown-later holds row column = grind (arith, nat_tests, unwrap_or, after-append)
 
-  -- With a header of the page among it, what is heard is ended where all is.
+  -- If the packets received contain a header of the page, their span is ended exactly if that of
+  -- all packets is.
   pub unended-later : holds_header (kind w) heard ≡ true
       → is_unended (kind w) (before ++ heard) ≡ is_unended (kind w) heard
   unended-later holds = grind (arith, nat_tests, after-append)
 
-  -- The page is open after all where it is open after what is heard, and the spans are the same.
+  -- If the page is open after the packets received, it is open after all packets, and the spans are
+  -- the same.
   pub open-later : is_open_after (kind w) heard ≡ true
       → (is_open_after (kind w) (before ++ heard) ≡ true)
       × (span (kind w) (before ++ heard) ≡ span (kind w) heard)

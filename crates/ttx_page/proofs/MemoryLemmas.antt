@@ -1,10 +1,10 @@
--- A row as the receivers of this crate store it, column by column.
+-- How the receivers of this crate store a row, column by column.
 use Rattle.std.proofs.Common.{◌≡◌, ℕ, ◌+◌, ◌<◌, ◌≤◌, List, length, slice_index}
 use Rattle.ttx_page.specs.declared.memory.EvenByte.{EvenByte}
 use Rattle.ttx_page.specs.Page.{AreCodes}
 use Rattle.ttx_page.specs.Memory.{code_after}
 
--- To the left of the column all is stored, from it on nothing is yet. The loop of `stored`.
+-- Columns to the left of `column` are stored, the others are not yet. For the loop of `stored`.
 pub record IsStoredTo (even : EvenByte) (packet was : List ℕ) (column : ℕ) (codes : List ℕ)
     : Type 0 where
   pub size : length codes ≡ 40

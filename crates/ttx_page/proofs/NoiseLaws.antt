@@ -1,5 +1,5 @@
--- The laws of noise and of lost rows: the law of repeats where no repeat may keep, `cell_shown`,
--- gives `law_of_recovery` and `law_of_lost_rows`; the others follow.
+-- The laws of noise and of lost rows: the law of repeats without keeping, `cell_shown`, gives
+-- `law_of_recovery` and `law_of_lost_rows`; the others follow.
 use Rattle.std.proofs.Common.{rules, ◌≡◌, ℕ, ◌<◌, ◌⊎◌, inl, inr, Bool, true, false}
 use Rattle.std.proofs.Common.{List, [], ◌∷◌, map, zip, find, Option, Some, None, option_map}
 use Rattle.std.proofs.Common.{All, unwrap_or, Contains, IsTrue, refl, ◌∙◌, arith}
@@ -31,8 +31,8 @@ use Rattle.ttx_page.proofs.NoiseSteps.{kind_of_item, row_from_test}
 use Rattle.ttx_page.proofs.RepeatLaws.{law_of_forgetting, law_of_repeats}
 use Rattle.ttx_page.proofs.TextSpan.{beginning-none_keeps, text_span-none_keeps}
 
--- Of packets of which those of one row have the same codes, each has the code of the first of its
--- row. For a checker's laws.
+-- If packets of the same row have the same codes, each has the code of the first of its row. For a
+-- checker's laws.
 pub first_code : (w : PageIdValue) (spanned : List (List ℕ)) (row column : ℕ) (packet : List ℕ)
     → All (λ first. All (HasSameCodes w first) spanned) spanned
     → Contains spanned packet
@@ -68,7 +68,7 @@ shown_is w sent row column packet sound within is below =
 
 -- ---- the laws
 
--- What is sound is sent as the text that it shows, where no repeat may keep. For a checker's laws.
+-- Sound packets send the text that they show, if repeats must not keep. For a checker's laws.
 pub sends_shown : (w : PageIdValue) (sent : List (List ℕ))
     → IsSound w sent
     → SendsText false w sent (shown w sent)
@@ -92,7 +92,7 @@ module _ (class : ReceiverClass) (w : PageIdValue) (sent : List (List ℕ)) (arr
   abbrev Excused : ℕ → ℕ → Type 0
   Excused = ExcusedBy class (IsHitOrLost w sent (arrivals_of arrived got))
 
-  -- What has become of a receiver.
+  -- The final state of a receiver.
   ends_as : EndsForgetting false false w sent (shown w sent) Excused old new
   ends_as =
       law_of_repeats false false class w sent arrived got (shown w sent) old new
@@ -110,7 +110,6 @@ module _ (class : ReceiverClass) (w : PageIdValue) (sent : List (List ℕ)) (arr
       let no_row = find_none (λ p. is_row row (kind w p)) (span (kind w) sent) in
       grind (arith, nat_tests)
 
--- The law of recovery.
 pub law_of_recovery : LawOfRecovery
 law_of_recovery class w sent arrived got old new sound may near holds hears =
     let ends = ends_as class w sent arrived got old new sound may near hears in
@@ -122,7 +121,6 @@ law_of_recovery class w sent arrived got old new sound may near holds hears =
       cells = cell_shown class w sent arrived got old new sound may near hears holds;
     }
 
--- The law of lost rows.
 pub law_of_lost_rows : LawOfLostRows
 law_of_lost_rows class w sent arrived got old new sound may near unheard shut hears =
     let ends = ends_as class w sent arrived got old new sound may near hears in
@@ -136,9 +134,9 @@ law_of_lost_rows class w sent arrived got old new sound may near unheard shut he
           (rw heard_only at now);
     }
 
--- ---- with nothing lost
+-- ---- without loss
 
--- Marks that are all true keep all packets.
+-- If all packets arrive, all are kept.
 items-all_true : (sent : List (List ℕ)) (arrived : List Bool)
     → AllByRecursion IsTrue arrived
     → AllZip LosesNoHeader sent arrived
@@ -147,7 +145,7 @@ items-all_true [] [] all may = refl
 items-all_true [] (m ∷ arrived) all may = elim may [ ]
 items-all_true (p ∷ sent) arrived all may = grind (arith, nat_tests, items-all_true sent)
 
--- Where all arrived nothing of what was got is lost.
+-- If all packets arrive, nothing that was received is missing.
 arrivals_of-all_true : (sent got : List (List ℕ)) (arrived : List Bool)
     → AllByRecursion IsTrue arrived
     → AllZip LosesNoHeader sent arrived
@@ -159,14 +157,14 @@ arrivals_of-all_true [] [] (m ∷ arrived) all may near = elim may [ ]
 arrivals_of-all_true (p ∷ sent) got arrived all may near =
     grind (arith, nat_tests, arrivals_of-all_true sent)
 
--- The span of the items where all is got: that of the pairs.
+-- The span of the items if all packets arrive: that of the pairs.
 span-zip_map_Some : (w : PageIdValue) (sent got : List (List ℕ))
     → span (kind_of_item w) (zip sent (map Some got))
     ≡ map (λ pair. (pair.0, Some pair.1))
     (span (λ (pair : List ℕ × List ℕ). kind w pair.0) (zip sent got))
 span-zip_map_Some w sent got = grind (arith, nat_tests, kind_of_item, zip-map, span-map)
 
--- The law of lost rows with nothing lost is the law of noise.
+-- If nothing is lost, the law of lost rows is the law of noise.
 pub law_of_nothing_lost : LawOfNothingLost
 law_of_nothing_lost w sent arrived all may = record {
   kept = items-all_true sent arrived (recursion_from_All IsTrue arrived all) may;
@@ -177,21 +175,21 @@ law_of_nothing_lost w sent arrived all may = record {
       );
 }
 
--- For each packet that it arrived.
+-- A list of flags by which each packet arrived.
 abbrev pub all_kept : List (List ℕ) → List Bool
 all_kept sent = map (λ p. true) sent
 
--- They are true.
+-- All these flags are true.
 pub all_true : (sent : List (List ℕ)) → All IsTrue (all_kept sent)
 all_true [] = All-nil _
 all_true (p ∷ sent) = All-cons IsTrue true (all_kept sent) refl (all_true sent)
 
--- No page header is lost by them.
+-- They lose no page header.
 pub may_all : (sent : List (List ℕ)) → AllZip LosesNoHeader sent (all_kept sent)
 may_all [] = tt
 may_all (p ∷ sent) = (λ h a is. let e : true ≡ false = h in absurd (cc), may_all sent)
 
--- The law of noise: that of lost rows, where all packets are kept.
+-- The law of noise is the law of lost rows if all packets arrive.
 pub law_of_noise : LawOfNoise
 law_of_noise w sent got old new sound near unheard shut hears =
     let nothing = law_of_nothing_lost w sent (all_kept sent) (all_true sent) (may_all sent) in
@@ -207,7 +205,7 @@ law_of_noise w sent got old new sound near unheard shut hears =
       ];
     }
 
--- ---- with no wrong bit: for `QuietLaws`
+-- ---- without wrong bits: for `QuietLaws`
 
 -- A packet is near itself.
 AreNear-itself : (packet : List ℕ) → AreNear packet packet

@@ -1,5 +1,5 @@
--- What becomes of a receiver by packets that are sent, each got with wrong bits or lost: at one
--- packet, `at_lost` and `at_got`, and by a run over many, `over`.
+-- The state of a receiver after packets with wrong bits or losses: for one packet, `at_lost` and
+-- `at_got`, and for a run over many, `over`.
 use Rattle.std.proofs.Common.{◌≡◌, ℕ, ◌<◌, ◌⊎◌, inl, inr, true, false, not, ◌&&◌, ◌||◌, List}
 use Rattle.std.proofs.Common.{[], ◌∷◌, ◌++◌, zip, Option, Some, None, Bool, is_some, Contains, refl}
 use Rattle.std.proofs.Common.{IsFalse, ap, arith, cond, subst, sym, ◌∙◌}
@@ -32,26 +32,26 @@ use Rattle.ttx_page.proofs.SpanPush.{holds-push, span-push, open-this, open-othe
 use Rattle.ttx_page.proofs.TextSpan.{begins_is_header, beginning_is_header, beginning-push}
 use Rattle.ttx_page.proofs.TextSpan.{text_span-push}
 
--- A packet that passes the test for a row is one. For the rules of a checker.
+-- A packet that passes the test for a row is of that row. For the rules of a checker.
 pub row_from_test : (row : ℕ) (k : PacketKind) → is_row row k ≡ true → k ≡ Row row
 row_from_test row k passes = grind (arith, nat_tests)
 
--- A packet that is sent, and what is got of it.
+-- A packet that is sent, and the bytes received (`None` if it was lost).
 abbrev pub Item : Type 0
 Item = List ℕ × Option (List ℕ)
 
--- The kind of an item is that of the packet that is sent.
+-- The kind of an item is that of the packet sent.
 abbrev pub kind_of_item : PageIdValue → Item → PacketKind
 kind_of_item w item = kind w item.0
 
--- A packet that may be lost is no header.
+-- A packet that may be lost is no page header.
 pub lost_is_no_header : (w : PageIdValue) (packet : List ℕ)
     → MayBeLost packet
     → (is_this_page (kind w packet) ≡ false) × (ends_page (kind w packet) ≡ false)
 unfolding kind
 lost_is_no_header w packet may = grind (arith, nat_tests)
 
--- One wrong bit in each byte leaves the kind of a packet of code words as it was.
+-- One wrong bit in each byte does not change the kind of a packet of code words.
 pub kind-near : (w : PageIdValue) (sent got : List ℕ)
     → HasExactWords sent
     → AreNear sent got
@@ -61,14 +61,14 @@ kind-near w sent got exact near = grind (arith, nat_tests, address-near, header-
 
 -- ---- what excuses a space
 
--- What is so of a cell excuses a space in it.
+-- A hit in a cell excuses a space in it.
 excused_here : (class : ReceiverClass) (P : ℕ → ℕ → Type 0) (row column : ℕ)
     → column < 40
     → P row column
     → ExcusedBy class P row column
 excused_here class P row column below here = grind (arith, nat_tests)
 
--- An excuse goes over to what each cell of the row gives. Also for `NoiseLaws`.
+-- An excuse can be weakened cell by cell. Also for `NoiseLaws`.
 pub excused_as : (class : ReceiverClass) (P Q : ℕ → ℕ → Type 0) (row column : ℕ)
     → ((other : ℕ) → P row other → Q row other)
     → ExcusedBy class P row column
@@ -76,7 +76,7 @@ pub excused_as : (class : ReceiverClass) (P Q : ℕ → ℕ → Type 0) (row col
 excused_as Storing P Q row column gives excused = gives column excused
 excused_as Dropping P Q row column gives excused = grind (arith, nat_tests)
 
--- The byte is lost, by what arrives of a packet.
+-- The byte of a cell is lost, given what was received.
 abbrev pub Loses : List ℕ → Option (List ℕ) → ℕ → ℕ → Type 0
 Loses sent arrival row column = LosesByte sent arrival column
 
@@ -96,7 +96,7 @@ even_byte_of packet some = go (first_even_byte packet) refl some
         let found = first_below_is 40 (λ column. not (is_odd (text_byte packet column))) column e in
         (column, found.0, grind (arith, nat_tests))
 
--- A row that was odd, and is dropped, has lost a byte.
+-- A dropped row that was sent with odd parity has lost a byte.
 dropped_loses : (w : PageIdValue) (sent got : List ℕ) (row column : ℕ)
     → HasOddText sent
     → is_dropped w got ≡ true
@@ -105,8 +105,8 @@ dropped_loses w sent got row column odd drop = grind (arith, nat_tests, even_byt
 
 -- ---- one step
 
--- A cell gets the code that was sent; or the packet loses its byte, and the cell stays or becomes a
--- space.
+-- A cell takes the code that was sent; or the packet loses its byte, and the cell keeps its code or
+-- becomes a space.
 abbrev TakesCode :
     ReceiverClass → ℕ → ℕ → List ℕ → Option (List ℕ) → State → State → Type 0
 TakesCode class row column sent arrival old new =
@@ -115,7 +115,7 @@ TakesCode class row column sent arrival old new =
     × ((cell new.page row column ≡ cell old.page row column)
     ⊎ (cell new.page row column ≡ space)))
 
--- What becomes of a receiver, and of one cell of its page, at an item.
+-- How an item changes a receiver, and one cell of its page.
 record AtItem
     (keeps anew : Bool) (class : ReceiverClass) (w : PageIdValue) (row column : ℕ) (sent : List ℕ)
     (arrival : Option (List ℕ)) (old new : State)
@@ -123,19 +123,20 @@ record AtItem
   heard : new.heard ≡ (is_this_page (kind w sent) || old.heard)
   is_open : new.is_open
       ≡ (is_this_page (kind w sent) || (old.is_open && not (ends_page (kind w sent))))
-  -- A header with which the text begins erases the page, and so does each header in a receiver that
-  -- begins anew.
+  -- A header that starts a new text blanks the cell. So does each header in a receiver that starts
+  -- from a blank page.
   erased : (begins_text keeps (kind w sent) || (anew && is_this_page (kind w sent))) ≡ true
       → cell new.page row column ≡ space
-  -- At another header the cell stays, or becomes a space.
+  -- At another header the cell keeps its code or becomes a space.
   repeated : is_this_page (kind w sent) ≡ true
       → (cell new.page row column ≡ cell old.page row column)
       ⊎ (cell new.page row column ≡ space)
-  -- It stays but at headers of the page, and at packets of its row while the page is open.
+  -- Other packets than headers of the page, and packets of its row while the page is open, do not
+  -- change the cell.
   stays : is_this_page (kind w sent) ≡ false
       → (old.is_open && is_row row (kind w sent)) ≡ false
       → cell new.page row column ≡ cell old.page row column
-  -- There it takes the code that was sent.
+  -- A packet of its row while the page is open stores the code that was sent.
   stores : kind w sent ≡ Row row
       → old.is_open ≡ true
       → HasOddText sent
@@ -147,7 +148,7 @@ unfolding blank blank_row
 cell-blank row column named =
     grind (arith, nat_tests, get_or-replicate, get_or-replicate 40 column space 0 named.2)
 
--- It is so of a packet that is got and not dropped.
+-- `AtItem` holds for a packet that is received and not dropped.
 at_step : (keeps anew : Bool) (w : PageIdValue) (row column : ℕ) (sent got : List ℕ)
     (old new : State)
     → IsCell row column
@@ -161,7 +162,7 @@ at_step keeps anew w row column sent got old new named exact erases near step be
     let blanks = cell-blank row column named in
     grind (arith, nat_tests, kind-near, near_at, even_from_changed)
 
--- It is so of a packet that is lost.
+-- `AtItem` holds for a packet that is lost.
 at_lost : (keeps anew : Bool) (class : ReceiverClass) (w : PageIdValue) (row column : ℕ)
     (sent : List ℕ) (old : State)
     → IsCell row column
@@ -172,7 +173,7 @@ at_lost keeps anew class w row column sent old named may =
     let header = begins_is_header keeps (kind w sent) in
     grind (arith, nat_tests, excused_here)
 
--- It is so of a packet that is got.
+-- `AtItem` holds for a packet that is received.
 at_got : (keeps anew : Bool) (class : ReceiverClass) (w : PageIdValue) (row column : ℕ)
     (sent got : List ℕ) (old new : State)
     → IsCell row column
@@ -208,14 +209,14 @@ at_got keeps anew Dropping w row column sent got old new named exact erases near
 
 -- ---- a run
 
--- Of tests that pass together, each.
+-- Both tests of a conjunction pass.
 pub both_left : (x y : Bool) → (x && y) ≡ true → x ≡ true
 both_left x y e = grind (arith, nat_tests)
 
 pub both_right : (x y : Bool) → (x && y) ≡ true → y ≡ true
 both_right x y e = grind (arith, nat_tests)
 
--- One cell of the page, the code that it is to show, and what excuses a space in its place.
+-- One cell of the page, the code that it should show, and what excuses a space instead.
 module _ (keeps anew : Bool) (class : ReceiverClass) (w : PageIdValue) (row column code : ℕ)
     (Excuse : Type 0) where
   -- Each packet of the row in the long span is odd, and has the code at the column.
@@ -226,7 +227,7 @@ module _ (keeps anew : Bool) (class : ReceiverClass) (w : PageIdValue) (row colu
       → kind w item.0 ≡ Row row
       → HasOddText item.0 × (code_of (text_byte item.0 column) ≡ code)
 
-  -- Each packet of the row in the span gives an excuse where it loses its byte.
+  -- Each packet of the row in the span that loses its byte is an excuse.
   abbrev pub GiveExcuses : List Item → Type 0
   GiveExcuses items =
       (item : Item)
@@ -239,25 +240,25 @@ module _ (keeps anew : Bool) (class : ReceiverClass) (w : PageIdValue) (row colu
   abbrev pub WasBlank : State → Type 0
   WasBlank start = (start.is_open ≡ false) × (cell start.page row column ≡ space)
 
-  -- What the cell was before is forgotten.
+  -- The earlier code of the cell no longer matters.
   abbrev pub IsFreshCell : State → List Item → Type 0
   IsFreshCell start items =
       (anew ≡ true)
       ⊎ ((holds_beginning keeps (kind_of_item w) items ≡ true) ⊎ WasBlank start)
 
-  -- What has become of a receiver by these items.
+  -- The state of a receiver after these items.
   pub record Becomes (start : State) (items : List Item) (now : State) : Type 0 where
     pub heard : now.heard ≡ (holds_header (kind_of_item w) items || start.heard)
     pub is_open : (holds_header (kind_of_item w) items || not start.is_open) ≡ true
         → now.is_open ≡ is_open_after (kind_of_item w) items
     -- Before a header of the page, a page that is blank and not open stays so.
     pub waits : holds_header (kind_of_item w) items ≡ false → WasBlank start → WasBlank now
-    -- After one, the cell is the code or a space.
+    -- After a header, the cell has the code or a space.
     pub code_or_space : holds_header (kind_of_item w) items ≡ true
         → IsFreshCell start items
         → AreTargets items
         → (cell now.page row column ≡ code) ⊎ (cell now.page row column ≡ space)
-    -- And it is the code, or excused, or the span has no packet of the row.
+    -- It has the code, or is excused, or the span has no packet of the row.
     pub cell_is : holds_header (kind_of_item w) items ≡ true
         → IsFreshCell start items
         → AreTargets items
@@ -267,7 +268,7 @@ module _ (keeps anew : Bool) (class : ReceiverClass) (w : PageIdValue) (row colu
         ⊎ (list_any (λ (item : Item). is_row row (kind w item.0)) (span (kind_of_item w) items)
         ≡ false))
 
-  -- One item more.
+  -- One more item.
   module _ (start : State) (items : List Item) (sent : List ℕ) (arrival : Option (List ℕ))
       (old new : State) (at : AtItem keeps anew class w row column sent arrival old new)
       (was : Becomes start items old) where
@@ -283,7 +284,7 @@ module _ (keeps anew : Bool) (class : ReceiverClass) (w : PageIdValue) (row colu
     abbrev old_text : List Item
     old_text = text_span keeps K items
 
-    -- The packets before it are targets where all are, but at a header with which the text begins.
+    -- If all items have the code, so do those before the last, unless that starts a new text.
     targets_before : begins_text keeps (kind w sent) ≡ false
         → AreTargets (items ++ item ∷ [])
         → AreTargets items
@@ -292,7 +293,7 @@ module _ (keeps anew : Bool) (class : ReceiverClass) (w : PageIdValue) (row colu
         let more = Contains-append_left old_text (item ∷ []) x within in
         targets x (grind (arith, nat_tests))
 
-    -- They give excuses where all do, but at a header.
+    -- If all items give excuses, so do those before the last, unless that is a header.
     excuses_before : is_this_page (kind w sent) ≡ false
         → GiveExcuses (items ++ item ∷ [])
         → GiveExcuses items
@@ -301,7 +302,7 @@ module _ (keeps anew : Bool) (class : ReceiverClass) (w : PageIdValue) (row colu
         let more = Contains-append_left old_span (item ∷ []) x within in
         gives x (grind (arith, nat_tests))
 
-    -- The item is in both spans, where the page is open and it is a packet of the row.
+    -- The item is in both spans, if the page is open and the item is a packet of the row.
     among : kind w sent ≡ Row row
         → is_open_after K items ≡ true
         → Contains (text_span keeps K (items ++ item ∷ [])) item
@@ -314,14 +315,14 @@ module _ (keeps anew : Bool) (class : ReceiverClass) (w : PageIdValue) (row colu
         let k : K item ≡ Row row = is in
         (rw (in_text, k, up) last_text, rw (in_span, k, up) last_span)
 
-    -- It is fresh by the packets before it, where it is by all and the text does not begin here.
+    -- If the cell is fresh after all items, it was before the last, unless that starts a new text.
     fresh_before : begins_text keeps (kind w sent) ≡ false
         → IsFreshCell start (items ++ item ∷ [])
         → IsFreshCell start items
     fresh_before no_begin fresh = let more = beginning-push K keeps items item in
         grind (arith, nat_tests)
 
-    -- At a header: a space, or as it was.
+    -- At a header the cell becomes a space or keeps its code.
     coarse_at_header : is_this_page (kind w sent) ≡ true
         → IsFreshCell start (items ++ item ∷ [])
         → AreTargets (items ++ item ∷ [])
@@ -347,7 +348,7 @@ module _ (keeps anew : Bool) (class : ReceiverClass) (w : PageIdValue) (row colu
               ]
         ]
 
-    -- At a packet of its row.
+    -- At a packet of the row.
     coarse_at_packet : is_this_page (kind w sent) ≡ false
         → holds_header K items ≡ true
         → IsFreshCell start (items ++ item ∷ [])
@@ -368,7 +369,7 @@ module _ (keeps anew : Bool) (class : ReceiverClass) (w : PageIdValue) (row colu
     abbrev row_test : Item → Bool
     row_test x = is_row row (kind w x.0)
 
-    -- Where the span had no packet of the row, it has none after a packet of another one.
+    -- If the span had no packet of the row, it has none after a packet of another row.
     rows_stay : (is_open_after K items && is_row row (kind w sent)) ≡ false
         → list_any row_test old_span ≡ false
         → list_any row_test (span K (items ++ item ∷ [])) ≡ false
@@ -449,7 +450,7 @@ module _ (keeps anew : Bool) (class : ReceiverClass) (w : PageIdValue) (row colu
           ];
         }
 
-  -- No items leave it as it was.
+  -- No items change nothing.
   pub starts : (start : State) → Becomes start [] start
   starts start = record {
     heard = refl;
@@ -459,7 +460,7 @@ module _ (keeps anew : Bool) (class : ReceiverClass) (w : PageIdValue) (row colu
     cell_is = λ holds. grind arith;
   }
 
-  -- What is sent more, and kept or lost: by induction from the front, after any items.
+  -- A run over more items, each received or lost: by induction from the front, after any items.
   pub over : (start : State) (items : List Item) (sent : List (List ℕ)) (arrived : List Bool)
       (got : List (List ℕ)) (old new : State)
       → IsCell row column

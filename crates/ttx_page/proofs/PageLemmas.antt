@@ -1,4 +1,4 @@
--- What holds of pages: `is_page_blank`, and that pages with equal rows are equal.
+-- Properties of pages: `is_page_blank`, and that pages with equal rows are equal.
 use Rattle.std.proofs.Common.{rules, List, true, nat_lt, ltb-true, ◌≡◌, ℕ, ◌<◌, [], get_or}
 use Rattle.std.proofs.Common.{replicate, arith, sym, ◌∙◌}
 use Rattle.std.proofs.lemmas.Bool.Decides.{nat_tests}
@@ -8,7 +8,7 @@ use Rattle.std.specs.List.{list_all}
 use Rattle.std.proofs.lemmas.List.Sums.{AllPass-from_list_all}
 use Rattle.ttx_page.specs.Page.{Rows, blank, blank_row, AreCodes, IsPage, space}
 
--- Each code of rows of spaces is one. For `is_page_blank`.
+-- Each code of rows of spaces is below 128. For `is_page_blank`.
 codes_of_rows : (n m r c : ℕ) → get_or (get_or (replicate n (replicate m space)) r []) c 0 < 128
 codes_of_rows n m r c = grind (arith, nat_tests, get_or-replicate, get_or_past, length-replicate)
 
@@ -17,7 +17,7 @@ pub is_page_blank : IsPage blank
 unfolding blank blank_row
 is_page_blank = search (rules, length-replicate, get_or-replicate, codes_of_rows)
 
--- Pages with equal rows are equal; `x` and `y` are what their fields hold. For `first_difference`.
+-- Pages with equal rows are equal; `x` and `y` are their fields. For `first_difference`.
 pub same_pages : (a b x y : Rows)
     → x ≡ a
     → y ≡ b
@@ -28,7 +28,7 @@ pub same_pages : (a b x y : Rows)
 same_pages a b x y e f p q h =
     sym e ∙ ext_get_or [] x y (p.rows ∙ sym q.rows) (λ k below. h k (omega (arith, p.rows))) ∙ f
 
--- Codes that are written out are codes, by a test that computes. For literals, as in tests.
+-- Literal codes are below 128, by computation. For literals, as in tests.
 pub codes_from_test : (codes : List ℕ)
     → list_all (λ c. nat_lt c 128) codes ≡ true
     → AreCodes codes

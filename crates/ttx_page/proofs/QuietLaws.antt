@@ -1,5 +1,5 @@
--- Receivers that keep, with no wrong bit: each cell holds what is kept, `law_of_kept`; where no
--- repeat may keep, what is shown: `law_of_quiet`.
+-- Receivers that keep their page, without wrong bits: each cell has the code of `kept`,
+-- `law_of_kept`; if repeats must not keep, the code that is shown: `law_of_quiet`.
 use Rattle.std.proofs.Common.{◌≡◌, ℕ, ◌⊎◌, inl, inr, Bool, true, false, not, ◌&&◌, ◌||◌, cond, List}
 use Rattle.std.proofs.Common.{[], ◌∷◌, ◌++◌, Option, Contains, option_map}
 use Rattle.std.proofs.Common.{unwrap_or, IsFalse, refl, sym, ap, ◌∙◌, subst, arith}
@@ -30,7 +30,7 @@ use Rattle.ttx_page.proofs.TextSpan.{beginning-none_keeps, beginning-push, begin
 use Rattle.ttx_page.proofs.TextSpan.{begins_is_header, text_span-push}
 use Rattle.ttx_page.proofs.TextStart.{sends_of_sound}
 
--- What becomes of a cell of a receiver that keeps, at a packet.
+-- How a packet changes a cell of a receiver that keeps its page.
 record AtPacket
     (keeps : Bool) (w : PageIdValue) (row column : ℕ) (packet : List ℕ) (old new : State)
     : Type 0 where
@@ -64,7 +64,7 @@ module _ (keeps : Bool) (w : PageIdValue) (row column code : ℕ) where
       → kind w packet ≡ Row row
       → HasOddText packet × (code_of (text_byte packet column) ≡ code)
 
-  -- The text began with these packets, or the cell was a space and the page not open.
+  -- A new text started with these packets, or the cell was a space and the page not open.
   abbrev IsFreshCell : State → List (List ℕ) → Type 0
   IsFreshCell start packets =
       (holds_beginning keeps (kind w) packets ≡ true)
@@ -74,24 +74,24 @@ module _ (keeps : Bool) (w : PageIdValue) (row column code : ℕ) where
   abbrev test : List ℕ → Bool
   test p = is_row row (kind w p)
 
-  -- What has become of a receiver by these packets.
+  -- The state of a receiver after these packets.
   record Holds (start : State) (packets : List (List ℕ)) (now : State) : Type 0 where
     is_open : (holds_header (kind w) packets || not start.is_open) ≡ true
         → now.is_open ≡ is_open_after (kind w) packets
-    -- The cell is the code, or a space where the long span has no packet of the row.
+    -- The cell has the code, or a space if the long span has no packet of the row.
     cell_is : IsFreshCell start packets
         → AreTargets packets
         → (cell now.page row column ≡ code)
         ⊎ ((cell now.page row column ≡ space)
         × (list_any test (text_span keeps (kind w) packets) ≡ false))
 
-  -- One packet more.
+  -- One more packet.
   module _ (start : State) (packets : List (List ℕ)) (packet : List ℕ) (old new : State)
       (at : AtPacket keeps w row column packet old new) (was : Holds start packets old) where
     abbrev spanned : List (List ℕ)
     spanned = text_span keeps (kind w) packets
 
-    -- What becomes of the long span, where the text does not begin here.
+    -- How the long span changes, unless a new text starts here.
     pushed : (P : List (List ℕ) → Type 0)
         → begins_text keeps (kind w packet) ≡ false
         → (is_open_after (kind w) packets ≡ true → P (spanned ++ packet ∷ []))
@@ -126,7 +126,7 @@ module _ (keeps : Bool) (w : PageIdValue) (row column code : ℕ) where
     fresh_before no_begin fresh =
         let more = beginning-push (kind w) keeps packets packet in grind (arith, nat_tests)
 
-    -- The receiver is open as the page is.
+    -- The receiver's page is open exactly if it is after the packets.
     opened : IsFreshCell start packets → old.is_open ≡ is_open_after (kind w) packets
     opened fresh =
         let is = was.is_open in
@@ -144,7 +144,7 @@ module _ (keeps : Bool) (w : PageIdValue) (row column code : ℕ) where
         list_any-append test spanned (packet ∷ []) ∙ rw (none, other) refl)
         none
 
-    -- The packet is in the long span, where the page is open and it is a packet of the row.
+    -- The packet is in the long span, if the page is open and it is a packet of the row.
     among : kind w packet ≡ Row row
         → is_open_after (kind w) packets ≡ true
         → Contains (text_span keeps (kind w) (packets ++ packet ∷ [])) packet
@@ -153,7 +153,7 @@ module _ (keeps : Bool) (w : PageIdValue) (row column code : ℕ) where
         let last = Contains-push spanned packet in
         rw (in_text, is, up) last
 
-    -- The cell, at a packet with which the text does not begin.
+    -- The cell, at a packet that starts no new text.
     cell_goes_on : begins_text keeps (kind w packet) ≡ false
         → IsFreshCell start (packets ++ packet ∷ [])
         → AreTargets (packets ++ packet ∷ [])
@@ -216,7 +216,7 @@ module _ (keeps : Bool) (w : PageIdValue) (row column code : ℕ) where
 
 -- ---- the laws
 
--- With no wrong bit a receiver that keeps holds what is kept.
+-- Without wrong bits a receiver that keeps its page has the codes of `kept`.
 pub law_of_kept : LawOfKept
 law_of_kept keeps w sent old new sends hears fresh row column named =
     elim (end.cell_is fresh_cell targets) [
@@ -252,7 +252,7 @@ law_of_kept keeps w sent old new sends hears fresh row column named =
           named.2,
     )
 
--- Where no repeat may keep, it holds what is shown.
+-- If repeats must not keep, it has the codes that are shown.
 pub law_of_quiet : LawOfQuiet
 law_of_quiet w sent old new sound unheard shut hears heard row column named =
     let ends =

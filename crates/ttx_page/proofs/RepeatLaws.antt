@@ -1,5 +1,5 @@
--- The law of repeats, `law_of_repeats`, by what a run over items leaves; and that receivers that
--- keep are among those that may forget, `law_of_forgetting`.
+-- The law of repeats, `law_of_repeats`, from a run over items; and that receivers that keep their
+-- page are among those that may forget, `law_of_forgetting`.
 use Rattle.std.proofs.Common.{◌≡◌, ℕ, suc, ◌⊎◌, inl, inr, Bool, true, false}
 use Rattle.std.proofs.Common.{List, [], ◌∷◌, find, length, map, option_map, unwrap_or, zip, Option}
 use Rattle.std.proofs.Common.{Contains, refl, ap, ◌∙◌, arith}
@@ -38,7 +38,7 @@ length-arrivals_of (false ∷ ms) got = ap suc (length-arrivals_of ms got)
 length-arrivals_of (true ∷ ms) [] = ap suc (length-arrivals_of ms [])
 length-arrivals_of (true ∷ ms) (g ∷ gs) = ap suc (length-arrivals_of ms gs)
 
--- What is sent, with what arrives of it.
+-- The packets sent, with what was received of each.
 module _ (class : ReceiverClass) (w : PageIdValue) (sent : List (List ℕ)) (arrived : List Bool)
     (got : List (List ℕ)) (may : AllZip LosesNoHeader sent arrived)
     (near : AllZip AreNear (items_where_true arrived sent) got) where
@@ -59,7 +59,7 @@ module _ (class : ReceiverClass) (w : PageIdValue) (sent : List (List ℕ)) (arr
   span-items : span (kind w) sent ≡ map sent_of (span (kind_of_item w) items)
   span-items = ap (span (kind w)) sent-items ∙ span-map (kind w) sent_of items
 
-  -- And so it is of the long span.
+  -- The same for the long span.
   text-items : (keeps : Bool)
       → text_span keeps (kind w) sent ≡ map sent_of (text_span keeps (kind_of_item w) items)
   text-items keeps =
@@ -70,20 +70,20 @@ module _ (class : ReceiverClass) (w : PageIdValue) (sent : List (List ℕ)) (arr
       → Contains (text_span keeps (kind w) sent) item.0
   sent-in_text keeps item within = grind (arith, nat_tests, text-items, length-map, get_or-map)
 
-  -- The text begins with them where it begins with the packets.
+  -- The items start a new text exactly if the packets do.
   beginning-items : (keeps : Bool)
       → holds_beginning keeps (kind w) sent ≡ holds_beginning keeps (kind_of_item w) items
   beginning-items keeps = grind (arith, nat_tests, sent-items, list_any-map)
 
-  -- They hold a header of the page where the packets do.
+  -- They contain a header of the page exactly if the packets do.
   holds-items : holds_header (kind w) sent ≡ holds_header (kind_of_item w) items
   holds-items = grind (arith, nat_tests, sent-items, list_any-map)
 
-  -- Their span ends where that of the packets does.
+  -- Their span is ended exactly if that of the packets is.
   is_unended-items : is_unended (kind w) sent ≡ is_unended (kind_of_item w) items
   is_unended-items = grind (arith, nat_tests, sent-items, after-map, list_any-map, kind_of_item)
 
-  -- Their span has a packet of a row where that of the packets does.
+  -- Their span has a packet of a row exactly if that of the packets has one.
   row-items : (row : ℕ)
       → list_any (λ p. is_row row (kind w p)) (span (kind w) sent)
       ≡ list_any (λ (item : Item). is_row row (kind w item.0)) (span (kind_of_item w) items)
@@ -95,7 +95,7 @@ module _ (class : ReceiverClass) (w : PageIdValue) (sent : List (List ℕ)) (arr
     abbrev Excused : ℕ → ℕ → Type 0
     Excused = ExcusedBy class (IsHitOrLost w sent arrivals)
 
-    -- What has become of a receiver and of one cell.
+    -- The state of a receiver and of one cell.
     becomes : (row column : ℕ)
         → IsCell row column
         → Becomes keeps anew class w row column (text row column) (Excused row column) old items new
@@ -105,7 +105,7 @@ module _ (class : ReceiverClass) (w : PageIdValue) (sent : List (List ℕ)) (arr
         (recursion_from_All _ sent (λ k d l none. sends.erases none k d l)) may near hears
         (starts keeps anew class w row column (text row column) (Excused row column) old)
 
-    -- Each cell, after a header of the page, where what was before is forgotten.
+    -- Each cell, after a header of the page, once the earlier contents no longer matter.
     cell_kept :
         holds_header (kind w) sent ≡ true
         → IsFresh keeps anew w sent old
@@ -140,7 +140,7 @@ module _ (class : ReceiverClass) (w : PageIdValue) (sent : List (List ℕ)) (arr
         let rows = row-items row in
         grind (arith, nat_tests)
 
-    -- What has become of a receiver.
+    -- The final state of a receiver.
     pub ends : EndsForgetting keeps anew w sent text Excused old new
     ends =
         let end = becomes 1 0 (omega arith, omega arith, omega arith) in
@@ -154,12 +154,11 @@ module _ (class : ReceiverClass) (w : PageIdValue) (sent : List (List ℕ)) (arr
           cells = cell_kept;
         }
 
--- The law of repeats.
 pub law_of_repeats : LawOfRepeats
 law_of_repeats keeps anew class w sent arrived got text old new sends may near hears =
     ends class w sent arrived got may near keeps anew text old new sends hears
 
--- Where repeats may not keep, what is kept is what is shown. For a checker's laws.
+-- If repeats must not keep, the codes of `kept` are those shown. For a checker's laws.
 pub kept_shown : (w : PageIdValue) (packets : List (List ℕ)) (row column : ℕ)
     → kept false w packets row column ≡ shown w packets row column
 kept_shown w packets row column =
@@ -168,9 +167,9 @@ kept_shown w packets row column =
     (option_map (λ p. code_of (text_byte p column)) (find (λ p. is_row row (kind w p)) ps)) space)
     (text_span-none_keeps (kind w) packets)
 
--- ---- receivers that keep
+-- ---- receivers that keep their page
 
--- A step of one is a step of one that may forget.
+-- A step of such a receiver is a step of one that may forget.
 pub forgets : (class : ReceiverClass) (w : PageIdValue) (old : State) (packet : List ℕ)
     (new : State)
     → StepBy class w old packet new
@@ -178,7 +177,7 @@ pub forgets : (class : ReceiverClass) (w : PageIdValue) (old : State) (packet : 
 forgets Storing w old packet new step = grind (arith, nat_tests)
 forgets Dropping w old packet new step = grind (arith, nat_tests)
 
--- A receiver that keeps is one of those that may forget.
+-- A receiver that keeps its page is one of those that may forget.
 pub law_of_forgetting : LawOfForgetting
 law_of_forgetting class w packets old new hears =
     RunsBy-as (StepBy class w) (StepForgetting class false w) (λ s. s) packets old new

@@ -13,7 +13,7 @@ use Rattle.ttx_page.proofs.RunLemmas.{RunsBy-as}
 
 -- ---- a run
 
--- Where the page is not open, it is on the screen.
+-- If the page is not open, it is on the screen.
 abbrev IsSettled : Display → Type 0
 IsSettled d = IsFalse d.held.is_open → d.screen ≡ Some d.held.page
 
@@ -28,12 +28,11 @@ settles class anew w [] old new run was = rw run (was refl)
 settles class anew w (p ∷ ps) old new run was =
     settles class anew w ps run.0 new run.2 (λ none shut. grind (arith, nat_tests))
 
--- The law of the screen of a receiver that may forget.
 pub law_of_forgetting_screen : LawOfForgettingScreen
 law_of_forgetting_screen class anew w packets old new run holds shut =
     grind (arith, nat_tests, settles)
 
--- A receiver that keeps is one of these. Also for a checker's laws.
+-- A receiver that keeps its page is one of these. Also for a checker's laws.
 pub shows_forgetting :
     (class : ReceiverClass) (w : PageIdValue) (packets : List (List ℕ)) (old new : Display)
     → ShowsBy class w old packets new
@@ -43,7 +42,6 @@ shows_forgetting class w packets old new run =
     (λ before packet after step.
     (forgets class w before.held packet after.held step.0, step.1)) run
 
--- The law of the screen.
 pub law_of_screen : LawOfScreen
 law_of_screen class w packets old new run holds shut =
     law_of_forgetting_screen class false w packets old new
@@ -51,7 +49,7 @@ law_of_screen class w packets old new run holds shut =
 
 -- ---- for a checker's laws
 
--- What is held goes by the relation of receivers that may forget.
+-- The receiver's state follows the relation of receivers that may forget.
 pub held_forgetting :
     (class : ReceiverClass) (anew : Bool) (w : PageIdValue) (packets : List (List ℕ))
     (old new : Display)

@@ -1,4 +1,4 @@
--- The span by places: `law_of_span`.
+-- The span by its bounds: `law_of_span`.
 use Rattle.std.proofs.Common.{◌≡◌, ℕ, suc, ◌+◌, ◌-◌, ◌<◌, ◌≤◌, inl, inr, Bool, true, false, not}
 use Rattle.std.proofs.Common.{List, [], ◌∷◌, length, drop, take, get_or, slice_range, HoldsAt}
 use Rattle.std.proofs.Common.{IsTrue, All, refl, arith}
@@ -15,14 +15,14 @@ use Rattle.ttx_page.specs.Span.{holds_header, after_last_header, before_end, spa
 use Rattle.ttx_page.specs.Span.{LawOfSpan}
 use Rattle.ttx_page.proofs.SpanLists.{after-none}
 
--- Where none passes a test, each fails.
+-- If no element passes a test, each fails.
 all_fail : {A : Type 0} (test : A → Bool) (xs : List A)
     → list_any test xs ≡ false
     → All (λ x. test x ≡ false) xs
 all_fail test xs none k d below = grind (arith, nat_tests, list_any_at)
 
 module _ {A : Type 0} (kind_of : A → PacketKind) where
-  -- What stands before the end of the page, by its place.
+  -- The items before the end of the page, by its place.
   before-is : (xs : List A)
       → before_end kind_of xs ≡ take (position_or_len (λ x. ends_page (kind_of x)) xs) xs
   before-is [] = refl
@@ -39,7 +39,7 @@ module _ {A : Type 0} (kind_of : A → PacketKind) where
       × (holds_header kind_of (drop (suc h) xs) ≡ false)
       × (after_last_header kind_of xs ≡ drop (suc h) xs)
 
-  -- Where there is a header of the page there is a last one.
+  -- If there is a header of the page, there is a last one.
   last_header : (xs : List A) → holds_header kind_of xs ≡ true → (h : ℕ) × IsLast xs h
   last_header [] e = grind arith
   last_header (x ∷ xs) e = elim (cases_Bool (holds_header kind_of xs)) [
@@ -49,7 +49,7 @@ module _ {A : Type 0} (kind_of : A → PacketKind) where
     | inr none ↦ grind (arith, nat_tests)
   ]
 
-  -- The span after the last header, by its places.
+  -- The span after the last header, by its bounds.
   span-after : (xs : List A) (h : ℕ)
       → IsLast xs h
       → (from to : ℕ) × IsSpan kind_of xs from to × (span kind_of xs ≡ slice_range xs from to)
@@ -89,7 +89,6 @@ module _ {A : Type 0} (kind_of : A → PacketKind) where
       at : (k : ℕ) (d : A) → suc h ≤ k → get_or xs k d ≡ get_or rest (k - suc h) d
       at k d l = grind (arith, nat_tests, get_or-drop)
 
--- The law of the span by places.
 pub law_of_span : (A : Type 0) → LawOfSpan A
 law_of_span A kind_of items =
     grind (arith, nat_tests, cases_Bool, last_header, span-after, all_fail, after-none)

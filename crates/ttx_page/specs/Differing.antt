@@ -1,7 +1,7 @@
--- How many cells of two pages differ (own): a count that a checker can keep as rows are stored.
+-- The number of cells in which two pages differ (own). A checker can update it as rows are stored.
 --
--- The counts go by fixed numbers of rows and columns, so that no fact on the lengths of the lists
--- is needed: a page has at most 960 cells that differ.
+-- The recursion is over fixed numbers of rows and columns, so no lengths of lists are needed: at
+-- most 960 cells of a page differ.
 use Rattle.std.specs.Prelude.{ℕ, zero, suc, ◌+◌, List, [], ◌==◌, slice_index, slice_index_or}
 use Rattle.std.specs.Prelude.{if◌then◌else◌}
 use Rattle.ttx_page.specs.Page.{Rows}

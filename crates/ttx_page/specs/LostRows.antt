@@ -1,5 +1,4 @@
--- The law of noise where packets are lost too, any but page headers, and for receivers that drop
--- rows.
+-- The law of noise with loss of any packets but page headers, and for receivers that drop rows.
 use Rattle.std.specs.Prelude.{◌≡◌, ◌≢◌, ◌↔◌, ℕ, Bool, true, false, List, [], ◌∷◌, zip, All, Any}
 use Rattle.std.specs.Prelude.{Option, Some, None, IsTrue, IsFalse, ⊤}
 use Rattle.std.specs.List.{AllZip, items_where_true}
@@ -15,39 +14,39 @@ use Rattle.ttx_page.specs.Receiver.{HearsBy, ReceiverClass, State}
 use Rattle.ttx_page.specs.Shown.{IsHit}
 use Rattle.ttx_page.specs.Span.{span}
 
--- The packet has no packet number 0: it is no page header.
+-- The packet is no page header: its packet number is not 0.
 abbrev pub MayBeLost : List ℕ → Type 0
 MayBeLost packet = (a : PacketAddress) → address packet ≡ Some a → a.packet_number ≢ 0
 
--- Beside each packet stands whether it arrived. Page headers did.
+-- `arrives` says whether the packet arrived. Page headers always do.
 abbrev pub LosesNoHeader : List ℕ → Bool → Type 0
 LosesNoHeader sent arrives = IsFalse arrives → MayBeLost sent
 
--- What was got of each packet, where these were got of those that are kept: nothing where it was
--- lost.
+-- For each packet the bytes received, `None` if it was lost. `got` has those of the packets that
+-- arrived.
 abbrev pub arrivals_of : List Bool → List (List ℕ) → List (Option (List ℕ))
 arrivals_of [] got = []
 arrivals_of (false ∷ arrived) got = None ∷ arrivals_of arrived got
 arrivals_of (true ∷ arrived) [] = None ∷ arrivals_of arrived []
 arrivals_of (true ∷ arrived) (first ∷ got) = Some first ∷ arrivals_of arrived got
 
--- The packet was lost, or got with another byte at the column.
+-- The packet was lost, or received with a different byte at the column.
 abbrev pub LosesByte : List ℕ → Option (List ℕ) → ℕ → Type 0
 LosesByte sent None column = ⊤
 LosesByte sent (Some got) column = text_byte got column ≢ text_byte sent column
 
--- The byte of a cell was hit: some packet of its row in the span was lost, or got with another byte
--- at the column.
+-- The byte of a cell was hit: a packet of its row in the span was lost, or received with a
+-- different byte at the column.
 abbrev pub IsHitOrLost :
     PageIdValue → List (List ℕ) → List (Option (List ℕ)) → ℕ → ℕ → Type 0
 IsHitOrLost w sent arrivals row column =
     Any (λ pair. (kind w pair.0 ≡ Row row) × LosesByte pair.0 pair.1 column)
     (span (λ (pair : List ℕ × Option (List ℕ)). kind w pair.0) (zip sent arrivals))
 
--- The law of noise where any packets but page headers are lost, and what was got is near the list
--- of those that are kept: a cell of a lost row counts as hit. In receivers that drop rows a cell
--- counts as hit where any byte of a packet of its row was.
--- So here too noise never puts a wrong character on the screen.
+-- The law of noise if any packets but page headers are lost, and the others are received with at
+-- most one wrong bit in each byte. A cell of a lost row counts as hit. For receivers that drop
+-- rows, a cell counts as hit if any byte of a packet of its row was hit. So in this case too, noise
+-- never puts a wrong character on the screen.
 abbrev pub LawOfLostRows : Type 0
 LawOfLostRows =
     (class : ReceiverClass) (w : PageIdValue) (sent : List (List ℕ)) (arrived : List Bool)
@@ -60,10 +59,9 @@ LawOfLostRows =
     → HearsBy class w old got new
     → EndsAs w sent (ExcusedBy class (IsHitOrLost w sent (arrivals_of arrived got))) new
 
--- ---- with nothing lost
+-- ---- without loss
 
--- Where every packet is kept, the list of those that are kept and the hits are those of the law of
--- noise.
+-- If every packet arrives, the packets and the hits are those of the law of noise.
 pub record LosesNothing (w : PageIdValue) (sent : List (List ℕ)) (arrived : List Bool)
     : Type 0 where
   pub kept : items_where_true arrived sent ≡ sent
@@ -74,7 +72,7 @@ pub record LosesNothing (w : PageIdValue) (sent : List (List ℕ)) (arrived : Li
       → IsHitOrLost w sent (arrivals_of arrived got) row column
       ↔ IsHit w sent got row column
 
--- So the law of noise is the law of lost rows with nothing lost.
+-- So the law of noise is the law of lost rows without loss.
 abbrev pub LawOfNothingLost : Type 0
 LawOfNothingLost =
     (w : PageIdValue) (sent : List (List ℕ)) (arrived : List Bool)

@@ -1,5 +1,5 @@
--- The law of noise: what every receiver holds after packets that were sent with care, and got with
--- at most one wrong bit in each byte.
+-- The law of noise: the page of every receiver after well-formed packets with at most one wrong bit
+-- in each byte.
 use Rattle.std.specs.Prelude.{◌≡◌, ℕ, ◌<◌, ◌⊎◌, List, All, IsTrue, IsFalse}
 use Rattle.std.specs.List.{AllZip}
 use Rattle.ttx_packet.specs.declared.header.Header.{Header}
@@ -37,9 +37,9 @@ HasSameCodes w first second =
     → column < 40
     → code_of (text_byte first column) ≡ code_of (text_byte second column)
 
--- What is asked of the packets that are sent.
+-- The requirements on the packets that are sent.
 pub record IsSound (w : PageIdValue) (sent : List (List ℕ)) : Type 0 where
-  -- Addresses and headers are code words, with no bit wrong.
+  -- Addresses and headers are code words, without a wrong bit.
   pub exact : All HasExactWords sent
   -- Each header of the page erases it.
   pub erases : All (ErasesPage w) sent
@@ -48,15 +48,15 @@ pub record IsSound (w : PageIdValue) (sent : List (List ℕ)) : Type 0 where
   -- In the span two packets of one row have the same codes.
   pub same : All (λ first. All (HasSameCodes w first) (span (kind w) sent)) (span (kind w) sent)
 
--- What has become of a receiver that had not heard the page, and in which it was not open.
+-- The final state of a receiver that had not received the page, and whose page was not open.
 pub record EndsAs
     (w : PageIdValue) (sent : List (List ℕ)) (IsExcused : ℕ → ℕ → Type 0) (new : State)
     : Type 0 where
-  -- It has heard the page exactly where the packets hold a header of it.
+  -- It has received the page exactly if the packets contain a header of it.
   pub heard : new.heard ≡ holds_header (kind w) sent
-  -- The page is open exactly where it is heard, and no later header ended the span.
+  -- The page is open exactly if it was received, and no later header ended the span.
   pub is_open : new.is_open ≡ is_open_after (kind w) sent
-  -- Where it is heard, each cell is what is shown, or an excused space.
+  -- If it was received, each cell has the code that is shown, or an excused space.
   pub cells :
       IsTrue new.heard
       → (row column : ℕ)
@@ -64,9 +64,9 @@ pub record EndsAs
       → (cell new.page row column ≡ shown w sent row column)
       ⊎ ((cell new.page row column ≡ space) × IsExcused row column)
 
--- With at most one wrong bit in each byte, every receiver hears the page where a header of it was
--- sent, and each cell is then what was sent, or a space where its byte was hit.
--- So noise never puts a wrong character on the screen.
+-- With at most one wrong bit in each byte, every receiver receives the page if a header of it was
+-- sent. Each cell then has the code that was sent, or a space if its byte was hit. So noise never
+-- puts a wrong character on the screen.
 abbrev pub LawOfNoise : Type 0
 LawOfNoise =
     (w : PageIdValue) (sent got : List (List ℕ)) (old new : State)
@@ -77,7 +77,8 @@ LawOfNoise =
     → Hears w old got new
     → EndsAs w sent (IsHit w sent got) new
 
--- With no wrong bit each cell is what is shown, whatever the old page and the receiver's choices.
+-- Without wrong bits each cell has the code that is shown, whatever the old page and the receiver's
+-- choices.
 abbrev pub LawOfQuiet : Type 0
 LawOfQuiet =
     (w : PageIdValue) (sent : List (List ℕ)) (old new : State)

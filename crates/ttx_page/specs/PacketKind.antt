@@ -1,7 +1,8 @@
--- What a packet is to a receiver of one page (EN 300 706, page header and packets X/1 to X/24).
+-- The meaning of a packet for a receiver of one page (EN 300 706, page header and packets X/1 to
+-- X/24).
 --
--- Everything that the definitions ask of a packet goes by its kind alone: what a receiver does, the
--- span, what is shown, what was hit.
+-- All other definitions (the receiver's steps, the span, the codes shown, the hits) depend on a
+-- packet's header only through its kind.
 use Rattle.std.specs.Prelude.{ℕ, ◌&&◌, ◌||◌, not, Bool, true, false, List, Option, Some, None}
 use Rattle.std.specs.Prelude.{◌==◌, nat_le, if◌then◌else◌}
 use Rattle.ttx_packet.specs.declared.header.Header.{Header}
@@ -12,9 +13,9 @@ use Rattle.ttx_page.specs.declared.packet_kind.PacketKind.{PacketKind}
 use Rattle.ttx_page.specs.declared.packet_kind.PacketKind.TheVariants.{ThisPage, EndsPage, Row}
 use Rattle.ttx_page.specs.declared.packet_kind.PacketKind.TheVariants.{Other}
 
--- A packet X/0. Without a header it is nothing. In the page's magazine it is a header of the page,
--- or ends it. In another magazine it ends the page in serial mode, C11 set, and is nothing in
--- parallel mode, C11 clear.
+-- A packet X/0. Without a header it has no effect. In the page's magazine it is a header of the
+-- page, or ends the page. In another magazine it ends the page in serial mode, C11 set, and has no
+-- effect in parallel mode, C11 clear.
 abbrev pub kind_of_header : PageIdValue → ℕ → Option Header → PacketKind
 kind_of_header w magazine None = Other
 kind_of_header w magazine (Some h) =
@@ -22,7 +23,8 @@ kind_of_header w magazine (Some h) =
     then (if h.page == w.page then ThisPage h else EndsPage)
     else (if c11 h then EndsPage else Other)
 
--- A packet by its address and its header. Packets X/1 to X/24 of the page's magazine are its rows.
+-- The kind of a packet, by its address and its header. Packets X/1 to X/24 of the page's magazine
+-- are its rows.
 abbrev pub kind_at : PageIdValue → Option PacketAddress → Option Header → PacketKind
 kind_at w None h = Other
 kind_at w (Some a) h =
@@ -32,7 +34,7 @@ kind_at w (Some a) h =
     then Row a.packet_number
     else Other)
 
--- What a packet is to a receiver of the page.
+-- The kind of a packet for a receiver of the page.
 unfoldable pub kind : PageIdValue → List ℕ → PacketKind
 kind w packet = kind_at w (address packet) (header packet)
 
@@ -41,8 +43,8 @@ abbrev pub is_this_page : PacketKind → Bool
 is_this_page (ThisPage h) = true
 is_this_page _ = false
 
--- A header with which the text of the page begins: one that erases it, C4 set; where repeats may
--- not keep what was sent before them, each header of it.
+-- A header that starts a new text of the page: one that erases it, C4 set. If repeats must not keep
+-- earlier text, each header of the page does.
 abbrev pub begins_text : Bool → PacketKind → Bool
 begins_text keeps (ThisPage h) = c4 h || not keeps
 begins_text keeps _ = false

@@ -14,7 +14,7 @@ space = 0x20
 unfoldable pub blank_row : List ℕ
 blank_row = replicate 40 space
 
--- The page that erase page, C4, leaves: 24 rows of spaces.
+-- The page after erase page, C4: 24 rows of spaces.
 unfoldable pub blank : Rows
 blank = replicate 24 blank_row
 
@@ -26,11 +26,11 @@ row_at page row = slice_index_or page (row - 1) []
 abbrev pub cell : Rows → ℕ → ℕ → ℕ
 cell page row column = slice_index (row_at page row) column
 
--- The number names a row of a page.
+-- The number is that of a row of a page.
 abbrev pub IsRow : ℕ → Type 0
 IsRow row = (1 ≤ row) × (row ≤ 24)
 
--- The two numbers name a cell of a page.
+-- The two numbers are those of a cell of a page.
 abbrev pub IsCell : ℕ → ℕ → Type 0
 IsCell row column = (1 ≤ row) × (row ≤ 24) × (column < 40)
 
@@ -48,8 +48,8 @@ pub record IsPage (page : Rows) : Type 0 where
   pub columns : (i : ℕ) → i < 24 → length (slice_index_or page i []) ≡ 40
   pub codes : (i : ℕ) → AreCodes (slice_index_or page i [])
 
--- Two pages differ in this cell, and in no cell before it: none of a row above, and none in the
--- same row to the left.
+-- Two pages differ in this cell, but in no row above it and in no cell to the left of it in the
+-- same row.
 pub record DiffersFirst (a b : Rows) (row column : ℕ) : Type 0 where
   pub is_cell : IsCell row column
   pub differ : cell a row column ≢ cell b row column

@@ -1,6 +1,6 @@
--- The law of noise for any state before. A receiver on air has always heard something: another
--- transmission, a burst of noise, a page whose header was lost. From the next header of its page on
--- nothing of that is left.
+-- The law of noise from any state. A receiver on air has always received something before: another
+-- transmission, a burst of noise, a page without its header. From the next header of its page on,
+-- none of that has an effect.
 use Rattle.std.specs.Prelude.{◌≡◌, ℕ, ◌⊎◌, Bool, List, IsTrue}
 use Rattle.std.specs.List.{AllZip, items_where_true}
 use Rattle.ttx_packet.specs.OneBit.{AreNear}
@@ -14,23 +14,23 @@ use Rattle.ttx_page.specs.Receiver.{HearsBy, ReceiverClass, State}
 use Rattle.ttx_page.specs.Shown.{shown}
 use Rattle.ttx_page.specs.Span.{holds_header, is_unended}
 
--- What has become of a receiver, whatever it was before, by packets that hold a header of its page.
+-- The final state of a receiver in any earlier state, if the packets contain a header of its page.
 pub record EndsAfresh
     (w : PageIdValue) (sent : List (List ℕ)) (IsExcused : ℕ → ℕ → Type 0) (new : State)
     : Type 0 where
-  -- It has heard the page.
+  -- It has received the page.
   pub heard : IsTrue new.heard
-  -- The page is open exactly where no header after its last one ends the span.
+  -- The page is open exactly if no header after the last one of the page ends the span.
   pub is_open : new.is_open ≡ is_unended (kind w) sent
-  -- Each cell is what is shown, or an excused space.
+  -- Each cell has the code that is shown, or an excused space.
   pub cells :
       (row column : ℕ)
       → IsCell row column
       → (cell new.page row column ≡ shown w sent row column)
       ⊎ ((cell new.page row column ≡ space) × IsExcused row column)
 
--- Whatever a receiver held before, heard or not, open or not, with any page: once a header of its
--- page was sent, it holds what the law of lost rows says.
+-- From any state (the page received or not, open or not, with any contents): if a header of its
+-- page was sent, a receiver decodes what the law of lost rows says.
 abbrev pub LawOfRecovery : Type 0
 LawOfRecovery =
     (class : ReceiverClass) (w : PageIdValue) (sent : List (List ℕ)) (arrived : List Bool)

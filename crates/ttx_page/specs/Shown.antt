@@ -1,4 +1,4 @@
--- What a list of packets shows of a page, and which of its cells noise has hit.
+-- The codes that a list of packets shows on a page, and the cells that noise has hit.
 use Rattle.std.specs.Prelude.{◌≡◌, ◌≢◌, ℕ, Bool, List, Any, find, zip, option_map, unwrap_or}
 use Rattle.ttx_packet.specs.Parity.{code_of}
 use Rattle.ttx_packet.specs.PageId.{PageIdValue}
@@ -8,8 +8,8 @@ use Rattle.ttx_page.specs.Page.{space}
 use Rattle.ttx_page.specs.PacketKind.{kind, is_row}
 use Rattle.ttx_page.specs.Span.{span, text_span}
 
--- What a cell shows: the code in the first packet of its row in the span; a space where there is
--- none.
+-- The code that a cell shows: that of the first packet of its row in the span, or a space if there
+-- is none.
 abbrev pub shown : PageIdValue → List (List ℕ) → ℕ → ℕ → ℕ
 shown w packets row column =
     unwrap_or
@@ -17,9 +17,8 @@ shown w packets row column =
     (find (λ p. is_row row (kind w p)) (span (kind w) packets)))
     space
 
--- What is kept in a cell where repeats may keep what was sent before them: the code in the first
--- packet of its row in the long span; a space where there is none. Where they may not it is what
--- the cell shows.
+-- The code of a cell if repeats may keep earlier text: that of the first packet of its row in the
+-- long span, or a space if there is none. If they must not, it is the code that the cell shows.
 abbrev pub kept : Bool → PageIdValue → List (List ℕ) → ℕ → ℕ → ℕ
 kept keeps w packets row column =
     unwrap_or
@@ -27,8 +26,8 @@ kept keeps w packets row column =
     (find (λ p. is_row row (kind w p)) (text_span keeps (kind w) packets)))
     space
 
--- The byte of a cell was hit: at some packet of its row in the span of what was sent, the packet at
--- the same place of what was got has another byte at the column.
+-- The byte of a cell was hit: for some packet of its row in the span, the received packet has a
+-- different byte at the column.
 abbrev pub IsHit : PageIdValue → List (List ℕ) → List (List ℕ) → ℕ → ℕ → Type 0
 IsHit w sent got row column =
     Any (λ pair. (kind w pair.0 ≡ Row row) × (text_byte pair.1 column ≢ text_byte pair.0 column))

@@ -1,4 +1,4 @@
-//! How many cells differ: a count that a checker keeps as rows are stored.
+//! The number of differing cells, which a checker updates as rows are stored.
 ghost use Rattle.std.specs.Prelude.{◌≡◌, ◌≤◌};
 ghost use Rattle.ttx_page.specs.Differing.{row_differing};
 
@@ -6,9 +6,9 @@ mod lanes;
 
 use self::lanes::{differing_of_8, differing_of_16};
 
-/// How many of the 40 columns of two rows differ.
+/// Returns how many of the 40 columns of two rows differ.
 ///
-/// Where one row of a page is stored anew, the page's count changes by what this changes.
+/// When a row of a page is replaced, the count for the page changes by the change of this number.
 #[inline(always)]
 pub fn differing_columns(a: &[u8; 40], b: &[u8; 40]) -> u16
     ensures value { result ≡ row_differing a.now b.now }

@@ -1,4 +1,4 @@
-//! The receiver that drops a row where one of its bytes has even parity.
+//! The receiver that drops a row if one of its bytes has even parity.
 ghost use Rattle.std.specs.Prelude.{◌≡◌, false};
 ghost use Rattle.ttx_page.specs.Receiver.{HearsBy, StepBy, is_dropped};
 ghost use Rattle.ttx_page.specs.Receiver.ReceiverClass.{Dropping};
@@ -9,11 +9,11 @@ use crate::page::Page;
 use std::marker::Model;
 use ttx_packet::{Packet, PageId};
 
-/// A receiver that passes over a whole row where one of its 40 data bytes has even parity, so that
-/// the row keeps what it held; at every other packet it is as `Keep`.
+/// A receiver that ignores a whole row if one of its 40 data bytes has even parity; the row on the
+/// page does not change. For all other packets it behaves like `Keep`.
 ///
-/// Decoders in the field do so. It is no `Receiver`: that relation stores the odd bytes of a row
-/// that is hit. Its own relation stands beside that one, in `specs/Receiver`.
+/// Some decoders in the field do this. It does not implement `Receiver`, because that relation
+/// stores the odd bytes of a damaged row. Its own relation is also in `specs/Receiver`.
 #[derive(Debug, Drop)]
 pub struct DropRow {
     memory: Memory,
@@ -30,8 +30,8 @@ impl Model for DropRow {
 }
 
 impl DropRow {
-    /// A receiver of `page_id` that has heard nothing yet, its page not open, holding `page`: what
-    /// it showed before, which may be anything.
+    /// Creates a receiver of `page_id` that has received nothing. Its page is not open and has the
+    /// contents of `page`, which may be anything it showed before.
     pub fn tune(page_id: PageId, page: Page) -> DropRow
         ensures tuned { result.watched ≡ page_id }
         ensures state { result.state
@@ -42,36 +42,36 @@ impl DropRow {
         }
     }
 
-    /// The page that the receiver is tuned to.
+    /// Returns the page to which the receiver is tuned.
     pub fn watched(&self) -> PageId
         ensures { result ≡ self.now.watched }
     {
         self.memory.watched
     }
 
-    /// Whether a header of the page was heard since `tune`.
+    /// Returns whether a header of the page was received since `tune`.
     pub fn heard(&self) -> bool
         ensures { result ≡ self.now.state.heard }
     {
         self.memory.heard
     }
 
-    /// Whether rows of the page's magazine are stored now: a header of the page was heard, and none
-    /// that ended it since.
+    /// Returns whether rows of the page's magazine are being stored: a header of the page was
+    /// received, and no later header ended the page.
     pub fn open(&self) -> bool
         ensures { result ≡ self.now.state.is_open }
     {
         self.memory.is_open
     }
 
-    /// The page that the receiver holds.
+    /// Returns the contents of the receiver's page.
     pub fn page(&self) -> &Page
         ensures { result.now ≡ self.now.state.page }
     {
         &self.memory.page
     }
 
-    /// Hears a packet: one step of the relation of receivers that drop rows.
+    /// Receives a packet: one step of the relation for receivers that drop rows.
     pub fn hear(&mut self, packet: &Packet)
         ensures step { StepBy Dropping self.old.watched self.old.state packet.now self.new.state }
         ensures tuned { self.new.watched ≡ self.old.watched }
@@ -81,7 +81,7 @@ impl DropRow {
         }
     }
 
-    /// Hears packets, one after another.
+    /// Receives packets in order.
     #[tactic(auto, using(crate::proofs::RunLemmas::run_more))]
     pub fn hear_all(&mut self, packets: &[Packet])
         ensures run { HearsBy Dropping self.old.watched self.old.state packets.now self.new.state }
@@ -93,8 +93,8 @@ impl DropRow {
     }
 }
 
-/// Whether a packet is a row of the page's magazine with a byte of even parity: one that `DropRow`
-/// passes over.
+/// Returns whether a packet is a row of the page's magazine with a byte of even parity, which
+/// `DropRow` ignores.
 pub fn is_dropped(page_id: PageId, packet: &Packet) -> bool
     ensures { result ≡ is_dropped page_id packet.now }
 {

@@ -1,11 +1,11 @@
-//! The receiver that leaves a cell as it was where its byte has even parity.
+//! The receiver that keeps a cell if its byte has even parity.
 use crate::memory::{EvenByte, Memory};
 use crate::page::Page;
 use crate::receiver::Receiver;
 use std::marker::Model;
 use ttx_packet::{Packet, PageId};
 
-/// A receiver that leaves a cell as it was where its byte has even parity.
+/// A receiver that keeps the old code of a cell if the cell's byte has even parity.
 #[derive(Debug, Drop)]
 pub struct Keep {
     memory: Memory,
@@ -50,7 +50,8 @@ impl Receiver for Keep {
         &self.memory.page
     }
 
-    /// One step of the receiver relation, in which each cell whose byte is even stays as it was.
+    /// Makes one step of the receiver relation. Each cell whose byte has even parity keeps its
+    /// code.
     fn hear(&mut self, packet: &Packet) {
         self.memory.hear(packet, EvenByte::KeepsCell);
     }

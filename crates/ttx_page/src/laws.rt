@@ -1,7 +1,7 @@
-//! What a list of packets shows, and what every receiver makes of it where bytes are hit and rows
-//! lost.
+//! What a list of packets shows, and what every receiver decodes if bytes have wrong bits and rows
+//! are lost.
 //!
-//! The functions do nothing: the contract of each is a law over the definitions of `specs/`.
+//! The functions do nothing: the contract of each is a law about the definitions in `specs/`.
 ghost use Rattle.ttx_page.specs.DroppedRows.{LawOfDropping};
 ghost use Rattle.ttx_page.specs.LostRows.{LawOfLostRows, LawOfNothingLost};
 ghost use Rattle.ttx_page.specs.Noise.{LawOfNoise, LawOfQuiet};
@@ -11,64 +11,64 @@ ghost use Rattle.ttx_page.specs.Repeats.{LawOfRepeats};
 ghost use Rattle.ttx_page.specs.Screen.{LawOfScreen};
 ghost use Rattle.ttx_page.specs.Span.{LawOfSpan};
 
-/// The span is the part of a list from the place after the last header of the page to the first
-/// later header that ends the page, or to the end of the list: each item of it, in its order.
+/// The span is the part of a list from the item after the last header of the page to the first
+/// later header that ends the page, or to the end of the list. It has all these items, in order.
 ///
-/// The items `T` are packets, or packets with something beside each.
+/// The items `T` are packets, or packets with additional data.
 #[tactic(auto, using(crate::proofs::SpanPlaces::law_of_span))]
 pub fn law_of_span<T>()
     ensures { LawOfSpan T }
 {}
 
-/// With at most one wrong bit in each byte, a receiver that heard a header of the page holds in
-/// each cell what was sent, or a space where the cell's byte was hit.
+/// With at most one wrong bit in each byte, a receiver that has received a header of the page has
+/// in each cell the code that was sent, or a space if the cell's byte was hit.
 #[tactic(auto, using(crate::proofs::NoiseLaws::law_of_noise))]
 pub fn law_of_noise()
     ensures { LawOfNoise }
 {}
 
-/// With no wrong bit it holds what was sent, whatever it held before.
+/// Without wrong bits it has exactly the codes that were sent, whatever was on the page before.
 #[tactic(auto, using(crate::proofs::QuietLaws::law_of_quiet))]
 pub fn law_of_quiet()
     ensures { LawOfQuiet }
 {}
 
-/// The law of noise where any packets but page headers are lost: beside each packet stands whether
-/// it arrived; and receivers may drop rows. A cell of a lost row counts as hit, and where rows are
-/// dropped each cell of a row of which a byte was hit.
+/// The law of noise with loss of any packets but page headers (a flag for each packet says whether
+/// it arrived), and also for receivers that drop rows. A cell of a lost row counts as hit; if rows
+/// are dropped, so does each cell of a row with a byte that was hit.
 #[tactic(auto, using(crate::proofs::NoiseLaws::law_of_lost_rows))]
 pub fn law_of_lost_rows()
     ensures { LawOfLostRows }
 {}
 
-/// The law of lost rows with nothing lost is the law of noise.
+/// If nothing is lost, the law of lost rows is the law of noise.
 pub fn law_of_nothing_lost()
     ensures { LawOfNothingLost }
 {}
 
-/// What a receiver that drops rows holds and shows is what a receiver of the relation holds and
-/// shows of the same list with the dropped rows left out.
+/// A receiver that drops rows decodes and shows the same as a receiver of the relation that is
+/// given the list without the dropped rows.
 pub fn law_of_dropping()
     ensures { LawOfDropping }
 {}
 
-/// The law of lost rows for any state before: whatever a receiver held, once a header of its page
-/// was sent, each cell holds what was sent, or a space where the cell's byte was hit or lost.
+/// The law of lost rows from any state: whatever was decoded before, after a header of the page
+/// each cell has the code that was sent, or a space if its byte was hit or lost.
 #[tactic(auto, using(crate::proofs::NoiseLaws::law_of_recovery))]
 pub fn law_of_recovery()
     ensures { LawOfRecovery }
 {}
 
-/// Whatever a receiver held and showed before: where it has heard a header of its page, and the
-/// page is not open, the page that it holds is on its screen.
+/// From any state: if a receiver has received a header of its page, and the page is not open, the
+/// decoded page is on its screen.
 #[tactic(auto, using(crate::proofs::ScreenLaws::law_of_screen))]
 pub fn law_of_screen()
     ensures { LawOfScreen }
 {}
 
-/// Where repeats may keep the page: whatever a receiver does at a header that does not erase it, it
-/// hears its page as ever; and where what it held before is forgotten, each cell has the code of
-/// the text that is sent, or a space, which the next repeat mends.
+/// Repeats that do not erase the page. Whatever a receiver does at a header without C4, it receives
+/// its page as before. Once the earlier contents of the page no longer matter, each cell has the
+/// code that is sent, or a space that the next repeat fills.
 pub fn law_of_repeats()
     ensures { LawOfRepeats }
 {}
@@ -79,14 +79,15 @@ pub fn law_of_forgetting()
     ensures { LawOfForgetting }
 {}
 
-/// With no wrong bit such a receiver holds what is kept, where what it held before is forgotten.
+/// Without wrong bits such a receiver has all the codes that were sent, once the earlier contents
+/// of the page no longer matter.
 #[tactic(auto, using(crate::proofs::QuietLaws::law_of_kept))]
 pub fn law_of_kept()
     ensures { LawOfKept }
 {}
 
-/// Whatever such a receiver held and showed before: where it has heard a header of its page, and
-/// the page is not open, the page that it holds is on its screen.
+/// From any state of such a receiver: if it has received a header of its page, and the page is not
+/// open, the decoded page is on its screen.
 #[tactic(auto, using(crate::proofs::ScreenLaws::law_of_forgetting_screen))]
 pub fn law_of_forgetting_screen()
     ensures { LawOfForgettingScreen }

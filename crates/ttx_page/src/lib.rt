@@ -1,6 +1,6 @@
-//! Teletext pages, model receivers, and what noise and lost rows leave of a page.
+//! Teletext pages, model receivers, and how noise and lost rows affect a page.
 //!
-//! Stands on `ttx_packet`; the planner and the checker stand on this crate. A page:
+//! Builds on `ttx_packet`; the planner and the checker build on this crate. A page:
 //!
 //! ```rust
 //! let mut page = Page::blank();

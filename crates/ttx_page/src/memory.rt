@@ -1,4 +1,5 @@
-//! What every receiver holds, and the steps that all share; the choice at an even byte is a value.
+//! The state of all receivers and the steps that they share. The choice at a byte of even parity is
+//! a value.
 ghost use Rattle.std.specs.Prelude.{◌≡◌, ◌+◌, ◌<◌, ℕ, false, slice_index};
 ghost use Rattle.ttx_packet.specs.PageHeader.{c4};
 ghost use Rattle.ttx_page.specs.Memory.{chosen, code_after, state_of};
@@ -10,16 +11,16 @@ use crate::page::Page;
 use bitflags::Flags;
 use ttx_packet::{Control, Header, Packet, PageId, is_odd};
 
-/// What becomes of a cell whose byte has even parity.
+/// What happens to a cell if its byte has even parity.
 #[derive(Clone, Copy, Debug, PartialEq, Eq)]
 pub enum EvenByte {
-    /// The cell stays as it was.
+    /// The cell keeps its code.
     KeepsCell,
     /// The cell becomes a space.
     BlanksCell,
 }
 
-/// The page that a receiver is tuned to, and its state.
+/// The page to which a receiver is tuned, and its state.
 #[derive(Debug, Drop)]
 pub struct Memory {
     pub watched: PageId,
@@ -29,7 +30,7 @@ pub struct Memory {
 }
 
 impl Memory {
-    /// A memory that has heard nothing, not open.
+    /// Creates a state in which nothing was received and the page is not open.
     pub fn new(watched: PageId, page: Page) -> Memory
         ensures { result
             ≡ record { watched = watched; heard = false; is_open = false; page = page } }
@@ -42,7 +43,8 @@ impl Memory {
         }
     }
 
-    /// Hears a packet: one step of the receiver relation, with this choice at each even byte.
+    /// Receives a packet: one step of the receiver relation, with this choice at each byte of even
+    /// parity.
     pub fn hear(&mut self, packet: &Packet, even: EvenByte)
         ensures step { Step self.old.watched (state_of self.old) packet.now (state_of self.new) }
         ensures chosen { AtEvenBytes (λ was is. is ≡ chosen even was) self.old.watched
@@ -76,7 +78,7 @@ fn erases_page(header: &Header) -> bool
     header.control.contains(Control::C4)
 }
 
-// The codes of a row after a packet of it: 40 cells, each by its byte.
+// Returns the 40 codes of a row after a packet for it.
 fn stored(was: &[u8; 40], packet: &[u8; 42], even: EvenByte) -> [u8; 40]
     requires { AreCodes was.now }
     ensures value { (column : ℕ) → column < 40 → slice_index result column
@@ -90,7 +92,7 @@ fn stored(was: &[u8; 40], packet: &[u8; 42], even: EvenByte) -> [u8; 40]
     codes
 }
 
-// The code of a cell after a byte of its row.
+// Returns the code of a cell after a byte of its row.
 fn code_after(even: EvenByte, byte: u8, was: u8) -> u8
     requires { was < 128 }
     ensures value { result ≡ code_after even byte was }

@@ -1,22 +1,23 @@
-//! What a packet is to a receiver of one page.
+//! The meaning of a packet for a receiver of one page.
 ghost use Rattle.std.specs.Prelude.{◌≡◌, ◌≤◌, ℕ};
 ghost use Rattle.ttx_packet.specs.PageHeader.{c11};
 
 use bitflags::Flags;
 use ttx_packet::{Control, Header, Packet, PageId};
 
-/// What a packet is to a receiver of one page (EN 300 706, page header and packets X/1 to X/24).
+/// The meaning of a packet for a receiver of one page (EN 300 706, page header and packets X/1 to
+/// X/24).
 #[derive(Clone, Copy, Debug, PartialEq, Eq)]
 pub enum PacketKind {
     /// A header of the page.
     ThisPage(Header),
-    /// A header that ends the page: another header of its magazine, or one of another magazine with
-    /// C11, magazine serial, set.
+    /// A header that ends the page: a header of another page in its magazine, or a header in
+    /// another magazine with C11, magazine serial, set.
     EndsPage,
     /// A row of the page's magazine, 1 to 24.
     Row(u8),
-    /// Any other packet, among them one whose address decodes to nothing, and a packet X/0 of which
-    /// one of the eight coded bytes does.
+    /// Any other packet. This includes packets whose address cannot be decoded, and packets X/0
+    /// with a coded byte that cannot be decoded.
     Other,
 }
 
@@ -25,9 +26,9 @@ impl PacketKind {
     ghost use Rattle.ttx_page.specs.PacketKind.{kind};
     ghost use Rattle.ttx_packet.specs.PageHeader.{header};
 
-    /// What a packet is to a receiver of a page.
+    /// Returns the meaning of a packet for a receiver of the page `watched`.
     ///
-    /// It is built into its callers: a receiver looks at no more of a header than C4.
+    /// It is inlined, since a receiver uses only C4 of a header.
     #[inline(always)]
     pub fn of(watched: PageId, packet: &Packet) -> PacketKind
         ensures value { result ≡ kind watched packet.now }
@@ -36,10 +37,10 @@ impl PacketKind {
         PacketKind::with_header(watched, packet).0
     }
 
-    /// What a packet is to a receiver of a page, and its page header, of whatever page: `None`
-    /// where the packet has none. For a caller that looks at every header.
+    /// Returns the meaning of a packet and its page header, of whatever page (`None` if it has
+    /// none), for callers that inspect every header.
     ///
-    /// It reads the address once, and the coded bytes of a header alone.
+    /// Reads the address only once, and the coded bytes only in a packet X/0.
     #[inline(always)]
     pub fn with_header(watched: PageId, packet: &Packet) -> (PacketKind, Option<Header>)
         ensures kind { result.0 ≡ kind watched packet.now }
@@ -73,7 +74,7 @@ impl PacketKind {
     }
 }
 
-// C11, magazine serial: a header of any magazine ends the page of another.
+// C11, magazine serial: a header in one magazine ends pages of all magazines.
 fn is_serial(header: &Header) -> bool
     ensures { result ≡ c11 header.now }
 {

@@ -1,4 +1,4 @@
-//! A page: the 24 rows under the page header, each of 40 codes.
+//! Pages: the 24 rows under the page header, with 40 codes each.
 ghost use Rattle.std.specs.Prelude.{◌≡◌, ◌≢◌, ℕ, ◌-◌, ◌<◌, ◌≤◌, slice_index, slice_set};
 ghost use Rattle.std.specs.Prelude.{IsTrue, MatchOption};
 ghost use Rattle.ttx_page.specs.Differing.{differing};
@@ -14,8 +14,8 @@ use std::marker::Model;
 
 /// Rows 1 to 24 of a page (EN 300 706, packets X/1 to X/24), columns 0 to 39.
 ///
-/// A cell holds the 7 bits of a character or spacing attribute, without its parity bit. Row 0,
-/// the page header, is no part of it. Contracts see the list of the rows.
+/// A cell has the 7 bits of a character or spacing attribute, without its parity bit. Row 0, the
+/// page header, is not included. The model is the list of rows.
 #[derive(Clone, Copy, PartialEq, Eq, Debug)]
 pub struct Page {
     // Row 1 comes first.
@@ -36,7 +36,7 @@ impl Model for Page {
 }
 
 impl Page {
-    /// The page of spaces, code 20, as the erase page bit C4 leaves it.
+    /// Returns the page of spaces, code 20, that erase page, C4, leaves.
     #[tactic(auto, unfolding(crate::specs::Page::blank, crate::specs::Page::blank_row))]
     pub fn blank() -> Page
         ensures { result ≡ blank }
@@ -46,7 +46,7 @@ impl Page {
         }
     }
 
-    /// The code in a cell: row 1 to 24, column 0 to 39.
+    /// Returns the code of the cell at row 1 to 24 and column 0 to 39.
     pub fn cell(&self, row: u8, column: u8) -> u8
         requires { IsCell row column }
         ensures value { result ≡ cell self.now row column }
@@ -55,9 +55,9 @@ impl Page {
         self.rows[row as usize - 1][column as usize]
     }
 
-    /// The 40 codes of a row, 1 to 24, from column 0 on.
+    /// Returns the 40 codes of a row, 1 to 24, from column 0 on.
     ///
-    /// It also tells a caller's proof that the page has its shape: `page`.
+    /// Its clause `page` also gives callers' proofs the shape of the page.
     pub fn row(&self, row: u8) -> &[u8; 40]
         requires { IsRow row }
         ensures value { result.now ≡ row_at self.now row }
@@ -67,7 +67,7 @@ impl Page {
         &self.rows[row as usize - 1]
     }
 
-    /// Puts 40 codes, each below 128, in the place of a row, 1 to 24. The other rows stay.
+    /// Replaces a row, 1 to 24, by 40 codes below 128. The other rows do not change.
     pub fn set_row(&mut self, row: u8, codes: &[u8; 40])
         requires row { IsRow row }
         requires codes { AreCodes codes.now }
@@ -76,9 +76,10 @@ impl Page {
         self.rows[row as usize - 1] = *codes;
     }
 
-    /// The first cell in which two pages differ: the least row, then the least column.
+    /// Returns the row and column of the first cell in which two pages differ: the least row, then
+    /// the least column.
     ///
-    /// `None` where they are equal.
+    /// Returns `None` if they are equal.
     pub fn first_difference(&self, other: &Page) -> Option<(u8, u8)>
         ensures { MatchOption result (self.now ≡ other.now)
             (λ at. DiffersFirst self.now other.now at.0 at.1) }
@@ -91,8 +92,7 @@ impl Page {
         None
     }
 
-    /// How many of the 960 cells hold another code than a space: in how many the blank page is
-    /// another.
+    /// Returns how many of the 960 cells differ from a space, and so from the blank page.
     #[tactic(auto, unfolding(crate::specs::Differing::rows_differing))]
     pub fn cells_not_blank(&self) -> u16
         ensures value { result ≡ differing blank self.now }
@@ -100,7 +100,7 @@ impl Page {
     {
         let mut count = 0;
         for row in 0..24 {
-            // Most rows are blank: to find that out costs less than to count.
+            // Most rows are blank, and comparing a row is faster than counting.
             if !are_equal(&spaces(), &self.rows[row]) {
                 count += differing_columns(&spaces(), &self.rows[row]);
             }
@@ -109,7 +109,7 @@ impl Page {
     }
 }
 
-// The columns of a row of spaces.
+// Returns a row of spaces.
 #[inline(always)]
 #[tactic(auto, unfolding(crate::specs::Page::blank_row))]
 fn spaces() -> [u8; 40]
@@ -118,7 +118,7 @@ fn spaces() -> [u8; 40]
     [0x20; 40]
 }
 
-// Whether two rows are equal. The three masks are taken together, so that one branch does.
+// Returns whether two rows are equal. The three masks are combined to need only one branch.
 #[inline(always)]
 fn are_equal(a: &[u8; 40], b: &[u8; 40]) -> bool
     ensures { IsTrue result → a.now ≡ b.now }
@@ -127,12 +127,12 @@ fn are_equal(a: &[u8; 40], b: &[u8; 40]) -> bool
     let (b_blocks, _) = b.as_chunks::<16>();
     let front = differing(&a_blocks[0], &b_blocks[0]);
     let middle = differing(&a_blocks[1], &b_blocks[1]);
-    // The last block takes in columns of the one before it, so that none is left over.
+    // The last block overlaps the one before it, so that no column is left over.
     let last = differing(a.last_chunk().unwrap(), b.last_chunk().unwrap());
     (front == 0) & (middle == 0) & (last == 0)
 }
 
-// The least column in which two rows differ.
+// Returns the least column in which two rows differ.
 fn first_column(a: &[u8; 40], b: &[u8; 40]) -> Option<u8>
     ensures { MatchOption result (a.now ≡ b.now) (λ c. (c < 40)
         × (slice_index a.now c ≢ slice_index b.now c)
@@ -146,7 +146,7 @@ fn first_column(a: &[u8; 40], b: &[u8; 40]) -> Option<u8>
             return Some((16 * i + mask.trailing_zeros() as usize) as u8);
         }
     }
-    // The last block takes in columns of the one before it, so that none is left over.
+    // The last block overlaps the one before it, so that no column is left over.
     let last = differing(a.last_chunk().unwrap(), b.last_chunk().unwrap());
     if last != 0 {
         return Some((24 + last.trailing_zeros() as usize) as u8);

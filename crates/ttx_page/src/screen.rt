@@ -1,4 +1,4 @@
-//! A screen beside a receiver: a page comes onto it when it is complete.
+//! A receiver's screen, which shows a page once it is complete.
 ghost use Rattle.std.specs.Prelude.{◌≡◌, Some};
 ghost use Rattle.ttx_page.specs.Receiver.{LeavesCells, Step};
 ghost use Rattle.ttx_page.specs.Screen.{Shows, ShowsAt, ShowsWaiting, display, screen_after};
@@ -7,11 +7,10 @@ use crate::page::Page;
 use crate::receiver::Receiver;
 use ttx_packet::Packet;
 
-/// Hears a packet. Where the page was open and the packet ends it, the page that the receiver holds
-/// comes onto the screen.
+/// Receives a packet. If it ends the open page, the decoded page is shown on the screen.
 ///
-/// `None` is a screen with nothing on it yet. At a header of the page itself the screen stays as it
-/// is: a page is shown when a header of another page ends it, as libzvbi does.
+/// `None` is a screen that shows nothing yet. A header of the page itself does not change the
+/// screen: a page is shown when a header of another page ends it, as in libzvbi.
 pub fn show<R: Receiver>(receiver: &mut R, screen: &mut Option<Page>, packet: &Packet)
     ensures step { Step (R.tuned_to receiver.old) (R.state receiver.old) packet.now
         (R.state receiver.new) }
@@ -31,7 +30,7 @@ pub fn show<R: Receiver>(receiver: &mut R, screen: &mut Option<Page>, packet: &P
     }
 }
 
-// Puts a page onto the screen, in the place of the one that is there.
+// Replaces the page on the screen.
 fn put_on(screen: &mut Option<Page>, page: &Page)
     ensures { screen.new ≡ Some page.now }
 {
@@ -41,7 +40,7 @@ fn put_on(screen: &mut Option<Page>, page: &Page)
     }
 }
 
-/// Hears packets, one after another, with a screen that waits as that of `show`.
+/// Receives packets in order, with a screen that behaves as in `show`.
 #[tactic(auto, using(crate::proofs::RunLemmas::run_more))]
 pub fn show_all<R: Receiver>(receiver: &mut R, screen: &mut Option<Page>, packets: &[Packet])
     ensures run { Shows (R.tuned_to receiver.old)

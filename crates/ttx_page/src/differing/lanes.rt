@@ -1,12 +1,12 @@
-//! How many cells of two blocks of a row differ, a cell in each lane of a vector.
+//! The number of differing cells in two blocks of a row, one cell per lane of a vector.
 //!
-//! Comparing gives a bit for each cell, and the answer is how many of the bits are ones.
+//! The comparison gives one bit per cell, and the result is the number of ones.
 ghost use Rattle.std.specs.Prelude.{◌≡◌, ◌≤◌};
 ghost use Rattle.ttx_page.specs.Differing.{columns_differing};
 
 use std::simd::prelude::*;
 
-// How many of 16 cells differ.
+// Returns how many of 16 cells differ.
 #[inline(always)]
 pub(super) fn differing_of_16(a: &[u8; 16], b: &[u8; 16]) -> u16
     ensures value { result ≡ columns_differing 16 a.now b.now }
@@ -18,7 +18,7 @@ pub(super) fn differing_of_16(a: &[u8; 16], b: &[u8; 16]) -> u16
     mask.count_ones() as u16
 }
 
-// How many of 8 cells differ.
+// Returns how many of 8 cells differ.
 #[inline(always)]
 pub(super) fn differing_of_8(a: &[u8; 8], b: &[u8; 8]) -> u16
     ensures value { result ≡ columns_differing 8 a.now b.now }

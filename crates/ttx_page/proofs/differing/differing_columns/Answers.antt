@@ -1,4 +1,4 @@
--- A block more, and the last: columns_in_chunk.
+-- One more block, and the last one: columns_in_chunk.
 use Rattle.std.proofs.Common.{◌≡◌, ◌+◌, ◌*◌, drop, arith, rules, sym, ap₂, ◌∙◌}
 use Rattle.std.proofs.lemmas.Bool.Decides.{nat_tests}
 use lib.Lanes.{chunk}

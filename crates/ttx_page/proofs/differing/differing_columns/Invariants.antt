@@ -2,6 +2,6 @@ use Rattle.std.proofs.Common.{◌≡◌, ◌*◌, ◌≤◌}
 use Rattle.ttx_page.specs.Differing.{columns_differing}
 use Rattle.ttx_page.proofs.differing.differing_columns.Given as goal
 
--- The count of the blocks to the left.
+-- The count for the blocks to the left.
 abbrev pub invariant-loop-i : goal.invariant-loop-i
 invariant-loop-i l = (l.count ≤ 16 * l.i) × (l.count ≡ columns_differing (16 * l.i) l.a l.b)

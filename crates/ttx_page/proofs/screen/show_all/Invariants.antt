@@ -1,4 +1,4 @@
--- The packets so far are a run, of a screen that waits.
+-- The packets so far are a run, with a screen that waits.
 use Rattle.std.proofs.Common.{◌≡◌, take}
 use Rattle.ttx_page.specs.Screen.{Shows, ShowsWaiting, display}
 use Rattle.ttx_page.proofs.screen.show_all.Given as goal

@@ -1,4 +1,4 @@
--- A row more, which counts for nothing where it is blank: blank-more, columns_same.
+-- One more row, which adds nothing if it is blank: blank-more, columns_same.
 use Rattle.std.proofs.Common.{arith}
 use Rattle.std.proofs.lemmas.Bool.Decides.{nat_tests}
 use Rattle.ttx_page.proofs.DifferingLemmas.{blank-more, columns_same}
