@@ -1,7 +1,6 @@
--- For `law_of_broken_places` and `law_of_nothing_told`.
--- Within 0 frames, where no repeat may keep, a transmission is good, of complete pages where these
--- are asked for, exactly where all that is asked of it holds: `Good-from_holds`,
--- `Complete-from_holds`, `holds-from_good`.
+-- For `law_of_broken_places` and `law_of_nothing_told`. If `within` is 0 and no repeat may keep the
+-- page, a transmission is good, with complete pages if these are required, exactly if it meets all
+-- requirements: `Good-from_holds`, `Complete-from_holds`, `holds-from_good`.
 use Rattle.std.proofs.lemmas.Bool.Decides.{nat_tests}
 use Rattle.std.proofs.Common.{◌≡◌, ℕ, ◌<◌, ◌≤◌, false, Option, None, length, refl, sym, ap}
 use Rattle.std.proofs.Common.{◌∙◌, subst, arith, IsTrue, IsFalse, ◌&&◌}
@@ -48,7 +47,7 @@ module _ (programme : ProgrammeValue) (options : OptionsValue) (unread : Option 
       subst (λ xs. IsRight options.keeps options.page xs (due_in programme f) row column)
       (sym on) (kept_at n f end Content refl row column is)
 
-  -- The transmission is good, where no repeat may keep.
+  -- The transmission is good if no repeat may keep the page.
   pub Good-from_holds : options.keeps ≡ false
       → EachPacket (λ packet. length packet ≡ 42) t
       → Good programme t options
@@ -64,16 +63,16 @@ module _ (programme : ProgrammeValue) (options : OptionsValue) (unread : Option 
         (right_at f row column low high is));
   }
 
-  -- Its pages are complete, where that is asked for.
+  -- Its pages are complete if that is required.
   pub Complete-from_holds : IsTrue options.asks_complete → Complete t options
   Complete-from_holds asks f low high holds =
       let (n, end, on, from) = end_of programme options unread t some_frames h f low high in
       let ended = kept_at n f end Incomplete asks in
       grind (arith, nat_tests)
 
--- ---- the other way
+-- ---- the converse
 
--- Within 0 frames no end is waited for.
+-- If `within` is 0, no page still has time at the last end.
 pub none_pending : (g : Criteria) (frames : Transmission) → g.within ≡ 0 → is_pending g frames
     ≡ false
 unfolding is_pending
@@ -107,7 +106,7 @@ module _ (programme : ProgrammeValue) (options : OptionsValue) (t : Transmission
       (sym (end_is_on_air t in_order n f end))
       ∙ good.content f row column (from n f end) (to n f end) is)))
 
-  -- The page is not open where complete pages are asked for.
+  -- The page is not open if complete pages are required.
   ended : (n f : ℕ) → IsEnd t n f → IsFalse (is_late g t n f && is_incomplete g t n)
   ended n f end =
       let on = end_is_on_air t in_order n f end in
@@ -117,7 +116,7 @@ module _ (programme : ProgrammeValue) (options : OptionsValue) (t : Transmission
       let decided = (incomplete_decided g t n f).1 shut in
       grind (arith, nat_tests)
 
-  -- Where the transmission is good, all that is asked of it holds.
+  -- A good transmission meets all requirements.
   pub holds-from_good : AllOk g t
   holds-from_good =
       holds-from_rules programme options t

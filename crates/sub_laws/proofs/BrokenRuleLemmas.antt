@@ -1,5 +1,5 @@
--- For what is told and what may stay.
--- The rules of a packet, as tests decide them: `rule_decided`; all of them: `clean_decided`.
+-- For reports and trusted frames. The tests decide the rules for a packet, `rule_decided`, and all
+-- of them together, `clean_decided`.
 use Rattle.std.proofs.Common.{◌≡◌, ℕ, zero, suc, ◌<◌, ◌≤◌, inl, inr, Bool, true, false, not}
 use Rattle.std.proofs.Common.{◌&&◌, List, [], ◌∷◌, Option, Some, None, option_map, refl, sym, ◌∙◌}
 use Rattle.std.proofs.Common.{◌↔◌, arith, length, get_or, subst, is_some, take, All, IsTrue, ◌++◌}
@@ -54,11 +54,10 @@ use Rattle.sub_rules.proofs.CodeWordLemmas.{address_decided, header_decided}
 
 -- ---- each rule
 
--- A test that fails where a fact holds.
+-- A test that fails exactly if a property holds.
 abbrev pub Refutes : Bool → Type 0 → Type 0
 Refutes b P = Decides (not b) P
 
--- It fails exactly there.
 pub refuted : {P : Type 0} (b : Bool) → Refutes b P → (b ≡ false) ↔ P
 refuted b h1 = grind (arith, nat_tests, true≢false)
 
@@ -67,11 +66,11 @@ pub coded : (o : Option PacketAddress) (b : Bool) (P : Type 0) → Decides b P
     → Refutes (is_of_header o && not b) ((a : PacketAddress) → o ≡ Some a → a.packet_number ≡ 0 → P)
 coded o b P d = grind (arith, nat_tests)
 
--- With no other bit there is none that differs.
+-- Without a second header there is no other mode.
 mode-none : (o : Option Bool) → is_other_mode o None ≡ false
 mode-none o = grind (arith, nat_tests)
 
--- One mode.
+-- All headers in one mode.
 pub one_mode : (this first : Option Header)
     → Refutes
     (is_other_mode (option_map (λ (h : Header). c11 h) first)
@@ -90,7 +89,7 @@ same_subcode : (last : Option Header) (h : Header)
     ((before : Header) → last ≡ Some before → h.subcode ≡ before.subcode)
 same_subcode last h = grind (arith, nat_tests, none-some, same_Some)
 
--- Where one thing is asked for, another is not so.
+-- If one thing is required, another must not hold.
 shut_where : (asks opened : Bool) → Decides (not (asks && opened)) (IsTrue asks → IsFalse opened)
 shut_where asks opened = grind (arith, nat_tests, true≢false)
 
@@ -99,13 +98,13 @@ repeat_decided : (complete : Bool) (page : PageIdValue) (before : List (List ℕ
     → Decides (repeats_page complete page before h) (IsRepeat complete page before h)
 repeat_decided complete page before h = grind (arith, nat_tests, same_subcode, shut_where)
 
--- It erases the page or, where repeats may keep, repeats it.
+-- A header erases the page, or repeats it if repeats may keep the page.
 may_come_by : (keeps erases repeats : Bool) (P : Type 0) → Decides repeats P
     → Decides (erases || (keeps && repeats))
     ((IsFalse keeps → IsTrue erases) × (IsTrue erases ⊎ P))
 may_come_by keeps erases repeats P h1 = grind (arith, nat_tests)
 
--- A subtitle's header.
+-- The header of a subtitle.
 subtitle_header : (w : Watched) (before : List (List ℕ)) (h : Header)
     → Decides (is_subtitle_header w before h)
     (((IsFalse w.keeps → IsTrue (c4 h))
@@ -117,14 +116,13 @@ subtitle_header w before h =
     (IsRepeat w.complete w.page before h) (repeat_decided w.complete w.page before h))
     (subtitle_bits w.national h)
 
--- One header is the other.
 same_header : (h k : Header) → ThisPage h ≡ ThisPage k → h ≡ k
 same_header h k e = grind arith
 
 twice : (b : Bool) → not (not b) ≡ b
 twice b = grind (arith, nat_tests)
 
--- What is asked of a packet that may be a header of the page.
+-- The rule for a packet that may be a header of the page.
 pub controlled : (w : Watched) (before : List (List ℕ)) (p : List ℕ) (k : PacketKind)
     → kind w.page p ≡ k
     → Refutes (is_wrong_header w before k) (IsControlledBy w before p)
@@ -147,7 +145,7 @@ controlled w before p k is = (
   λ rule. refl,
 )
 
--- The text's parity.
+-- The parity of the text.
 pub odd_text : (p : List ℕ) → Refutes (is_some (first_even_byte p)) (HasOddText p)
 unfolding first_even_byte
 odd_text p = go (first_below 40 (λ column. not (is_odd (text_byte p column)))) refl
@@ -167,20 +165,20 @@ odd_text p = go (first_below 40 (λ column. not (is_odd (text_byte p column)))) 
           grind (arith, nat_tests),
     )
 
--- A row's.
+-- The parity of a row.
 pub odd_row : (p : List ℕ) (k : PacketKind)
     → Refutes (is_some_row k && is_some (first_even_byte p))
     ((row : ℕ) → k ≡ Row row → HasOddText p)
 odd_row p k = grind (arith, nat_tests, odd_text)
 
--- A packet that no page of level 1 has.
+-- A packet that no level 1 page has.
 pub no_enhancement : (page : PageIdValue) (p : List ℕ) (o : Option PacketAddress) → address p ≡ o
     → Refutes (is_of_enhancement page o) (IsEnhancement page p → ⊥)
 no_enhancement page p o h1 = grind (arith, nat_tests, none-some, same_Some)
 
 -- ---- rows
 
--- A row differs from itself in none.
+-- A row differs from itself in no column.
 columns_same : (n : ℕ) (xs : List ℕ) → columns_differing n xs xs ≡ 0
 unfolding columns_differing
 columns_same zero xs = refl
@@ -190,7 +188,7 @@ columns_same (suc n) xs = let before = columns_same n xs in grind (arith, nat_te
 codes_length : (p : List ℕ) → length p ≡ 42 → length (codes_of p) ≡ 40
 codes_length p l = grind (arith, length-map, length-drop 2 p)
 
--- Those of two packets that differ in no column are equal.
+-- Two packets that differ in no column have equal codes.
 same_codes : (p q : List ℕ) → length p ≡ 42 → length q ≡ 42
     → row_differing (codes_of p) (codes_of q) ≡ 0 → codes_of p ≡ codes_of q
 same_codes p q lp lq e =
@@ -202,13 +200,12 @@ same_codes p q lp lq e =
     ∙ columns_zero 40 (codes_of p) (codes_of q) e k (omega (arith, one))
     ∙ get_or_default (codes_of q) k 0 d (omega (arith, one, other)))
 
--- What is known of the packets of the span: it is clean, and its packets are whole, with an exact
--- address.
+-- The packets since the text began are a clean span of 42-byte packets with exact addresses.
 pub record IsSoundSpan (w : Watched) (packets : List (List ℕ)) : Type 0 where
   pub clean : IsCleanSpan w.page packets
   pub whole : AllByRecursion (λ q. IsPacket q × HasExactAddress q) packets
 
--- What is known of one of them.
+-- The same for one of them.
 abbrev IsSoundPacket : Watched → List (List ℕ) → List ℕ → Type 0
 IsSoundPacket w packets q =
     (IsPacket q × HasExactAddress q) × IsOddRow w.page q × All (IsSameRow w.page q) packets
@@ -221,13 +218,13 @@ each_sound w packets s =
     (λ q a b. (a, b.0, b.1)) packets s.whole
     (grind (arith, nat_tests, Each-join, recursion_from_All))
 
--- A row has an address of the magazine with its number.
+-- The packet of a row has an address of the magazine with the row's number.
 address-row : (w : Watched) (p : List ℕ) (row : ℕ) → kind w.page p ≡ Row row
     → address p ≡ Some (record { magazine = w.page.magazine; packet_number = row })
 unfolding kind
 address-row w p row e = grind (arith, nat_tests)
 
--- A row after a sound span, itself whole, with an exact address and odd text.
+-- A row after such packets, itself 42 bytes with an exact address and odd text.
 module _ (w : Watched) (packets : List (List ℕ)) (s : IsSoundSpan w packets) (p : List ℕ) (row : ℕ)
     (is_row_of : kind w.page p ≡ Row row) (whole : IsPacket p) (exact : HasExactAddress p)
     (odd : HasOddText p) where
@@ -235,7 +232,7 @@ module _ (w : Watched) (packets : List (List ℕ)) (s : IsSoundSpan w packets) (
   abbrev EachSame : Type 0
   EachSame = AllByRecursion (λ q. kind w.page q ≡ Row row → q ≡ p) packets
 
-  -- Where the first packet of the row has its codes.
+  -- If the first packet of the row has its codes.
   found : (q : List ℕ) → kind w.page q ≡ Row row → IsSoundPacket w packets q
       → Refutes (is_other_text (Some q) (codes_of p)) (q ≡ p)
   found q k sound =
@@ -268,7 +265,7 @@ module _ (w : Watched) (packets : List (List ℕ)) (s : IsSoundSpan w packets) (
 
 -- ---- packets that keep all rules
 
--- What holds of each packet holds of each in the long span of the first n.
+-- A property of each packet holds for the packets since the text began, after the first n.
 Each-span : (keeps : Bool) (page : PageIdValue) (P : List ℕ → Type 0) (xs : List (List ℕ))
     → ((k : ℕ) → k < length xs → P (get_or xs k [])) → (n : ℕ) → n ≤ length xs
     → AllByRecursion P (text_span keeps (kind page) (take n xs))
@@ -291,7 +288,7 @@ Each-span keeps page P xs each (suc n) l =
     go h false true = grind (arith, nat_tests, Each-push)
     go h false false = h
 
--- The long span of packets that keep all rules is sound.
+-- Packets that keep all rules leave such a span.
 sound_span : (w : Watched) (packets : List (List ℕ)) → AreClean w packets
     → IsSoundSpan w (text_span w.keeps (kind w.page) packets)
 sound_span w packets clean =
@@ -302,10 +299,10 @@ sound_span w packets clean =
           (λ k l. let is = clean k l in (is.0, is.1 rule.Address)) (length packets) (omega arith);
     })
 
--- ---- a packet that is sent after these
+-- ---- a packet after these
 
 module _ (w : Watched) (before : List (List ℕ)) (p : List ℕ) where
-  -- A rule of the page while it is open.
+  -- A rule that applies while the page is open.
   opened : (b c : Bool) (P : Type 0) → (IsTrue b → Refutes c P) → Refutes (b && c) (IsTrue b → P)
   opened b c P h1 = grind (arith, nat_tests, true≢false)
 
@@ -335,7 +332,7 @@ module _ (w : Watched) (before : List (List ℕ)) (p : List ℕ) where
   rule_decided rule.RowChanged comparable = grind (arith, nat_tests, opened, same_row)
   rule_decided rule.Enhancement comparable = grind (arith, nat_tests, opened, no_enhancement)
 
-  -- After packets that keep all rules it keeps all exactly where it breaks none.
+  -- After packets that keep all rules, a packet keeps all exactly if it breaks none.
   pub clean_decided : AreClean w before → IsPacket p
       → ((r : PacketRule) → breaks r w before p ≡ false) ↔ KeepsAllRules w before p
   clean_decided clean whole = (

@@ -1,5 +1,5 @@
--- For what is told and what may stay.
--- Long spans packet by packet: `clean_cuts`, `last_clean`.
+-- For reports and trusted frames. The packets since the text began are a clean span if each packet
+-- may follow: `clean_cuts`, `last_clean`.
 use Rattle.std.proofs.lemmas.Bool.Decides.{nat_tests}
 use Rattle.std.proofs.Common.{◌≡◌, ℕ, zero, suc, ◌<◌, inl, inr, Bool, true, false, not, ◌&&◌, cond}
 use Rattle.std.proofs.Common.{List, [], ◌∷◌, ◌++◌, length, take, slice_index_or, All, refl, sym, ap}
@@ -21,8 +21,8 @@ pub record MayFollow (page : PageIdValue) (packets : List (List ℕ)) (packet : 
   pub same : All (λ earlier. IsSameRow page earlier packet) packets
   pub plain : IsEnhancement page packet → ⊥
 
--- Each packet that comes while the page is open, and is no header that opens it again or ends it,
--- may follow the long span that it comes after.
+-- Each packet while the page is open, other than a header that opens it again or ends it, may
+-- follow the packets since the text began.
 abbrev pub EachMayFollow : Bool → PageIdValue → List (List ℕ) → Type 0
 EachMayFollow keeps page packets =
     (i : ℕ) (d : List ℕ)
@@ -32,9 +32,9 @@ EachMayFollow keeps page packets =
     → IsFalse (ends_page (kind page (slice_index_or packets i d)))
     → MayFollow page (text_span keeps (kind page) (take i packets)) (slice_index_or packets i d)
 
--- ---- one packet more
+-- ---- one more packet
 
--- A clean span stays clean with a packet that may follow.
+-- A clean span stays clean after a packet that may follow.
 push_clean :
     (page : PageIdValue) (packets : List (List ℕ)) (packet : List ℕ)
     → IsCleanSpan page packets
@@ -80,7 +80,7 @@ last_clean page packets packet clean =
 clean_nil : (page : PageIdValue) → IsCleanSpan page []
 clean_nil page = record { odd = All-nil _; same = All-nil _; plain = All-nil _ }
 
--- What one more packet makes of the long span, by cases.
+-- The packets since the text began, after one more packet, by cases.
 pushed :
     (keeps : Bool) (page : PageIdValue) (packets : List (List ℕ)) (packet : List ℕ)
     → IsCleanSpan page (text_span keeps (kind page) packets)
@@ -110,7 +110,7 @@ pushed keeps page packets packet clean follows =
     go false true true e p q r = clean
     go false false t e p q r = clean
 
--- Where each packet may follow, each cut is clean: induction on the place of the cut.
+-- If each packet may follow, every beginning of the list is clean: by induction on its length.
 pub clean_cuts :
     (keeps : Bool) (page : PageIdValue) (packets : List (List ℕ))
     → EachMayFollow keeps page packets

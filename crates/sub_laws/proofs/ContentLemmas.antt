@@ -1,6 +1,6 @@
--- For `check`.
--- Where content is refused, a cell is not right that every receiver holds, `different_everywhere`;
--- and where no repeat may keep, every receiver shows what is not due: `wrong_everywhere`.
+-- For `check`. If content is refused, a cell is wrong that every receiver has,
+-- `different_everywhere`; and if no repeat may keep the page, every receiver shows the wrong code:
+-- `wrong_everywhere`.
 use Rattle.std.proofs.lemmas.Bool.Decides.{nat_tests}
 use Rattle.std.proofs.Common.{List, [], subst, ◌≡◌, ℕ, ◌-◌, ◌<◌, ◌≤◌, inl, inr, Bool, true}
 use Rattle.std.proofs.Common.{false, Option, Some, None, length, take, drop, refl, sym, ap}
@@ -51,11 +51,11 @@ use Rattle.sub_rules.specs.declared.packet_rule.PacketRule.TheVariants as rule
 module _ (w : Watched) (frames : Transmission) (n : ℕ) (fits : n ≤ length frames)
     (clean : (i k : ℕ) → i < n → k < length (packets_of_frame frames i)
     → KeepsAllRules w (before frames i k) (packet_at frames i k)) where
-  -- Each keeps all rules, sent after those before it.
+  -- Each packet keeps all rules after those before it.
   each : EachAfter (KeepsAllRules w) (packets_before frames n)
   each = each_after (KeepsAllRules w) frames n fits clean
 
-  -- Their long span is clean.
+  -- The packets since the text began are a clean span.
   clean_span : IsCleanSpan w.page (text_span w.keeps (kind w.page) (packets_before frames n))
   clean_span =
       let sent : List (List ℕ) = packets_before frames n in
@@ -63,7 +63,7 @@ module _ (w : Watched) (frames : Transmission) (n : ℕ) (fits : n ≤ length fr
       (take_all (length sent) sent (omega arith))
       (clean_spans w sent each (length sent))
 
-  -- So they are sent as the text that is kept of them.
+  -- So they transmit the kept text.
   sends :
       SendsText w.keeps w.page (packets_before frames n)
       (kept w.keeps w.page (packets_before frames n))
@@ -77,7 +77,7 @@ module _ (w : Watched) (frames : Transmission) (n : ℕ) (fits : n ≤ length fr
     codes = codes_of_clean w.keeps w.page (packets_before frames n) clean_span;
   }
 
-  -- Where what it held before is forgotten, a receiver that keeps its page holds that.
+  -- A receiver that keeps its page has that text, if its old contents are gone.
   all_hold :
       (old new : State)
       → Hears w.page old (packets_before frames n) new
@@ -102,22 +102,22 @@ first_header-packets_before w frames n some fits head =
 
 module _ (frames : Transmission) (n f : ℕ) (some : 0 < n) (fits : n ≤ length frames)
     (rising : RiseTo frames n) (up_to : frame_at frames (n - 1) ≤ f) where
-  -- All of them are on air up to frame f.
+  -- All their packets are on air up to frame f.
   on_air_read : on_air_until (take n frames) f ≡ packets_before frames n
   on_air_read =
       grind (arith, nat_tests, length-take-le, frame_at-take, take-take, on_air_is, take_rises)
 
 module _ (programme : ProgrammeValue) (options : OptionsValue) (unread : Option Unread)
     (frames : Transmission) where
-  -- What the transmission is checked against.
+  -- The criteria of the check.
   abbrev g : Criteria
   g = criteria_of programme options unread
 
-  -- What is kept in cell x after the first n frames.
+  -- The kept code of cell x after the first n frames.
   abbrev code_at : ℕ → ℕ × ℕ → ℕ
   code_at n x = kept options.keeps options.page (packets_before frames n) x.0 x.1
 
-  -- It is not right; and where the end is not late, it is none that it may be.
+  -- The cell is wrong; and if the end is not late, its code was not due within the last frames.
   record IsBroken (n f : ℕ) (x : ℕ × ℕ) : Type 0 where
     pub is_cell : IsCell x.0 x.1
     pub wrong : ShowsDue g frames n f x.0 x.1 → ⊥
@@ -127,7 +127,7 @@ module _ (programme : ProgrammeValue) (options : OptionsValue) (unread : Option 
         options.within x.0 x.1
         → ⊥
 
-  -- So is the cell that stands broken.
+  -- The cell that is reported is wrong in this sense.
   broken_is : (n f : ℕ) (x : ℕ × ℕ) → broken_cell g frames n f ≡ Some x → IsBroken n f x
   broken_is n f x e = go (is_late g frames n f) refl
     where
@@ -165,11 +165,11 @@ module _ (programme : ProgrammeValue) (options : OptionsValue) (unread : Option 
     are_read : AreReadUpTo frames f read
     are_read = grind (arith, nat_tests, take_last, take_rising)
 
-    -- What is on air up to frame f of them is what is read.
+    -- The packets on air up to frame f are those that were read.
     read_air : on_air_until read f ≡ packets_before frames n
     read_air = on_air_read frames n f r.some r.fits r.rises r.up_to
 
-    -- What a receiver holds there, where what it held before is forgotten.
+    -- What a receiver has there, if its old contents are gone.
     holds_there : (old new : State)
         → Hears options.page old (on_air_until read f) new
         → IsFresh options.keeps false options.page (packets_before frames n) old
@@ -179,7 +179,7 @@ module _ (programme : ProgrammeValue) (options : OptionsValue) (unread : Option 
         (subst (λ (ps : List (List ℕ)). Hears options.page old ps new) read_air hears) fresh x.0 x.1
         cell_is.is_cell
 
-    -- Whether the end is late goes by these frames.
+    -- Whether the end is late depends only on these frames.
     late_same : is_late (criteria_of programme options None) read (length read) f
         ≡ is_late g frames n f
     late_same =
@@ -195,7 +195,7 @@ module _ (programme : ProgrammeValue) (options : OptionsValue) (unread : Option 
         options.within x.0 x.1
     may_of h1 = grind (arith, nat_tests, first-same, frame_at-take)
 
-    -- Where the first n frames are read and keep the rules, and a cell stands broken.
+    -- The first n frames are read and keep the rules, and a cell is reported.
     pub different_everywhere : IsDifferentEverywhere programme options frames f x.0 x.1
     different_everywhere = record {
       read = read;
@@ -221,16 +221,16 @@ module _ (programme : ProgrammeValue) (options : OptionsValue) (unread : Option 
           read_air due));
     }
 
--- ---- where no repeat may keep
+-- ---- if no repeat may keep the page
 
 module _ (programme : ProgrammeValue) (options : OptionsValue) (frames : Transmission)
     (f row column : ℕ) (none : options.keeps ≡ false)
     (different : IsDifferentEverywhere programme options frames f row column) where
-  -- What is on air up to there.
+  -- The packets on air up to there.
   abbrev sent : List (List ℕ)
   sent = on_air_until different.read f
 
-  -- What a receiver held before is forgotten at the first header.
+  -- A receiver's old contents are gone after the first header.
   fresh : (old : State) → IsFresh options.keeps false options.page sent old
   fresh old =
       inr
@@ -239,7 +239,7 @@ module _ (programme : ProgrammeValue) (options : OptionsValue) (frames : Transmi
       ∙ beginning-none_keeps (kind options.page) sent
       ∙ different.header))
 
-  -- A cell that shows what is due is right.
+  -- A cell that shows the due code is right.
   right : kept options.keeps options.page sent row column ≡ cell (due_in programme f) row column
       → IsRight options.keeps options.page sent (due_in programme f) row column
   right same =

@@ -1,7 +1,7 @@
--- For the headline, what may be late, schedules and what may stay.
--- What receivers that may forget make of a stretch of repeats: `law_of_repeated_stretch`; and where
--- no repeat may keep, and no frame may be late, it is what receivers make that keep:
--- `recovers_at_once`, `shown_at_once`, `law_of_trust_without_delay`.
+-- For the headline, delays, schedules and trusted frames. Receivers that may forget the page, in a
+-- stretch of repeats: `law_of_repeated_stretch`. If no repeat may keep the page and no frame may be
+-- late, the same holds for receivers that keep it: `recovers_at_once`, `shown_at_once`,
+-- `law_of_trust_without_delay`.
 use Rattle.std.proofs.lemmas.Bool.Decides.{nat_tests}
 use Rattle.std.proofs.Common.{◌≡◌, ℕ, ◌≤◌, inl, inr, Bool, true, false, List}
 use Rattle.std.proofs.Common.{Option, option_map, unwrap_or, ap, sym, ◌∙◌, subst, arith}
@@ -37,7 +37,7 @@ use Rattle.sub_laws.proofs.SoundStretchLemmas.{window}
 
 -- ---- a cell that is right
 
--- Where repeats may not keep, a cell is right exactly where it shows what is due.
+-- If repeats may not keep the page, a cell is right exactly if it shows the due code.
 pub law_of_right_cells : LawOfRightCells
 law_of_right_cells page packets due row column = (
   λ right. sym same ∙ right.kept_is,
@@ -60,13 +60,13 @@ law_of_right_cells page packets due row column = (
     same : kept false page packets row column ≡ shown page packets row column
     same = kept_shown page packets row column
 
--- ---- a stretch in which codes are kept that are due
+-- ---- a stretch whose codes are due
 
 module _ (keeps anew : Bool) (class : ReceiverClass) (programme : ProgrammeValue)
     (transmission : Transmission) (options : OptionsValue) (a b : ℕ)
     (stretch : IsRepeatedStretch keeps transmission options a b)
     (codes : KeepsDueCodes keeps programme transmission options a b) where
-  -- Receivers that may forget recover in it.
+  -- Receivers that may forget the page recover in it.
   pub recovers_forgetting :
       RecoversForgetting keeps anew class programme transmission options a b
   recovers_forgetting g j f arrived got old new is hears =
@@ -98,7 +98,7 @@ module _ (keeps anew : Bool) (class : ReceiverClass) (programme : ProgrammeValue
             ];
       }
     where
-      -- What is due is a space where the row was not sent again.
+      -- If the row was not sent again, the due code is a space.
       due_space :
           (row column : ℕ)
           → IsRight keeps options.page (on_air_until transmission f) (due_in programme f) row column
@@ -112,7 +112,7 @@ module _ (keeps anew : Bool) (class : ReceiverClass) (programme : ProgrammeValue
             | inr other ↦ absurd (true≢false (sym (right.again other) ∙ none))
           ]
 
-  -- What is due is on their screens where each cell is right and the page has ended.
+  -- The due page is on their screens if each cell is right and the page has ended.
   pub shown_forgetting : ShownForgetting keeps anew class programme transmission options a b
   shown_forgetting g j f arrived got old new is run holds fresh whole shut =
       let held =
@@ -127,19 +127,19 @@ module _ (keeps anew : Bool) (class : ReceiverClass) (programme : ProgrammeValue
         held.cells holds fresh whole,
       )
 
--- ---- each cell is right at the end of each frame
+-- ---- a stretch whose cells are right at each end
 
 module _ (keeps anew : Bool) (class : ReceiverClass) (programme : ProgrammeValue)
     (transmission : Transmission) (options : OptionsValue) (a b : ℕ)
     (whole : (f : ℕ) → a ≤ f → f ≤ b → IsWholePage keeps programme options.page transmission f)
     (recovers : RecoversForgetting keeps anew class programme transmission options a b) where
-  -- Receivers that recover hold the due page.
+  -- Receivers that recover have the due page.
   holds_at_once : HoldsForgetting keeps anew class programme transmission options a b
   holds_at_once g j f arrived got old new is hears holds fresh =
       (recovers g j f arrived got old new is hears).cells holds fresh
       (whole f (le_trans is.listening.from is.listening.in_order) is.listening.to)
 
--- Within no frame each frame of a stretch is finished.
+-- If `within` is 0, each frame of a stretch is finished.
 pub finished_at_once :
     (keeps : Bool) (programme : ProgrammeValue) (transmission : Transmission)
     (options : OptionsValue) (a b : ℕ)
@@ -154,7 +154,6 @@ finished_at_once keeps programme transmission options a b none again f low high 
     subst (IsFinishedBy keeps programme transmission options)
     (omega (arith, none, found.1, found.2)) found.3
 
--- The law of a stretch of repeats.
 pub law_of_repeated_stretch : LawOfRepeatedStretch
 law_of_repeated_stretch keeps programme transmission options a b stretch codes = (
   λ anew class. (recovers anew class, shown anew class),
@@ -181,9 +180,9 @@ law_of_repeated_stretch keeps programme transmission options a b stretch codes =
     shown anew class =
         shown_forgetting keeps anew class programme transmission options a b stretch codes
 
--- ---- where no repeat may keep
+-- ---- if no repeat may keep the page
 
--- Complete pages are ended at the end of each frame.
+-- Complete pages have ended at the end of each frame.
 pub ended_of_complete :
     (transmission : Transmission) (options : OptionsValue) (a b f : ℕ)
     → CompleteWithin transmission options a b
@@ -196,14 +195,14 @@ module _ (programme : ProgrammeValue) (transmission : Transmission) (options : O
     (a b : ℕ)
     (whole : (f : ℕ) → a ≤ f → f ≤ b → IsWholePage false programme options.page transmission f)
     (class : ReceiverClass) where
-  -- What a receiver held before is forgotten at each header.
+  -- A receiver's old contents are gone after each header.
   fresh_at :
       (sent : List (List ℕ)) (old : State)
       → holds_header (kind options.page) sent ≡ true
       → IsFresh false false options.page sent old
   fresh_at sent old holds = inr (inl (beginning-none_keeps (kind options.page) sent ∙ holds))
 
-  -- So receivers that keep recover where those do that may forget.
+  -- So receivers that keep the page recover if those recover that may forget it.
   pub recovers_at_once :
       RecoversForgetting false false class programme transmission options a b
       → RecoversWithin class programme transmission options a b
@@ -221,7 +220,7 @@ module _ (programme : ProgrammeValue) (transmission : Transmission) (options : O
         is_open = λ holds. grind (arith, nat_tests);
       }
 
-  -- And where pages are complete, what is due is on their screens.
+  -- If pages are complete, the due page is on their screens.
   pub shown_at_once :
       ShownForgetting false false class programme transmission options a b
       → CompleteWithin transmission options a b
@@ -233,7 +232,7 @@ module _ (programme : ProgrammeValue) (transmission : Transmission) (options : O
       (fresh_at (on_air transmission g j f) old.held holds) (whole f low is.listening.to)
       (ended_of_complete transmission options a b f complete low is.listening.to)
 
--- So what may be trusted within no frame may be trusted.
+-- So with `within` 0 the two kinds of trust are the same.
 pub law_of_trust_without_delay : LawOfTrustWithoutDelay
 law_of_trust_without_delay programme transmission options a b none trusted = record {
   recovers = λ class.

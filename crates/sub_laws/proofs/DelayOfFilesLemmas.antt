@@ -1,4 +1,4 @@
--- For `law_of_longer_delay_of_files`: what is carried within some frames is carried within more,
+-- For `law_of_longer_delay_of_files`: bytes carry the same frames with a greater `within`,
 -- `carries_longer`.
 use Rattle.std.proofs.lemmas.Bool.Decides.{nat_tests}
 use Rattle.std.proofs.Common.{◌≡◌, ℕ, zero, suc, ◌^◌, ◌<◌, ◌≤◌, ◌==◌, false, List, [], ◌∷◌, Some}
@@ -15,7 +15,7 @@ use Rattle.sub_laws.specs.DelayOfFiles.{LawOfLongerDelayOfFiles}
 use Rattle.sub_laws.proofs.JoinedRisingLemmas.{joined-rising}
 use Rattle.sub_laws.proofs.RepeatLemmas.{law_of_longer_repeats}
 
--- A PTS that is read as a frame is read as that one where more frames are allowed.
+-- A PTS gives the same frame with a greater `within`.
 clock_longer :
     (within more origin pts frame : ℕ)
     → origin < 2 ^ 33
@@ -31,7 +31,7 @@ clock_longer zero (suc more) origin pts frame low longer is =
 clock_longer (suc within) zero origin pts frame low longer is = absurd (omega arith)
 clock_longer (suc within) (suc more) origin pts frame low longer is = is
 
--- So are PES packets.
+-- So do PES packets.
 read_longer :
     (within more origin : ℕ)
     → origin < 2 ^ 33
@@ -50,7 +50,7 @@ read_longer within more origin low longer (v ∷ values) (s ∷ frames) each = (
   read_longer within more origin low longer values frames each.1,
 )
 
--- PES packets of one frame are sent as one within any frames but 0.
+-- Any `within` other than 0 merges the PES packets of a frame.
 some_frames : (n : ℕ) → (suc n == 0) ≡ false
 some_frames n = grind (arith, nat_tests)
 
@@ -67,7 +67,7 @@ joined_alike within more sent (s ∷ frames) =
     joined_alike within more (sent_after (suc within) sent s) frames
     ∙ ap (λ (x : Transmission). joined_after (suc more) x frames) (sent_alike within more sent s)
 
--- Frames that rise, and are what PES packets are sent as, are so within more frames.
+-- Rising frames stay the same with a greater `within`.
 joined_longer :
     (within more : ℕ) (sendings frames : Transmission)
     → within ≤ more

@@ -1,7 +1,6 @@
--- For `law_of_nothing_told_repeats` and `law_of_trusted_repeats`.
--- A code that was due at a cell within some frames: `was_due_at`, `due_was`; the first cell in
--- which none of these is kept, `none_undue`, `undue_none`, `undue_found`; and the subtitle whose
--- TCO a frame is, `ending_is`, `ending_at`.
+-- For `law_of_nothing_told_repeats` and `law_of_trusted_repeats`. A code that was due in a cell
+-- within some frames: `was_due_at`, `due_was`; the first cell with another code: `none_undue`,
+-- `undue_none`, `undue_found`; the subtitle whose TCO is a frame: `ending_is`, `ending_at`.
 use Rattle.std.proofs.lemmas.Bool.Decides.{nat_tests}
 use Rattle.std.proofs.Common.{◌≡◌, ◌≢◌, ℕ, zero, suc, ◌+◌, ◌-◌, ◌<◌, ◌≤◌, ◌⊎◌, inl, inr, Bool, true}
 use Rattle.std.proofs.Common.{false, not, ◌&&◌, ◌==◌, nat_le, List, Contains, get_or}
@@ -24,7 +23,7 @@ use Rattle.sub_laws.proofs.StandingLemmas.{cell_found, cell_none, no_cell}
 -- ---- a code
 
 module _ (due : ℕ → Rows) (first f row column code : ℕ) where
-  -- It was due at frame f, or at one of the n before it that are not before the first one.
+  -- It was due at frame f, or at one of the n frames before it from the first on.
   abbrev pub WasDue : ℕ → Type 0
   WasDue n =
       (e : ℕ)
@@ -33,7 +32,7 @@ module _ (due : ℕ → Rows) (first f row column code : ℕ) where
       × (f ≤ e + n)
       × (code ≡ cell (due e) row column)
 
-  -- At frame f less n.
+  -- It was due n frames before f.
   at_oldest : (n : ℕ)
       → (nat_le (first + n) f && (cell (due (f - n)) row column == code)) ≡ true
       → (first + n ≤ f) × (code ≡ cell (due (f - n)) row column)
@@ -65,15 +64,15 @@ module _ (due : ℕ → Rows) (first f row column code : ℕ) where
       old (inl after) far = omega arith
       old (inr own) far = absurd (omega arith)
 
--- ---- the first cell that shows none
+-- ---- the first cell with an unexpected code
 
 module _ (keeps : Bool) (page : PageIdValue) (packets : List (List ℕ)) (due : ℕ → Rows)
     (first f n : ℕ) where
-  -- What is kept in a cell.
+  -- The kept code of a cell.
   abbrev code_at : ℕ → ℕ → ℕ
   code_at row column = kept keeps page packets row column
 
-  -- It is a space or a code that was due.
+  -- It is a space, or a code that was due.
   abbrev pub MayShow : ℕ → ℕ → Type 0
   MayShow row column =
       (code_at row column ≡ space) ⊎ WasDue due first f row column (code_at row column) n
@@ -113,7 +112,7 @@ module _ (drawing : Drawing) (records : List SubtitleValue) (is : IsProgramme dr
     other_end : (f : ℕ) (t : SubtitleValue) → t.tco ≢ f → ends_at f t ≡ false
     other_end f t h = grind (arith, nat_tests)
 
-    -- That of a subtitle is found by its TCO.
+    -- A subtitle is found by its TCO.
     pub ending_is : (t : SubtitleValue) → Contains records t
         → tci_of_ending records t.tco ≡ Some t.tci
     unfolding tci_of_ending
@@ -130,7 +129,7 @@ module _ (drawing : Drawing) (records : List SubtitleValue) (is : IsProgramme dr
         (rw member.2 own)
         ∙ ap Some member.2)
 
-    -- What is found is that of a subtitle.
+    -- What is found is the TCI of a subtitle.
     pub ending_at : (f tci : ℕ) → tci_of_ending records f ≡ Some tci
         → (t : SubtitleValue) × Contains records t × (t.tco ≡ f) × (t.tci ≡ tci)
     unfolding tci_of_ending

@@ -1,6 +1,5 @@
--- For what is told.
--- Nothing is told exactly where all that is asked holds, and what is told first is a refusal:
--- `all_told`.
+-- For reports. There are no events exactly if all requirements are met, and the first event is a
+-- fault: `all_told`.
 use Rattle.std.proofs.Common.{◌≡◌, ℕ, zero, suc, ◌+◌, ◌-◌, ◌<◌, ◌≤◌, ◌⊎◌, inl, inr, Bool, true}
 use Rattle.std.proofs.Common.{false, not, List, [], ◌∷◌, length, Option, Some, None, refl, ◌↔◌, sym}
 use Rattle.std.proofs.Common.{ap, subst, arith, append_assoc, if◌then◌else◌, ◌∙◌, ◌||◌}
@@ -42,23 +41,22 @@ use Rattle.sub_laws.proofs.RisingEndLemmas.{latest_at}
 use Rattle.sub_rules.proofs.FrameEvents.{events, events_of_first, frame_events, gap_events}
 use Rattle.sub_rules.specs.declared.standing.Standing.{Standing}
 
--- ---- what is told first
+-- ---- the first event
 
--- Whatever event it is, it is looked for.
+-- Any event is searched for.
 abbrev pub any_event : Event → Option Event
 any_event event = Some event
 
--- An event is a refusal, so named.
+-- The event is a fault with this property.
 abbrev pub IsNamed : (CheckFault → Type 0) → Event → Type 0
 IsNamed Named event = (f : CheckFault) × (event ≡ Told f) × Named f
 
--- Of a list of events: nothing is told exactly where this holds; what is told first is a refusal,
--- so named.
+-- There are no events in the list exactly if `Holds`; the first event is a fault with this
+-- property.
 abbrev pub FirstOf : (CheckFault → Type 0) → Type 0 → List Event → Type 0
 FirstOf Named Holds told = Finds any_event (IsNamed Named) Holds Holds told
 
 module _ {Named : CheckFault → Type 0} where
-  -- Nothing is told exactly there.
   pub told_none : {A : Type 0} (xs : List Event) → FirstOf Named A xs → (xs ≡ []) ↔ A
   told_none xs a = (λ e. a.quiet (rw e refl), λ h. empty xs (a.calm h))
     where
@@ -66,18 +64,18 @@ module _ {Named : CheckFault → Type 0} where
       empty [] e = refl
       empty (x ∷ xs) e = absurd (none-some x (sym e))
 
-  -- A refusal is told.
+  -- A fault is reported.
   rule_told : {A : Type 0} {rest : List Event} (f : CheckFault) → Named f → (A → ⊥)
       → FirstOf Named A (Told f ∷ rest)
   rule_told f is broken = grind (arith, nat_tests, same_Some)
 
-  -- A refusal, where a test says so.
+  -- A fault is reported if a test succeeds.
   told_if : {A : Type 0} (b : Bool) (f : CheckFault) → Named f → Decides (not b) A
       → FirstOf Named A (if b then Told f ∷ [] else [])
   told_if true f named decided = rule_told f named (λ a. let no = decided.1 a in cc)
   told_if false f named decided = Finds-none (decided.0 refl)
 
-  -- A refusal, where a test does not say that it holds.
+  -- A fault is reported if a test fails.
   told_unless : {A : Type 0} (b : Bool) (f : CheckFault) → Named f → Decides b A
       → FirstOf Named A (if b then [] else Told f ∷ [])
   told_unless true f named decided = Finds-none (decided.0 refl)
@@ -92,14 +90,14 @@ is_plain (fault.Pes pes f) = false
 is_plain (fault.Content frame row column) = false
 is_plain f = true
 
--- How each refusal is named: a plain one; that of what is unread; and that of a wrong cell, where
--- the frames are read up to there.
+-- The property of each fault: of a plain one; of the unread rest; and of a wrong cell, if the
+-- frames up to there were read.
 module _ (g : Criteria) (frames : Transmission) (Named : CheckFault → Type 0)
     (plain : (f : CheckFault) → is_plain f ≡ true → Named f)
     (unread : (u : Unread) → g.unread ≡ Some u → Named (unread_fault (length frames) (Some u)))
     (wrong : (n f : ℕ) (x : ℕ × ℕ) → IsReadTo g frames n f → broken_cell g frames n f ≡ Some x
     → Named (fault.Content f x.0 x.1)) where
-  -- What is told.
+  -- The events.
   abbrev Tells : Type 0 → List Event → Type 0
   Tells Holds xs = FirstOf Named Holds xs
 
@@ -122,20 +120,20 @@ module _ (g : Criteria) (frames : Transmission) (Named : CheckFault → Type 0)
 
   -- ---- an end
 
-  -- Of a rule that did not stand broken at the end before.
+  -- A rule that was not broken at the end before.
   rule_at_end : (rule : EndRule) (o : Option (ℕ × ℕ)) (prior f : ℕ)
       → ((x : ℕ × ℕ) → o ≡ Some x → Named (end_fault rule f x))
       → Tells (o ≡ None) (rule_events rule None prior o f)
   rule_at_end rule o prior f h1 = grind (arith, nat_tests, rule_told, none-some)
 
-  -- How each is named.
+  -- The property of each fault at an end.
   end_named : (n f : ℕ) → IsReadTo g frames n f → (rule : EndRule) (x : ℕ × ℕ)
       → broken_at rule (standing_at g frames n f) ≡ Some x
       → Named (end_fault rule f x)
   unfolding standing_at
   end_named n f h1 rule x h2 = grind (arith, nat_tests)
 
-  -- Where nothing stood broken at the end before.
+  -- If no fault was active at the end before.
   quiet_told : (n f prior : ℕ) → IsReadTo g frames n f
       → Tells (IsQuiet g frames n f)
       (end_events nothing_stands prior (standing_at g frames n f) f)
@@ -151,18 +149,18 @@ module _ (g : Criteria) (frames : Transmission) (Named : CheckFault → Type 0)
 
   module _ (n : ℕ) (past : AreOk g frames n) (there : n < length frames) (some : 0 < n)
       (order : OrderOk g frames n) where
-    -- The number of the frame before: the greatest so far.
+    -- The frame before: the greatest so far.
     abbrev last : ℕ
     last = latest frames n
 
     last_is : last ≡ frame_at frames (n - 1)
     last_is = latest_at frames n (λ i a b. (past i b).order.rises a) some
 
-    -- Nothing stands broken at its end.
+    -- No fault is active at its end.
     quiet_first : IsQuiet g frames n last
     quiet_first = let is = last_is in grind (arith, nat_tests)
 
-    -- Nor at those of the m frames of the day after it.
+    -- Nor at the ends of the m frames of the day after it.
     abbrev QuietFor : ℕ → Type 0
     QuietFor m = (d : ℕ) → d < m → IsQuiet g frames n (last + suc d)
 
@@ -171,13 +169,13 @@ module _ (g : Criteria) (frames : Transmission) (Named : CheckFault → Type 0)
         let e : last ≡ last + 0 = omega arith in subst (IsQuiet g frames n) e quiet_first
     quiet_at quiet (suc d) l = quiet d (omega arith)
 
-    -- Nothing stood broken at the end before one of them.
+    -- No fault was active at the end before one of them.
     nothing_before : (f d : ℕ) → end_before frames n f ≡ d → IsQuiet g frames n d
         → standing_before g frames n f ≡ nothing_stands
     nothing_before f d at quiet =
         standing_before_is g frames n f some ∙ ap (standing_at g frames n) at ∙ quiet
 
-    -- One frame of the day more.
+    -- One more frame of the day.
     gap_next : (m : ℕ) → suc m ≤ gap_length frames n → QuietFor m
         → Tells (IsQuiet g frames n (last + suc m)) (events_at_end g frames n n (last + suc m))
     gap_next m l quiet =
@@ -198,7 +196,7 @@ module _ (g : Criteria) (frames : Transmission) (Named : CheckFault → Type 0)
           header = (past 0 some).header refl;
         }))
 
-    -- The ends one after another.
+    -- One end after another.
     gap_told : (m : ℕ) → m ≤ gap_length frames n → Tells (QuietFor m) (gap_events g frames n m)
     unfolding gap_events
     gap_told m l =
@@ -223,7 +221,7 @@ module _ (g : Criteria) (frames : Transmission) (Named : CheckFault → Type 0)
         subst (IsQuiet g frames n) e (quiet (f - (last + 1)) (omega (arith, gap.2))))
         (gap_told (gap_length frames n) (omega arith))
 
-    -- What stood broken at the end before the frame's own.
+    -- No fault was active at the end before the frame's own.
     pub nothing_stood : GapOk → standing_before g frames n (frame_at frames n) ≡ nothing_stands
     nothing_stood quiet =
         grind (arith, nat_tests, last_is, gap_length-is, nothing_before, quiet_at, quiet_all)
@@ -289,7 +287,7 @@ module _ (g : Criteria) (frames : Transmission) (Named : CheckFault → Type 0)
         fails : {told : Event} (b : Bool) → (b ≡ true → any_event told ≡ None) → b ≡ false
         fails b silent = grind (arith, nat_tests, none-some)
 
-    -- All of them.
+    -- All packets.
     all_packets_told : (k : ℕ) → k ≤ length ps
         → Tells (PacketsOk g frames n k)
         (packet_events g.watched (frame_at frames n) (packets_before frames n) ps k)
@@ -312,7 +310,7 @@ module _ (g : Criteria) (frames : Transmission) (Named : CheckFault → Type 0)
   header_told zero = Finds-like (λ h. h refl) (λ h z. h) first_header_told
   header_told (suc i) = Finds-none (λ z. absurd (omega arith))
 
-  -- The end of a frame, of which all else holds.
+  -- The end of a frame, if its other requirements are met.
   end_told : (n : ℕ) → AreOk g frames n → n < length frames → OrderOk g frames n
       → ((f : ℕ) → IsInGap frames n f → IsQuiet g frames n f)
       → PacketsOk g frames n (length (packets_of_frame frames n))
@@ -379,9 +377,9 @@ module _ (g : Criteria) (frames : Transmission) (Named : CheckFault → Type 0)
         found_so_far (events_of_first g frames) (frame_events g frames) (FrameOk g frames) n refl
         (λ i. refl) (λ i below past. frame_told i past (omega arith))
 
-  -- ---- the whole
+  -- ---- the whole list
 
-  -- That no subtitle is due after the last frame, and that the page is whole at its end.
+  -- No subtitle is due after the last frame, and the page is right at its end.
   abbrev IsOver : Type 0
   IsOver =
       ((last : ℕ) → g.last_out ≡ Some last → last ≤ end_frame frames)
@@ -394,7 +392,7 @@ module _ (g : Criteria) (frames : Transmission) (Named : CheckFault → Type 0)
   late_told : Tells IsOver (late_events g frames)
   late_told = told_if _ _ (plain _ refl) over_decided
 
-  -- What follows the last frame.
+  -- The events after the last frame.
   rest_told : AreOk g frames (length frames) → 0 < length frames → (o : Option Unread)
       → g.unread ≡ o → Tells (AllOk g frames) (rest_events g frames o)
   rest_told past some (Some u) e = grind (arith, nat_tests, rule_told, none-some)
@@ -405,7 +403,7 @@ module _ (g : Criteria) (frames : Transmission) (Named : CheckFault → Type 0)
   unfolding closing_events end_events end_rules
   closing_told n h1 h2 = grind (arith, nat_tests, rule_told, rest_told)
 
-  -- All that is told.
+  -- All events.
   pub all_told : EachPacket IsPacket frames → Tells (AllOk g frames) (events g frames)
   unfolding events
   all_told whole =

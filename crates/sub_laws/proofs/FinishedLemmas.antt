@@ -1,6 +1,6 @@
--- For `law_of_nothing_told_repeats` and `law_of_trusted_repeats`.
--- A frame is finished exactly where its end is not unfinished, `finished_of`, `of_finished`; and
--- since which frame the ends are unfinished there, `since_is`, `no_since`, `since_no`, `late_is`.
+-- For `law_of_nothing_told_repeats` and `law_of_trusted_repeats`. A frame is finished exactly if
+-- its end is not unfinished, `finished_of`, `of_finished`; since which frame the ends are
+-- unfinished, `since_is`, `no_since`, `since_no`, `late_is`.
 use Rattle.std.proofs.lemmas.Bool.Decides.{nat_tests}
 use Rattle.std.proofs.Common.{◌≡◌, ℕ, ◌+◌, ◌-◌, ◌<◌, ◌≤◌, Bool}
 use Rattle.std.proofs.Common.{false, not, ◌==◌, Option, None}
@@ -44,11 +44,11 @@ module _ (programme : ProgrammeValue) (options : OptionsValue) (unread : Option 
   abbrev first : ℕ
   first = frame_at t 0
 
-  -- A frame's end is unfinished, by what is on air up to it.
+  -- The end of a frame is unfinished, given the packets on air up to it.
   abbrev un : ℕ → Bool
   un = unfinished_at g t rises
 
-  -- A frame is finished exactly where its end is not unfinished, and it is known what is due there.
+  -- A frame whose due page is known is finished exactly if its end is not unfinished.
   pub finished_of : (n f : ℕ) → IsEnd t n f → undecided f ≡ false
       → is_unfinished g t n f ≡ false
       → IsFinishedBy options.keeps programme t options f
@@ -100,14 +100,14 @@ module _ (programme : ProgrammeValue) (options : OptionsValue) (unread : Option 
       let (n, end) = frame_end f some low high in
       sym (unfinished_is g t rises n f end) ∙ of_finished n f end finished
 
-  -- Since which frame the ends are unfinished at an end.
+  -- The frame since which the ends are unfinished.
   pub since_is : (n f : ℕ) → IsEnd t n f
       → unfinished_since g t n f ≡ since_at un first (f - first)
   since_is n f end =
       let low = end_high t rises n f end in
       since_end g t rises (f - first) n f end (omega arith)
 
-  -- There is none where it is finished, and else one.
+  -- There is none exactly if the last end is finished.
   pub no_since : (n f : ℕ) → IsEnd t n f → is_unfinished g t n f ≡ false
       → unfinished_since g t n f ≡ None
   no_since n f end e =
@@ -126,7 +126,7 @@ module _ (programme : ProgrammeValue) (options : OptionsValue) (unread : Option 
       ∙ ap un at
       ∙ since_none un first (f - first) (sym (since_is n f end) ∙ e)
 
-  -- An end that is not overdue is late only where no frames are allowed.
+  -- An end that is not overdue is late only if `within` is 0.
   pub late_is : (n f : ℕ) → is_overdue g first (unfinished_since g t n f) f ≡ false
       → is_late g t n f ≡ (options.within == 0)
   unfolding is_late

@@ -1,6 +1,5 @@
--- For `check`.
--- Where a wrong cell is told first of the pieces of a PES file, it is told first of the frames that
--- are sent by those before the first one that is passed over. Main lemma: `content_first`.
+-- For `check`. If a wrong cell is the first fault of a PES file, it is also the first fault of the
+-- frames before the first skipped PES packet. Main lemma: `content_first`.
 use Rattle.std.proofs.lemmas.Bool.Decides.{nat_tests}
 use Rattle.std.proofs.Common.{◌≡◌, ℕ, suc, ◌⊎◌, inl, inr, List, [], ◌∷◌, ◌++◌, length, Option, Some}
 use Rattle.std.proofs.Common.{None, refl, sym, ap, ◌∙◌, arith, append_assoc}
@@ -26,9 +25,9 @@ use Rattle.sub_laws.proofs.SaidLemmas.{pieces_said, said, said-append}
 use Rattle.sub_rules.specs.Trusted.{CheckStep, at_pes, pes_told}
 use Rattle.sub_rules.proofs.FrameEvents.{events}
 
--- ---- pieces
+-- ---- PES packets
 
--- Those before the first one that is passed over.
+-- Those before the first skipped one.
 front : List Piece → List Piece
 front [] = []
 front (Sent s ∷ pieces) = Sent s ∷ front pieces
@@ -41,7 +40,7 @@ front_sent [] = refl
 front_sent (Sent s ∷ pieces) = ap suc (front_sent pieces)
 front_sent (Passed u ∷ pieces) = refl
 
--- They send what is read up to there.
+-- Their frames are those up to the first skipped PES packet.
 front_frames : (pieces : List Piece) (unread : Option Unread)
     → frames_of (front pieces) ≡ (read_until_passed pieces unread).frames
 unfolding front frames_of read_until_passed
@@ -51,13 +50,13 @@ front_frames (Sent s ∷ pieces) unread =
 front_frames (Passed u ∷ pieces) unread = refl
 
 module _ (frame row column : ℕ) where
-  -- It is told first.
+  -- The wrong cell is the first fault.
   abbrev IsFirst : List Event → Type 0
   IsFirst es = first_told es ≡ Some (fault.Content frame row column)
 
-  -- ---- of two lists
+  -- ---- two lists
 
-  -- Of the first, or of the other where nothing is told of that.
+  -- It is the first fault of the first list, or of the second if the first has none.
   parts_first : (xs ys : List Event) → IsFirst (xs ++ ys)
       → IsFirst xs ⊎ ((first_told xs ≡ None) × IsFirst ys)
   parts_first xs ys e = grind (arith, nat_tests, first_of_two)
@@ -70,13 +69,13 @@ module _ (frame row column : ℕ) where
 
   -- ---- steps
 
-  -- What is told of PES packet `pes` is a wrong cell exactly where what is said is.
+  -- The fault, moved to PES packet `pes`, is a wrong cell exactly if it was one.
   cell_told : (pes : ℕ) (f : CheckFault)
       → fault_at_pes pes f ≡ fault.Content frame row column
       → f ≡ fault.Content frame row column
   cell_told pes f e = grind (arith, nat_tests)
 
-  -- So it is said first of no PES packet.
+  -- So it is the first fault also without PES packets.
   said_first : (pes : ℕ) (ms : List CheckStep) → IsFirst (said_by pes ms) → IsFirst (said ms)
   unfolding at_pes
   said_first pes [] e = e
@@ -86,10 +85,10 @@ module _ (frame row column : ℕ) where
   said_first pes (AtPes next ∷ ms) e = said_first next ms e
   said_first pes (m ∷ ms) e = said_first pes ms e
 
-  -- ---- all pieces
+  -- ---- all PES packets
 
   module _ (g : Criteria) where
-    -- One that is sent: it is told of it, or later.
+    -- A sent PES packet: the fault is among its events, or comes later.
     module _ (sent : Transmission) (pes : ℕ) (s : SentFrame) (pieces : List Piece)
         (rest : List Event) where
       abbrev next : Transmission
@@ -140,7 +139,7 @@ module _ (frame row column : ℕ) where
           ∙ append_assoc own (said later) rest))
           ∙ e))
 
-    -- A piece that is passed over tells no wrong cell: all are sent, or it is told before.
+    -- A skipped PES packet has no wrong cell, so all are sent, or the fault comes before.
     front_told : (sent : Transmission) (pes : ℕ) (pieces : List Piece) (rest : List Event)
         → IsFirst (said (steps_of_each g sent pes pieces) ++ rest)
         → (front pieces ≡ pieces) ⊎ IsFirst (said (steps_of_each g sent pes (front pieces)))
@@ -152,7 +151,7 @@ module _ (frame row column : ℕ) where
         one_more sent pes s pieces rest
         (front_told (sent_after g.within sent s) (suc pes) pieces rest) e
 
-    -- What is said of all pieces.
+    -- The events of all PES packets.
     abbrev after_each : List Piece → List Event
     after_each pieces =
         let frames = sent_by_pieces g pieces in
@@ -164,8 +163,8 @@ module _ (frame row column : ℕ) where
         ≡ said (steps_of_each g [] 0 pieces) ++ after_each pieces
     said_all pieces = grind (arith, nat_tests, said-append, said, append_assoc)
 
-    -- Where a wrong cell is told first, it is of the frames that are read up to the first piece
-    -- that is passed over. For `check`.
+    -- If a wrong cell is the first fault, it is one of the frames up to the first skipped PES
+    -- packet. For `check`.
     pub content_first : (pieces : List Piece) → IsFirst (all_of_pieces g pieces)
         → IsFirst (events g (joined g.within (read_until_passed pieces g.unread).frames))
     unfolding all_of_pieces told_of_pieces pes_told

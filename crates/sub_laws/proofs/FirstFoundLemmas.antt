@@ -1,7 +1,6 @@
--- For what is told and what may stay.
--- What is found first in a list of events, whatever is looked for in them, and where it is nothing:
--- `Finds`. Of one list after another, `Finds-append`; of lists that grow, `found_so_far`; of what
--- is told of a packet, `packet_found`; and at an end, `end_found`.
+-- For reports and trusted frames. The first event of a list with something searched for: `Finds`.
+-- For joined lists, `Finds-append`; for growing lists, `found_so_far`; among the events of a
+-- packet, `packet_found`, and of an end, `end_found`.
 use Rattle.std.proofs.lemmas.Bool.Decides.{nat_tests}
 use Rattle.std.proofs.Common.{◌≡◌, ℕ, zero, suc, ◌<◌, Bool, true, List, [], ◌∷◌, ◌++◌, map, filter}
 use Rattle.std.proofs.Common.{Option, Some, None, refl, arith, flat_map, get_or}
@@ -21,7 +20,7 @@ use Rattle.sub_rules.specs.declared.standing.Standing.{Standing}
 use Rattle.sub_rules.proofs.EndRuleLemmas.{each_end_rule}
 
 module _ {X : Type 0} where
-  -- What is looked for, in the first of these events that has it.
+  -- What is searched for, in the first event that has it.
   abbrev pub first_found : (Event → Option X) → List Event → Option X
   first_found look [] = None
   first_found look (e ∷ es) = option_or (look e) (first_found look es)
@@ -31,8 +30,8 @@ module _ {X : Type 0} where
   found-append look [] ys = refl
   found-append look (x ∷ xs) ys = let rest = found-append look xs ys in grind arith
 
-  -- What is found first is so. Where nothing is found, the one holds; and where the other is given,
-  -- nothing is.
+  -- What is found first satisfies `At`. If nothing is found, `Holds`; and if `Given`, nothing is
+  -- found.
   pub record Finds (look : Event → Option X) (At : X → Type 0) (Given Holds : Type 0)
       (es : List Event) : Type 0 where
     pub at : (x : X) → first_found look es ≡ Some x → At x
@@ -43,18 +42,18 @@ module _ {X : Type 0} {look : Event → Option X} {At : X → Type 0} where
   pub Finds-none : {A B : Type 0} → B → Finds look At A B []
   Finds-none b = record { at = λ x e. cc; quiet = λ e. b; calm = λ h. refl }
 
-  -- One list after another: what holds where nothing is found in the first is there for the second.
+  -- Joined lists: if nothing is found in the first, its result is available for the second.
   pub Finds-append : {A B C D : Type 0} {xs ys : List Event} → Finds look At A B xs
       → (B → Finds look At C D ys) → (C → A) → Finds look At C D (xs ++ ys)
   Finds-append {xs = xs} {ys = ys} one next back =
       let both = found-append look xs ys in grind (arith, nat_tests)
 
-  -- The same facts in other words.
+  -- The same with implied properties.
   pub Finds-like : {A B C D : Type 0} {xs : List Event} → (C → A) → (B → D)
       → Finds look At A B xs → Finds look At C D xs
   Finds-like from to h = grind (arith, nat_tests)
 
-  -- Lists, each of which is the one before and what is told of one thing more.
+  -- A sequence of lists, each of which extends the one before.
   pub found_so_far : (so_far one : ℕ → List Event) (P : ℕ → Type 0) (m : ℕ)
       → so_far 0 ≡ []
       → ((n : ℕ) → so_far (suc n) ≡ so_far n ++ one n)
@@ -71,18 +70,18 @@ module _ {X : Type 0} {look : Event → Option X} {At : X → Type 0} where
 
 -- ---- the rules that a packet breaks
 
--- What is so of each rule in their list is so of any.
+-- A property of each rule in the list is one of any rule.
 pub each_rule : (P : PacketRule → Type 0) → AllByRecursion P packet_rules → (r : PacketRule) → P r
 unfolding packet_rules
 each_rule P h r = grind arith
 
--- And back.
+-- The converse.
 of_each_rule : (P : PacketRule → Type 0) → ((r : PacketRule) → P r) → AllByRecursion P packet_rules
 of_each_rule P all = recursion_from_All P packet_rules (λ k d l. all (get_or packet_rules k d))
 
 module _ {X : Type 0} (look : Event → Option X) (At : X → Type 0) (frame k : ℕ)
     (at : (r : PacketRule) (x : X) → look (Told (packet_fault r frame k)) ≡ Some x → At x) where
-  -- Of rules that pass a test.
+  -- No rule of the list passes the test.
   abbrev NonePass : (PacketRule → Bool) → List PacketRule → Type 0
   NonePass test rs =
       AllByRecursion (λ r. test r ≡ true → look (Told (packet_fault r frame k)) ≡ None) rs
@@ -94,7 +93,7 @@ module _ {X : Type 0} (look : Event → Option X) (At : X → Type 0) (frame k :
   rules_found test (r ∷ rs) =
       let found = at r in let rest = rules_found test rs in grind (arith, nat_tests)
 
-  -- In what is told of packet k of a frame.
+  -- Among the events of packet k of a frame.
   pub packet_found : (w : Watched) (before : List (List ℕ)) (p : List ℕ)
       → Finds look At
       ((r : PacketRule) → breaks r w before p ≡ true → look (Told (packet_fault r frame k)) ≡ None)
@@ -105,11 +104,11 @@ module _ {X : Type 0} (look : Event → Option X) (At : X → Type 0) (frame k :
       Finds-like (of_each_rule _) (each_rule _)
       (rules_found (λ r. breaks r w before p) packet_rules)
 
--- ---- the rules of a frame's end
+-- ---- the rules for the end of a frame
 
 module _ {X : Type 0} {look : Event → Option X} {At : X → Type 0} {Given Holds : EndRule → Type 0}
   where
-    -- In what is told at an end, by what is told of each of them.
+    -- Among the events of an end, rule by rule.
     pub end_found : (old : Standing) (before : ℕ) (new : Standing) (f : ℕ)
         → ((rule : EndRule)
         → Finds look At (Given rule) (Holds rule)

@@ -1,6 +1,5 @@
--- For what is told and what may stay.
--- A stretch of which each packet may follow those before it has what recovery needs:
--- `law_of_followed_stretch`. Each of its frames has an end, `end_of`.
+-- For reports and trusted frames. A stretch whose packets may follow those before has what recovery
+-- needs: `law_of_followed_stretch`. Each of its frames has an end, `end_of`.
 use Rattle.std.proofs.lemmas.Bool.Decides.{nat_tests}
 use Rattle.std.proofs.Common.{◌≡◌, ℕ, ◌+◌, ◌-◌, ◌<◌, ◌≤◌, inl, inr, Bool, List, [], ◌++◌, length}
 use Rattle.std.proofs.Common.{take, slice_index_or, sym, ◌∙◌, subst, arith}
@@ -22,7 +21,7 @@ use Rattle.sub_laws.proofs.PrefixLemmas.{EachAfter, RiseTo, before, each_after, 
 use Rattle.sub_laws.proofs.PrefixLemmas.{last-same, on_air_at, packet_at, rises_to}
 use Rattle.sub_laws.proofs.TransmissionLemmas.{packets_between-split}
 
--- No packets are sent as any text.
+-- No packets transmit any text.
 sends_nil : (keeps : Bool) (page : PageIdValue) (text : ℕ → ℕ → ℕ) → SendsText keeps page [] text
 sends_nil keeps page text = grind (arith, nat_tests)
 
@@ -32,7 +31,7 @@ module _ (transmission : Transmission) (a b : ℕ) (stretch : IsStretch transmis
   pub rising : RiseTo transmission (length transmission)
   rising = rises_each transmission rises
 
-  -- Each frame of the stretch has an end, at which what is on air up to it counts.
+  -- Each frame of the stretch has an end, with the packets on air up to it.
   pub end_of : (f : ℕ) → a ≤ f → f ≤ b
       → (n : ℕ)
       × IsEnd transmission n f
@@ -44,7 +43,7 @@ module _ (transmission : Transmission) (a b : ℕ) (stretch : IsStretch transmis
   abbrev earlier : List (List ℕ)
   earlier = packets_between transmission (first_frame transmission) a
 
-  -- A packet that comes after that is sent in the stretch or later.
+  -- A packet after that is sent in the stretch or later.
   not_earlier :
       (i k : ℕ)
       → i < length transmission
@@ -63,7 +62,7 @@ module _ (transmission : Transmission) (a b : ℕ) (stretch : IsStretch transmis
         grind (arith, nat_tests, length-append, length-take)
   ]
 
-  -- What is on air from its first frame on is sent as the text that is kept of all.
+  -- What is on air from its first frame transmits the text that remains of all packets.
   sends_at : (keeps : Bool) (page : PageIdValue)
       → ((i k : ℕ)
       → i < length transmission
@@ -100,7 +99,6 @@ module _ (transmission : Transmission) (a b : ℕ) (stretch : IsStretch transmis
       rw append-nil at) in
       grind (arith, nat_tests, append-nil)
 
--- It has what recovery needs.
 pub law_of_followed_stretch : LawOfFollowedStretch
 law_of_followed_stretch keeps transmission options a b followed = record {
   first = followed.stretch.from;

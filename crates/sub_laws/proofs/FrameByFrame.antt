@@ -1,5 +1,4 @@
--- For what is told and what may stay.
--- What is asked of a transmission, frame by frame of the list.
+-- For reports and trusted frames. The requirements of a transmission, frame by frame of the list.
 use Rattle.std.proofs.Common.{◌≡◌, ℕ, ◌+◌, ◌-◌, ◌<◌, ◌≤◌, ◌⊎◌, length, Some, None, IsFalse}
 use Rattle.sub_rules.specs.Events.{is_pending, nothing_stands, standing_at}
 use Rattle.sub_rules.specs.FrameRules.{Criteria, HasHeader, end_frame, frame_at, packets_of_frame}
@@ -7,11 +6,11 @@ use Rattle.sub_rules.specs.PacketRules.{KeepsAllRules}
 use Rattle.sub_rules.specs.Transmission.{Transmission}
 use Rattle.sub_laws.proofs.PrefixLemmas.{IsInGap, before, packet_at}
 
--- Nothing stands broken after n frames of the list, at the end of frame f.
+-- No fault is active after n frames of the list, at the end of frame f.
 abbrev pub IsQuiet : Criteria → Transmission → ℕ → ℕ → Type 0
 IsQuiet g frames n f = standing_at g frames n f ≡ nothing_stands
 
--- The number of frame i of the list is as asked.
+-- The number of frame i of the list is as required.
 pub record OrderOk (g : Criteria) (frames : Transmission) (i : ℕ) : Type 0 where
   pub start : i ≡ 0 → (first : ℕ) → g.first_in ≡ Some first → frame_at frames 0 ≤ first
   pub rises : 0 < i → frame_at frames (i - 1) < frame_at frames i
@@ -21,8 +20,8 @@ abbrev pub PacketsOk : Criteria → Transmission → ℕ → ℕ → Type 0
 PacketsOk g frames i k =
     (j : ℕ) → j < k → KeepsAllRules g.watched (before frames i j) (packet_at frames i j)
 
--- All that is asked of frame i of the list: of its number, of the frames of the day before it, of
--- its packets, of its header, and at its end.
+-- All requirements for frame i of the list: its number, the frames of the day before it, its
+-- packets, its header, and its end.
 pub record FrameOk (g : Criteria) (frames : Transmission) (i : ℕ) : Type 0 where
   pub order : OrderOk g frames i
   pub gap : (f : ℕ) → IsInGap frames i f → IsQuiet g frames i f
@@ -30,11 +29,11 @@ pub record FrameOk (g : Criteria) (frames : Transmission) (i : ℕ) : Type 0 whe
   pub header : i ≡ 0 → HasHeader g frames 0
   pub end : IsQuiet g frames (i + 1) (frame_at frames i)
 
--- All that is asked of the first n frames of the list holds.
+-- The first n frames of the list meet all requirements.
 abbrev pub AreOk : Criteria → Transmission → ℕ → Type 0
 AreOk g frames n = (j : ℕ) → j < n → FrameOk g frames j
 
--- All that is asked holds.
+-- All requirements are met.
 pub record AllOk (g : Criteria) (frames : Transmission) : Type 0 where
   pub each : AreOk g frames (length frames)
   pub unread : g.unread ≡ None

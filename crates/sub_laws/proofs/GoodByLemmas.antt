@@ -1,7 +1,6 @@
--- For what may be late, schedules and what is told.
--- A transmission that is good by options keeps all that is promised of it, `law_of_good_repeats`.
--- Within no frame, where no repeat may keep the page, that is what is good, `law_of_no_delay`; and
--- a schedule is good by any options, `law_of_plan_repeats`.
+-- For delays, schedules and reports. A transmission that is good by options keeps its promises,
+-- `law_of_good_repeats`. If `within` is 0 and no repeat may keep the page, that means `Good`,
+-- `law_of_no_delay`. A schedule is good by any options, `law_of_plan_repeats`.
 use Rattle.std.proofs.lemmas.Bool.Decides.{nat_tests}
 use Rattle.std.proofs.Common.{◌≡◌, ℕ, ◌-◌, ◌<◌, ◌≤◌, inl, inr, Bool, true, false}
 use Rattle.std.proofs.Common.{length, get_or, option_map, IsTrue, ap, subst, arith}
@@ -42,7 +41,7 @@ module _ (programme : ProgrammeValue) (transmission : Transmission)
   abbrev t : SubtitleValue
   t = get_or programme.records k d
 
-  -- It has a frame.
+  -- It has at least one frame.
   pub has_frame : t.tci < t.tco
   has_frame = (is.each k d within).times
 
@@ -61,7 +60,7 @@ module _ (programme : ProgrammeValue) (transmission : Transmission)
         | inr same ↦ grind (arith, nat_tests)
       ]
 
-  -- Nor does it end after it.
+  -- It does not end after it.
   pub ends_in : t.tco ≤ last_frame transmission
   ends_in =
       let n : ℕ = length programme.records - 1 in
@@ -86,10 +85,9 @@ first_to_last transmission some rising =
           (length transmission - 1) (omega arith) (omega (arith, some)),
     )
 
--- ---- what is promised
+-- ---- promises
 
--- A good transmission has what suffices, in all its frames; and of a programme it keeps all that is
--- promised.
+-- A good transmission is sufficient in all its frames, and one of a programme keeps its promises.
 pub law_of_good_repeats : LawOfGoodRepeats
 law_of_good_repeats keeps programme transmission options good =
     let law =
@@ -109,13 +107,13 @@ law_of_good_repeats keeps programme transmission options good =
           }),
     )
 
--- ---- within no frame, where no repeat may keep
+-- ---- if `within` is 0 and no repeat may keep the page
 
 module _ (programme : ProgrammeValue) (transmission : Transmission) (options : OptionsValue) where
   module _ (is : IsProgramme programme.drawing programme.records)
       (good : Good programme transmission options)
       (complete : IsTrue options.asks_complete → Complete transmission options) where
-    -- Each frame of a good transmission is finished, with complete pages where they are asked for.
+    -- Each frame of a good transmission is finished, with complete pages if these are required.
     finished :
         (f : ℕ)
         → first_frame transmission ≤ f
@@ -131,7 +129,7 @@ module _ (programme : ProgrammeValue) (transmission : Transmission) (options : O
           (last_frame transmission) f (complete asks) low high;
     }
 
-    -- So it is good within any number of frames.
+    -- So it is good for any `within`.
     pub good_by : GoodBy false programme transmission options
     good_by = record {
       rules = rules_by programme transmission options good.rules;
@@ -163,8 +161,7 @@ module _ (programme : ProgrammeValue) (transmission : Transmission) (options : O
           (le_refl (last_frame transmission));
     }
 
-  -- Within no frame what is good by options is good, and of complete pages where these are asked
-  -- for.
+  -- If `within` is 0, `GoodBy` is `Good`, with complete pages if these are required.
   good_at_once :
       options.within ≡ 0
       → GoodBy false programme transmission options

@@ -1,6 +1,6 @@
--- For what may be late, schedules, what is told and what may stay.
--- What holds of each packet of a transmission, and the headers of frames of the list and of frames
--- of the day: `each_packet`, `any_passes`, `any_sent`, `sent_any`.
+-- For delays, schedules, reports and trusted frames. Properties of each packet of a transmission,
+-- and the headers in frames of the list and of the day: `each_packet`, `any_passes`, `any_sent`,
+-- `sent_any`.
 use Rattle.std.proofs.Common.{◌≡◌, ℕ, zero, suc, ◌+◌, ◌-◌, ◌<◌, inl, inr, Bool, true, cond, ◌&&◌}
 use Rattle.std.proofs.Common.{nat_le, nat_lt, List, [], ◌∷◌, ◌++◌, length, get_or, All, refl, ap}
 use Rattle.std.proofs.Common.{arith, ◌⊎◌, ◌≤◌}
@@ -20,13 +20,13 @@ use Rattle.std.proofs.lemmas.Bool.{cases_lt}
 
 -- ---- each packet
 
--- What holds of two lists joined holds of each.
+-- A property of a joined list holds for both parts.
 Each-left : (P : List ℕ → Type 0) (xs ys : List (List ℕ)) → AllByRecursion P (xs ++ ys)
     → AllByRecursion P xs × AllByRecursion P ys
 Each-left P [] ys h = (tt, h)
 Each-left P (x ∷ xs) ys h = let r = Each-left P xs ys h.1 in ((h.0, r.0), r.1)
 
--- What holds of all packets holds of those of each frame.
+-- A property of all packets holds for those of each frame.
 Each-parts : (P : List ℕ → Type 0) (t : Transmission)
     → AllByRecursion P (flat_map (λ (s : SentFrame). s.packets) t)
     → AllByRecursion (λ (s : SentFrame). All P s.packets) t
@@ -39,18 +39,18 @@ Each-parts P (s ∷ ss) h = let r =
 abbrev pub whole : Transmission → List (List ℕ)
 whole frames = packets_before frames (length frames)
 
--- They stand frame after frame.
+-- They are listed frame after frame.
 pub whole-is : (t : Transmission) → whole t ≡ flat_map (λ (s : SentFrame). s.packets) t
 whole-is t = ap (flat_map (λ (s : SentFrame). s.packets)) (take_all (length t) t (omega arith))
 
--- What holds of all packets holds of each packet of the transmission.
+-- A property of all packets holds for each packet of the transmission.
 pub each_packet : (P : List ℕ → Type 0) (t : Transmission) → AllByRecursion P (whole t)
     → EachPacket P t
 each_packet P t h = grind (arith, All-from_recursion, Each-parts, whole-is)
 
 -- ---- headers
 
--- A packet in a frame of the list that passes a test is one in the frame of the day.
+-- A packet of a frame of the list that passes a test is in the frame of the day.
 pub any_passes : (test : List ℕ → Bool) (t : Transmission) (j n : ℕ)
     → j < length t
     → frame_at t j ≡ n
@@ -67,26 +67,25 @@ pub any_sent : (w : Watched) (t : Transmission) (j n : ℕ) → j < length t →
     → holds_header (kind w.page) (packets_of t n) ≡ true
 any_sent w t j n l e h = any_passes (λ p. is_this_page (kind w.page p)) t j n l e h
 
--- The number of a frame of the list.
 pub number_at : (t : Transmission) (i : ℕ) (d : SentFrame) → i < length t
     → (get_or t i d).frame ≡ frame_at t i
 number_at [] i d l = absurd (omega arith)
 number_at (s ∷ ss) zero d l = refl
 number_at (s ∷ ss) (suc i) d l = number_at ss i d (omega arith)
 
--- Frames that rise rise from each place to the next.
+-- In rising frames each is after the one before.
 pub rises_each : (t : Transmission) → IsRising t → (i : ℕ) → 0 < i → i < length t
     → frame_at t (i - 1) < frame_at t i
 rises_each t rising i a l =
     let nothing : SentFrame = record { frame = 0; packets = [] } in
     grind (arith, nat_tests, number_at t (i - 1) nothing, number_at t i nothing l)
 
--- An item of two lists joined is one of the first or of the second.
+-- An item of a joined list is in the first or in the second.
 any-split : {X : Type 0} (f : X → Bool) (xs ys : List X) → list_any f (xs ++ ys) ≡ true
     → (list_any f xs ≡ true) ⊎ (list_any f ys ≡ true)
 any-split f xs ys e = let both = list_any-append f xs ys in grind arith
 
--- A header in a frame of the day is one in a frame of the list.
+-- A header in a frame of the day is in a frame of the list.
 pub sent_any : (w : Watched) (t : Transmission) (n : ℕ)
     → holds_header (kind w.page) (packets_of t n) ≡ true
     → (j : ℕ) × (j < length t) × (frame_at t j ≡ n) ×
@@ -103,7 +102,7 @@ sent_any w (s ∷ ss) n e =
 
 -- ---- PES packets
 
--- Where a header of the page comes again within a bound, PES packets are no further apart.
+-- If a header of the page is repeated within a bound, PES packets are no further apart.
 pub paced_of : (w : Watched) (every frames : ℕ) (t : Transmission) → 0 < length t → every ≤ frames
     → Repeats w.page every t
     → (f : ℕ) → first_frame t ≤ f → f ≤ last_frame t

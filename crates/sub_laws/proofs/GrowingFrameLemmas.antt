@@ -1,7 +1,6 @@
--- For what is told and what may stay.
--- The frames that are sent so far, of all frames that are sent by PES packets: these are more
--- packets of the last of them, and more frames, `grows`. So what comes of them so far goes by all
--- frames.
+-- For reports and trusted frames. The frames sent so far, compared with all frames of the PES
+-- packets: these have more packets in the last frame, and more frames, `grows`. So the steps so far
+-- follow from all frames.
 use Rattle.std.proofs.Common.{◌≡◌, ℕ, suc, ◌+◌, ◌<◌, true, false, List, [], ◌∷◌, ◌++◌}
 use Rattle.std.proofs.Common.{length, refl, sym, ap, ◌∙◌, arith, append_assoc, append-nil}
 use Rattle.std.proofs.Common.{length-append, le_refl, ◌==◌, ◌≤◌}
@@ -44,19 +43,19 @@ with_two xs ys (s ∷ next ∷ frames) =
 
 -- ---- frames so far
 
--- All frames are more packets of the last of these, and more frames.
+-- All frames are these, with more packets of the last frame and with more frames.
 pub record Grows (sent frames : Transmission) : Type 0 where
   pub rest : List (List ℕ)
   pub more : Transmission
   pub whole : frames ≡ with_packets rest sent ++ more
 
--- The frames before another one are as they are.
+-- The frames before another one are unchanged.
 pub grown : (sent : Transmission) (s : SentFrame) (frames : Transmission)
     → Grows (sent ++ s ∷ []) frames
     → (more : Transmission) × (frames ≡ sent ++ more)
 grown sent s frames is = grind (arith, nat_tests, with_more, with_packets-push, append_assoc)
 
--- With fewer packets of the last frame, and without it.
+-- The same with fewer packets of the last frame, and without it.
 pub grows_more : (packets : List (List ℕ)) (sent frames : Transmission)
     → Grows (with_packets packets sent) frames
     → Grows sent frames
@@ -73,7 +72,7 @@ grows_one sent s frames is =
       whole = all.1 ∙ sym (ap (λ (l : Transmission). l ++ all.0) (with_none sent));
     }
 
--- One PES packet before.
+-- One PES packet earlier.
 pub grows_before : (within : ℕ) (sent : Transmission) (s : SentFrame) (frames : Transmission)
     → Grows (sent_after within sent s) frames
     → Grows sent frames
@@ -91,24 +90,24 @@ grows within sent (s ∷ more) =
     grows_before within sent s (joined_after within (sent_after within sent s) more)
     (grows within (sent_after within sent s) more)
 
--- Where each frame is sent at once these are as they are.
+-- If each PES packet is a frame of its own, these are unchanged.
 pub whole_at_once : (within : ℕ) (sent more frames : Transmission) → (within == 0) ≡ true
     → joined_after within sent more ≡ frames
     → frames ≡ sent ++ more
 whole_at_once within sent more frames none all = grind (arith, nat_tests, joined_after-none)
 
--- A frame that a PES packet goes on with was sent, within some frames.
+-- If a PES packet continues a frame, there is one, and `within` is not 0.
 pub goes_on_some : (within : ℕ) (sent : Transmission) (s : SentFrame)
     → goes_on_with within sent s ≡ true
     → ((within == 0) ≡ false) × (0 < length sent)
 goes_on_some within sent s h1 = grind (arith, nat_tests)
 
--- No more were sent so far than are sent.
+-- There are no more frames so far than in all.
 pub so_many : (sent frames : Transmission) → Grows sent frames
     → length sent ≤ length frames
 so_many sent frames is = grind (arith, nat_tests, length-append, with_packets-length)
 
--- ---- what comes of them
+-- ---- the steps
 
 module _ (g : Criteria) (sent frames : Transmission) (is : Grows sent frames) (n : ℕ)
     (size : length sent ≡ suc n)
@@ -128,7 +127,7 @@ module _ (g : Criteria) (sent frames : Transmission) (is : Grows sent frames) (n
     pub before_is : packets_before frames n ≡ packets_before sent n
     before_is = grind (arith, nat_tests, packets_before-prefix, all_long, with_packets-before)
 
-    -- What is sent so far, and so far in the last frame.
+    -- The packets sent so far, with those so far in the last frame.
     pub so_far : packets_before sent (length sent)
         ≡ packets_before frames n ++ packets_of_frame sent n
     so_far =
@@ -145,7 +144,7 @@ module _ (g : Criteria) (sent frames : Transmission) (is : Grows sent frames) (n
         ∙ sym (steps_of_arrival-prefix g g.unread all is.more n (omega (arith, all_long)))
         ∙ ap (λ (fs : Transmission). steps_of_arrival g fs n) (sym is.whole)
 
--- A frame before others, as it is.
+-- A frame before others is unchanged.
 module _ (g : Criteria) (sent more frames : Transmission) (whole : frames ≡ sent ++ more) (n : ℕ)
     (there : n < length sent)
   where

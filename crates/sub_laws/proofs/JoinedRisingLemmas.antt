@@ -1,5 +1,4 @@
--- For `check`.
--- Of frames that rise each is sent as one, within however many frames: `joined-rising`.
+-- For `check`. Rising frames are not merged, whatever `within` is: `joined-rising`.
 use Rattle.std.proofs.lemmas.Bool.Decides.{nat_tests}
 use Rattle.std.proofs.Common.{◌≡◌, ℕ, zero, suc, ◌-◌, ◌<◌, ◌==◌, ◌&&◌, Bool, false, not}
 use Rattle.std.proofs.Common.{[], ◌∷◌, ◌++◌, length, refl, sym, ap, ◌∙◌, subst, arith, append_assoc}
@@ -23,7 +22,7 @@ pub frame_at-next : (xs : Transmission) (s : SentFrame) (ys : Transmission)
 frame_at-next [] s ys = refl
 frame_at-next (x ∷ xs) s ys = frame_at-next xs s ys
 
--- Of frames that rise none goes on with the one before.
+-- In rising frames none continues the one before.
 another : (within : ℕ) (sent : Transmission) (s : SentFrame) (frames : Transmission)
     → IsRising (sent ++ s ∷ frames)
     → goes_on_with within sent s ≡ false

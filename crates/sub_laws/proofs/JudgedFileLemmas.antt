@@ -1,5 +1,5 @@
--- What a transmission is judged by of a part of a subtitle file, `judged_parts`; and that nothing
--- else of what is refused has a say in what is told, `law_of_judged_alike`.
+-- What a transmission is compared with if only a part of a subtitle file is requested,
+-- `judged_parts`; and that nothing else of refused subtitles matters, `law_of_judged_alike`.
 use Rattle.std.proofs.Math.Path.{fun_ext}
 use Rattle.std.proofs.Common.{◌≡◌, ℕ, Bool, false, true, ◌&&◌, ◌++◌, Option, Some, None}
 use Rattle.std.proofs.Common.{option_map, refl, sym, ap, ◌∙◌}
@@ -22,14 +22,14 @@ use Rattle.sub_laws.specs.JudgedFiles.{LawOfJudgedAlike, LawOfJudgedParts}
 
 -- ---- a part of a file
 
--- Whether a file was read whole does not hang on block numbers.
+-- Whether a file was read to its end does not depend on block numbers.
 whole_unnumbered : (left : Findings) → is_read_whole left ≡ is_read_whole (unnumbered left)
 whole_unnumbered no_more = refl
 whole_unnumbered (breaks f block) = refl
 whole_unnumbered (refuses f block left) = whole_unnumbered left
 whole_unnumbered (finds t block left) = whole_unnumbered left
 
--- Nor whether what follows a subtitle is in order.
+-- Nor does it matter for whether the next subtitle is in order.
 followed_unnumbered : (last : SubtitleValue) (left : Findings)
     → is_followed_in_order (times_of last) left
     ≡ is_followed_in_order (times_of last) (unnumbered left)
@@ -38,11 +38,11 @@ followed_unnumbered last (breaks f block) = refl
 followed_unnumbered last (refuses f block left) = followed_unnumbered last left
 followed_unnumbered last (finds t block left) = refl
 
--- What can be relied on behind a subtitle, or from the first one on.
+-- The subtitles that can be relied on after a subtitle, or from the first one on.
 abbrev behind : Drawing → Option SubtitleValue → Bool → Findings → AllJudged
 behind drawing last other left = judged_behind drawing (option_map times_of last) other left
 
--- Nor what can be relied on.
+-- They do not depend on block numbers either.
 judged_unnumbered : (drawing : Drawing) (last : Option SubtitleValue) (other : Bool)
     (left : Findings)
     → behind drawing last other left ≡ behind drawing last other (unnumbered left)
@@ -58,13 +58,13 @@ judged_unnumbered drawing last other (finds t block left) =
       judged_unnumbered drawing (Some t) true left,
     ) refl
 
--- A page that is drawn does not depend on what is taken of the file.
+-- The page of a subtitle does not depend on the requested part.
 drawn_of_day : (drawing : Drawing) (t : SubtitleValue)
     → drawn drawing t ≡ drawn (of_day drawing) t
 unfolding drawn
 drawn_of_day drawing t = refl
 
--- So what can be relied on does not.
+-- So the reliable subtitles do not either.
 judged_of_day : (drawing : Drawing) (last : Option SubtitleValue) (other : Bool) (left : Findings)
     → behind drawing last other left ≡ behind (of_day drawing) last other left
 unfolding judged_behind
@@ -79,7 +79,7 @@ judged_of_day drawing last other (finds t block left) =
     ) refl
 
 module _ (drawing : Drawing) (one other : Findings) (same : unnumbered one ≡ unnumbered other) where
-  -- What can be relied on is the same where the findings are, block numbers aside.
+  -- The reliable subtitles are the same if the findings are, apart from block numbers.
   judged_same : behind drawing None false one ≡ behind (of_day drawing) None false other
   judged_same =
       judged_unnumbered drawing None false one
@@ -87,11 +87,11 @@ module _ (drawing : Drawing) (one other : Findings) (same : unnumbered one ≡ u
       ∙ sym (judged_unnumbered drawing None false other)
       ∙ judged_of_day drawing None false other
 
-  -- And so is whether the file was read whole.
+  -- So is whether the file was read to its end.
   whole_same : is_read_whole one ≡ is_read_whole other
   whole_same = whole_unnumbered one ∙ ap is_read_whole same ∙ sym (whole_unnumbered other)
 
-  -- So a transmission is judged by both or by none.
+  -- So a transmission can be judged by both or by neither.
   judges_same :
       (is_read_whole one && are_some (behind drawing None false one).judged
       && are_in_order (behind drawing None false one).judged)
@@ -118,7 +118,7 @@ judged_parts law drawing gsi blocks size each read =
 
 -- ---- two files
 
--- The criteria are the same, since equal functions are.
+-- The criteria are equal, since functions with equal values are.
 pub law_of_judged_alike : LawOfJudgedAlike
 law_of_judged_alike one other options unread pieces programme any_refused undecided =
     ap

@@ -1,7 +1,6 @@
--- For what may stay and what is told.
--- Where no repeat may keep the page, and no frame may be late, what suffices of a stretch is what
--- suffices for the headline: `sufficient_of`; so `law_of_untold_stretch`, as a case of that of
--- repeats.
+-- For reports and trusted frames. If no repeat may keep the page and no frame may be late, the
+-- sufficient conditions for repeats are those for the headline: `sufficient_of`. So
+-- `law_of_untold_stretch` is a case of the law for repeats.
 use Rattle.std.proofs.lemmas.Bool.Decides.{nat_tests}
 use Rattle.std.proofs.Common.{◌≡◌, ℕ, Bool, false, Option, IsTrue, subst, arith, refl}
 use Rattle.stl_rows.specs.Programme.{ProgrammeValue}
@@ -20,7 +19,7 @@ use Rattle.sub_laws.proofs.FollowedStretchLemmas.{end_of}
 use Rattle.sub_laws.proofs.StandingLemmas.{stands_broken}
 use Rattle.sub_laws.proofs.SufficientDelayLemmas.{enough_repeats}
 
--- What suffices of a stretch where repeats may keep, or may not, suffices of it, within no frame.
+-- If `within` is 0, a stretch that is sufficient for repeats is sufficient.
 pub sufficient_of :
     (programme : ProgrammeValue) (transmission : Transmission) (options : OptionsValue) (a b : ℕ)
     → options.keeps ≡ false
@@ -37,7 +36,7 @@ sufficient_of programme transmission options a b none at_once enough =
           (of.whole at_once f low high row column named);
     }
 
--- Where the page is open at no end of a stretch of which nothing is told, pages are complete in it.
+-- If the page is open at no end of a clean stretch, pages are complete in it.
 pub complete_untold :
     (programme : ProgrammeValue) (transmission : Transmission) (options : OptionsValue)
     → (unread : Option Unread) (any_refused : Bool) (undecided : ℕ → Bool) (a b : ℕ)
@@ -56,7 +55,7 @@ complete_untold programme transmission options unread any_refused undecided a b 
     asks in
     grind (arith, nat_tests)
 
--- So it has what suffices, within no frame.
+-- So the stretch is sufficient if `within` is 0.
 pub law_of_untold_stretch : LawOfUntoldStretch
 law_of_untold_stretch programme transmission options unread any_refused undecided a b none at_once
     untold

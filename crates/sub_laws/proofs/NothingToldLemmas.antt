@@ -1,5 +1,5 @@
--- For `law_of_broken_places`, `law_of_nothing_told` and `law_of_nothing_told_repeats`.
--- What is told of pieces goes by what is told of the frames that they send: the laws.
+-- For `law_of_broken_places`, `law_of_nothing_told` and `law_of_nothing_told_repeats`. The events
+-- of PES packets follow from those of their frames: the laws.
 use Rattle.std.proofs.Common.{◌≡◌, List, [], ◌∷◌, map, refl, sym, ap, ◌∙◌, subst}
 use Rattle.ttx_packet.specs.PacketAddress.{IsPacket}
 use Rattle.sub_rules.specs.FrameRules.{Criteria, criteria_of}

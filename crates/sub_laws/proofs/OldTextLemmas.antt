@@ -1,5 +1,5 @@
--- Where no header erases the page, what is kept in a cell stays, `kept-stays`; so where text goes
--- or changes one is sent: `law_of_old_text`.
+-- If no header erases the page, the kept code of a cell stays, `kept-stays`; so a header that
+-- erases it is sent if text ends or changes: `law_of_old_text`.
 use Rattle.std.proofs.Common.{◌≡◌, ◌≢◌, ℕ, ◌+◌, ◌-◌, ◌<◌, ◌≤◌, inl, inr, Bool, true, false, cond}
 use Rattle.std.proofs.Common.{List, [], ◌∷◌, ◌++◌, find, Option, Some, None}
 use Rattle.std.proofs.Common.{option_map, unwrap_or, refl, sym, ap, ◌∙◌, subst, arith, append_assoc}
@@ -32,14 +32,14 @@ use Rattle.sub_laws.proofs.RepeatLemmas.{repeated_stretch}
 use Rattle.sub_laws.proofs.SoundStretchLemmas.{on_air-cut}
 use Rattle.sub_laws.proofs.TransmissionLemmas.{packets_between-split}
 
--- ---- what is kept stays
+-- ---- the kept text stays
 
 module _ (keeps : Bool) (w : PageIdValue) where
-  -- The long span of packets.
+  -- The packets since the text began.
   abbrev spanned : List (List ℕ) → List (List ℕ)
   spanned packets = text_span keeps (kind w) packets
 
-  -- A packet with which no text begins leaves it in front.
+  -- A packet that does not begin the text only extends them.
   span-one : (xs : List (List ℕ)) (p : List ℕ)
       → begins_text keeps (kind w p) ≡ false
       → (more : List (List ℕ)) × (spanned (xs ++ p ∷ []) ≡ spanned xs ++ more)
@@ -57,7 +57,7 @@ module _ (keeps : Bool) (w : PageIdValue) where
       go false true e = (p ∷ [], refl)
       go false false e = ([], sym (append-nil (spanned xs)))
 
-  -- And so do more of them.
+  -- So do more of them.
   span-grows : (xs ys : List (List ℕ))
       → holds_beginning keeps (kind w) ys ≡ false
       → (more : List (List ℕ)) × (spanned (xs ++ ys) ≡ spanned xs ++ more)
@@ -80,11 +80,11 @@ module _ (keeps : Bool) (w : PageIdValue) where
             ∙ append_assoc (spanned xs) more rest,
       )
 
-  -- The code of the first packet of a row, where one was found.
+  -- The code of the first packet of a row, if there is one.
   abbrev code_in : ℕ → Option (List ℕ) → ℕ
   code_in column found = unwrap_or (option_map (λ p. code_of (text_byte p column)) found) space
 
-  -- So a code that is no space stays in its cell.
+  -- So a code other than a space stays in its cell.
   pub kept-stays : (xs ys : List (List ℕ)) (row column code : ℕ)
       → holds_beginning keeps (kind w) ys ≡ false
       → kept keeps w xs row column ≡ code
@@ -119,7 +119,7 @@ module _ (keeps : Bool) (w : PageIdValue) (xs ys : List (List ℕ)) where
   begins-right holds =
       list_any-append (λ p. begins_text keeps (kind w p)) xs ys ∙ or_right _ _ holds
 
--- ---- where text goes or changes
+-- ---- if text ends or changes
 
 module _ (keeps : Bool) (programme : ProgrammeValue) (transmission : Transmission)
     (options : OptionsValue) (e row column code : ℕ)
@@ -140,7 +140,7 @@ module _ (keeps : Bool) (programme : ProgrammeValue) (transmission : Transmissio
             ∙ goes.was some.0 (omega (arith, some.2)) (omega (arith, some.1)),
       )
 
-  -- The code is no more kept at the end of the last of the frames in which it is gone.
+  -- The old code is no longer kept at the end of the last frame of the change.
   not_kept :
       kept keeps options.page (on_air_until transmission (e + options.within)) row column ≢ code
   not_kept is =
@@ -150,7 +150,7 @@ module _ (keeps : Bool) (programme : ProgrammeValue) (transmission : Transmissio
             goes.gone d (omega arith) before (sym due ∙ is)
       ]
 
-  -- So a header came with which the text begins.
+  -- So a header was sent that begins the text.
   begins :
       holds_beginning keeps (kind options.page)
       (packets_between transmission (e - options.within) (e + options.within + 1))
@@ -176,7 +176,7 @@ module _ (keeps : Bool) (programme : ProgrammeValue) (transmission : Transmissio
             ∙ kept-stays keeps options.page _ after row column code none is goes.is_text))
       ]
 
-  -- And whoever was tuned in before these frames heard it.
+  -- Each receiver that was tuned in before these frames received it.
   begun : (g j f : ℕ)
       → IsListening transmission (first_frame transmission) (last_frame transmission) g j f
       → g + options.within < e
@@ -200,7 +200,7 @@ module _ (keeps : Bool) (programme : ProgrammeValue) (transmission : Transmissio
       (ap (holds_beginning keeps (kind options.page)) rest
       ∙ begins-left keeps options.page _ _ begins))
 
-  -- Where no frame may be late, each page is whole.
+  -- If no frame may be late, each page is right.
   whole_at_once : (f : ℕ)
       → options.within ≡ 0
       → first_frame transmission ≤ f
@@ -211,7 +211,7 @@ module _ (keeps : Bool) (programme : ProgrammeValue) (transmission : Transmissio
       let same : some.0 ≡ f = omega (arith, none, some.1, some.2) in
       subst (IsWholePage keeps programme options.page transmission) same some.3.whole
 
-  -- So he holds what is due.
+  -- So the receiver has what is due.
   holds : (class : ReceiverClass) (anew : Bool) (g j f : ℕ) (arrived : List Bool)
       → (got : List (List ℕ)) (old new : State)
       → IsGot transmission (first_frame transmission) (last_frame transmission) g j f arrived got
@@ -234,7 +234,6 @@ module _ (keeps : Bool) (programme : ProgrammeValue) (transmission : Transmissio
         at_once = λ none. cells (whole_at_once f none (omega arith) is.listening.to);
       }
 
--- The law.
 pub law_of_old_text : LawOfOldText
 law_of_old_text keeps programme transmission options e row column code good goes from to = (
   begins keeps programme transmission options e row column code good goes from to,

@@ -1,6 +1,5 @@
--- For `law_of_exact_frames`.
--- A PES file that carries frames is read packet by packet as its sendings, `carried_is_read`; and
--- where no frames are allowed, `law_of_exact_frames`.
+-- For `law_of_exact_frames`. A PES file that carries frames is read packet by packet,
+-- `carried_is_read`; and if `within` is 0, `law_of_exact_frames`.
 use Rattle.std.proofs.lemmas.Bool.Decides.{nat_tests}
 use Rattle.std.proofs.Common.{ℕ, ◌+◌, ◌≤◌, List, []}
 use Rattle.std.proofs.Common.{◌∷◌, ◌++◌, ◌↔◌, length, None}
@@ -19,7 +18,7 @@ use Rattle.sub_rules.specs.Transmission.{Transmission}
 use Rattle.sub_rules.proofs.PesReadingLemmas.{reads_ended, reads_more}
 use Rattle.ttx_pes.proofs.ReaderLemmas.{nothing}
 
--- PES packets that are sent as frames are read as these.
+-- PES packets that carry frames are read as these.
 reads_of :
     (clock : Clock) (given : ℕ) (values : List PesValue) (packets : List (List ℕ))
     (frames : Transmission)
@@ -42,14 +41,14 @@ reads_of clock given (v ∷ values) (p ∷ packets) (s ∷ frames) each few sent
     (sym (rest_after-packet v (p ++ rest) rest read))
     (reads_of clock (given + 1) values packets frames each.1 (omega arith) sent.1))
 
--- A PES file that carries frames is read as its sendings. For `check`.
+-- A PES file that carries frames is read as its PES packets. For `check`.
 pub carried_is_read :
     (clock : Clock) (within : ℕ) (bytes : List ℕ) (frames : Transmission)
     → (is : CarriesBy clock within bytes frames)
     → ReadsAs clock 0 bytes is.sendings None
 carried_is_read clock within bytes frames is = grind (arith, nat_tests, reads_of)
 
--- ---- where no frames are allowed
+-- ---- if `within` is 0
 
 -- Each PES packet has the PTS of its frame.
 sent_exactly :

@@ -1,8 +1,6 @@
--- For what is told and what may stay.
--- What comes of pieces, followed step after step: with the frames that they send, each of which
--- ends, and with those that are passed over. What is kept meanwhile is any value, X, and what it is
--- once what follows is told of another PES packet, `told_of`. Main lemmas: `each_piece`;
--- `waits`. The last frame waits.
+-- For reports and trusted frames. Follows the steps of PES packets: the frames that they send, each
+-- of which ends, and the skipped ones. The state is any value X; `told_of` moves it to another PES
+-- packet. Main lemmas: `each_piece`; `waits`, the end of the last frame.
 use Rattle.std.proofs.lemmas.Bool.Decides.{nat_tests}
 use Rattle.std.proofs.Common.{◌≡◌, ℕ, suc, ◌-◌, ◌<◌, ◌⊎◌, inl, inr, Bool, true, false, ◌==◌}
 use Rattle.std.proofs.Common.{List, [], ◌∷◌, ◌++◌, length, map, Some, refl, sym, ap, ◌∙◌, subst}
@@ -29,15 +27,14 @@ use Rattle.sub_laws.proofs.GrowingFrameLemmas.{frame_is, goes_on_some, grown, gr
 use Rattle.sub_laws.proofs.GrowingFrameLemmas.{long, packets_are, so_far, whole_at_once}
 use Rattle.sub_rules.specs.Trusted.{CheckStep}
 
--- So many packets of the last frame are there in the end, and more.
+-- The last frame has these packets in the end, and perhaps more.
 packets_grow : (g : Criteria) (sent frames : Transmission) (is : Grows sent frames) (n : ℕ)
     → length sent ≡ suc n
     → packets_of_frame frames n ≡ packets_of_frame sent n ++ is.rest
 packets_grow g sent frames is n size =
     grind (arith, nat_tests, long, with_packets-length, packets_of_frame-prefix, with_packets-last)
 
--- Each of these pieces that is passed over comes where frames were sent as asked, these being sent
--- before them.
+-- Each skipped PES packet comes after frames with the property Q.
 abbrev pub EachPassed : ℕ → (Transmission → Type 0) → Transmission → List Piece → Type 0
 EachPassed within Q sent [] = ⊤
 EachPassed within Q sent (Sent s ∷ ahead) = EachPassed within Q (sent_after within sent s) ahead
@@ -49,13 +46,13 @@ module _ (X : Type 0) (told_of : ℕ → X → X) (g : Criteria) (frames : Trans
     (O : ℕ → List (List ℕ) → X → Type 0)
     (Q : Transmission → Type 0)
   where
-    -- What is told of a piece that is passed over.
+    -- The events of a skipped PES packet.
     abbrev pub passed_steps : ℕ → Unread → List CheckStep
     passed_steps pes u = map Says (Told (unread_fault pes (Some u)) ∷ [])
 
-    -- It goes on, T, with what comes of a frame: from where so many frames have ended, C, over
-    -- where the next one is sent, O, and these packets in it, to its end; and with a piece that is
-    -- passed over where frames were sent as asked, Q.
+    -- T relates the state before and after steps: from a state C, in which so many frames have
+    -- ended, to O, in which the next frame is sent and has these packets, and to its end; and at
+    -- skipped PES packets, after frames with the property Q.
     pub record Steps : Type 0 where
       pub at_ended : (n pes : ℕ) (t : X) → C n t → C n (told_of pes t)
       pub at_open :
@@ -95,8 +92,8 @@ module _ (X : Type 0) (told_of : ℕ → X → X) (g : Criteria) (frames : Trans
           → O n (packets_of_frame sent n) t
           → T (O n (packets_of_frame sent n)) t (passed_steps pes u)
 
-    -- What is kept while these frames are sent so far: all have ended, as each does at once, or
-    -- none was sent; or the last one may go on.
+    -- The state while these frames are sent: all have ended, as each does at once, or none was
+    -- sent; or the last one may continue.
     abbrev pub Sends : Transmission → X → Type 0
     Sends sent t =
         ((((g.within == 0) ≡ true) ⊎ (length sent ≡ 0)) × C (length sent) t)
@@ -123,7 +120,7 @@ module _ (X : Type 0) (told_of : ℕ → X → X) (g : Criteria) (frames : Trans
 
         -- ---- a PES packet that is sent
 
-        -- It goes on with the last frame.
+        -- It continues the last frame.
         on_more : (sent : Transmission) (s : SentFrame) (t : X) (n : ℕ) → length sent ≡ suc n
             → Grows sent frames
             → Grows (with_packets s.packets sent) frames
@@ -169,7 +166,7 @@ module _ (X : Type 0) (told_of : ℕ → X → X) (g : Criteria) (frames : Trans
             (subst (λ (ps : List (List ℕ)). O n ps t)
             (packets_are g sent more frames whole n (omega arith)) open_here)))
 
-        -- Within some frames it does where another one comes, or none.
+        -- If `within` is not 0, it ends when another frame or the end of the file follows.
         pub waits : (sent more : Transmission) (t : X) → frames ≡ sent ++ more → Sends sent t
             → T (C (length sent)) t (steps_of_waiting g sent)
         unfolding steps_of_waiting
@@ -189,7 +186,7 @@ module _ (X : Type 0) (told_of : ℕ → X → X) (g : Criteria) (frames : Trans
             (subst (λ (k : ℕ). T (C (suc (length sent))) t (steps_of_ending g (s ∷ sent) k)) last
             (ends (s ∷ sent) more t whole n size open_here))
 
-        -- Another frame comes.
+        -- Another frame begins.
         on_next : (sent more : Transmission) (s : SentFrame) (t : X)
             → Grows (sent ++ s ∷ []) frames
             → ((g.within == 0) ≡ true → frames ≡ (sent ++ s ∷ []) ++ more)
@@ -285,7 +282,7 @@ module _ (X : Type 0) (told_of : ℕ → X → X) (g : Criteria) (frames : Trans
                 (on_next sent more s (told_of pes u) is whole
                 (steps.at_ended (length sent) pes u closed)))
 
-        -- ---- a piece that is passed over
+        -- ---- a skipped PES packet
 
         passed_step : (sent : Transmission) (pes : ℕ) (u : Unread) (t : X) → Grows sent frames
             → Q sent
@@ -305,7 +302,7 @@ module _ (X : Type 0) (told_of : ℕ → X → X) (g : Criteria) (frames : Trans
             (steps.at_open n pes (packets_of_frame sent n) t open_here))
             (λ v so. inr (later, n, size, so)))
 
-        -- ---- pieces
+        -- ---- PES packets
 
         pub each_piece : (sent : Transmission) (pes : ℕ) (t : X) (pieces : List Piece)
             → joined_after g.within sent (frames_of pieces) ≡ frames

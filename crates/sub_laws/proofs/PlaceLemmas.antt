@@ -1,7 +1,6 @@
--- For what is told and what may stay.
--- A transmission keeps the rules of all but what is shown, and nothing stands broken at its ends,
--- exactly where all that is asked of it holds: `Rules-from_holds`, `holds-from_rules`. Where no
--- repeat may keep, within 0 frames, it is good then, of complete pages where these are asked for:
+-- For reports and trusted frames. A transmission keeps rules 1 to 6, and no fault is active at its
+-- ends, exactly if it meets all requirements: `Rules-from_holds`, `holds-from_rules`. If no repeat
+-- may keep the page and `within` is 0, it is good then, with complete pages if these are required:
 -- `Good-from_holds`, `Complete-from_holds`, `holds-from_good`.
 use Rattle.std.proofs.lemmas.Bool.Decides.{nat_tests}
 use Rattle.std.proofs.Common.{◌≡◌, ℕ, ◌+◌, ◌-◌, ◌<◌, ◌≤◌, inl, inr, true, false, List, [], ◌∷◌}
@@ -52,10 +51,10 @@ use Rattle.sub_rules.proofs.FrameLists.{joined_more}
 use Rattle.sub_laws.proofs.CleanSpanLemmas.{MayFollow, clean_cuts, last_clean}
 use Rattle.sub_rules.specs.declared.packet_rule.PacketRule.TheVariants as rule
 
--- ---- a packet of the long span
+-- ---- a packet since the text began
 
--- While the page is open a packet that neither is a header of the page nor ends it is in the long
--- span.
+-- While the page is open, a packet that neither is a header of the page nor ends it is one of those
+-- since the text began.
 span_open :
     (w : Watched) (heard : List (List ℕ)) (p : List ℕ)
     → is_this_page (kind w.page p) ≡ false
@@ -72,9 +71,9 @@ unfolding kind
 enhancement_is_other w p (a, e, m, low, high) =
     grind arith
 
--- ---- the long span of packets that keep the rules
+-- ---- the packets since the text began, if all keep the rules
 
--- Cut anywhere it is clean.
+-- Every beginning of them is clean.
 pub clean_spans : (w : Watched) (packets : List (List ℕ)) → EachAfter (KeepsAllRules w) packets
     → (n : ℕ)
     → IsCleanSpan w.page (text_span w.keeps (kind w.page) (take n packets))
@@ -98,7 +97,7 @@ abbrev Agrees : List (List ℕ) → List ℕ → Type 0
 Agrees heard q = (b : Header) → header q ≡ Some b
     → (f : Header) × (first_header heard ≡ Some f) × ((c11 b) ≡ (c11 f))
 
--- One packet more that agrees.
+-- One more packet that agrees.
 agree_step : (heard : List (List ℕ)) (p : List ℕ)
     → ((h first : Header) → header p ≡ Some h → first_header heard ≡ Some first
     → (c11 h) ≡ (c11 first)) → AllByRecursion (Agrees heard) heard
@@ -124,7 +123,7 @@ first_pick P (x ∷ xs) f e h = go (header x) refl e (λ d. first_pick P xs f d 
         → (q : List ℕ) × (header q ≡ Some f) × P q
     go o q d ih = grind arith
 
--- ---- the law, one way
+-- ---- from the requirements to the rules
 
 module _ (programme : ProgrammeValue) (options : OptionsValue) (unread : Option Unread)
     (t : Transmission) (some_frames : 0 < options.every)
@@ -168,17 +167,17 @@ module _ (programme : ProgrammeValue) (options : OptionsValue) (unread : Option 
           (each_after (KeepsAllRules (watched_of programme options)) t m le
           (λ i k l h. clean_at i k (omega arith) h))
 
-  -- At no end anything stands broken.
+  -- No fault is active at any end.
   pub quiet_at : (n f : ℕ) → IsEnd t n f → IsQuiet (criteria_of programme options unread) t n f
   quiet_at n f h1 = grind (arith, nat_tests)
 
-  -- A header of the page is not too long ago.
+  -- The repeat bound is not exceeded.
   covered_of : (n f : ℕ) → IsEnd t n f → IsCovered (criteria_of programme options unread) t n f
   covered_of n f end =
       let parts = (quiet_parts (criteria_of programme options unread) t n f).0 (quiet_at n f end) in
       (gap_decided (criteria_of programme options unread) t n f end.1).0 (ap not parts.1)
 
-  -- Nor is a PES packet.
+  -- Nor is the maximum distance of PES packets.
   paced : KeepsPace options.pace t
   paced frames f asks low high =
       let (n, end, on, from) =
@@ -191,7 +190,7 @@ module _ (programme : ProgrammeValue) (options : OptionsValue) (unread : Option 
       (omega (arith, end.0, end.1)) in
       (j, omega (arith, end.1), omega arith, near)
 
-  -- Each frame has an end, at which what is on air up to it counts.
+  -- Each frame has an end, with the packets on air up to it.
   pub end_of : (f : ℕ) → first_frame t ≤ f → f ≤ last_frame t
       → (n : ℕ) × IsEnd t n f × (on_air_until t f ≡ packets_before t n) × (frame_at t (n - 1) ≤ f)
   end_of f low high =
@@ -202,7 +201,7 @@ module _ (programme : ProgrammeValue) (options : OptionsValue) (unread : Option 
   opens = any_sent (watched_of programme options) t 0 (first_frame t) some (sym (first-same t))
       ((h.each 0 some).header refl)
 
-  -- At the end of each frame the last one is not too long ago.
+  -- At the end of each frame the last header is recent enough.
   never_late : (f : ℕ) → first_frame t ≤ f → f ≤ last_frame t
       → (n : ℕ) × (n ≤ f) × (f < n + options.every) × HoldsHeader options.page t n
   never_late f low high =
@@ -216,7 +215,7 @@ module _ (programme : ProgrammeValue) (options : OptionsValue) (unread : Option 
             grind (arith, nat_tests, any_sent (watched_of programme options) t j (frame_at t j))
       ]
 
-  -- So one comes in each `every` frames.
+  -- So there is one among any `every` frames.
   repeats : Repeats options.page options.every t
   repeats start low high =
       let found = never_late (start + options.every - 1) (omega arith) (omega arith) in
@@ -230,7 +229,7 @@ module _ (programme : ProgrammeValue) (options : OptionsValue) (unread : Option 
       (λ i k l m ih. agree_step (before t i k) (packet_at t i k) (clean_at i k l m rule.Mode) ih)
       (length t) (omega arith))
 
-  -- Where all that is asked holds, the transmission keeps these rules.
+  -- If all requirements are met, the transmission keeps these rules.
   pub Rules-from_holds :
       EachPacket (λ packet. length packet ≡ 42) t
       → KeepsRulesBy options.keeps programme t options
@@ -257,9 +256,8 @@ module _ (programme : ProgrammeValue) (options : OptionsValue) (unread : Option 
     paced = paced;
   }
 
--- ---- the law, the other way
+-- ---- from the rules to the requirements
 
--- What is not true is false.
 pub not_not : (b : Bool) → not b ≡ true → b ≡ false
 not_not b e = grind (arith, nat_tests)
 
@@ -286,7 +284,7 @@ module _ (programme : ProgrammeValue) (options : OptionsValue) (t : Transmission
   last_at_least : (i : ℕ) → i < length t → frame_at t i ≤ end_frame t
   last_at_least i l = rises_to t (length t) rises i (length t - 1) (omega arith) (omega arith)
 
-  -- What is on air up to a frame of the list is what is sent before it, and then its packets.
+  -- The packets on air up to a frame of the list are those sent before it, followed by its own.
   on_air : (i : ℕ) → i < length t
       → on_air_until t (frame_at t i) ≡ packets_before t i ++ packets_of_frame t i
   on_air i l = on_air_at t rises i l ∙ joined_more t i l
@@ -295,7 +293,7 @@ module _ (programme : ProgrammeValue) (options : OptionsValue) (t : Transmission
   not_after : (i : ℕ) → i < length t → frame_at t i ≤ last_frame t
   not_after i l = omega (arith, last-same t, last_at_least i l)
 
-  -- While the page is open the packet may follow the long span.
+  -- While the page is open, the packet may follow those since the text began.
   may_follow : (i k : ℕ) → i < length t → k < length (packets_of_frame t i)
       → is_this_page (kind options.page (packet_at t i k)) ≡ false
       → ends_page (kind options.page (packet_at t i k)) ≡ false
@@ -362,7 +360,7 @@ module _ (programme : ProgrammeValue) (options : OptionsValue) (t : Transmission
       let r = sent_any (watched_of programme options) t (first_frame t) rules.opens in
       grind (arith, nat_tests, first-same t, cases_eq r.0 0, rises_strictly t rises 0 r.0)
 
-  -- A header is not too long ago.
+  -- The last header is recent enough.
   covered_at : (n f : ℕ) → f ≤ end_frame t
       → ((j : ℕ) → n ≤ j → j < length t → f < frame_at t j)
       → IsCovered (criteria_of programme options None) t n f
@@ -375,7 +373,7 @@ module _ (programme : ProgrammeValue) (options : OptionsValue) (t : Transmission
         grind (arith, nat_tests, sent_any (watched_of programme options) t r.0 r.3, cases_lt)
   ]
 
-  -- Nor is a PES packet too long ago.
+  -- So is the last PES packet.
   paced_at : (n f : ℕ) → first_frame t ≤ f → f ≤ end_frame t
       → ((j : ℕ) → n ≤ j → j < length t → f < frame_at t j)
       → IsPaced (criteria_of programme options None) t n f
@@ -387,14 +385,14 @@ module _ (programme : ProgrammeValue) (options : OptionsValue) (t : Transmission
         | inr above ↦ absurd (let after = later j above there in omega arith)
       ]
 
-  -- ---- all that is asked
+  -- ---- all requirements
 
   module _ (still : (n f : ℕ) → IsEnd t n f
       → (broken_cell (criteria_of programme options None) t n f ≡ None)
       × IsFalse (is_late (criteria_of programme options None) t n f
       && is_incomplete (criteria_of programme options None) t n))
       (over : IsFalse (is_pending (criteria_of programme options None) t)) where
-    -- What is asked at an end.
+    -- The requirements at an end.
     quiet_of : (n f : ℕ) → IsEnd t n f → IsQuiet (criteria_of programme options None) t n f
     quiet_of n f end =
         let covered =
@@ -412,7 +410,7 @@ module _ (programme : ProgrammeValue) (options : OptionsValue) (t : Transmission
           always_known (frame_at t 0) f options.within,
         )
 
-    -- All that is asked of each frame holds.
+    -- Each frame meets all requirements.
     frame_of : (i : ℕ) → i < length t → FrameOk (criteria_of programme options None) t i
     frame_of i l = record {
       order = record {

@@ -1,6 +1,5 @@
--- For schedules.
--- A schedule is a good transmission, and its bytes are read to their end as it: `law_of_plan`,
--- `law_of_plan_read`.
+-- For schedules. A schedule is a good transmission, and its bytes are read to their end as it:
+-- `law_of_plan`, `law_of_plan_read`.
 use Rattle.sub_plan.proofs.ScheduleBases.{range_split, last_sending, sending_in_gap, sends-first}
 use Rattle.sub_plan.proofs.ScheduleBases.{sends-last}
 use Rattle.std.proofs.lemmas.List.Elements.{filter-append, All-weaker, recursion_from_All}
@@ -65,12 +64,12 @@ use Rattle.sub_rules.specs.FrameRules.{watched_of}
 -- ---- rows of one page are a clean span
 
 module _ (w : PageIdValue) (ok : IsWatchable w) where
-  -- A row of a page is that row to a receiver.
+  -- The packet of a row has that row's kind.
   kind_of_row : (page : Rows) (p : List ℕ) → IsPage page → (is : IsRowOf w page p)
       → kind w p ≡ Row is.row
   kind_of_row page p shape is = ap (kind w) is.is ∙ kind_row w page is.row ok shape is.low is.high
 
-  -- Two rows of one number are one packet.
+  -- Two packets of one row are equal.
   same_row : (page : Rows) → IsPage page → (p q : List ℕ) → IsRowOf w page p → IsRowOf w page q
       → IsSameRow w p q
   same_row page shape p q one other row k l =
@@ -82,7 +81,7 @@ module _ (w : PageIdValue) (ok : IsWatchable w) where
         row_of w page,
       )
 
-  -- A row has 40 odd bytes.
+  -- A row has 40 bytes of odd parity.
   odd_row : (page : Rows) → IsPage page → (p : List ℕ) → IsRowOf w page p → IsOddRow w p
   odd_row page shape p is row k =
       subst HasOddText (sym is.is) (made_row w page is.row ok shape is.low is.high).odd
@@ -101,7 +100,7 @@ module _ (w : PageIdValue) (ok : IsWatchable w) where
 abbrev has_bit : ℕ → ℕ → Bool
 has_bit flag n = bit_and n flag == flag
 
--- Of control bits that are made, C12 to C14 are those that they were made with.
+-- C12 to C14 of a header are those that it was made with.
 made_c12 : (serial : Bool) (b : NationalBits) → has_bit 0x100 (watched_control serial b) ≡ b.c12
 made_c12 serial b = grind (arith, nat_tests)
 
@@ -111,7 +110,7 @@ made_c13 serial b = grind (arith, nat_tests)
 made_c14 : (serial : Bool) (b : NationalBits) → has_bit 0x400 (watched_control serial b) ≡ b.c14
 made_c14 serial b = grind (arith, nat_tests)
 
--- The header of a sending has the control bits of a subtitle's.
+-- The header of a page transmission has the control bits of a subtitle.
 subtitle_header : (w : PageIdValue) (national : National) (serial : Bool)
     → IsSubtitleHeader national (watched_header w national serial)
 subtitle_header w national serial = grind (arith, nat_tests, made_c12, made_c13, made_c14)
@@ -123,40 +122,35 @@ module _
     (tci : Some first ≡ first_in programme.records)
     (tco : Some last ≡ last_out programme.records)
     (ok : IsOptions o) (order : first ≤ last) where
-  -- The page.
   abbrev w : PageIdValue
   w = o.page
 
-  -- The due page of each frame.
   abbrev due : ℕ → Rows
   due = due_in programme
 
-  -- Whether a frame carries a sending.
+  -- Whether a frame has a page transmission.
   abbrev p : ℕ → Bool
   p = is_sending due o.every first last
 
-  -- A frame with its sending.
+  -- A frame with its page transmission.
   abbrev mk : ℕ → SentFrame
   mk = planned_at due o programme.drawing.national serial
 
-  -- It has its number.
   abbrev num : (f : ℕ) → (mk f).frame ≡ f
   num f = refl
 
-  -- The schedule.
   abbrev T : Transmission
   T = planned programme o serial
 
-  -- Each due page is a page.
   shape : (f : ℕ) → IsPage (due f)
   shape f = due_is_page programme.drawing programme.records f
 
-  -- The frames with a sending, each with its packets.
+  -- The frames with a page transmission, each with its packets.
   plan_is : T ≡ map mk (filter p (range_with_len first (last + 1 - first)))
   unfolding sendings_from
   plan_is = ap (map mk) (sym (plan_frames-is programme o.every first last tci tco))
 
-  -- At the first frame something is sent.
+  -- The first frame has one.
   first_sends : p first ≡ true
   first_sends = sends-first due o.every first last ok.least
 
@@ -176,16 +170,15 @@ module _
   last_is =
       grind (arith, sends-last, plan_is, range_split, filter-append, map-append, last_push)
 
-  -- Its frames rise.
   rising : IsRising T
   rising = subst IsRising (sym plan_is) (rises mk num p first (last + 1 - first))
 
-  -- A fact of each sending is one of each packet.
+  -- A property of each page transmission holds for each packet.
   each : (Q : List ℕ → Type 0) → ((f : ℕ) → All Q (mk f).packets) → EachPacket Q T
   each Q h = subst (EachPacket Q) (sym plan_is)
       (each_frame mk num p Q (filter p (range_with_len first (last + 1 - first))) h)
 
-  -- What is so of each packet of a sending.
+  -- A property of each packet of a page transmission.
   each_sent : (Q : List ℕ → Type 0)
       → ((packet : List ℕ) → IsSentPacket w programme.drawing.national serial packet → Q packet)
       → EachPacket Q T
@@ -193,20 +186,20 @@ module _
       each Q (λ f. All-weaker (IsSentPacket w programme.drawing.national serial) Q h (mk f).packets
       (all_sent w programme.drawing.national serial (due f) ok.page (shape f)))
 
-  -- What is sent in a frame with a sending.
+  -- The packets of a frame with a page transmission.
   sent_in_is : (g : ℕ) → p g ≡ true → first ≤ g → g ≤ last → packets_of T g ≡ (mk g).packets
   sent_in_is g h low high = grind (arith, nat_tests, frames, plan_is, sent_at)
 
-  -- It holds a header of the page.
+  -- It has a header of the page.
   holds_at : (g : ℕ) → p g ≡ true → first ≤ g → g ≤ last
       → holds_header (kind w) (packets_of T g) ≡ true
   holds_at g h low high = grind (arith, nat_tests, sent_in_is, sending_holds, shape)
 
-  -- What is on air up to a frame is what stands from the first TCI on.
+  -- The packets on air up to a frame are those from the first TCI on.
   until : (f : ℕ) → on_air_until T f ≡ packets_between T first (f + 1)
   until f = ap (λ start. packets_between T start (f + 1)) first_is
 
-  -- So far: something, and then the sending of the page that is due.
+  -- They are some packets, followed by the transmission of the due page.
   so_far : (f : ℕ) → first_frame T ≤ f → f ≤ last_frame T → (before : List (List ℕ))
       × (page : Rows) × (page ≡ due f) × IsPage page
       × (on_air_until T f ≡ before ++ sending w programme.drawing.national serial page)
@@ -234,14 +227,14 @@ module _
         until f ∙ split_g ∙ ap (λ ps. packets_between T first g ++ ps) here,
       )
 
-  -- So what is shown is what is due.
+  -- So the due page is shown.
   content : (f row column : ℕ) → first_frame T ≤ f → f ≤ last_frame T → IsCell row column
       → shown w (on_air_until T f) row column ≡ cell (due f) row column
   content f row column low high named =
       let (before, page, same, good, is) = so_far f low high in
       grind (arith, nat_tests, shown_after)
 
-  -- Cut anywhere, the span is clean.
+  -- Every beginning of the span is clean.
   spans : (f n : ℕ) → IsCleanSpan w (span (kind w) (take n (on_air_until T f)))
   spans f n =
       let some_of = sent_some mk num p first (f + 1)
@@ -252,11 +245,11 @@ module _
       (clean_rows w ok.page _
       (law_of_cut_sendings w programme.drawing.national serial due some_of.0 n ok.page shape))
 
-  -- C11 by the mode.
+  -- C11 is that of the mode.
   abbrev IsSerially : List ℕ → Type 0
   IsSerially packet = (h : Header) → header packet ≡ Some h → c11 h ≡ serial
 
-  -- A header of the page comes again within the repeat bound.
+  -- A header of the page is repeated within the repeat bound.
   repeats : Repeats w o.every T
   repeats start low high =
       let found = sending_in_gap due o.every first last start ok.least
@@ -271,7 +264,7 @@ module _
   some : 0 < length T
   some = subst (λ frames. 0 < length frames) (sym starts) (omega arith)
 
-  -- All rules together, where no pace is less than that.
+  -- All rules, unless the maximum distance of PES packets is less than that.
   good : IfSome o.pace (λ frames. o.every ≤ frames) → Good programme T o
   good slow =
       let serially : EachPacket IsSerially T = each_sent IsSerially (λ packet is. is.mode) in
@@ -300,7 +293,7 @@ module _
         content = content;
       }
 
-  -- At each frame's end the page is ended.
+  -- At the end of each frame the page has ended.
   complete : Complete T o
   complete f low high holds =
       let (before, page, same, shaped, is) = so_far f low high in
@@ -323,13 +316,11 @@ plan_between programme o serial (Some a) (Some b) h k is some ok =
     let order : a ≤ b = omega (arith, s.rises) in
     (good programme o serial a b h k ok order, complete programme o serial a b h k ok order)
 
--- The schedule of a programme with a subtitle is good.
 pub law_of_plan : LawOfPlan
 law_of_plan programme o serial is some ok slow =
     (plan_between programme o serial (first_in programme.records)
     (last_out programme.records) refl refl is some ok).0 slow
 
--- The schedule of a programme with a subtitle is one of complete pages.
 pub law_of_complete_plan : LawOfCompletePlan
 law_of_complete_plan programme o serial is some ok =
     (plan_between programme o serial (first_in programme.records)
@@ -341,7 +332,7 @@ module _
     (o : OptionsValue) (ok : IsOptions o) (national : National) (serial : Bool) (due : ℕ → Rows)
     (shape : (f : ℕ) → IsPage (due f))
   where
-    -- What is sent at a frame is read as the frame.
+    -- The bytes of a frame are read as the frame.
     is_read : (f : ℕ)
         → f < day
         → IsReadAs (clock_of o) (pes_value o.origin (sending o.page national serial (due f)) f)
@@ -360,7 +351,7 @@ module _
               (recursion_from_All IsPacket packets each)).1;
         }
 
-    -- The bytes of sendings are read as their frames.
+    -- The bytes of page transmissions are read as their frames.
     sendings_read :
         (given : ℕ) (frames : List ℕ)
         → given + length frames ≤ most_packets
@@ -400,7 +391,6 @@ few_between programme every (Some a) (Some b) h k is =
       length-range_with_len a (b + 1 - a),
     )
 
--- The bytes of a schedule are read as its transmission.
 pub law_of_plan_read : LawOfPlanRead
 law_of_plan_read programme options serial is ok =
     sendings_read options ok programme.drawing.national serial (due_in programme)

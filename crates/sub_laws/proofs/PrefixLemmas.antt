@@ -1,5 +1,5 @@
--- For what may be late, schedules, what is told and what may stay.
--- The lists of packets that a transmission begins with, and where a frame falls.
+-- For delays, schedules, reports and trusted frames. The lists of packets with which a transmission
+-- begins, and the place of a frame.
 use Rattle.std.proofs.lemmas.Bool.Decides.{nat_tests}
 use Rattle.std.proofs.Common.{◌≡◌, ℕ, zero, suc, ◌+◌, ◌-◌, ◌<◌, ◌≤◌, ◌⊎◌, inl, inr, ◌&&◌, nat_le}
 use Rattle.std.proofs.Common.{cond, List, [], ◌∷◌, ◌++◌, length, take, get_or, refl, sym, ap, ap₂}
@@ -21,7 +21,7 @@ abbrev pub IsInGap : Transmission → ℕ → ℕ → Type 0
 IsInGap frames i f =
     (0 < i) × (i < length frames) × (frame_at frames (i - 1) < f) × (f < frame_at frames i)
 
--- The packets before packet k of frame i of the list, and that packet.
+-- The packets before packet k of frame i of the list.
 abbrev pub before : Transmission → ℕ → ℕ → List (List ℕ)
 before t i k = packets_before t i ++ take k (packets_of_frame t i)
 
@@ -29,26 +29,23 @@ before t i k = packets_before t i ++ take k (packets_of_frame t i)
 abbrev pub packet_at : Transmission → ℕ → ℕ → List ℕ
 packet_at t i k = get_or (packets_of_frame t i) k []
 
--- The packets before the next packet.
 pub before_more : (t : Transmission) (i k : ℕ) → k < length (packets_of_frame t i)
     → before t i (k + 1) ≡ before t i k ++ packet_at t i k ∷ []
 before_more t i k l = grind (arith, nat_tests, take_more, append_assoc)
 
--- The packets before the first packet of a frame.
 before_none : (t : Transmission) (i : ℕ) → before t i 0 ≡ packets_before t i
 before_none t i = append-nil (packets_before t i)
 
--- The packets before the end of a frame.
 before_all : (t : Transmission) (i : ℕ) → i < length t
     → before t i (length (packets_of_frame t i)) ≡ packets_before t (i + 1)
 before_all t i l = grind (arith, take_all, joined_more)
 
--- What holds of no packets, and goes on by each packet of the first m frames, holds of each prefix
--- of theirs.
+-- A property of the empty list that each packet of the first m frames preserves holds for each
+-- beginning of their packets.
 module _ (t : Transmission) (m : ℕ) (fits : m ≤ length t) (Q : List (List ℕ) → Type 0) (none : Q [])
     (more : (i k : ℕ) → i < m → k < length (packets_of_frame t i) → Q (before t i k)
     → Q (before t i k ++ packet_at t i k ∷ [])) where
-  -- So far in a frame, where it holds at the frame's start.
+  -- Within a frame, if it holds at the frame's start.
   within : (i : ℕ) → i < m → Q (packets_before t i) → (k : ℕ) → k ≤ length (packets_of_frame t i)
       → Q (before t i k)
   within i l base zero h = grind (arith, nat_tests, before_none)
@@ -69,12 +66,12 @@ module _ (t : Transmission) (m : ℕ) (fits : m ≤ length t) (Q : List (List �
   pub at_packet : (i k : ℕ) → i < m → k ≤ length (packets_of_frame t i) → Q (before t i k)
   at_packet i k l h = within i l (at_start i (omega arith)) k h
 
--- What holds of each packet of a list, sent after those before it.
+-- A property of each packet of a list, after those before it.
 abbrev pub EachAfter : (List (List ℕ) → List ℕ → Type 0) → List (List ℕ) → Type 0
 EachAfter Holds packets =
     (k : ℕ) → k < length packets → Holds (take k packets) (get_or packets k [])
 
--- And of one more.
+-- The same with one more packet.
 pub EachAfter-push : (Holds : List (List ℕ) → List ℕ → Type 0) (xs : List (List ℕ)) (p : List ℕ)
     → EachAfter Holds xs → Holds xs p → EachAfter Holds (xs ++ p ∷ [])
 EachAfter-push Holds xs p each more k l = elim (cases_lt k (length xs)) [
@@ -85,7 +82,7 @@ EachAfter-push Holds xs p each more k l = elim (cases_lt k (length xs)) [
       grind (arith, nat_tests, get_or-append-add, take-append-add, append-nil)
 ]
 
--- What holds so of each packet of the first m frames holds so of each of them in one list.
+-- Such a property of each packet of the first m frames holds in the joined list.
 pub each_after : (Holds : List (List ℕ) → List ℕ → Type 0) (t : Transmission) (m : ℕ)
     → m ≤ length t
     → ((i k : ℕ) → i < m → k < length (packets_of_frame t i)
@@ -94,7 +91,7 @@ pub each_after : (Holds : List (List ℕ) → List ℕ → Type 0) (t : Transmis
 each_after Holds t m fits each =
     grind (arith, nat_tests, at_start t m fits (EachAfter Holds), EachAfter-push Holds)
 
--- What holds of each packet of the transmission holds of this one.
+-- A property of each packet of the transmission holds for this one.
 pub each_at : (P : List ℕ → Type 0) (t : Transmission) (i k : ℕ) → EachPacket P t → i < length t
     → k < length (packets_of_frame t i) → P (packet_at t i k)
 each_at P t i k each l m =
@@ -102,7 +99,7 @@ each_at P t i k each l m =
     let at = get_or-map (λ (s : SentFrame). s.packets) t i d [] l in
     subst (λ ps. P (get_or ps k [])) (sym at) (each i d l k [] (subst (λ ps. k < length ps) at m))
 
--- What holds of each packet of each frame holds of all packets of the transmission.
+-- A property of each packet of each frame holds for all packets of the transmission.
 pub each_from : (P : List ℕ → Type 0) (t : Transmission)
     → ((i k : ℕ) → i < length t → k < length (packets_of_frame t i) → P (packet_at t i k))
     → EachPacket P t
@@ -148,17 +145,15 @@ module _ (t : Transmission) (rising : RiseTo t (length t)) where
 
 -- ---- the packets on air up to a frame
 
--- The first frame is frame 0 of the list.
 pub first-same : (t : Transmission) → first_frame t ≡ frame_at t 0
 first-same t = grind arith
 
--- The last frame is the last of the list.
 pub last-same : (t : Transmission) → last_frame t ≡ end_frame t
 last-same [] = refl
 last-same (s ∷ []) = refl
 last-same (s ∷ u ∷ us) = grind (arith, nat_tests, last-same (u ∷ us))
 
--- The packets between two numbers within which the first n frames are, and no other.
+-- The packets between two numbers that include exactly the first n frames.
 between_take : (t : Transmission) (n a b : ℕ)
     → ((j : ℕ) → j < length t → j < n → (a ≤ frame_at t j) × (frame_at t j < b))
     → ((j : ℕ) → n ≤ j → j < length t → b ≤ frame_at t j)
@@ -178,7 +173,7 @@ between_take (s ∷ ss) (suc n) a b inside after =
     (λ j l m. after (suc j) (omega arith) (omega arith)))
 
 module _ (t : Transmission) (rising : RiseTo t (length t)) where
-  -- What is on air up to a frame that is at or after the first n frames, and before the others.
+  -- The packets on air up to a frame not before the first n frames, and before the others.
   pub on_air_is : (n f : ℕ) → n ≤ length t → (0 < n → frame_at t (n - 1) ≤ f)
       → (n < length t → f < frame_at t n) → on_air_until t f ≡ packets_before t n
   on_air_is n f le low high =
@@ -187,11 +182,11 @@ module _ (t : Transmission) (rising : RiseTo t (length t)) where
       (grind (arith, nat_tests, rises_to t (length t) rising 0, rises_to t (length t) rising))
       (grind (arith, nat_tests, rises_to t (length t) rising n))
 
-  -- At the end of frame i of the list all its packets so far are on air.
+  -- At the end of frame i of the list all its packets are on air.
   pub on_air_at : (i : ℕ) → i < length t → on_air_until t (frame_at t i) ≡ packets_before t (i + 1)
   on_air_at i l = grind (arith, nat_tests, on_air_is)
 
-  -- Each frame from the first to the last has an end, at which what is on air up to it counts.
+  -- Each frame from the first to the last has an end, with the packets on air up to it.
   pub end_at : (f : ℕ) → 0 < length t → frame_at t 0 ≤ f → f ≤ end_frame t
       → (n : ℕ) × IsEnd t n f × (on_air_until t f ≡ packets_before t n) × (frame_at t (n - 1) ≤ f)
   end_at f some low high =
@@ -204,7 +199,7 @@ module _ (t : Transmission) (rising : RiseTo t (length t)) where
 
   -- ---- an end
 
-  -- The frames that count are not after it, and the others are.
+  -- The frames before an end are not after it, and the others are.
   end_from : (n f : ℕ) → IsEnd t n f → frame_at t (n - 1) ≤ f
   end_from n f h1 = grind (arith, nat_tests)
 
@@ -218,13 +213,13 @@ module _ (t : Transmission) (rising : RiseTo t (length t)) where
   end_before_rest n f (some, le, inr (there, later, earlier)) j l m =
       let after = rises_to t (length t) rising n j l m in omega arith
 
-  -- So at it what is on air up to its frame counts.
+  -- The packets on air up to its frame are those of the frames before it.
   pub end_is_on_air : (n f : ℕ) → IsEnd t n f → on_air_until t f ≡ packets_before t n
   end_is_on_air n f end =
       on_air_is n f end.1 (λ some. end_from n f end)
       (λ more. end_before_rest n f end n (omega arith) more)
 
-  -- It is not before the first frame, nor after the last one.
+  -- An end is not before the first frame, nor after the last one.
   pub end_high : (n f : ℕ) → IsEnd t n f → frame_at t 0 ≤ f
   end_high n f end =
       let from = end_from n f end in
@@ -242,13 +237,12 @@ module _ (t : Transmission) (rising : RiseTo t (length t)) where
 
 -- ---- the first frames of a list
 
--- Each is that of the list.
+-- Each is the same as in the list.
 pub frame_at-take : (t : Transmission) (n i : ℕ) → i < n → frame_at (take n t) i ≡ frame_at t i
 frame_at-take t n i l =
     ap (λ xs. get_or xs i 0) (sym (take-map (λ (s : SentFrame). s.frame) n t))
     ∙ get_or-take n (map (λ (s : SentFrame). s.frame) t) i 0 l
 
--- With its packets.
 pub packets-take : (t : Transmission) (n i : ℕ) → i < n
     → packets_of_frame (take n t) i ≡ packets_of_frame t i
 packets-take t n i l =
@@ -256,7 +250,7 @@ packets-take t n i l =
     ∙ get_or-take n (map (λ (s : SentFrame). s.packets) t) i [] l
 
 module _ (t : Transmission) (n : ℕ) (fits : n ≤ length t) where
-  -- Where they rise they are a rising transmission.
+  -- If they rise, they are a rising transmission.
   pub take_rises : RiseTo t n → RiseTo (take n t) (length (take n t))
   take_rises rises i a l = grind (arith, nat_tests, length-take-le, frame_at-take)
 

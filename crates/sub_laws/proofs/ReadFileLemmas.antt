@@ -1,6 +1,5 @@
--- For `check`.
--- What is read of any bytes: packets are whole, and no fault is a device's. Main lemmas:
--- `file_pieces_sound`, `sent_whole`, `file_sound`.
+-- For `check`. Reading any bytes: packets have 42 bytes, and no fault is one of a device. Main
+-- lemmas: `file_pieces_sound`, `sent_whole`, `file_sound`.
 use Rattle.std.proofs.lemmas.Bool.Decides.{nat_tests}
 use Rattle.std.proofs.Common.{◌≡◌, ℕ, zero, suc, ◌+◌, ◌-◌, ◌*◌, ◌/◌, ◌<◌, ◌≤◌, false}
 use Rattle.std.proofs.Common.{List, [], ◌∷◌, length, map, take, drop, slice_index, Option}
@@ -29,27 +28,27 @@ use Rattle.sub_rules.specs.Pieces.Piece.{Passed, Sent}
 use Rattle.sub_rules.specs.Transmission.{SentFrame}
 use Rattle.sub_rules.proofs.PacketLists.{Each-push}
 
--- ---- answers
+-- ---- results
 
--- The fault is none of a device.
+-- The fault is not one of a device.
 pub record IsOfBytes (f : PesFault) : Type 0 where
   pub no_source : is_read f ≡ false
   pub no_sink : is_write f ≡ false
 
--- A value of which this holds, or a fault that is none of a device.
+-- The result has this property, or is a fault that is not one of a device.
 record Sound {A : Type 0} (P : A → Type 0) (r : Result A PesFault) : Type 0 where
   pub is : MatchResult r P IsOfBytes
 
 -- ---- units
 
--- A byte in the other order of bits is a byte.
+-- A byte with its bits in reverse order is a byte.
 small : (bytes : List ℕ) (place : ℕ) → slice_index (map mirror bytes) place < 0x100
 unfolding mirror
 small [] place = omega arith
 small (b ∷ bytes) zero = omega arith
 small (b ∷ bytes) (suc k) = small bytes k
 
--- The packet of 46 bytes.
+-- The packet of a data unit of 46 bytes.
 unit_whole : (b : List ℕ) → length b ≡ 46 → IsPacket (unit_of b).packet
 unit_whole b long = grind (arith, nat_tests, length-map, length-drop, small)
 
@@ -94,7 +93,7 @@ packet_sound b = go (size_at (take 6 b)) refl
     go (Ok size) is =
         let value = value_sound (take (size - 6) (drop 6 b)) in grind (arith, nat_tests)
 
--- The value that was read, if one was.
+-- The value that was read, if there is one.
 abbrev IsWholeAnswer : Option PesValue → Type 0
 IsWholeAnswer o = IfSome o (λ v. AreWholeUnits v.units)
 
@@ -109,9 +108,9 @@ packets_whole : (units : List UnitValue) → AreWholeUnits units
 packets_whole [] h = tt
 packets_whole (u ∷ units) h = (h.0, packets_whole units h.1)
 
--- ---- pieces
+-- ---- PES packets
 
--- A piece that is sent has whole packets; one that is passed over is so by no fault of a device.
+-- A sent PES packet has 42-byte packets; a skipped one is not skipped for a fault of a device.
 abbrev pub IsSoundPiece : Piece → Type 0
 IsSoundPiece (Sent s) = AllByRecursion IsPacket s.packets
 IsSoundPiece (Passed (BadPacket f)) = IsOfBytes f
@@ -137,13 +136,13 @@ from_sound clock (suc room) given b =
     by_piece clock (answer_at given b) _ (answer_sound given b)
     (from_sound clock room (given + 1) (behind_piece b))
 
--- What is read of bytes, where reading goes on. For `check`.
+-- Reading bytes, also after skipped PES packets. For `check`.
 pub file_pieces_sound : (clock : Clock) (given : ℕ) (b : List ℕ)
     → ArePiecesSound (pieces_at clock given b)
 unfolding pieces_at
 file_pieces_sound clock given b = from_sound clock (most_packets - given) given b
 
--- The frames that are sent have whole packets.
+-- The frames have 42-byte packets.
 pub sent_whole : (pieces : List Piece) → AllByRecursion IsSoundPiece pieces
     → AllByRecursion (λ (s : SentFrame). AllByRecursion IsPacket s.packets) (frames_of pieces)
 unfolding frames_of
@@ -151,7 +150,7 @@ sent_whole [] sound = tt
 sent_whole (Sent s ∷ pieces) sound = (sound.0, sent_whole pieces sound.1)
 sent_whole (Passed u ∷ pieces) sound = sent_whole pieces sound.1
 
--- So have those up to the first piece that is passed over.
+-- So have those up to the first skipped PES packet.
 read_whole : (pieces : List Piece) (unread : Option Unread) → AllByRecursion IsSoundPiece pieces
     → AllByRecursion (λ (s : SentFrame). AllByRecursion IsPacket s.packets)
     (read_until_passed pieces unread).frames

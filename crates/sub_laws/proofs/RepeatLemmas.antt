@@ -1,8 +1,7 @@
--- For transmissions whose repeats may keep the page.
--- One that keeps the rules has what suffices, `repeated_stretch`. Where each header erases the page
--- it is good whether repeats may keep or not, `law_of_may_keep` and `law_of_none_keeps`; and where
--- they may not the rules are those of `Good`, `law_of_no_repeats`. Within more frames it stays
--- good: `law_of_longer_repeats`.
+-- For transmissions whose repeats may keep the page. One that keeps the rules is sufficient,
+-- `repeated_stretch`. If each header erases the page, it is good whether repeats may keep the page
+-- or not, `law_of_may_keep` and `law_of_none_keeps`; and if they may not, the rules are those of
+-- `Good`, `law_of_no_repeats`. It stays good with a greater `within`: `law_of_longer_repeats`.
 use Rattle.std.proofs.lemmas.Bool.Decides.{nat_tests}
 use Rattle.std.proofs.Common.{◌≡◌, ℕ, zero, suc, ◌+◌, ◌≤◌, inl, inr, Bool, true, false}
 use Rattle.std.proofs.Common.{List, [], ◌∷◌, length, take, find, option_map, unwrap_or, All}
@@ -34,9 +33,9 @@ use Rattle.sub_rules.specs.Transmission.{on_air_until}
 use Rattle.sub_laws.specs.Repeats.{IsRepeatedStretch, LawOfKeptOnAir, LawOfLongerRepeats}
 use Rattle.sub_laws.proofs.TransmissionLemmas.{packets_between-each}
 
--- ---- what suffices
+-- ---- sufficient conditions
 
--- Packets of a clean long span have the codes that are kept.
+-- The packets since the text began have the kept codes if they are clean.
 pub codes_of_clean : (keeps : Bool) (page : PageIdValue) (packets : List (List ℕ))
     → IsCleanSpan page (text_span keeps (kind page) packets)
     → All (HasCodes page (kept keeps page packets)) (text_span keeps (kind page) packets)
@@ -75,7 +74,6 @@ repeated_stretch keeps programme transmission options rules = record {
   repeats = rules.repeats;
 }
 
--- What a receiver that keeps holds, with no wrong bit.
 pub law_of_kept_on_air : LawOfKeptOnAir
 law_of_kept_on_air keeps programme transmission options f old new rules low high hears fresh row
     column named =
@@ -83,7 +81,7 @@ law_of_kept_on_air keeps programme transmission options f old new rules low high
     ((repeated_stretch keeps programme transmission options rules).sends f low high) hears fresh row
     column named
 
--- ---- where each header erases the page
+-- ---- if each header erases the page
 
 -- A header that erases the page begins the text.
 begins_of_erases : (keeps : Bool) (w : PageIdValue) (packet : List ℕ)
@@ -92,7 +90,7 @@ begins_of_erases : (keeps : Bool) (w : PageIdValue) (packet : List ℕ)
     → begins_text keeps (kind w packet) ≡ true
 begins_of_erases keeps w packet erases this = grind (arith, nat_tests)
 
--- So each header of the first n packets does.
+-- So does each header of the first n packets.
 each_begins_of : (keeps : Bool) (w : PageIdValue) (packets : List (List ℕ)) (n : ℕ)
     → AllByRecursion (ErasesPage w) packets
     → EachBegins (kind w) keeps (take n packets)
@@ -103,7 +101,7 @@ each_begins_of keeps w (p ∷ ps) (suc n) each =
 
 module _ (one other : Bool) (w : PageIdValue) (packets : List (List ℕ))
     (erases : All (ErasesPage w) packets) where
-  -- Their long span is the same, whether repeats may keep or not.
+  -- The packets since the text began are the same, whether repeats may keep the page or not.
   text_span-of_erasing : (n : ℕ)
       → text_span one (kind w) (take n packets) ≡ text_span other (kind w) (take n packets)
   text_span-of_erasing n =
@@ -111,7 +109,7 @@ module _ (one other : Bool) (w : PageIdValue) (packets : List (List ℕ))
       text_span-same (kind w) one (take n packets) (each_begins_of one w packets n each)
       ∙ sym (text_span-same (kind w) other (take n packets) (each_begins_of other w packets n each))
 
-  -- And so is what is kept.
+  -- So are the kept codes.
   kept-of_erasing : (row column : ℕ)
       → kept one w packets row column ≡ kept other w packets row column
   kept-of_erasing row column =
@@ -125,7 +123,7 @@ module _ (one other : Bool) (w : PageIdValue) (packets : List (List ℕ))
 
 module _ (one other : Bool) (programme : ProgrammeValue) (transmission : Transmission)
     (options : OptionsValue) (each : EachPacket (ErasesPage options.page) transmission) where
-  -- What is on air so far erases the page at each header.
+  -- Each header on air erases the page.
   erasing : (f : ℕ) → All (ErasesPage options.page) (on_air_until transmission f)
   erasing f =
       packets_between-each (ErasesPage options.page) transmission (first_frame transmission)
@@ -165,17 +163,15 @@ module _ (one other : Bool) (programme : ProgrammeValue) (transmission : Transmi
     ends = finished_same _ good.ends;
   }
 
--- What is good where repeats may not keep is good where they may.
 pub law_of_may_keep : LawOfMayKeep
 law_of_may_keep programme transmission options good =
     good_same false true programme transmission options (good.rules.erases refl) good
 
--- And the other way round, where no header keeps.
 pub law_of_none_keeps : LawOfNoneKeeps
 law_of_none_keeps programme transmission options each good =
     good_same true false programme transmission options each good
 
--- ---- where repeats may not keep
+-- ---- if repeats may not keep the page
 
 module _ (programme : ProgrammeValue) (transmission : Transmission) (options : OptionsValue) where
   -- The rules are those of `Good`.
@@ -231,15 +227,15 @@ pub law_of_no_repeats : LawOfNoRepeats
 law_of_no_repeats programme transmission options =
     (rules_of programme transmission options, rules_by programme transmission options)
 
--- ---- within more frames
+-- ---- a greater `within`
 
 module _ (keeps : Bool) (programme : ProgrammeValue) (transmission : Transmission)
     (options : OptionsValue) (more : ℕ) (longer : options.within ≤ more) where
-  -- The same options, with more frames.
+  -- The same options with a greater `within`.
   abbrev allowing : OptionsValue
   allowing = record options { within = more }
 
-  -- What is finished stays so.
+  -- A finished frame stays finished.
   finished_longer :
       (f : ℕ)
       → IsFinishedBy keeps programme transmission options f
@@ -269,6 +265,5 @@ module _ (keeps : Bool) (programme : ProgrammeValue) (transmission : Transmissio
     ends = finished_longer (last_frame transmission) good.ends;
   }
 
--- What is good within some frames is good within more.
 pub law_of_longer_repeats : LawOfLongerRepeats
 law_of_longer_repeats = good_longer

@@ -1,5 +1,4 @@
--- For what is told and what may stay.
--- The latest of frames that rise: `latest_at`.
+-- For reports and trusted frames. The greatest of rising frames: `latest_at`.
 use Rattle.std.proofs.lemmas.Bool.Decides.{nat_tests}
 use Rattle.std.proofs.Common.{◌≡◌, ℕ, zero, suc, ◌-◌, ◌<◌, arith}
 use Rattle.sub_rules.specs.Events.{latest}
@@ -7,7 +6,7 @@ use Rattle.sub_rules.specs.FrameRules.{frame_at}
 use Rattle.sub_rules.specs.Transmission.{Transmission}
 use Rattle.sub_laws.proofs.PrefixLemmas.{RiseTo}
 
--- Where the first frames rise, the last of them is the latest.
+-- If the first frames rise, the last of them is the greatest.
 pub latest_at :
     (frames : Transmission) (n : ℕ)
     → RiseTo frames n

@@ -1,6 +1,5 @@
--- For the headline and what may be late.
--- A good transmission is sound, `sound_stretch`, and has what suffices, `suffices`, and so all that
--- is promised of it: the laws of the headline.
+-- For the headline and delays. A good transmission is sound, `sound_stretch`, and sufficient,
+-- `suffices`, so it keeps its promises: the laws of the headline.
 use Rattle.std.proofs.Common.{arith, ℕ, ◌+◌, false, List, length, subst, le_refl}
 use Rattle.std.proofs.lemmas.Bool.Decides.{nat_tests}
 use Rattle.std.proofs.lemmas.List.{take_all}
@@ -47,17 +46,15 @@ sound_stretch programme transmission options keeps = record {
   repeats = keeps.repeats;
 }
 
--- A good transmission has what suffices, in all its frames.
+-- A good transmission is sufficient in all its frames.
 pub suffices : LawOfSufficientParts
 suffices = grind (arith, nat_tests, sound_stretch)
 
--- What is promised of a good transmission.
 pub law_of_good : LawOfGood
 law_of_good programme transmission options good =
     law_of_whole_stretch programme transmission options
     (grind (arith, nat_tests, law_of_stretch, suffices))
 
--- The law of the window.
 pub law_of_window : LawOfWindow
 law_of_window programme transmission options g j f good listening =
     window false transmission options _ _

@@ -1,6 +1,5 @@
--- For `law_of_nothing_told`.
--- What is said by the steps of pieces: where each is sent it is what is told of the frames that
--- they send. Main lemma: `pieces_said`.
+-- For `law_of_nothing_told`. The events in the steps of PES packets: if each packet is sent they
+-- are the events of the frames. Main lemma: `pieces_said`.
 use Rattle.std.proofs.lemmas.Bool.Decides.{nat_tests}
 use Rattle.std.proofs.Common.{◌≡◌, ℕ, zero, suc, ◌+◌, ◌<◌, ◌≤◌, List}
 use Rattle.std.proofs.Common.{[], ◌∷◌, ◌++◌, length, map, refl, sym, ap, ap₂, ◌∙◌, subst, arith}
@@ -24,9 +23,8 @@ use Rattle.sub_laws.proofs.PieceWalkLemmas.{EachPassed, Sends, Steps, each_piece
 use Rattle.sub_rules.specs.Trusted.{CheckStep}
 use Rattle.sub_rules.proofs.FrameEvents.{events, events_of_first, frame_events, gap_events}
 
--- ---- what steps say
+-- ---- the events in steps
 
--- The events among them.
 abbrev pub said : List CheckStep → List Event
 said [] = []
 said (Says e ∷ ms) = e ∷ said ms
@@ -61,7 +59,7 @@ module _ (g : Criteria) where
       ≡ order_events g frames i ++ gap_events g frames i (gap_length frames i)
   said_arrival frames i = grind (arith, nat_tests, said-append, append-nil, said-says, said_gap)
 
-  -- And at its end.
+  -- The events at its end.
   abbrev ending : Transmission → ℕ → List Event
   ending frames i =
       first_header_events g frames i ++ events_at_end g frames i (suc i) (frame_at frames i)
@@ -70,7 +68,7 @@ module _ (g : Criteria) where
       → said (steps_of_ending g frames i) ≡ ending frames i
   said_ending frames i = grind (arith, nat_tests, said-append, append-nil, said-says, said_end)
 
-  -- ---- how many are sent
+  -- ---- how many frames are sent
 
   few_sent : (pieces : List Piece) → length (frames_of pieces) ≤ length pieces
   unfolding frames_of
@@ -78,7 +76,7 @@ module _ (g : Criteria) where
   few_sent (Sent s ∷ pieces) = let rest = few_sent pieces in omega arith
   few_sent (Passed u ∷ pieces) = let rest = few_sent pieces in omega arith
 
-  -- Some frame is sent where one was before.
+  -- After a PES packet is sent there is a frame.
   sent_some : (sent : Transmission) (s : SentFrame) → 0 < length (sent_after g.within sent s)
   sent_some sent s = grind (arith, nat_tests, goes_on_some, with_packets-length, length-append)
 
@@ -101,34 +99,34 @@ module _ (g : Criteria) where
 -- ---- so far
 
 module _ (g : Criteria) (frames : Transmission) where
-  -- What is told of the first n frames and before the packets of the next one.
+  -- The events of the first n frames and before the packets of the next one.
   abbrev arrived : ℕ → List Event
   arrived n =
       events_of_first g frames n
       ++ (order_events g frames n ++ gap_events g frames n (gap_length frames n))
 
-  -- With these packets so far.
+  -- The same with these packets of it.
   abbrev begun : ℕ → List (List ℕ) → List Event
   begun n packets =
       arrived n
       ++ packet_events g.watched (frame_at frames n) (packets_before frames n) packets
       (length packets)
 
-  -- What was said so far is that, or what is told of the first n frames.
+  -- The events so far are those, or those of the first n frames.
   abbrev Ended : ℕ → List Event → Type 0
   Ended n so_far = so_far ≡ events_of_first g frames n
 
   abbrev Begun : ℕ → List (List ℕ) → List Event → Type 0
   Begun n packets so_far = so_far ≡ begun n packets
 
-  -- What is so of what was said so far is so with what steps say.
+  -- A property of the events so far holds with those of more steps.
   abbrev SaysOn : (List Event → Type 0) → List Event → List CheckStep → Type 0
   SaysOn S so_far ms = S (so_far ++ said ms)
 
   abbrev same : ℕ → List Event → List Event
   same pes so_far = so_far
 
-  -- No piece is passed over.
+  -- No PES packet is skipped.
   abbrev NonePassed : Transmission → Type 0
   NonePassed sent = ⊥
 
@@ -174,7 +172,7 @@ module _ (g : Criteria) (frames : Transmission) where
   none_passed sent (Passed u ∷ pieces) all =
       let few = few_sent g pieces in absurd (omega (arith, all))
 
-  -- What is said before the file ends.
+  -- The events before the file ends.
   before_said : (pieces : List Piece) → length (frames_of pieces) ≡ length pieces
       → sent_by_pieces g pieces ≡ frames
       → said (steps_of_each g [] 0 pieces ++ steps_of_waiting g frames)
@@ -190,10 +188,10 @@ module _ (g : Criteria) (frames : Transmission) where
       waits (List Event) same g frames SaysOn Ended Begun NonePassed says-nil
       (λ S so_far pes ms so. so) says-append steps frames [] so_far (sym (append-nil frames)) so)
 
--- ---- pieces
+-- ---- PES packets
 
 module _ (g : Criteria) where
-  -- Where each piece is sent the steps say what is told of the frames that they send.
+  -- If each PES packet is sent, the events in the steps are those of the frames.
   pub pieces_said : (pieces : List Piece) → length (frames_of pieces) ≡ length pieces
       → said (steps_of_pieces g pieces) ≡ events g (sent_by_pieces g pieces)
   unfolding events

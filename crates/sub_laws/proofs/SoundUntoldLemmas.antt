@@ -1,6 +1,5 @@
--- For what is told and what may stay.
--- A stretch of which nothing is told that a receiver depends on has what recovery needs, but for
--- what is kept, within however many frames: `repeated_untold`.
+-- For reports and trusted frames. A stretch without reports that a receiver depends on has what
+-- recovery needs apart from its text, whatever `within` is: `repeated_untold`.
 use Rattle.std.proofs.lemmas.Bool.Decides.{nat_tests}
 use Rattle.std.proofs.Common.{◌≡◌, ℕ, ◌+◌, ◌-◌, ◌<◌, ◌≤◌, ◌⊎◌, inl, inr, List, [], length}
 use Rattle.std.proofs.Common.{slice_index, slice_index_or, Option, refl, sym, ap, ◌∙◌}
@@ -32,7 +31,6 @@ use Rattle.sub_laws.proofs.FollowedStretchLemmas as stretches
 use Rattle.sub_laws.proofs.SoundStretchLemmas.{last_of_two}
 use Rattle.sub_laws.proofs.StandingLemmas.{gap_decided}
 
--- What is not false is true.
 not_false : (b : Bool) → not b ≡ false → b ≡ true
 not_false b h1 = grind (arith, nat_tests)
 
@@ -42,18 +40,19 @@ module _ (programme : ProgrammeValue) (transmission : Transmission) (options : O
     (unread : Option Unread) (any_refused : Bool) (undecided : ℕ → Bool) (a b : ℕ) (untold :
     IsUntold (criteria_unsure programme options unread any_refused undecided) transmission a
     b) where
-  -- What it is checked against.
+  -- The criteria of the check.
   abbrev g : Criteria
   g = criteria_unsure programme options unread any_refused undecided
 
-  -- Its packets keep the rules of which nothing is told.
+  -- Its packets keep the rules that were not reported.
   kept : (r : PacketRule) → IsTrue (is_needed r) → (r ≡ rule.RowChanged → ⊥)
       → AtPackets (KeepsRule r g.watched) transmission a b
   kept r needed other i k l m low high =
       (refuted _ (rule_decided g.watched _ _ r (λ e. absurd (other e)))).0
       (untold.packets r needed i k l m low high)
 
-  -- While the page is open a row has the codes of the first packet of its row in the long span.
+  -- While the page is open, a row has the codes of the first packet of its row since the text
+  -- began.
   same_codes : AtPackets (λ heard p. IsTrue (is_open_after (kind options.page) heard)
       → (row : ℕ) (first : List ℕ)
       → kind options.page p ≡ Row row
@@ -94,8 +93,7 @@ module _ (programme : ProgrammeValue) (transmission : Transmission) (options : O
   unfolding standing_at
   gap_is n f end low high = untold.gap n f end low high
 
-  -- At each frame's end a header of the page is less than the repeat bound ago, or the first frame
-  -- is.
+  -- At the end of each frame the last header of the page is recent enough, or the first frame is.
   covered :
       (f : ℕ)
       → a ≤ f
@@ -120,7 +118,6 @@ module _ (programme : ProgrammeValue) (transmission : Transmission) (options : O
             inr (j, omega (arith, end.1), omega arith, late, has)
       ]
 
-  -- It has what recovery needs.
   pub repeated_untold : IsRepeatedStretch options.keeps transmission options a b
   repeated_untold =
       stretches.law_of_followed_stretch options.keeps transmission options a b (record {

@@ -1,8 +1,7 @@
--- For what is told and what may stay.
--- What stands broken at an end: its first wrong cell, `first_wrong`, `none_wrong`; whether the
--- repeat bound has passed, `gap_decided`; whether the page is open, `incomplete_decided`; whether
--- it is known what was due, `known_back`, `always_known`, `undue_is`; whether anything stands
--- broken, `quiet_parts`; and rule by rule, `stands_broken`.
+-- For reports and trusted frames. The active faults at an end: the first wrong cell, `first_wrong`,
+-- `none_wrong`; whether the repeat bound is exceeded, `gap_decided`; whether the page is open,
+-- `incomplete_decided`; whether the due page is known, `known_back`, `always_known`, `undue_is`;
+-- whether any fault is active, `quiet_parts`; and rule by rule, `stands_broken`.
 use Rattle.std.proofs.Common.{◌≡◌, ◌↔◌, ℕ, zero, suc, ◌+◌, ◌-◌, ◌<◌, ◌≤◌, Bool, true, false, []}
 use Rattle.std.proofs.Common.{length, take, Option, Some, None, refl, sym, subst, arith, not, ◌||◌}
 use Rattle.std.proofs.Common.{◌&&◌, ◌==◌, ◌∙◌, ap, get_or, is_some, option_map, inl, inr, ◌⊎◌}
@@ -37,7 +36,7 @@ use Rattle.sub_laws.proofs.FrameByFrame.{IsQuiet}
 
 -- ---- the first cell
 
--- The first cell that passes a test: it does, and none before it.
+-- The cell passes a test, and none before it does.
 pub record IsFirstCell (test : ℕ → ℕ → Bool) (row column : ℕ) : Type 0 where
   pub is_cell : IsCell row column
   pub passes : test row column ≡ true
@@ -53,7 +52,7 @@ module _ (test : ℕ → ℕ → Bool) where
   abbrev in_row : ℕ → Option (ℕ × ℕ)
   in_row above = option_map (λ column. (above + 1, column)) (first_below 40 (test (above + 1)))
 
-  -- A row that has none.
+  -- A row without such a cell.
   row_none : (above : ℕ) → row_test above ≡ false → (c : ℕ) → c < 40
       → test (above + 1) c ≡ false
   row_none above e = go (first_below 40 (test (above + 1))) refl e
@@ -63,11 +62,11 @@ module _ (test : ℕ → ℕ → Bool) where
       go None is e = below_none 40 (test (above + 1)) is
       go (Some k) is e = grind arith
 
-  -- What is told of a cell by its row, counted from 0.
+  -- A property of a cell, by its row counted from 0.
   by_row : (P : ℕ → Type 0) (r : ℕ) → 1 ≤ r → P (r - 1 + 1) → P r
   by_row P r l p = let e : r - 1 + 1 ≡ r = omega arith in subst P e p
 
-  -- The first cell of a row that has one, where no row above has one.
+  -- The first cell of a row that has one, if no row above has one.
   at_row : (above : ℕ) → above < 24 → row_test above ≡ true
       → ((k : ℕ) → k < above → row_test k ≡ false)
       → (o : Option ℕ) → first_below 40 (test (above + 1)) ≡ o
@@ -101,7 +100,7 @@ module _ (test : ℕ → ℕ → Bool) where
           at_row above first.0 first.1 (below_before 24 row_test above is)
           (first_below 40 (test (above + 1))) refl x e
 
-  -- Where it finds none, no cell passes.
+  -- If it finds none, no cell passes.
   pub cell_none : first_cell test ≡ None → (r c : ℕ) → IsCell r c → test r c ≡ false
   unfolding first_cell
   cell_none e r c is_cell =
@@ -123,7 +122,7 @@ module _ (test : ℕ → ℕ → Bool) where
           some_in None t n = grind arith
           some_in (Some k) t n = grind arith
 
-  -- Where no cell passes it finds none.
+  -- If no cell passes, it finds none.
   pub no_cell : ((r c : ℕ) → IsCell r c → test r c ≡ false) → first_cell test ≡ None
   no_cell none = go (first_cell test) refl
     where
@@ -133,9 +132,9 @@ module _ (test : ℕ → ℕ → Bool) where
           let found = cell_found x e in
           absurd (true≢false (sym found.passes ∙ none x.0 x.1 found.is_cell))
 
--- ---- what stands broken at an end
+-- ---- the active faults at an end
 
--- Where it is known at each frame what is due, it is so at the last ones before one.
+-- If the due page is known at each frame, it is known at the last ones.
 pub all_known : (undecided : ℕ → Bool) → ((frame : ℕ) → undecided frame ≡ false)
     → (first f m : ℕ) → was_undecided undecided first f m ≡ false
 unfolding was_undecided
@@ -143,11 +142,11 @@ all_known undecided each first f zero = grind (arith, nat_tests)
 all_known undecided each first f (suc m) =
     grind (arith, nat_tests, (all_known undecided each first f m))
 
--- So it is where nothing is refused of the subtitle file.
+-- So it is if no subtitle was refused.
 pub always_known : (first f m : ℕ) → was_undecided (λ frame. false) first f m ≡ false
 always_known = all_known (λ frame. false) (λ frame. refl)
 
--- What is kept is what is due; and where that is no space, the row came again.
+-- The kept code is the due one, and unless that is a space the row came again.
 right_test : (kept due blank : ℕ) (again : Bool)
     → Decides (not (not (kept == due && (due == blank || again))))
     ((kept ≡ due) × (due ≢ blank → again ≡ true))
@@ -159,20 +158,20 @@ module _ (g : Criteria) (frames : Transmission) (n f : ℕ) where
   is_wrong row column =
       not (is_right g.watched.keeps g.watched.page (packets_before frames n) (g.due f) row column)
 
-  -- The first that is not, whether it is known what is due or not.
+  -- The first wrong cell, whether the due page is known or not.
   abbrev other_cell : Option (ℕ × ℕ)
   other_cell = wrong_after g.watched.keeps g.watched.page (packets_before frames n) (g.due f)
 
-  -- It is not exactly where the test says so.
+  -- The test decides whether a cell is wrong.
   wrong_decided : (row column : ℕ)
       → Decides (not (is_wrong row column)) (ShowsDue g frames n f row column)
   wrong_decided row column = grind (arith, nat_tests, right_test)
 
-  -- Where it is known what is due it is the first wrong one.
+  -- If the due page is known, it is the first wrong cell.
   wrong_is : g.undecided f ≡ false → wrong_cell g frames n f ≡ other_cell
   wrong_is known = rw known refl
 
-  -- Where one is wrong it is known.
+  -- If a cell is reported as wrong, the due page is known.
   wrong_known : (x : ℕ × ℕ) → wrong_cell g frames n f ≡ Some x → g.undecided f ≡ false
   wrong_known x e = grind (arith, nat_tests, none-some)
 
@@ -185,12 +184,12 @@ module _ (g : Criteria) (frames : Transmission) (n f : ℕ) where
       (wrong_decided row column).0
       (ap not (cell_none is_wrong (sym (wrong_is known) ∙ e) row column is))
 
-  -- The first that is.
+  -- The first wrong cell.
   pub first_wrong : (x : ℕ × ℕ) → wrong_cell g frames n f ≡ Some x → WrongFirst g frames n f x.0 x.1
   unfolding wrong_after
   first_wrong x e = grind (arith, nat_tests, cell_found, wrong_is, wrong_known, wrong_decided)
 
-  -- Where all are right, none is wrong.
+  -- If all cells are right, none is wrong.
   pub no_wrong : ((row column : ℕ) → IsCell row column → ShowsDue g frames n f row column)
       → wrong_cell g frames n f ≡ None
   no_wrong shows = go (wrong_cell g frames n f) refl
@@ -200,12 +199,12 @@ module _ (g : Criteria) (frames : Transmission) (n f : ℕ) where
       go (Some x) e =
           let w = first_wrong x e in absurd (w.broken (shows x.0 x.1 w.is_cell))
 
-  -- One of the first m frames of the list has a header of the page that is not too long ago.
+  -- One of the first m frames of the list has a header of the page that is recent enough.
   abbrev IsHeaderNear : ℕ → Type 0
   IsHeaderNear m =
       (j : ℕ) × (j < m) × (f < frame_at frames j + g.every) × HasHeader g frames j
 
-  -- Whether frame i of the list does.
+  -- Whether frame i of the list has one.
   covers_at : (i : ℕ) (d : SentFrame) → i < length frames
       → Decides (covers g f (get_or frames i d))
       (HasHeader g frames i × (f < frame_at frames i + g.every))
@@ -227,7 +226,7 @@ module _ (g : Criteria) (frames : Transmission) (n f : ℕ) where
       (λ h. grind (arith, nat_tests, cases_lt))
       (Decides-or _ _ (near_decided m (omega arith)) (covers_at m d (omega arith))))
 
-  -- Whether the repeat bound has passed.
+  -- Whether the repeat bound is exceeded.
   pub gap_decided : n ≤ length frames → Decides (not (is_gap g frames n f)) (IsCovered g frames n f)
   unfolding is_gap
   gap_decided l = let near = near_decided n l in grind (arith, nat_tests)
@@ -252,7 +251,7 @@ module _ (g : Criteria) (frames : Transmission) (n f : ℕ) where
         let here = ap (frame_at frames) same in grind (arith, nat_tests)
   ]
 
-  -- Whether a PES packet is too long ago.
+  -- Whether the last PES packet is too long ago.
   pub silent_decided : Decides (not (is_silent g frames n f)) (IsPaced g frames n f)
   unfolding is_silent
   silent_decided = by n g.pace refl
@@ -278,7 +277,7 @@ module _ (g : Criteria) (frames : Transmission) (n f : ℕ) where
             λ h. let near = near_latest pace (suc m) (h pace is) in grind (arith, nat_tests),
           )
 
-  -- Where it is known what was due at frame f and the last ones before it, it is at each of them.
+  -- If the due page is known at frame f and the last ones before it, it is known at each of them.
   pub known_back : (first m : ℕ) → was_undecided g.undecided first f m ≡ false
       → (k : ℕ) → k ≤ f → f ≤ k + m → (first ≤ k) ⊎ (k ≡ f)
       → g.undecided k ≡ false
@@ -287,12 +286,11 @@ module _ (g : Criteria) (frames : Transmission) (n f : ℕ) where
   known_back first (suc m) e k high low from =
       grind (arith, nat_tests, or_parts, (known_back first m))
 
-  -- Frame f is the last of them.
   pub known_at : undecided_within g frames f ≡ false → g.undecided f ≡ false
   known_at e =
       known_back (frame_at frames 0) g.within e f (le_refl f) (omega arith) (inr refl)
 
-  -- Then what is kept in a cell has to be what was due.
+  -- Then the kept code of a cell has to be one that was due.
   pub undue_is : undecided_within g frames f ≡ false
       → undue_cell g frames n f
       ≡ undue_after g.watched.keeps g.watched.page (packets_before frames n) g.due
@@ -303,7 +301,7 @@ module _ (g : Criteria) (frames : Transmission) (n f : ℕ) where
   unfolding is_incomplete
   incomplete_decided = grind (arith, nat_tests)
 
-  -- Nothing stands broken exactly where no rule does.
+  -- No fault is active exactly if no rule is broken.
   pub quiet_parts : IsQuiet g frames n f
       ↔ ((broken_cell g frames n f ≡ None)
       × (is_gap g frames n f ≡ false)
@@ -313,7 +311,7 @@ module _ (g : Criteria) (frames : Transmission) (n f : ℕ) where
   unfolding standing_at
   quiet_parts = grind (arith, nat_tests)
 
-  -- ---- within 0 frames
+  -- ---- if `within` is 0
 
   module _ (at_once : g.within ≡ 0) where
     -- Each unfinished end is late.
@@ -321,26 +319,26 @@ module _ (g : Criteria) (frames : Transmission) (n f : ℕ) where
     unfolding is_late
     always_late = grind (arith, nat_tests)
 
-    -- So each cell has to be right.
+    -- So each cell has to be right,
     pub broken_is : broken_cell g frames n f ≡ wrong_cell g frames n f
     broken_is = rw always_late refl
 
-    -- And the page has to be ended.
+    -- the page has to have ended,
     pub ended_is : (is_late g frames n f && is_incomplete g frames n) ≡ is_incomplete g frames n
     ended_is = rw always_late refl
 
-    -- And it has to be known what is due.
+    -- and the due page has to be known.
     unknown_is : undecided_within g frames f ≡ g.undecided f
     unfolding was_undecided
     unknown_is = rw at_once refl
 
-    -- Nothing is wrong where all cells are right, if it is known what is due.
+    -- If all cells are right, and the due page is known, none is wrong.
     right_cells : IsKept end.Content g frames n f → (b : Bool) → g.undecided f ≡ b
         → wrong_cell g frames n f ≡ None
     right_cells kept true is = rw is refl
     right_cells kept false is = no_wrong (kept is)
 
-    -- A rule stands broken exactly where it is not kept.
+    -- A rule is broken exactly if it is not kept.
     kept_is : n ≤ length frames → (rule : EndRule)
         → (broken_at rule (standing_at g frames n f) ≡ None) ↔ IsKept rule g frames n f
     unfolding standing_at
@@ -353,7 +351,7 @@ module _ (g : Criteria) (frames : Transmission) (n f : ℕ) where
     kept_is l end.Undecided = let is = unknown_is in grind (arith, nat_tests)
     kept_is l end.Silent = grind (arith, nat_tests, silent_decided)
 
-    -- So all are kept where nothing stands broken.
+    -- So all are kept if no fault is active.
     pub all_kept : n ≤ length frames → IsQuiet g frames n f → (rule : EndRule)
         → IsKept rule g frames n f
     all_kept l quiet rule = (kept_is l rule).0 (ap (broken_at rule) quiet ∙ nothing_at rule)

@@ -1,6 +1,5 @@
--- For `law_of_all_trusted` and `law_of_nothing_told`.
--- A test of steps that none of these passes that come of pieces: `before_passes`. What is told with
--- such steps: `told_fine`, `first_fine`.
+-- For `law_of_all_trusted` and `law_of_nothing_told`. A test that no step of PES packets passes:
+-- `before_passes`. The events of such steps: `told_fine`, `first_fine`.
 use Rattle.std.proofs.lemmas.Bool.Decides.{nat_tests}
 use Rattle.std.proofs.Common.{◌≡◌, ℕ, zero, suc, ◌+◌, ◌==◌, Bool, true, false, List, [], ◌∷◌, ◌++◌}
 use Rattle.std.proofs.Common.{length, map, Option, None, Some, refl, ◌∙◌, arith, if◌then◌else◌}
@@ -36,7 +35,7 @@ use Rattle.sub_rules.specs.Trusted.{trusted, trusted_up_to, whole_of}
 use Rattle.sub_rules.specs.declared.standing.Standing.{Standing}
 
 module _ (test : CheckStep → Bool) where
-  -- An event passes where it is said.
+  -- The step of an event passes the test.
   abbrev on : Event → Bool
   on e = test (Says e)
 
@@ -60,14 +59,14 @@ module _ (test : CheckStep → Bool) where
       same [] = refl
       same (e ∷ es) = rw (same es) refl
 
-  -- None of the pieces that are passed over does, the first piece being PES packet `pes`.
+  -- No skipped PES packet passes, the first one being number `pes`.
   abbrev pub PassedPass : ℕ → List Piece → Type 0
   PassedPass pes [] = ⊤
   PassedPass pes (Sent s ∷ pieces) = PassedPass (suc pes) pieces
   PassedPass pes (Passed u ∷ pieces) =
       (on (Told (unread_fault pes (Some u))) ≡ false) × PassedPass (suc pes) pieces
 
-  -- Nor does anything that is told of a frame, or that is no event.
+  -- Nor does any step of a frame.
   pub record FramesPass (g : Criteria) : Type 0 where
     pub at_pes : (n : ℕ) → test (AtPes n) ≡ false
     pub begins : (f : ℕ) → test (Begins f) ≡ false
@@ -166,18 +165,18 @@ module _ (test : CheckStep → Bool) where
         (both_pass (one_passes (Says (Told (unread_fault pes (Some u)))) passed.0)
         (each_passes sent (suc pes) pieces passed.1))
 
-    -- What comes of pieces before the file ends.
+    -- The steps of PES packets before the file ends.
     pub before_passes : (pieces : List Piece) → ((pes : ℕ) → PassedPass pes pieces)
         → Passes (steps_of_each g [] 0 pieces ++ steps_of_waiting g (sent_by_pieces g pieces))
     before_passes pieces passed =
         both_pass (each_passes [] 0 pieces (passed 0)) (waiting_passes (sent_by_pieces g pieces))
 
--- ---- what is told with steps that do not pass
+-- ---- the events of steps that do not pass
 
--- A test of refusals, that of a PES packet whatever its number.
+-- A test of faults that does not depend on the PES packet.
 module _ (bad : CheckFault → Bool)
     (anywhere : (pes : ℕ) (f : CheckFault) → bad f ≡ false → bad (fault_at_pes pes f) ≡ false) where
-  -- A refusal is told that passes it.
+  -- The event is a fault that passes it.
   abbrev pub tells_bad : Event → Bool
   tells_bad (Told f) = bad f
   tells_bad e = false
@@ -202,7 +201,7 @@ module _ (bad : CheckFault → Bool)
   event_fine pes (Told f) fine = anywhere pes f fine
   event_fine pes e fine = refl
 
-  -- With one step.
+  -- The events of one step.
   with_fine : (m : CheckStep) (t : List CheckStep) → says_bad m ≡ false
       → list_any tells_bad (told_at t m) ≡ false
   unfolding told_at
@@ -217,7 +216,7 @@ module _ (bad : CheckFault → Bool)
       both_none (told_at t m) _ (with_fine m t parts.0)
       (told_fine (m ∷ t) ms parts.1)
 
-  -- What is told first.
+  -- The first fault.
   pub first_fine : (es : List Event) (f : CheckFault) → list_any tells_bad es ≡ false
       → first_told es ≡ Some f
       → bad f ≡ false

@@ -1,7 +1,6 @@
--- For the headline, what may be late and what may stay.
--- What may be trusted of a stretch of frames that has what suffices, `law_of_stretch`; and of all
--- frames that is what is promised of a transmission, `law_of_whole_stretch`. With all packets kept,
--- robust to lost rows is robust: `law_of_all_kept`.
+-- For the headline, delays and trusted frames. A sufficient stretch of frames may be trusted,
+-- `law_of_stretch`; if all frames may, the transmission keeps its promises, `law_of_whole_stretch`.
+-- Robust to lost rows, if no packet is lost, is robust: `law_of_all_kept`.
 use Rattle.std.proofs.Common.{ℕ, ◌≤◌, inr, Bool, false, List, sym, subst, arith, le_refl}
 use Rattle.std.proofs.Common.{le_trans}
 use Rattle.std.specs.Prelude.{All, IsTrue}
@@ -30,9 +29,9 @@ use Rattle.sub_laws.proofs.DelayLemmas.{law_of_repeated_stretch, law_of_right_ce
 use Rattle.sub_laws.proofs.DelayLemmas.{recovers_at_once, shown_at_once}
 use Rattle.sub_laws.proofs.SoundStretchLemmas.{repeated}
 
--- ---- a stretch that has what suffices
+-- ---- a sufficient stretch
 
--- It may be trusted: what is shown at the end of each of its frames is due.
+-- It may be trusted: the page shown at the end of each of its frames is due.
 pub law_of_stretch : LawOfStretch
 law_of_stretch programme transmission options a b enough = record {
   recovers = λ class.
@@ -67,7 +66,7 @@ law_of_stretch programme transmission options a b enough = record {
 
 -- ---- lost rows
 
--- What is promised with one excuse is promised with each that it gives.
+-- A promise with one excuse holds with each weaker one.
 served_as :
     {programme : ProgrammeValue} {options : OptionsValue} {g f : ℕ} {sent : List (List ℕ)}
     {P Q : ℕ → ℕ → Type 0} {old new : State}
@@ -76,7 +75,7 @@ served_as :
     → IsServed programme options g f sent Q old new
 served_as excuse served = grind arith
 
--- What is got with nothing lost is got with all packets kept, and what excuses a space is the same.
+-- If nothing is lost, all packets arrived, and the same spaces are excused.
 got_whole :
     (w : PageIdValue) (transmission : Transmission) (a b g j f : ℕ) (got : List (List ℕ))
     → IsListening transmission a b g j f
@@ -98,7 +97,6 @@ got_whole w transmission a b g j f got listening near =
       λ row column hit. (nothing.hits got near row column).0 hit,
     )
 
--- With all packets kept, robust by arrived is robust.
 pub law_of_all_kept : LawOfAllKept
 law_of_all_kept programme transmission options = (robust, kept)
   where
@@ -132,7 +130,7 @@ module _ (programme : ProgrammeValue) (transmission : Transmission) (options : O
     (recovers :
     RecoversWithin Storing programme transmission options (first_frame transmission)
     (last_frame transmission)) where
-  -- Where receivers recover in all frames, the transmission is robust to lost rows.
+  -- If receivers recover in all frames, the transmission is robust to lost rows.
   to_loss : RobustToAnyLoss programme transmission options
   to_loss arrived g j f got old new is unheard shut hears =
       recovers g j f arrived got old new is hears
@@ -142,14 +140,12 @@ module _ (programme : ProgrammeValue) (transmission : Transmission) (options : O
   robust_of_recovers =
       (law_of_all_kept programme transmission options).0 (λ arrived all. to_loss arrived)
 
--- Recovery in all frames is enough for the headline.
 pub law_of_whole_recovery : LawOfWholeRecovery
 law_of_whole_recovery programme transmission options recovers = (
   robust_of_recovers programme transmission options recovers,
   to_loss programme transmission options recovers,
 )
 
--- What may be trusted of all frames is what is promised of the transmission.
 pub law_of_whole_stretch : LawOfWholeStretch
 law_of_whole_stretch programme transmission options trusted = record {
   robust = robust_of_recovers programme transmission options (trusted.recovers Storing);

@@ -1,7 +1,7 @@
--- For `law_of_nothing_told_repeats` and what may stay.
--- What is kept in frames that may be late, and that they are finished in time, where what is asked
--- of their ends holds: `codes`, `again`, `subtitle`. So a stretch of which nothing is told that a
--- receiver depends on has what suffices: `law_of_untold_repeats`.
+-- For `law_of_nothing_told_repeats` and trusted frames. The text of frames that may be late, and
+-- that they are finished in time, from the requirements at their ends: `codes`, `again`,
+-- `subtitle`. So a stretch without reports that a receiver depends on is sufficient:
+-- `law_of_untold_repeats`.
 use Rattle.std.proofs.lemmas.Bool.Decides.{nat_tests}
 use Rattle.std.proofs.Common.{◌≡◌, ℕ, ◌+◌, ◌-◌, ◌<◌, ◌≤◌, inr, Bool, true, false, ◌&&◌}
 use Rattle.std.proofs.Common.{◌||◌, ◌==◌, nat_le, nat_lt, None, Option, Some, get_or, length, refl}
@@ -33,8 +33,8 @@ use Rattle.sub_laws.proofs.SoundUntoldLemmas.{repeated_untold}
 use Rattle.sub_laws.proofs.StandingLemmas.{always_late, known_at, none_wrong, undue_is}
 use Rattle.sub_laws.proofs.UnfinishedLemmas.{finished_from, since_some, unfinished_at}
 
--- In a transmission in which frames rise what is asked of content holds at each end of a frame from
--- one to another, and it is known there what was due.
+-- In rising frames, the content at each end from one frame to another is as required, and the due
+-- page is known.
 pub record IsStill (g : Criteria) (t : Transmission) (a b : ℕ) : Type 0 where
   pub up : RiseTo t (length t)
   pub some : 0 < length t
@@ -47,7 +47,7 @@ pub record IsStill (g : Criteria) (t : Transmission) (a b : ℕ) : Type 0 where
       → f ≤ b
       → (broken_cell g t n f ≡ None) × (undecided_within g t f ≡ false)
 
--- And so does what is asked of the page's end.
+-- So is the end of the page.
 pub record HoldsAtEnds (g : Criteria) (t : Transmission) (a b : ℕ) : Type 0 where
   pub still : IsStill g t a b
   pub shut :
@@ -57,7 +57,7 @@ pub record HoldsAtEnds (g : Criteria) (t : Transmission) (a b : ℕ) : Type 0 wh
       → f ≤ b
       → (is_late g t n f && is_incomplete g t n) ≡ false
 
--- ---- what is kept
+-- ---- the kept text
 
 module _ (programme : ProgrammeValue) (options : OptionsValue) (unread : Option Unread)
     (any_refused : Bool) (undecided : ℕ → Bool) (t : Transmission) (a b : ℕ)
@@ -66,11 +66,11 @@ module _ (programme : ProgrammeValue) (options : OptionsValue) (unread : Option 
     abbrev asked : Criteria
     asked = criteria_unsure programme options unread any_refused undecided
 
-    -- It is known what is due.
+    -- The due page is known.
     pub known : (n f : ℕ) → IsEnd t n f → a ≤ f → f ≤ b → undecided f ≡ false
     known n f end low high = known_at asked t n f (still.parts n f end low high).1
 
-    -- Each frame has an end, at which what is on air up to it counts.
+    -- Each frame has an end, with the packets on air up to it.
     end_there : (f : ℕ) → a ≤ f → f ≤ b
         → (n : ℕ) × IsEnd t n f × (on_air_until t f ≡ packets_before t n)
     end_there f low high =
@@ -82,7 +82,7 @@ module _ (programme : ProgrammeValue) (options : OptionsValue) (unread : Option 
         (omega arith) in
         (n, end, end_is_on_air t still.up n f end)
 
-    -- Where the end is late each cell is right.
+    -- If the end is late, each cell is right.
     right_late : (n f : ℕ) → IsEnd t n f → a ≤ f → f ≤ b → is_late asked t n f ≡ true
         → (row column : ℕ)
         → IsCell row column
@@ -91,7 +91,7 @@ module _ (programme : ProgrammeValue) (options : OptionsValue) (unread : Option 
         none_wrong asked t n f (rw late at (still.parts n f end low high).0)
         (known n f end low high) row column named
 
-    -- Else what is kept in each cell is what it may hold.
+    -- Otherwise the kept code of each cell is an allowed one.
     codes_early : (n f : ℕ) → IsEnd t n f → a ≤ f → f ≤ b → is_late asked t n f ≡ false
         → (row column : ℕ)
         → IsCell row column
@@ -100,7 +100,7 @@ module _ (programme : ProgrammeValue) (options : OptionsValue) (unread : Option 
     codes_early n f end low high early row column named =
         grind (arith, nat_tests, undue_none, undue_is, first-same)
 
-    -- At a frame's end what is kept in each cell is what it may hold.
+    -- At the end of a frame the kept code of each cell is an allowed one.
     pub codes : KeepsDueCodes options.keeps programme t options a b
     codes f row column low high named =
         let (n, end, on) = end_there f low high in
@@ -122,7 +122,7 @@ module _ (programme : ProgrammeValue) (options : OptionsValue) (unread : Option 
             )
         go n end false early = codes_early n f end low high early row column named
 
-    -- Within no frame each cell is right.
+    -- If `within` is 0, each cell is right.
     pub whole_at_once : options.within ≡ 0 → (f : ℕ) → a ≤ f → f ≤ b
         → IsWholePage options.keeps programme options.page t f
     whole_at_once none f low high row column named =
@@ -160,8 +160,8 @@ module _ (programme : ProgrammeValue) (options : OptionsValue) (unread : Option 
     unfolding is_late
     not_overdue n f end low high = grind (arith, nat_tests, no_since, calm)
 
-    -- Since a frame the ends up to this one are unfinished: not too long, and no subtitle is
-    -- missed.
+    -- If the ends up to this one are unfinished since a frame, that is not too long ago, and no
+    -- subtitle is missed.
     early : (n f r : ℕ) → IsEnd t n f → a ≤ f → f ≤ b → unfinished_since criteria t n f ≡ Some r
         → (f < r + options.within) × (is_missed (criteria.ending (f + 1)) start r ≡ false)
     early n f r end low high e =
@@ -173,7 +173,7 @@ module _ (programme : ProgrammeValue) (options : OptionsValue) (unread : Option 
         before : nat_le (r + options.within) f ≡ false → f < r + options.within
         before e = grind (arith, nat_tests)
 
-    -- A frame is finished whose end is.
+    -- A frame is finished if its end is.
     ended : (e : ℕ) → a ≤ e → e ≤ b → unfinished_at criteria t up e ≡ false
         → IsFinishedBy options.keeps programme t options e
     ended e low high finished =
@@ -187,8 +187,8 @@ module _ (programme : ProgrammeValue) (options : OptionsValue) (unread : Option 
         (omega arith)
         (omega arith) (known_end n e end low high) finished
 
-    -- One of the frames from one to f is finished, where the ends up to f are not unfinished since
-    -- that one.
+    -- One of the frames `from` to f is finished, unless the ends up to f are unfinished since
+    -- `from` or earlier.
     some_finished : (from f : ℕ) → a ≤ from → from ≤ f → f ≤ b
         → ((n r : ℕ)
         → IsEnd t n f
@@ -226,7 +226,7 @@ module _ (programme : ProgrammeValue) (options : OptionsValue) (unread : Option 
         omega arith)
 
     module _ (is : IsProgramme programme.drawing programme.records) where
-      -- The TCO of a subtitle of the programme, and its TCI.
+      -- The TCO of a subtitle of the programme gives its TCI.
       ends_at : (k : ℕ) (d : SubtitleValue) → k < length programme.records
           → (s : SubtitleValue)
           → s ≡ get_or programme.records k d
@@ -288,7 +288,7 @@ module _ (programme : ProgrammeValue) (options : OptionsValue) (unread : Option 
             begun k d l (get_or programme.records k d) refl (at ∙ first-same t);
       }
 
--- ---- a stretch of which nothing is told
+-- ---- a stretch without reports
 
 module _ (programme : ProgrammeValue) (options : OptionsValue) (unread : Option Unread)
     (any_refused : Bool) (undecided : ℕ → Bool) (t : Transmission) (a b : ℕ)
@@ -305,7 +305,7 @@ module _ (programme : ProgrammeValue) (options : OptionsValue) (unread : Option 
           (untold.content n f end low high, untold.undecided n f end low high);
     }
 
-    -- It has what suffices.
+    -- It is sufficient.
     pub enough_repeats : IsSufficientRepeats options.keeps programme t options a b
     enough_repeats = record {
       stretch = repeated_untold programme t options unread any_refused undecided a b untold;
@@ -327,7 +327,6 @@ module _ (programme : ProgrammeValue) (options : OptionsValue) (unread : Option 
         finishes_untold is =
             finishes programme options unread any_refused undecided t a b holds_untold is
 
--- Where repeats may keep the page.
 pub law_of_untold_repeats : LawOfUntoldRepeats
 law_of_untold_repeats programme transmission options unread any_refused undecided a b untold = (
   enough_repeats programme options unread any_refused undecided transmission a b untold,

@@ -1,6 +1,6 @@
--- For `law_of_broken_places`, `law_of_nothing_told` and `law_of_nothing_told_repeats`.
--- Place by place, `broken_places`; nothing is told of frames exactly where all that is asked holds,
--- `nothing_told`, and within 0 frames where they are good, `none_told`.
+-- For `law_of_broken_places`, `law_of_nothing_told` and `law_of_nothing_told_repeats`. Place by
+-- place, `broken_places`; frames have no events exactly if all requirements are met,
+-- `nothing_told`, and if `within` is 0 exactly if they are good, `none_told`.
 use Rattle.std.proofs.lemmas.Bool.Decides.{nat_tests}
 use Rattle.std.proofs.Common.{◌≡◌, ◌<◌, List, [], ◌∷◌, length, Option, None, refl, ◌↔◌, sym}
 use Rattle.std.proofs.Common.{subst, arith, false, IsFalse, IsTrue, map}
@@ -28,11 +28,11 @@ use Rattle.sub_laws.proofs.FrameByFrame.{AllOk}
 use Rattle.sub_laws.proofs.PrefixLemmas.{each_at, each_from}
 use Rattle.sub_laws.proofs.StandingLemmas.{stands_broken}
 
--- Whatever is told.
+-- Any fault.
 abbrev Any : CheckFault → Type 0
 Any f = Unit {0}
 
--- Part by part, where anything that is told begins with a refusal.
+-- Each place; and the events begin with a fault, if there are any.
 pub broken_places : (g : Criteria) (frames : Transmission) → g.within ≡ 0
     → (IsFalse g.any_refused
     → EachPacket IsPacket frames
@@ -50,14 +50,14 @@ broken_places g frames at_once refused = record {
   first = refused;
 }
 
--- Nothing is told exactly where all that is asked holds.
+-- There are no events exactly if all requirements are met.
 pub nothing_told : (g : Criteria) (frames : Transmission) → EachPacket IsPacket frames
     → (events g frames ≡ []) ↔ AllOk g frames
 nothing_told g frames whole =
     told_none (events g frames)
     (all_told g frames Any (λ f e. tt) (λ u e. tt) (λ n f x a b. tt) whole)
 
--- Where no refusal is told nothing is. For `check`.
+-- If there is no fault, there are no events. For `check`.
 pub none_refused : (g : Criteria) (frames : Transmission) → EachPacket IsPacket frames
     → first_told (events g frames) ≡ None
     → events g frames ≡ []
@@ -72,12 +72,11 @@ none_refused g frames whole none =
         let some : first_told (Told f ∷ xs) ≡ None = rw is at e in
         absurd (none-some f (sym some))
 
--- Whole packets have 42 bytes.
 pub sizes_of : (frames : Transmission) → EachPacket IsPacket frames
     → EachPacket (λ packet. length packet ≡ 42) frames
 sizes_of frames whole = grind (arith, nat_tests, each_from, each_at)
 
--- Nothing is told of frames exactly where they are good, where no repeat may keep.
+-- If no repeat may keep the page, frames have no events exactly if they are good.
 pub none_told : (programme : ProgrammeValue) (options : OptionsValue) (unread : Option Unread)
     (frames : Transmission)
     → options.keeps ≡ false

@@ -1,6 +1,5 @@
--- For `law_of_nothing_told_repeats`.
--- Nothing is told of a transmission exactly where it is good within the frames that are allowed,
--- where repeats may keep or may not: `none_told_repeats`.
+-- For `law_of_nothing_told_repeats`. A transmission has no events exactly if it is good by the
+-- options, whether repeats may keep the page or not: `none_told_repeats`.
 use Rattle.std.proofs.lemmas.Bool.Decides.{nat_tests}
 use Rattle.std.proofs.Common.{◌≡◌, ℕ, ◌+◌, ◌-◌, ◌<◌, ◌≤◌, ◌⊎◌, inl, inr, Bool, true, false, ◌&&◌}
 use Rattle.std.proofs.Common.{◌||◌, ◌==◌, nat_le, nat_lt, Option, Some, None, is_some, length}
@@ -37,11 +36,11 @@ use Rattle.sub_laws.proofs.FinishedLemmas.{of_finished, since_is, since_no}
 use Rattle.std.proofs.Common.{◌↔◌, []}
 use Rattle.sub_rules.proofs.FrameEvents.{events}
 
--- At each frame it is known what is due.
+-- At no frame is the due page unknown.
 abbrev never : ℕ → Bool
 never frame = false
 
--- ---- the law, one way
+-- ---- from the requirements to the rules
 
 module _ (programme : ProgrammeValue) (options : OptionsValue) (unread : Option Unread)
     (t : Transmission) (every : 0 < options.every)
@@ -53,7 +52,7 @@ module _ (programme : ProgrammeValue) (options : OptionsValue) (unread : Option 
   abbrev up : RiseTo t (length t)
   up = rising programme options unread t every h
 
-  -- What is asked of each end.
+  -- The requirements at each end.
   parts : (n f : ℕ) → IsEnd t n f
       → (broken_cell criteria t n f ≡ None)
       × (is_gap criteria t n f ≡ false)
@@ -119,7 +118,7 @@ module _ (programme : ProgrammeValue) (options : OptionsValue) (unread : Option 
               since_no programme options unread false never t up (length t) (end_frame t) end
               (none_is _ (pending_parts is))
 
-  -- The transmission is good within these frames.
+  -- The transmission is good by the options.
   pub Within-from_holds : EachPacket IsPacket t → GoodBy options.keeps programme t options
   Within-from_holds whole =
       let keeps = Rules-from_holds programme options unread t every h (sizes_of t whole) in
@@ -132,7 +131,7 @@ module _ (programme : ProgrammeValue) (options : OptionsValue) (unread : Option 
         ends = ends;
       }
 
--- ---- the law, the other way
+-- ---- from the rules to the requirements
 
 module _ (programme : ProgrammeValue) (options : OptionsValue) (t : Transmission)
     (is : IsProgramme programme.drawing programme.records)
@@ -146,7 +145,7 @@ module _ (programme : ProgrammeValue) (options : OptionsValue) (t : Transmission
   abbrev order : RiseTo t (length t)
   order = rises_each t good.rules.rising
 
-  -- Since a frame the ends up to an end are unfinished: a frame that is finished is before it.
+  -- A finished frame is before the frame since which the ends are unfinished.
   since_later : (n f r e : ℕ) → IsEnd t n f → unfinished_since asked t n f ≡ Some r
       → from ≤ e
       → e ≤ f
@@ -161,13 +160,13 @@ module _ (programme : ProgrammeValue) (options : OptionsValue) (t : Transmission
       (omega arith) finished)
       (omega arith)
 
-  -- They are not before the first frame.
+  -- That frame is not before the first frame.
   since_from : (n f r : ℕ) → IsEnd t n f → unfinished_since asked t n f ≡ Some r → from ≤ r
   since_from n f r end since =
       (since_some (unfinished_at asked t order) from (f - from) r
       (sym (since_is programme options None false never t order n f end) ∙ since)).low
 
-  -- So it is not too long.
+  -- So it is not too long ago,
   soon : (n f r : ℕ) → IsEnd t n f → unfinished_since asked t n f ≡ Some r
       → f < r + options.within
   soon n f r end since = elim (cases_lt f (r + options.within)) [
@@ -183,7 +182,7 @@ module _ (programme : ProgrammeValue) (options : OptionsValue) (t : Transmission
         absurd (omega arith)
   ]
 
-  -- And no subtitle is missed.
+  -- and no subtitle is missed.
   none_missed : (n f r : ℕ) → IsEnd t n f → unfinished_since asked t n f ≡ Some r
       → is_missed (asked.ending (f + 1)) from r ≡ false
   none_missed n f r end since = go (asked.ending (f + 1)) refl
@@ -222,7 +221,7 @@ module _ (programme : ProgrammeValue) (options : OptionsValue) (t : Transmission
           overdue r (soon n f r end since) (is_missed (asked.ending (f + 1)) from r)
           (none_missed n f r end since)
 
-  -- A frame is finished at once, where no frames are allowed.
+  -- If `within` is 0, each frame is finished.
   at_once : (n f : ℕ) → IsEnd t n f → options.within ≡ 0
       → is_unfinished asked t n f ≡ false
   at_once n f end none =
@@ -235,7 +234,7 @@ module _ (programme : ProgrammeValue) (options : OptionsValue) (t : Transmission
       of_finished programme options None false never t order n f end
       (subst (IsFinishedBy options.keeps programme t options) same finished)
 
-  -- What is asked of content and of the page's end.
+  -- The content and the end of the page are as required.
   still : (n f : ℕ) → IsEnd t n f
       → (broken_cell asked t n f ≡ None)
       × IsFalse (is_late asked t n f && is_incomplete asked t n)
@@ -285,7 +284,7 @@ module _ (programme : ProgrammeValue) (options : OptionsValue) (t : Transmission
           on (good.codes f row column (omega arith) (omega arith) named))) in
           (rw (late, is_zero) (undue_is asked t n f known ∙ undue), rw (late, is_zero) refl)
 
-  -- No end is waited for.
+  -- No page still has time at the last end.
   none_waited : is_pending asked t ≡ false
   unfolding is_pending
   none_waited =
@@ -298,14 +297,14 @@ module _ (programme : ProgrammeValue) (options : OptionsValue) (t : Transmission
       finished in
       rw none refl
 
-  -- All that is asked holds.
+  -- All requirements are met.
   pub holds-from_within : AllOk asked t
   holds-from_within = holds-from_rules programme options t good.rules still none_waited
 
 -- ---- the law
 
--- Nothing is told of frames exactly where they are good within some, where repeats may keep or may
--- not.
+-- Frames have no events exactly if they are good by the options, whether repeats may keep the page
+-- or not.
 pub none_told_repeats : (programme : ProgrammeValue) (options : OptionsValue)
     (unread : Option Unread) (frames : Transmission)
     → IsProgramme programme.drawing programme.records

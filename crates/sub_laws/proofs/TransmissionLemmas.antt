@@ -1,6 +1,6 @@
--- For the headline, what may be late, schedules, what is told and what may stay.
--- The packets of frames, split and joined: `packets_between-split`; and the frames of a range that
--- pass a test, as a transmission: `sent_at`, `sent_none`, `rises`.
+-- For the headline, delays, schedules, reports and trusted frames. The packets of frames, split and
+-- joined: `packets_between-split`; the frames of a range that pass a test, as a transmission:
+-- `sent_at`, `sent_none`, `rises`.
 use Rattle.std.proofs.Common.{◌≡◌, ℕ, zero, suc, ◌+◌, ◌<◌, ◌≤◌, inl, inr, Bool, true, false, ◌&&◌}
 use Rattle.std.proofs.Common.{nat_le, nat_lt, cond, List, [], ◌∷◌, ◌++◌, map, filter, flat_map}
 use Rattle.std.proofs.Common.{slice_index_or, All, refl, ap, ◌∙◌, arith, append_assoc, append-nil}
@@ -14,11 +14,11 @@ use Rattle.sub_rules.specs.Transmission.{packets_between}
 
 -- ---- the frames from one number up to another
 
--- What one frame gives.
+-- The packets of one frame.
 abbrev piece : ℕ → ℕ → SentFrame → List (List ℕ)
 piece a b s = cond (nat_le a s.frame && nat_lt s.frame b) s.packets []
 
--- No packet stands before a frame where all frames are that or later.
+-- There are no packets before a frame if all frames are that or later.
 pub packets_between-none :
     (frames : Transmission) (a b : ℕ)
     → AllByRecursion (λ (s : SentFrame). b ≤ s.frame) frames
@@ -28,19 +28,18 @@ packets_between-none (s ∷ frames) a b later =
     let rest = packets_between-none frames a b later.1 in
     grind (arith, nat_tests, and_right, le-ltb)
 
--- No packet stands from a frame up to one that is not after it.
+-- There are no packets from a frame up to one that is not after it.
 pub packets_between-void :
     (frames : Transmission) (a b : ℕ) → b ≤ a → packets_between frames a b ≡ []
 packets_between-void [] a b l = refl
 packets_between-void (s ∷ frames) a b l =
     grind (arith, nat_tests, piece a b s, packets_between-void frames a b l)
 
--- Frames that rise rise after the first.
 pub rising-tail :
     (s : SentFrame) (frames : Transmission) → IsRising (s ∷ frames) → IsRising frames
 rising-tail s frames h i j d l m = h (suc i) (suc j) d (omega arith) (omega arith)
 
--- Frames that rise are, after the first, later than it.
+-- After the first, rising frames are later than it.
 pub later_than :
     (s : SentFrame) (frames : Transmission) (b : ℕ)
     → IsRising (s ∷ frames)
@@ -53,7 +52,6 @@ later_than s frames b h l =
     h 0 (suc k) d (omega arith) (omega arith) in
     omega arith)
 
--- The packets from a to c are those from a to b, and then those from b to c.
 pub packets_between-split :
     (frames : Transmission) (a b c : ℕ)
     → IsRising frames
@@ -72,7 +70,7 @@ packets_between-split (s ∷ frames) a b c rising l m =
       later_than s frames b rising,
     )
 
--- What holds of each packet of a transmission holds of those between two frames.
+-- A property of each packet of a transmission holds for those between two frames.
 pub packets_between-each :
     (P : List ℕ → Type 0) (frames : Transmission) (a b : ℕ)
     → EachPacket P frames
@@ -95,17 +93,16 @@ module _ (made : ℕ → SentFrame) (numbered : (f : ℕ) → (made f).frame ≡
   abbrev pub frames : ℕ → ℕ → Transmission
   frames a n = map made (filter p (range_with_len a n))
 
-  -- Those from one on, of which it is known whether it passes.
+  -- Those from one on, given whether it passes.
   abbrev passing : Bool → ℕ → ℕ → Transmission
   passing t a n = map made
       (cond t (a ∷ filter p (range_with_len (a + 1) n)) (filter p (range_with_len (a + 1) n)))
 
-  -- Frames from one on are that or later.
+  -- They are that frame or later.
   later : (a n b : ℕ) → b ≤ a → AllByRecursion (λ (frame : SentFrame). b ≤ frame.frame) (frames a n)
   later a zero b l = tt
   later a (suc n) b l = grind (arith, nat_tests, later (a + 1) n b (omega arith))
 
-  -- The frames rise.
   pub rises : (a n : ℕ) → IsRising (frames a n)
   rises a zero = λ i j d l m. absurd (omega arith)
   rises a (suc n) = go (p a) (rises (a + 1) n)
@@ -113,13 +110,13 @@ module _ (made : ℕ → SentFrame) (numbered : (f : ℕ) → (made f).frame ≡
       go : (t : Bool) → IsRising (frames (a + 1) n) → IsRising (passing t a n)
       go t ih = grind (arith, nat_tests, All-from_recursion, later)
 
-  -- Where nothing is sent between two frames.
+  -- If nothing is sent between two frames.
   pub sent_none : (from end a n : ℕ) → ((j : ℕ) → from ≤ j → j < end → p j ≡ false)
       → packets_between (frames a n) from end ≡ []
   sent_none from end a zero none = refl
   sent_none from end a (suc n) none = grind (arith, nat_tests, sent_none from end (a + 1) n none)
 
-  -- What is sent in one frame.
+  -- The packets of one frame.
   pub sent_at : (g a n : ℕ) → p g ≡ true → a ≤ g → g < a + n
       → packets_between (frames a n) g (g + 1) ≡ (made g).packets
   sent_at g a zero h low high = absurd (omega arith)
@@ -135,7 +132,7 @@ module _ (made : ℕ → SentFrame) (numbered : (f : ℕ) → (made f).frame ≡
           → packets_between (passing t a n) g (g + 1) ≡ (made g).packets
       at t h e = grind (arith, nat_tests, later, packets_between-none, append-nil)
 
-  -- Between two frames stand the packets of some of the frames.
+  -- The packets between two frames are those of some of the frames.
   pub sent_some : (from end : ℕ) (fs : List ℕ) → (gs : List ℕ)
       × (packets_between (map made fs) from end ≡ flat_map (λ f. (made f).packets) gs)
   sent_some from end [] = ([], refl)
@@ -149,17 +146,17 @@ module _ (made : ℕ → SentFrame) (numbered : (f : ℕ) → (made f).frame ≡
       go true ih = (f ∷ ih.0, ap (λ ps. (made f).packets ++ ps) ih.1)
       go false ih = ih
 
-  -- A fact of the packets of each frame.
+  -- A property of the packets of each frame.
   pub each_frame : (P : List ℕ → Type 0) (fs : List ℕ) → ((f : ℕ) → All P (made f).packets)
       → EachPacket P (map made fs)
   each_frame P fs h = All-map (λ (frame : SentFrame). All P frame.packets) made fs
       (λ k d l. h (slice_index_or fs k d))
 
-  -- The first frame of a range that passes.
+  -- The first frame of a range passes.
   pub starts_with : (a n : ℕ) → p a ≡ true → frames a (suc n) ≡ made a ∷ frames (a + 1) n
   starts_with a n h = grind arith
 
--- The last frame of a list that got one more.
+-- The last frame of a list with one more frame.
 pub last_push : (frames : Transmission) (frame : SentFrame)
     → last_frame (frames ++ frame ∷ []) ≡ frame.frame
 last_push [] frame = refl

@@ -1,6 +1,5 @@
--- For what is told and what may stay.
--- Since which frame the ends are unfinished: of tests one after another, `Since`; and where frames
--- rise, of their ends, `since_end`.
+-- For reports and trusted frames. Since which frame the ends are unfinished: for a sequence of
+-- tests, `Since`; and for the ends of rising frames, `since_end`.
 use Rattle.std.proofs.lemmas.Bool.Decides.{nat_tests}
 use Rattle.std.proofs.Common.{◌≡◌, ℕ, zero, suc, ◌+◌, ◌-◌, ◌<◌, ◌≤◌, ◌⊎◌, inl, inr, Bool, true}
 use Rattle.std.proofs.Common.{false, ◌&&◌, ◌||◌, Option, Some, None, is_some, length, refl, sym, ap}
@@ -18,22 +17,22 @@ use Rattle.sub_laws.specs.CleanStretch.{IsEnd}
 use Rattle.sub_laws.proofs.PrefixLemmas.{RiseTo, end_is_on_air, rises_to}
 use Rattle.sub_laws.proofs.RisingEndLemmas.{latest_at}
 
--- ---- tests one after another
+-- ---- a sequence of tests
 
 module _ (un : ℕ → Bool) (first : ℕ) where
-  -- The frame of the earliest of the unfinished ones that follow one another up to first + k.
+  -- The first frame of the unfinished run that ends at first + k.
   abbrev pub since_at : ℕ → Option ℕ
   since_at zero = unfinished_from None (un first) first
   since_at (suc k) = unfinished_from (since_at k) (un (first + suc k)) (first + suc k)
 
-  -- That is frame r: all from it on are unfinished, and the one before it is not, if there is one.
+  -- That is frame r: all from it on are unfinished, and the one before it, if any, is not.
   pub record Since (k r : ℕ) : Type 0 where
     pub low : first ≤ r
     pub high : r ≤ first + k
     pub all : (e : ℕ) → r ≤ e → e ≤ first + k → un e ≡ true
     pub begins : (r ≡ first) ⊎ ((first < r) × (un (r - 1) ≡ false))
 
-  -- There is none exactly where the last one is finished.
+  -- There is none exactly if the last one is finished.
   pub since_none : (k : ℕ) → since_at k ≡ None → un (first + k) ≡ false
   since_none k h1 = grind (arith, nat_tests, none-some)
 
@@ -83,7 +82,7 @@ module _ (un : ℕ → Bool) (first : ℕ) where
             begins = earlier.begins;
           }
 
-  -- One of those from a on is finished, where the unfinished ones do not begin so early.
+  -- One of those from a on is finished, unless the unfinished run begins that early.
   pub finished_from : (a k : ℕ) → first ≤ a → a ≤ first + k
       → ((r : ℕ) → since_at k ≡ Some r → r ≤ a → ⊥)
       → (e : ℕ) × (a ≤ e) × (e ≤ first + k) × (un e ≡ false)
@@ -103,7 +102,7 @@ module _ (un : ℕ → Bool) (first : ℕ) where
             ]
           ]
 
-  -- Where one of them is finished, they begin after it.
+  -- If one of them is finished, the run begins after it.
   pub since_after : (k r e : ℕ) → since_at k ≡ Some r → un e ≡ false → e ≤ first + k → e < r
   since_after k r e is finished high = elim (cases_lt e r) [
     | inl after ↦ after
@@ -111,10 +110,10 @@ module _ (un : ℕ → Bool) (first : ℕ) where
         absurd (true≢false (sym ((since_some k r is).all e not_after high) ∙ finished))
   ]
 
--- ---- the ends of frames that rise
+-- ---- the ends of rising frames
 
 module _ (g : Criteria) (t : Transmission) (rises : RiseTo t (length t)) where
-  -- The end of frame f is unfinished, by what is on air up to it.
+  -- The end of frame f is unfinished, given the packets on air up to it.
   abbrev pub unfinished_at : ℕ → Bool
   unfinished_at f =
       is_some
@@ -127,7 +126,8 @@ module _ (g : Criteria) (t : Transmission) (rises : RiseTo t (length t)) where
   unfolding is_incomplete
   unfinished_is n f end = rw (end_is_on_air t rises n f end) refl
 
-  -- The first of the unfinished ends up to that of a frame without packets, by the one before.
+  -- The first frame of the unfinished run at the end of a frame without packets, from that of the
+  -- frame before.
   since_gap : (n m : ℕ)
       → unfinished_since g t n (latest t n + suc m)
       ≡ unfinished_from (unfinished_since g t n (latest t n + m))
@@ -135,7 +135,7 @@ module _ (g : Criteria) (t : Transmission) (rises : RiseTo t (length t)) where
   unfolding unfinished_since since_in_gap
   since_gap n m = grind (arith, nat_tests)
 
-  -- That up to the end of a frame of the list.
+  -- The same for a frame of the list.
   since_own : (i : ℕ)
       → since_frames g t (suc i)
       ≡ unfinished_from (unfinished_since g t i (latest t i + gap_length t i))
@@ -236,7 +236,7 @@ module _ (g : Criteria) (t : Transmission) (rises : RiseTo t (length t)) where
   end_first (suc (suc i)) f (some, l, inr (there, high, low)) first =
       let after = low 0 (omega arith) in absurd (omega arith)
 
-  -- At each end it is the first of the unfinished frames up to there.
+  -- At each end it is the first frame of the unfinished run.
   pub since_end : (k n f : ℕ) → IsEnd t n f → f ≡ frame_at t 0 + k
       → unfinished_since g t n f ≡ since_at unfinished_at (frame_at t 0) k
   since_end zero n f end at =

@@ -1,7 +1,6 @@
--- For `law_of_all_trusted` and `law_of_nothing_told`.
--- Nothing is told of pieces exactly where each is sent and nothing is told of what they send,
--- `pieces_untold`; and so it is of refusals, `pieces_unrefused`. Of steps: `first_none`,
--- `each_sent`.
+-- For `law_of_all_trusted` and `law_of_nothing_told`. PES packets have no events exactly if each is
+-- sent and their frames have none, `pieces_untold`; the same for faults, `pieces_unrefused`. For
+-- steps: `first_none`, `each_sent`.
 use Rattle.std.proofs.lemmas.Bool.Decides.{nat_tests}
 use Rattle.std.proofs.Common.{◌≡◌, ◌↔◌, ℕ, suc, Bool, true, false, not, ◌||◌, List, [], ◌∷◌, ◌++◌}
 use Rattle.std.proofs.Common.{length}
@@ -32,7 +31,7 @@ use Rattle.sub_rules.specs.Trusted.{CheckStep, at_pes, doubted_by, is_said, run_
 use Rattle.sub_rules.specs.Trusted.{told_after, told_at, trusted_up_to}
 use Rattle.sub_rules.proofs.FrameEvents.{events}
 
--- ---- what is told first
+-- ---- the first fault
 
 both_none : (a b : Option CheckFault) → (option_or a b ≡ None) ↔ ((a ≡ None) × (b ≡ None))
 both_none a b = grind (arith, nat_tests)
@@ -41,7 +40,7 @@ two_none : (xs ys : List Event)
     → (first_told (xs ++ ys) ≡ None) ↔ ((first_told xs ≡ None) × (first_told ys ≡ None))
 two_none xs ys = grind (arith, nat_tests, first_of_two, both_none)
 
--- No refusal is said of a PES packet exactly where none is said.
+-- Naming a PES packet adds and removes no fault.
 none_said : (pes : ℕ) (ms : List CheckStep)
     → (first_told (said_by pes ms) ≡ None) ↔ (first_told (said ms) ≡ None)
 unfolding at_pes
@@ -51,12 +50,12 @@ none_said pes (Says e ∷ ms) = none_said pes ms
 none_said pes (AtPes next ∷ ms) = none_said next ms
 none_said pes (m ∷ ms) = none_said pes ms
 
--- No refusal is told with steps exactly where none is among what they say.
+-- The steps report no fault exactly if there is none among their events.
 pub first_none : (t ms : List CheckStep)
     → (first_told (told_after t ms) ≡ None) ↔ (first_told (said ms) ≡ None)
 first_none t ms = grind (arith, nat_tests, steps_first, none_said)
 
--- ---- where nothing is told
+-- ---- if there are no events
 
 append_empty : (xs ys : List Event) → xs ++ ys ≡ [] → (xs ≡ []) × (ys ≡ [])
 append_empty [] ys e = (refl, e)
@@ -66,7 +65,7 @@ some_append : (xs ys : List Event) (e : Event) → xs ++ e ∷ [] ++ ys ≡ [] �
 some_append [] ys e none = cc
 some_append (x ∷ xs) ys e none = cc
 
--- Then nothing is said.
+-- Then the steps have none.
 said_none : (t ms : List CheckStep) → told_after t ms ≡ [] → said ms ≡ []
 unfolding told_after told_at
 said_none t [] e = refl
@@ -80,7 +79,7 @@ abbrev is_close : CheckStep → Bool
 is_close (Closes are_left more) = true
 is_close m = false
 
--- Where nothing is said before the file ends, nothing is told.
+-- Without events before the file ends, nothing is reported.
 quiet_so_far : (t ms : List CheckStep) → list_any is_said t ≡ false
     → list_any is_close ms ≡ false
     → said ms ≡ []
@@ -91,7 +90,7 @@ quiet_so_far t (Says x ∷ ms) told still none = cc
 quiet_so_far t (Closes are_left more ∷ ms) told still none = cc
 quiet_so_far t (m ∷ ms) told still none = quiet_so_far (m ∷ t) ms told still none
 
--- Where it is not kept that anything was told before the file ends, nothing was.
+-- If the state before the end of the file has no event, there was none.
 pub silent : (t ms : List CheckStep) → list_any is_close ms ≡ false
     → list_any is_said (past_after t ms) ≡ false
     → (list_any is_said t ≡ false) × (told_after t ms ≡ [])
@@ -102,8 +101,7 @@ silent t (Says x ∷ ms) still none =
 silent t (Closes are_left more ∷ ms) still none = cc
 silent t (m ∷ ms) still none = silent (m ∷ t) ms still none
 
--- Nor is anything told where nothing is said as it ends, and nothing is refused of the subtitle
--- file.
+-- Nothing is reported at the end either, if there are no events there and no subtitle was refused.
 closed_quiet : (t : List CheckStep) (pes : ℕ) (are_left any_refused : Bool) (es : List Event)
     → any_refused ≡ false
     → es ≡ []
@@ -114,10 +112,10 @@ unfolding told_after told_at run_of
 closed_quiet t pes are_left any_refused [] alone none told = rw (alone, told) refl
 closed_quiet t pes are_left any_refused (e ∷ es) alone none told = cc
 
--- ---- all that is told
+-- ---- all events
 
 module _ (g : Criteria) where
-  -- The file has not ended before its end.
+  -- The file does not end before its end.
   pub before_open : (pieces : List Piece)
       → Passes is_close
       (steps_of_each g [] 0 pieces ++ steps_of_waiting g (sent_by_pieces g pieces))
@@ -143,7 +141,7 @@ module _ (g : Criteria) where
       each_closes (Sent s ∷ pieces) pes = each_closes pieces (suc pes)
       each_closes (Passed u ∷ pieces) pes = (refl, each_closes pieces (suc pes))
 
-  -- What is said before the file ends, and then.
+  -- The events before the file ends, and those at its end.
   said_parts : (pieces : List Piece)
       → said (steps_of_pieces g pieces)
       ≡ said (steps_of_each g [] 0 pieces ++ steps_of_waiting g (sent_by_pieces g pieces))
@@ -172,7 +170,7 @@ module _ (g : Criteria) where
           (closed_quiet (past_after [] before) (length pieces) _ g.any_refused closing alone parts.1
           so_far.1)
 
--- Up to which piece a run goes is told only where something else is.
+-- The end of a run of skipped PES packets is reported only with other events.
 announced_one : (e : Event) → announced no_run e ≡ e ∷ []
 unfolding announced joins
 announced_one (Told f) = refl
@@ -185,7 +183,7 @@ announced_empty [] = grind (arith, nat_tests)
 announced_empty (e ∷ es) = grind (arith, nat_tests, append_empty, announced_one)
 
 module _ (g : Criteria) where
-  -- A piece that is passed over is told.
+  -- A skipped PES packet is reported.
   pub each_sent : (sent : Transmission) (pes : ℕ) (pieces : List Piece)
       → first_told (said (steps_of_each g sent pes pieces)) ≡ None
       → length (frames_of pieces) ≡ length pieces
@@ -203,8 +201,8 @@ module _ (g : Criteria) where
   said_sent pieces none =
       grind (arith, nat_tests, two_none, said, said_parts, said-append, each_sent)
 
-  -- Nothing is told of pieces exactly where each is sent and nothing is told of what they send,
-  -- where nothing is refused of the subtitle file.
+  -- PES packets have no events exactly if each is sent and their frames have none, if no subtitle
+  -- was refused.
   pub pieces_untold : (pieces : List Piece) → g.any_refused ≡ false
       → (all_of_pieces g pieces ≡ [])
       ↔ ((length (frames_of pieces) ≡ length pieces) × (events g (sent_by_pieces g pieces) ≡ []))
@@ -212,7 +210,7 @@ module _ (g : Criteria) where
   pieces_untold pieces alone =
       grind (arith, nat_tests, told_none, announced_empty, said_sent, pieces_said)
 
-  -- No refusal is told of them exactly where each is sent and none is told of what they send.
+  -- They have no fault exactly if each is sent and their frames have none.
   pub pieces_unrefused : (pieces : List Piece)
       → (first_told (all_of_pieces g pieces) ≡ None)
       ↔ ((length (frames_of pieces) ≡ length pieces)
