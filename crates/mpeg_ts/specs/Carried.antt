@@ -1,5 +1,5 @@
--- What the packets of a PID of a recording carry, as PES packets one after another: as a file of
--- PES packets has them, with a mark where something is missing (own).
+-- The PES packets that the packets of a PID of a recording carry, in the form of a PES file, with a
+-- gap marker where data is missing (own).
 use Rattle.std.specs.Prelude.{ℕ, ◌&&◌, Bool, true, false, List, [], ◌∷◌, ◌++◌, replicate}
 use Rattle.std.specs.Int.{bytes_high_first}
 use Rattle.ttx_pes.specs.PesPacket.{packet_start, packet_length}
@@ -7,8 +7,8 @@ use Rattle.mpeg_ts.specs.GoodPackets.{good_packets}
 use Rattle.mpeg_ts.specs.PacketsInStep.{items_of}
 use Rattle.mpeg_ts.specs.Parts.{PartOutcome, Pes, Gap, Other, outcomes_of}
 
--- The mark, 184 bytes: the start and the length of a PES packet, and FF in all others, so that no
--- PES packet with Teletext is the same.
+-- The gap marker, 184 bytes: the start and the length of a PES packet, and FF in all others, so
+-- that it differs from every PES packet with Teletext.
 --
 --   0..3    packet_start_code_prefix, stream_id   00 00 01 BD
 --   4..5    PES_packet_length                     00 B2
@@ -16,14 +16,14 @@ use Rattle.mpeg_ts.specs.Parts.{PartOutcome, Pes, Gap, Other, outcomes_of}
 unfoldable pub mark : List ℕ
 mark = packet_start ++ (bytes_high_first 2 (packet_length 1) ++ replicate 178 0xFF)
 
--- A mark, if there is one.
+-- A gap marker, if there is one.
 abbrev pub mark_where : Bool → List ℕ
 mark_where true = mark
 mark_where false = []
 
--- The bytes that outcomes give, where `given` says whether a PES packet came before them, and `gap`
--- whether there was a gap since. One mark stands for all gaps between two PES packets, and behind
--- the last; none stands before the first, since a recording begins anywhere.
+-- The bytes of outcomes. `given`: a PES packet came before them; `gap`: there was a gap since then.
+-- One marker stands for all gaps between two PES packets, or after the last. There is none before
+-- the first, since a recording may begin anywhere.
 unfoldable pub with_marks : Bool → Bool → List PartOutcome → List ℕ
 with_marks given gap [] = mark_where (given && gap)
 with_marks given gap (Gap ∷ more) = with_marks given true more
@@ -31,7 +31,7 @@ with_marks given gap (Pes bytes ∷ more) =
     mark_where (given && gap) ++ (bytes ++ with_marks true false more)
 with_marks given gap (Other bytes ∷ more) = mark_where (given && gap) ++ bytes
 
--- What the packets of the PID carry in a recording whose packets have that distance.
+-- The bytes that the packets of the PID carry in a recording with this distance of packets.
 unfoldable pub carried : ℕ → ℕ → List ℕ → List ℕ
 carried number distance recording =
     with_marks false false

@@ -1,31 +1,32 @@
--- The good packets of a PID, each with what links it to the one before: those that are not wrong,
--- carry a payload, and do not repeat the one before them (ISO/IEC 13818-1, continuity_counter: a
--- packet may be sent twice; discontinuity_indicator: a jump of the counter is announced).
+-- The good packets of a PID, each with its link to the one before. Good packets are usable, carry a
+-- payload, and do not repeat the packet before (ISO/IEC 13818-1, continuity_counter: a packet may
+-- be sent twice; discontinuity_indicator: a jump of the counter is announced).
 use Rattle.std.specs.Prelude.{ℕ, ◌+◌, ◌*◌, ◌%◌, ◌==◌, ◌&&◌, ◌||◌, not, Bool, true, false}
 use Rattle.std.specs.Prelude.{if◌then◌else◌, List, [], ◌∷◌, Option, Some, None, bytes_eq}
 use Rattle.mpeg_ts.specs.PacketsInStep.{Item, Packet, Skipped}
 use Rattle.mpeg_ts.specs.TransportPacket.{pid, is_wrong, has_payload, announces_jump, counter}
 use Rattle.mpeg_ts.specs.TransportPacket.{packet_header, payload}
 
--- ---- what concerns a PID
+-- ---- events of a PID
 
--- A packet of the PID that is not wrong; one that is; a hole, where so many bytes were skipped in a
--- row that packets of the PID may have stood there unseen.
+-- A usable packet of the PID; an unusable one; or a loss: so many bytes were skipped in a row that
+-- packets of the PID may be missing.
 pub data Note : Type 0 where
   Valid : List ℕ → Note
   Wrong : Note
   Hole : Note
 
--- The bytes of a hole: 15 packets, after which the counter may be again what it has to be.
+-- The number of skipped bytes that counts as a loss: 15 packets, after which the counter may have
+-- its expected value again.
 abbrev pub hole_size : ℕ → ℕ
 hole_size distance = 15 * distance
 
--- What a packet of the PID is.
+-- Whether a packet of the PID is usable.
 abbrev pub note_of : List ℕ → Note
 note_of p = if is_wrong p then Wrong else Valid p
 
--- What concerns the PID among items, in order, where `run` bytes were skipped in a row before them.
--- A hole is noted at its last byte.
+-- The events of the PID among items, in order, after `run` bytes that were skipped in a row. A loss
+-- occurs at its last byte.
 unfoldable pub notes : ℕ → ℕ → ℕ → List Item → List Note
 notes distance number run [] = []
 notes distance number run (Packet p ∷ items) =
@@ -37,21 +38,21 @@ notes distance number run (Skipped ∷ items) =
 
 -- ---- good packets
 
--- What links a good packet to the one before it: it is the first; it follows that one; a jump of
--- the counter was announced between them, and nothing is known to be lost; something is lost.
+-- The link of a good packet to the one before: it is the first; it follows that one; a jump of the
+-- counter was announced between them, and no data is known to be lost; or data was lost.
 pub data Link : Type 0 where
   First : Link
   Follows : Link
   Seam : Link
   Break : Link
 
--- A good packet.
+-- A good packet and its link.
 pub record GoodPacket : Type 0 where
   pub link : Link
   pub packet : List ℕ
 
--- What came since a good packet (or since the beginning, where there was none yet): whether its
--- repeat did, whether a jump was announced, whether there was a wrong packet, and a hole.
+-- The last good packet (`None` if there was none yet), and what came since then: its repeat, an
+-- announced jump, an unusable packet, a loss.
 pub record Since : Type 0 where
   pub good : Option (List ℕ)
   pub has_repeat : Bool
@@ -59,7 +60,7 @@ pub record Since : Type 0 where
   pub has_wrong : Bool
   pub has_hole : Bool
 
--- Nothing yet.
+-- Nothing came since this good packet.
 abbrev pub nothing_since : Option (List ℕ) → Since
 nothing_since good = record {
   good = good;
@@ -73,23 +74,23 @@ nothing_since good = record {
 abbrev pub is_same : List ℕ → List ℕ → Bool
 is_same p q = bytes_eq (packet_header p) (packet_header q) && bytes_eq (payload p) (payload q)
 
--- A packet with a payload is the repeat of a good packet: the same, the first such since, and with
--- no jump announced between them, nor by it but where the good one announced it too.
+-- A packet with a payload repeats a good packet: it is the same, and the first such packet since.
+-- No jump was announced between them, and it announces none unless the good one did.
 abbrev pub is_repeat_of : Option (List ℕ) → Since → List ℕ → Bool
 is_repeat_of None since p = false
 is_repeat_of (Some q) since p =
     is_same q p && not since.has_repeat && not since.has_jump
     && (not (announces_jump p) || announces_jump q)
 
--- It is that of the good packet before it.
+-- It repeats the last good packet.
 abbrev pub is_repeat : Since → List ℕ → Bool
 is_repeat since p = is_repeat_of since.good since p
 
--- The counter of the second packet is the next after that of the first.
+-- The counter of q is that of p plus one.
 abbrev pub counts_on : List ℕ → List ℕ → Bool
 counts_on p q = counter q == (counter p + 1) % 0x10
 
--- What links a good packet to one before it, if there is one.
+-- The link of a good packet to the one before, if there is one.
 abbrev pub link_from : Option (List ℕ) → Since → List ℕ → Link
 link_from None since p = First
 link_from (Some q) since p =
@@ -98,20 +99,20 @@ link_from (Some q) since p =
     else if counts_on q p then Follows
     else Break
 
--- A good packet after what came since the one before.
+-- A good packet with its link.
 abbrev pub linked : Since → List ℕ → GoodPacket
 linked since p = record { link = link_from since.good since p; packet = p }
 
--- Good packets in order; and whether a wrong packet of the PID stands behind the last of them.
+-- Good packets in order; and whether an unusable packet of the PID follows the last of them.
 pub record GoodPackets : Type 0 where
   pub packets : List GoodPacket
   pub wrong_behind : Bool
 
--- A good packet before others.
+-- Puts a good packet in front.
 abbrev pub with_good : GoodPacket → GoodPackets → GoodPackets
 with_good g more = record { packets = g ∷ more.packets; wrong_behind = more.wrong_behind }
 
--- The good packets among notes, after what came since the last.
+-- The good packets among events, after those since the last good one.
 unfoldable pub good_after : Since → List Note → GoodPackets
 good_after since [] = record { packets = []; wrong_behind = since.has_wrong }
 good_after since (Wrong ∷ notes) = good_after (record since { has_wrong = true }) notes
@@ -122,7 +123,7 @@ good_after since (Valid p ∷ notes) =
     else if is_repeat since p then good_after (record since { has_repeat = true }) notes
     else with_good (linked since p) (good_after (nothing_since (Some p)) notes)
 
--- The good packets of the PID among items, which begin a recording.
+-- The good packets of the PID in a recording with these items.
 abbrev pub good_packets : ℕ → ℕ → List Item → GoodPackets
 good_packets distance number items =
     good_after (nothing_since None) (notes distance number 0 items)

@@ -1,5 +1,5 @@
--- How the PES packets of a PID are put together, one note after another: what is kept, and what is
--- given. What that is in the standard's terms says `Carried`.
+-- How the PES packets of a PID are reassembled, one event at a time. `Carried` defines the result
+-- in the standard's terms.
 use Rattle.std.specs.Prelude.{◌≡◌, ℕ, ◌+◌, ◌≤◌, ◌%◌, ◌==◌, ◌&&◌, ◌||◌, not, nat_lt}
 use Rattle.std.specs.Prelude.{nat_le, Bool, true, false}
 use Rattle.std.specs.Prelude.{if◌then◌else◌, List, [], ◌∷◌, ◌++◌, length, take, bytes_eq}
@@ -24,11 +24,10 @@ use Rattle.mpeg_ts.specs.declared.waiting.Next.TheVariants as next
 use Rattle.mpeg_ts.specs.declared.waiting.Waiting.{Waiting}
 use Rattle.mpeg_ts.specs.declared.waiting.Waiting.TheVariants as waiting
 
--- What is kept: of the last good packet bytes 0 to 3, whether it announced a jump, and its payload,
--- which is empty where there is none yet; whether its repeat came since, a jump was announced, and
--- something is lost; how far the part has come that it belongs to; the bytes of that part, or the
--- last payload alone where no more of the part is given; what was given before; and the bytes that
--- are ready to be given.
+-- The state: of the last good packet bytes 0 to 3, whether it announced a jump, and its payload
+-- (empty if there was none); whether since then its repeat came, a jump was announced, or data was
+-- lost; the progress of its part; the bytes of the part, or only the last payload if no more of the
+-- part will be returned; what was returned last; and the bytes that are ready.
 pub record JoiningValue : Type 0 where
   pub header : List ℕ
   pub announced : Bool
@@ -41,7 +40,7 @@ pub record JoiningValue : Type 0 where
   pub given : Given
   pub pending : List ℕ
 
--- Before the first note.
+-- The state before the first event.
 abbrev pub nothing_joined : JoiningValue
 nothing_joined = record {
   header = 0 ∷ 0 ∷ 0 ∷ 0 ∷ [];
@@ -56,17 +55,17 @@ nothing_joined = record {
   pending = [];
 }
 
--- Nothing comes any more but what is ready.
+-- Nothing follows the bytes that are ready.
 abbrev pub has_ended : PartState → Bool
 has_ended Ended = true
 has_ended _ = false
 
--- The PES packet of a part was given.
+-- The PES packet of the part was returned.
 abbrev pub is_complete : PartState → Bool
 is_complete Complete = true
 is_complete _ = false
 
--- A PES packet was given last.
+-- A PES packet was returned last.
 abbrev pub gave_packet : Given → Bool
 gave_packet given.Packet = true
 gave_packet _ = false
@@ -77,11 +76,11 @@ repeats v p =
     not v.has_repeat && (not v.has_jump && ((not (announces_jump p) || v.announced)
     && (bytes_eq v.header (packet_header p) && bytes_eq v.last (payload p))))
 
--- The counter of a packet with those bytes 0 to 3 goes on to the one of a packet.
+-- The counter of p is one more than the counter in these bytes 0 to 3.
 abbrev pub counter_goes_on : List ℕ → List ℕ → Bool
 counter_goes_on head p = counter p == (slice_index head 3 % 0x10 + 1) % 0x10
 
--- What links a good packet to the last one.
+-- The link of a good packet to the last one.
 abbrev pub link_after : JoiningValue → List ℕ → List ℕ → Link
 link_after v [] p = First
 link_after v (x ∷ xs) p =
@@ -90,7 +89,7 @@ link_after v (x ∷ xs) p =
     else if counter_goes_on v.header p then Follows
     else Break
 
--- The packet is the last good one, but for its payload.
+-- Stores p as the last good packet, without its payload.
 abbrev pub remembering : JoiningValue → List ℕ → JoiningValue
 remembering v p = record v {
   header = packet_header p;
@@ -100,30 +99,29 @@ remembering v p = record v {
   has_break = false;
 }
 
--- What was given after a gap: one mark for each gap behind a PES packet.
+-- What was returned last, after a possible gap. Only the first gap after a PES packet has a marker.
 abbrev pub given_after : Bool → Given → Given
 given_after gap g = if gap && gave_packet g then given.Mark else g
 
--- A mark is ready where there is a gap behind a PES packet, and nothing else.
+-- Only a gap marker is ready, if there is a gap directly after a PES packet.
 abbrev pub with_gap : Bool → JoiningValue → JoiningValue
 with_gap gap v = record v {
   given = given_after gap v.given;
   pending = mark_where (gap && gave_packet v.given);
 }
 
--- What so many bytes hold of a PES packet of that size.
+-- The contents of `count` bytes, given the size of their PES packet.
 abbrev pub found_by_size : ℕ → Result ℕ PesFault → Found
 found_by_size count (Ok size) = if nat_le size count then found.Whole size else found.Unfinished
 found_by_size count (Err f) = found.Other f
 
--- What the bytes of a part hold: the PES packet that they begin with, not all of it yet, or another
--- start or length.
+-- The contents of a part's bytes: a PES packet, an incomplete one, or a wrong start code or length.
 unfoldable pub found_in : List ℕ → Found
 found_in bytes =
     if nat_lt (length bytes) 6 then found.Unfinished
     else found_by_size (length bytes) (size_at (take 6 bytes))
 
--- An open part by what its bytes hold.
+-- Updates an open part from the contents of its bytes.
 abbrev pub settled_as : Found → JoiningValue → JoiningValue
 settled_as found.Unfinished v = v
 settled_as (found.Other f) v = record v { part = Ended; pending = v.pending ++ v.bytes }
@@ -133,73 +131,72 @@ settled_as (found.Whole size) v = record v {
   pending = v.pending ++ (take size v.bytes ++ mark_where (nat_lt size (length v.bytes)));
 }
 
--- A part is open with the bytes that it has and these: what that gives.
+-- Appends bytes to an open part.
 abbrev pub grown : Bool → JoiningValue → List ℕ → JoiningValue
 grown gap v more =
     settled_as (found_in (v.bytes ++ more))
     (with_gap gap (record v { part = Open; bytes = v.bytes ++ more; last = more }))
 
--- Bytes of which nothing is given.
+-- Keeps bytes that yield nothing.
 abbrev pub holding : Bool → JoiningValue → List ℕ → JoiningValue
 holding gap v more = with_gap gap (record v { bytes = more; last = more })
 
--- A part begins with that payload, and with a gap before it where one stands there or the part
--- before it is not whole.
+-- Starts a part with this payload, after a gap if data was lost or the part before is incomplete.
 abbrev pub begun : Bool → Bool → JoiningValue → List ℕ → JoiningValue
 begun breaks true v more =
     grown (breaks || not (is_complete v.part)) (record v { bytes = [] }) more
 begun breaks false v more =
     holding (breaks || not (is_complete v.part)) (record v { part = Headless }) more
 
--- The part goes on with that payload. Behind its PES packet that is a gap.
+-- Continues the part with this payload. After a complete PES packet, this is a gap.
 abbrev pub gone_on : PartState → JoiningValue → List ℕ → JoiningValue
 gone_on Open v more = grown false v more
 gone_on Complete v more = holding true v more
 gone_on _ v more = holding false v more
 
--- A good packet came, with that link to the last one.
+-- Takes a good packet with this link to the last one.
 abbrev pub after_good : Link → JoiningValue → List ℕ → JoiningValue
 after_good link v p =
     if begins p || is_unlinked link then
     begun (is_break link) (begins p) (remembering v p) (payload p)
     else gone_on v.part (remembering v p) (payload p)
 
--- A packet of the PID came that is not wrong.
+-- Takes a usable packet of the PID.
 unfoldable pub after_valid : JoiningValue → List ℕ → JoiningValue
 after_valid v p =
     if not (has_payload p) then record v { has_jump = v.has_jump || announces_jump p }
     else if repeats v p then record v { has_repeat = true }
     else after_good (link_after v v.last p) v p
 
--- What is kept after a note, where nothing is ready before it.
+-- The state after an event, if nothing was ready before.
 abbrev pub after_note : JoiningValue → Note → JoiningValue
 after_note v (Valid p) = after_valid v p
 after_note v Wrong = with_gap true (record v { has_break = true })
 after_note v Hole = record v { has_break = true }
 
--- All that was ready has been given.
+-- Everything that was ready was returned.
 abbrev pub handed_over : JoiningValue → JoiningValue
 handed_over v = record v { pending = [] }
 
--- The same, and no byte is kept of it.
+-- The same, and all bytes are cleared.
 abbrev pub emptied : JoiningValue → JoiningValue
 emptied v = record v { last = []; bytes = []; pending = [] }
 
--- What notes give, where all that was ready has been given.
+-- The bytes that further events yield, after everything that was ready was returned.
 unfoldable pub given_later : JoiningValue → List Note → List ℕ
 given_later v [] = []
 given_later v (note ∷ more) =
     if has_ended v.part then []
     else (after_note v note).pending ++ given_later (handed_over (after_note v note)) more
 
--- ---- how it is kept
+-- ---- representation in the program
 
--- A mark, if there is one, waits.
+-- A gap marker, if there is one, is ready.
 abbrev pub mark_alone : Bool → Waiting
 mark_alone true = waiting.Mark
 mark_alone false = waiting.Nothing
 
--- The bytes that wait to be given.
+-- The bytes that are ready.
 abbrev pub waiting_bytes : Waiting → List ℕ → List ℕ
 waiting_bytes waiting.Nothing bytes = []
 waiting_bytes waiting.Mark bytes = mark
@@ -207,11 +204,11 @@ waiting_bytes (waiting.Packet mark_before size mark_behind) bytes =
     mark_where mark_before ++ (take size bytes ++ mark_where mark_behind)
 waiting_bytes (waiting.Rest mark_before fault) bytes = mark_where mark_before ++ bytes
 
--- No piece begins these bytes, for this fault.
+-- The bytes begin no packet, for this fault.
 abbrev pub IsRefused : List ℕ → PesFault → Type 0
 IsRefused bytes fault = (6 ≤ length bytes) × (size_at (take 6 bytes) ≡ Err fault)
 
--- What waits is a piece, or what no piece begins; behind that nothing comes.
+-- A packet is ready, or bytes that begin no packet, after which nothing follows.
 abbrev pub WaitsFor : Waiting → PartState → List ℕ → Type 0
 WaitsFor waiting.Nothing part bytes = ⊤
 WaitsFor waiting.Mark part bytes = ⊤
@@ -220,28 +217,28 @@ WaitsFor (waiting.Packet mark_before size mark_behind) part bytes =
 WaitsFor (waiting.Rest mark_before fault) part bytes =
     IsRefused bytes fault × (has_ended part ≡ true)
 
--- What holds of what is kept.
+-- The invariant of the state.
 pub record IsJoining (w : Waiting) (payload_size : ℕ) (part : PartState) (bytes : List ℕ) : Type 0
   where
     pub last : payload_size ≤ length bytes
     pub room : part ≡ Open → length bytes ≤ 1655
     pub waits : WaitsFor w part bytes
 
--- The bytes of what was taken.
+-- The bytes of the item that was taken.
 abbrev pub taken_bytes : Next → List ℕ → List ℕ
 taken_bytes next.Nothing bytes = []
 taken_bytes next.Mark bytes = mark
 taken_bytes (next.Packet size) bytes = take size bytes
 taken_bytes (next.Rest fault) bytes = bytes
 
--- They stand in the bytes of the part.
+-- They are part of the stored bytes.
 abbrev pub IsWithin : Next → List ℕ → Type 0
 IsWithin next.Nothing bytes = ⊤
 IsWithin next.Mark bytes = ⊤
 IsWithin (next.Packet size) bytes = size ≤ length bytes
 IsWithin (next.Rest fault) bytes = ⊤
 
--- What is given next was taken of what is ready. Bytes that are no piece stay.
+-- The next item was taken from what is ready. Bytes that begin no packet stay.
 abbrev pub TakesNext : JoiningValue → Next → JoiningValue → Type 0
 TakesNext old next.Nothing new = (old.pending ≡ []) × (new ≡ old)
 TakesNext old next.Mark new =
@@ -257,7 +254,7 @@ TakesNext old (next.Rest fault) new =
     × (has_ended old.part ≡ true)
     × (new ≡ old)
 
--- The same, whatever it is: no byte of it stays.
+-- The next item of any kind was taken, and its bytes are no longer ready.
 abbrev pub TakesFirst : JoiningValue → Next → JoiningValue → Type 0
 TakesFirst old next new =
     (old.pending ≡ taken_bytes next new.bytes ++ new.pending)

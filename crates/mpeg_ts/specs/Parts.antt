@@ -1,7 +1,6 @@
--- The parts that the good packets of a PID are cut into, and what each gives: a PES packet where it
--- is whole, and a gap where something of it is missing (ISO/IEC 13818-1,
--- payload_unit_start_indicator: a PES packet begins with the first byte of the payload; its length
--- is that of EN 300 472).
+-- Splits the good packets of a PID into parts. A complete part yields a PES packet, an incomplete
+-- one a gap (ISO/IEC 13818-1, payload_unit_start_indicator: a PES packet begins with the first byte
+-- of the payload; its length is that of EN 300 472).
 use Rattle.std.specs.Prelude.{ℕ, ◌-◌, ◌&&◌, ◌||◌, not, nat_lt, nat_le, Bool, true, false}
 use Rattle.std.specs.Prelude.{if◌then◌else◌, List, [], ◌∷◌, ◌++◌, length, take, Result, Ok, Err}
 use Rattle.std.specs.List.{concat}
@@ -10,34 +9,33 @@ use Rattle.ttx_pes.specs.declared.fault.PesFault.{PesFault}
 use Rattle.mpeg_ts.specs.GoodPackets.{GoodPacket, GoodPackets, Link, Follows, Seam, Break}
 use Rattle.mpeg_ts.specs.TransportPacket.{begins, payload}
 
--- A part: whether a break stands before it, whether its first packet begins a PES packet, and the
+-- A part: whether data was lost before it, whether its first packet begins a PES packet, and the
 -- payloads of its packets.
 pub record Part : Type 0 where
   pub after_break : Bool
   pub begins : Bool
   pub payloads : List (List ℕ)
 
--- Something is lost between a good packet and the one before it.
+-- Data was lost between a good packet and the one before.
 abbrev pub is_break : Link → Bool
 is_break Break = true
 is_break _ = false
 
--- A jump of the counter was announced between them, and nothing is known to be lost.
+-- A jump of the counter was announced between them, and no data is known to be lost.
 abbrev pub is_seam : Link → Bool
 is_seam Seam = true
 is_seam _ = false
 
--- A packet does not belong to the PES packet of the one before.
+-- A packet does not continue the PES packet of the one before.
 abbrev pub is_unlinked : Link → Bool
 is_unlinked Follows = false
 is_unlinked _ = true
 
--- A part begins with a good packet that begins a PES packet, or that does not follow the one
--- before.
+-- A good packet starts a part if it begins a PES packet, or does not follow the one before.
 abbrev pub begins_part : GoodPacket → Bool
 begins_part g = begins g.packet || is_unlinked g.link
 
--- The part of a good packet alone.
+-- The part of only this packet.
 abbrev pub part_of : GoodPacket → Part
 part_of g = record {
   after_break = is_break g.link;
@@ -45,28 +43,26 @@ part_of g = record {
   payloads = payload g.packet ∷ [];
 }
 
--- A part with one more packet.
+-- Appends a packet to a part.
 abbrev pub with_packet : Part → GoodPacket → Part
 with_packet part g = record part { payloads = part.payloads ++ payload g.packet ∷ [] }
 
--- The part that is open, with those of the good packets that follow which belong to it; and the
--- parts after it.
+-- The current part, extended by the good packets that belong to it, and the parts after it.
 unfoldable pub parts_from : Part → List GoodPacket → List Part
 parts_from part [] = part ∷ []
 parts_from part (g ∷ more) =
     if begins_part g then part ∷ parts_from (part_of g) more
     else parts_from (with_packet part g) more
 
--- The parts that good packets are cut into.
+-- The parts of a list of good packets.
 abbrev pub parts : List GoodPacket → List Part
 parts [] = []
 parts (g ∷ more) = parts_from (part_of g) more
 
--- ---- what they give
+-- ---- outcomes
 
--- What comes of parts, in order: a PES packet; a gap, where something is missing; bytes with
--- another start or another length than those of a PES packet with Teletext, after which nothing
--- comes.
+-- The outcome of a part: a PES packet; a gap, if data is missing; or bytes whose start code or
+-- length is not that of a PES packet with Teletext, after which nothing follows.
 pub data PartOutcome : Type 0 where
   Pes : List ℕ → PartOutcome
   Gap : PartOutcome
@@ -81,15 +77,15 @@ gap_where false = []
 abbrev pub part_bytes : Part → List ℕ
 part_bytes part = concat part.payloads
 
--- The payloads up to that in which so many bytes are reached.
+-- The payloads up to the one in which `count` bytes are reached.
 unfoldable pub up_to : ℕ → List (List ℕ) → List ℕ
 up_to count [] = []
 up_to count (first ∷ more) =
     if nat_le count (length first) then first else first ++ up_to (count - length first) more
 
--- What comes of bytes that begin a PES packet, by the size that their first six say, if these are
--- the start and the length of one with Teletext. `cut_off` where the recording may end in it: what
--- is missing then is no gap.
+-- The outcome of a part that begins a PES packet, given the size in its first six bytes if their
+-- start code and length are valid. `cut_off`: the recording may end within the part; then missing
+-- data is no gap.
 abbrev pub outcome_of_size : Bool → Part → Result ℕ PesFault → List PartOutcome
 outcome_of_size cut_off part (Ok size) =
     if nat_le size (length (part_bytes part)) then
@@ -97,26 +93,27 @@ outcome_of_size cut_off part (Ok size) =
     else gap_where (not cut_off)
 outcome_of_size cut_off part (Err f) = Other (up_to 6 part.payloads) ∷ []
 
--- What comes of a part. It is whole where its first packet begins a PES packet, and it is at least
--- as long as that says; what stands behind the PES packet is a gap, and a part that is not whole.
+-- The outcome of a part. It is complete if its first packet begins a PES packet, and it is at least
+-- as long as that packet. Bytes after the PES packet count as a gap, and so does an incomplete
+-- part.
 unfoldable pub outcome : Bool → Part → List PartOutcome
 outcome cut_off part =
     if part.begins && nat_le 6 (length (part_bytes part)) then
     outcome_of_size cut_off part (size_at (take 6 (part_bytes part)))
     else gap_where (not cut_off)
 
--- The recording may end in a part: none follows, and no wrong packet stands behind it.
+-- The recording may end within the part: it is the last one, and no unusable packet follows.
 abbrev pub may_be_cut_off : Bool → List Part → Bool
 may_be_cut_off wrong_behind [] = not wrong_behind
 may_be_cut_off wrong_behind (_ ∷ _) = false
 
--- What comes of parts. A break is a gap, before a part and behind the last one.
+-- The outcomes of parts. Lost data is a gap, before a part and after the last one.
 unfoldable pub outcomes : Bool → List Part → List PartOutcome
 outcomes wrong_behind [] = gap_where wrong_behind
 outcomes wrong_behind (part ∷ more) =
     gap_where part.after_break
     ++ (outcome (may_be_cut_off wrong_behind more) part ++ outcomes wrong_behind more)
 
--- What comes of good packets.
+-- The outcomes of good packets.
 abbrev pub outcomes_of : GoodPackets → List PartOutcome
 outcomes_of good = outcomes good.wrong_behind (parts good.packets)

@@ -1,4 +1,4 @@
--- How far a recording was read for one PID, and what is still to be given.
+-- The state of reading a recording for one PID, and the bytes still to be returned.
 use Rattle.std.specs.Prelude.{◌≡◌, ℕ, ◌+◌, ◌-◌, ◌^◌, ◌≤◌, ◌==◌, Bool, true, false, if◌then◌else◌}
 use Rattle.std.specs.Prelude.{List, [], ◌++◌, length, drop, nat_lt, slice_index, Option, option_map}
 use Rattle.mpeg_ts.specs.GoodPackets.{Hole, hole_size, note_of, notes}
@@ -9,9 +9,9 @@ use Rattle.mpeg_ts.specs.Pid.{greatest_pid}
 use Rattle.mpeg_ts.specs.TransportPacket.{pid, sync_byte}
 use Rattle.mpeg_ts.specs.Window.{WindowValue, held_and_left}
 
--- The PID and the distance of packets; the bytes that were taken; so many bytes that are passed
--- over before the next item; whether reading is in step; how many bytes were skipped in a row; and
--- what is kept of the packets.
+-- The PID and the distance of packets; the buffered bytes; how many bytes are skipped before the
+-- next item; whether reading is in step; how many bytes were skipped in a row; and the state of
+-- reassembly.
 pub record StreamValue : Type 0 where
   pub number : ℕ
   pub distance : ℕ
@@ -21,7 +21,7 @@ pub record StreamValue : Type 0 where
   pub run : ℕ
   pub joining : JoiningValue
 
--- At the start of a recording.
+-- The state at the start of a recording.
 abbrev pub start_of_stream : ℕ → ℕ → StreamValue
 start_of_stream number distance = record {
   number = number;
@@ -33,51 +33,51 @@ start_of_stream number distance = record {
   joining = nothing_joined;
 }
 
--- What is ready to be given, and what the bytes from the next item on then give.
+-- The bytes that are ready, and those that the bytes from the next item on yield.
 unfoldable pub stream_gives : ℕ → ℕ → ℕ → Bool → JoiningValue → List ℕ → List ℕ
 stream_gives distance number run in_step joining bytes =
     joining.pending
     ++ given_later (handed_over joining)
     (notes distance number run (items distance in_step (length bytes) bytes))
 
--- The bytes from the next item on, where the source has these to give.
+-- The bytes from the next item on, if the source has these bytes left.
 abbrev pub bytes_ahead : StreamValue → List ℕ → List ℕ
 bytes_ahead v bytes = drop v.lead (held_and_left v.window bytes)
 
--- What is still to be given, where the source has these bytes to give.
+-- The bytes still to be returned, if the source has these bytes left.
 abbrev pub given_of : StreamValue → List ℕ → List ℕ
 given_of v bytes =
     stream_gives v.distance v.number v.run v.in_step v.joining (bytes_ahead v bytes)
 
--- The same, where the source tells its bytes.
+-- The same, if the source's bytes are known.
 abbrev pub still_given : StreamValue → Option (List ℕ) → Option (List ℕ)
 still_given v told = option_map (given_of v) told
 
--- Whether these bytes give any, where the source has them to give.
+-- Bytes from the source yield some output.
 abbrev pub gives_some : StreamValue → List ℕ → Bool
 gives_some v bytes = nat_lt 0 (length (given_of v bytes))
 
--- Whether some of it is ready.
+-- Some output is ready.
 abbrev pub is_some_ready : StreamValue → Bool
 is_some_ready v = nat_lt 0 (length v.joining.pending)
 
--- How many bytes there may be from the next item on.
+-- The maximum number of bytes from the next item on.
 abbrev pub bytes_at_most : StreamValue → ℕ
 bytes_at_most v = (length v.window.held + v.window.left) - v.lead
 
--- What is kept after a packet.
+-- The state of reassembly after a packet.
 abbrev pub after_packet : ℕ → List ℕ → JoiningValue → JoiningValue
 after_packet number p j = if pid p == number then after_note j (note_of p) else j
 
--- What is kept after a byte was skipped, and so many in a row before it.
+-- The state of reassembly after a skipped byte, with `run` skipped bytes before it.
 abbrev pub after_skipped : ℕ → ℕ → JoiningValue → JoiningValue
 after_skipped distance run j = if run + 1 == hole_size distance then after_note j Hole else j
 
--- A packet of the PID begins with its first byte.
+-- The bytes are a packet of the PID.
 abbrev pub BeginsPacket : ℕ → List ℕ → Type 0
 BeginsPacket number p = (slice_index p 0 ≡ sync_byte) × (pid p ≡ number)
 
--- What holds of the numbers.
+-- The invariant of the numbers.
 pub record IsStream (number distance lead run taken : ℕ) (in_step : Bool) : Type 0 where
   pub is_pid : number ≤ greatest_pid
   pub near : 188 ≤ distance

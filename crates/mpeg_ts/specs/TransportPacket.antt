@@ -5,17 +5,17 @@
 --          (1), PID (13)
 --   3      transport_scrambling_control (2 bits), adaptation_field_control (2: an adaptation field,
 --          a payload), continuity_counter (4)
---   4      adaptation_field_length, where there is an adaptation field
---   5      discontinuity_indicator (1 bit) and seven flags, where that length is not 0
+--   4      adaptation_field_length, if there is an adaptation field
+--   5      discontinuity_indicator (1 bit) and seven flags, if that length is not 0
 --   ..     the rest of the adaptation field, and the payload up to the end
 use Rattle.std.specs.Prelude.{ℕ, ◌+◌, ◌*◌, ◌/◌, ◌%◌, ◌==◌, ◌&&◌, ◌||◌, not, nat_lt}
 use Rattle.std.specs.Prelude.{Bool, if◌then◌else◌, List, take, drop, slice_index}
 
--- The bytes of a packet.
+-- Size of a packet in bytes.
 abbrev pub packet_size : ℕ
 packet_size = 188
 
--- Its first byte.
+-- The first byte of a packet.
 abbrev pub sync_byte : ℕ
 sync_byte = 0x47
 
@@ -31,35 +31,35 @@ begins p = slice_index p 1 / 0x40 % 2 == 1
 abbrev pub counter : List ℕ → ℕ
 counter p = slice_index p 3 % 0x10
 
--- adaptation_field_control says that an adaptation field follows,
+-- adaptation_field_control says that an adaptation field follows.
 abbrev pub has_adaptation : List ℕ → Bool
 has_adaptation p = slice_index p 3 / 0x20 % 2 == 1
 
--- and that a payload does.
+-- adaptation_field_control says that a payload follows.
 abbrev pub has_payload : List ℕ → Bool
 has_payload p = slice_index p 3 / 0x10 % 2 == 1
 
--- discontinuity_indicator, of an adaptation field that has it: a jump of the counter is announced.
+-- discontinuity_indicator, if the adaptation field has it: a jump of the counter is announced.
 abbrev pub announces_jump : List ℕ → Bool
 announces_jump p =
     has_adaptation p && not (slice_index p 4 == 0) && (slice_index p 5 / 0x80 % 2 == 1)
 
--- A packet whose transport_error_indicator is set, which is scrambled, or whose adaptation field
--- leaves no room for the payload that it says it has.
+-- A packet is unusable if its transport_error_indicator is set, if it is scrambled, or if its
+-- adaptation field leaves no room for its payload.
 abbrev pub is_wrong : List ℕ → Bool
 is_wrong p =
     (slice_index p 1 / 0x80 % 2 == 1)
     || not (slice_index p 3 / 0x40 % 4 == 0)
     || (has_adaptation p && has_payload p && nat_lt 182 (slice_index p 4))
 
--- Bytes 0 to 3: what a packet that repeats another has in common with it, beside the payload.
+-- Bytes 0 to 3, which a packet shares with its repeat, as it does the payload.
 abbrev pub packet_header : List ℕ → List ℕ
 packet_header p = take 4 p
 
--- Where the payload begins.
+-- The offset of the payload.
 abbrev pub payload_place : List ℕ → ℕ
 payload_place p = if has_adaptation p then 5 + slice_index p 4 else 4
 
--- The payload: the bytes up to the end.
+-- The payload: the bytes from there to the end.
 abbrev pub payload : List ℕ → List ℕ
 payload p = drop (payload_place p) p

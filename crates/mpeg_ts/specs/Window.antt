@@ -1,27 +1,27 @@
--- The bytes of a recording that were taken and are to be looked at.
+-- The buffered bytes of a recording that are examined next.
 use Rattle.std.specs.Prelude.{◌≡◌, ℕ, ◌<◌, Bool, false, List, ◌++◌, length, take}
 use Rattle.std.specs.Prelude.{Option, option_map}
 use Rattle.sub_io.specs.Asking.{Asks}
 
--- Room for them.
+-- Size of the buffer in bytes.
 abbrev pub window_size : ℕ
 window_size = 205
 
--- Those that were taken, and how many more may be.
+-- The buffered bytes, and how many more may be read.
 pub record WindowValue : Type 0 where
   pub held : List ℕ
   pub left : ℕ
 
--- They, and what may still be taken, where the source has these bytes to give.
+-- The buffered bytes, and those that may still be read, if the source has these bytes left.
 abbrev pub held_and_left : WindowValue → List ℕ → List ℕ
 held_and_left w bytes = w.held ++ take w.left bytes
 
--- What may still be taken.
+-- The known bytes that may still be read.
 abbrev pub left_to_take : WindowValue → Option (List ℕ) → Option (List ℕ)
 left_to_take w told = option_map (take w.left) told
 
--- No byte is asked for behind so many from the first that is held on: whatever the question is that
--- fewer do not answer.
+-- At most `count` bytes from the first buffered one on are read, for every question that fewer
+-- bytes cannot answer.
 pub record AsksUpTo
     {D : Type 0} (IsPull : D → ℕ → Option ℕ → D → Type 0) (lent : D → List ℕ)
     (remaining : D → Option (List ℕ))

@@ -1,4 +1,4 @@
-//! Putting the PES packets of a PID together, one transport packet after another.
+//! Reassembles the PES packets of a PID from its transport packets.
 ghost use Rattle.std.specs.Prelude.{◌≡◌, ◌≤◌, ◌↔◌, length, []};
 ghost use Rattle.std.specs.Prelude.{◌&&◌, false, true};
 ghost use Rattle.mpeg_ts.specs.GoodPackets.{Wrong, Hole, note_of};
@@ -18,56 +18,57 @@ use crate::waiting::{Next, Waiting, mark_alone};
 use std::marker::Model;
 use ttx_pes::PesFault;
 
-/// How far the part has come that the last good packet belongs to.
+/// The progress of the current part, to which the last good packet belongs.
 #[derive(Drop)]
 pub(crate) enum PartState {
-    /// It does not begin with a PES packet's first byte, or there is none yet: it gives nothing.
+    /// It does not begin with the first byte of a PES packet, or there is no part yet. It yields
+    /// nothing.
     Headless,
-    /// Its PES packet has begun, and is not there whole.
+    /// Its PES packet has begun and is incomplete.
     Open,
-    /// Its PES packet was given.
+    /// Its PES packet was returned.
     Complete,
-    /// It has another start or another length than a PES packet with Teletext: it was given as it
-    /// is, and nothing comes after it.
+    /// Its start code or length is not that of a PES packet with Teletext. It was returned as it
+    /// is, and nothing follows.
     Ended,
 }
 
-/// What was given last.
+/// What was returned last.
 #[derive(Drop)]
 pub(crate) enum Given {
     /// No PES packet yet.
     Nothing,
     /// A PES packet.
     Packet,
-    /// A mark, behind a PES packet.
+    /// A gap marker after a PES packet.
     Mark,
 }
 
-/// What the bytes of a part hold.
+/// The contents of a part's bytes.
 #[derive(Drop)]
 pub(crate) enum Found {
-    /// Not all of a PES packet.
+    /// An incomplete PES packet.
     Unfinished,
-    /// A PES packet, the first so many of them.
+    /// A PES packet, with its size in bytes.
     Whole(usize),
-    /// Another start or another length.
+    /// A wrong start code or length.
     Other(PesFault),
 }
 
-/// Puts the PES packets of a PID together, for a caller that hands in the PID's packets one by one.
-/// What is ready has to be taken before the next.
+/// Reassembles the PES packets of a PID. The caller passes the PID's packets one by one, and has to
+/// take what is ready before the next one.
 ///
-/// Contracts see what is kept, and what is ready.
+/// The model has the stored state, and the bytes that are ready.
 #[derive(Drop)]
 pub struct Joining {
-    // The payloads of the part, or the last one alone where no more of the part is given.
+    // The payloads of the part, or only the last one if no more of the part will be returned.
     bytes: PartBytes,
-    // Of the last good packet: bytes 0 to 3, how many bytes at the end of `bytes` are its payload
-    // (0 where there is none yet), and whether it announced a jump.
+    // Facts about the last good packet: bytes 0 to 3, the size of its payload at the end of `bytes`
+    // (0 if there was none yet), and whether it announced a jump.
     header: [u8; 4],
     payload_size: usize,
     announced: bool,
-    // Since the last good packet.
+    // Events since the last good packet.
     has_repeat: bool,
     has_jump: bool,
     has_break: bool,
@@ -99,7 +100,7 @@ impl Model for Joining {
 }
 
 impl Joining {
-    /// Before the first packet.
+    /// Creates the state before the first packet.
     pub fn new() -> Self
         ensures { result ≡ nothing_joined }
     {
@@ -117,7 +118,7 @@ impl Joining {
         }
     }
 
-    /// Whether nothing is ready to be given.
+    /// Returns whether nothing is ready.
     #[tactic(auto, using(crate::proofs::ReadyLemmas::idling))]
     #[inline(always)]
     pub fn is_idle(&self) -> bool
@@ -129,7 +130,7 @@ impl Joining {
         }
     }
 
-    /// Whether nothing comes any more but what is ready.
+    /// Returns whether nothing will follow the bytes that are ready.
     #[inline(always)]
     pub fn has_ended(&self) -> bool
         ensures { result ≡ has_ended self.now.part }
@@ -140,7 +141,7 @@ impl Joining {
         }
     }
 
-    // A wrong packet came.
+    // Takes an unusable packet.
     #[tactic(auto, using(crate::proofs::ReadyLemmas::growing))]
     pub(crate) fn note_wrong(&mut self)
         requires { self.old.pending ≡ [] }
@@ -150,14 +151,14 @@ impl Joining {
         self.waiting = mark_alone(mark_gap(true, &mut self.given));
     }
 
-    /// So many bytes were skipped in a row that packets may be missing.
+    /// Records that so many bytes were skipped in a row that packets may be missing.
     pub fn note_hole(&mut self)
         ensures { self.new ≡ after_note self.old Hole }
     {
         self.has_break = true;
     }
 
-    /// A packet came.
+    /// Takes a packet of the PID.
     pub fn take_packet(&mut self, packet: &[u8; PACKET])
         requires { self.old.pending ≡ [] }
         ensures { self.new ≡ after_note self.old (note_of packet.now) }
@@ -169,7 +170,7 @@ impl Joining {
         }
     }
 
-    // A packet came that is not wrong.
+    // Takes a usable packet.
     #[tactic(auto, unfolding(crate::specs::Joining::after_valid))]
     fn take(&mut self, packet: &[u8; PACKET])
         requires idle { self.old.pending ≡ [] }
@@ -194,7 +195,7 @@ impl Joining {
         }
     }
 
-    // The payload of the last good packet.
+    // Returns the payload of the last good packet.
     fn last_payload(&self) -> &[u8]
         ensures { result.now ≡ self.now.last }
     {
@@ -203,7 +204,7 @@ impl Joining {
         last
     }
 
-    /// Whether a packet repeats the last good one.
+    /// Returns whether a packet repeats the last good one.
     pub fn is_repeat(&self, packet: &[u8; PACKET]) -> bool
         requires payload { has_payload packet.now ≡ true }
         requires valid { is_wrong packet.now ≡ false }
@@ -217,8 +218,8 @@ impl Joining {
             && self.last_payload() == payload_of(packet)
     }
 
-    // Whether something is lost between the last good packet and this one. Not so where nothing
-    // came before, or a jump is announced: there nobody knows.
+    // Returns whether data was lost between the last good packet and this one. `false` for the
+    // first packet, and at an announced jump, where this is unknown.
     fn is_break(&self, packet: &[u8; PACKET]) -> bool
         ensures { result ≡ is_break (link_after self.now self.now.last packet.now) }
     {
@@ -234,8 +235,8 @@ impl Joining {
         counter_of(packet) != (self.header[3] % 0x10 + 1) % 0x10
     }
 
-    // Whether this packet does not follow the last good one: it begins anew where nothing came
-    // before, where something is lost, and where a jump is announced.
+    // Returns whether this packet does not continue the last good one: it is the first, data was
+    // lost before it, or a jump is announced.
     fn is_unlinked(&self, packet: &[u8; PACKET]) -> bool
         ensures { result ≡ is_unlinked (link_after self.now self.now.last packet.now) }
     {
@@ -248,8 +249,8 @@ impl Joining {
         counter_of(packet) != (self.header[3] % 0x10 + 1) % 0x10
     }
 
-    /// Whether a jump of the counter was announced between the last good packet and this one
-    /// (discontinuity_indicator), and nothing is known to be lost.
+    /// Returns whether a jump of the counter was announced between the last good packet and this
+    /// one (discontinuity_indicator), and no data is known to be lost.
     pub fn is_behind_seam(&self, packet: &[u8; PACKET]) -> bool
         ensures { result ≡ is_seam (link_after self.now self.now.last packet.now) }
     {
@@ -259,7 +260,7 @@ impl Joining {
         self.has_jump || announces_jump(packet)
     }
 
-    // Makes the packet the last good one, but for its payload.
+    // Stores the packet as the last good one, without its payload.
     #[inline(always)]
     fn remember(&mut self, packet: &[u8; PACKET])
         ensures { self.new ≡ remembering self.old packet.now }
@@ -271,7 +272,7 @@ impl Joining {
         self.has_break = false;
     }
 
-    // Whether the PES packet of the part was given.
+    // Returns whether the PES packet of the part was returned.
     fn is_complete(&self) -> bool
         ensures { result ≡ is_complete self.now.part }
     {
@@ -281,7 +282,7 @@ impl Joining {
         }
     }
 
-    // Begins a part with that payload.
+    // Starts a part with this payload.
     #[inline(always)]
     fn begin_part(&mut self, is_break: bool, begins: bool, payload: &[u8])
         requires idle { self.old.pending ≡ [] }
@@ -299,7 +300,7 @@ impl Joining {
         }
     }
 
-    // Goes on with the part.
+    // Continues the part with this payload.
     #[inline(always)]
     fn go_on(&mut self, payload: &[u8])
         requires idle { self.old.pending ≡ [] }
@@ -314,7 +315,7 @@ impl Joining {
         }
     }
 
-    // Forgets the bytes of the part, and the last payload.
+    // Clears the bytes of the part, and the last payload.
     #[tactic(auto, using(crate::proofs::ReadyLemmas::idling))]
     #[inline(always)]
     fn clear(&mut self)
@@ -325,7 +326,7 @@ impl Joining {
         self.payload_size = 0;
     }
 
-    // Keeps that payload alone.
+    // Keeps only this payload.
     #[tactic(auto, using(crate::proofs::ReadyLemmas::growing))]
     #[inline(never)]
     fn hold(&mut self, gap: bool, payload: &[u8])
@@ -339,7 +340,7 @@ impl Joining {
         self.waiting = mark_alone(mark_gap(gap, &mut self.given));
     }
 
-    // Adds that payload to an open part, and makes its PES packet ready if it is there whole.
+    // Appends this payload to an open part. If its PES packet is complete, it becomes ready.
     #[tactic(auto, using(crate::proofs::ReadyLemmas::growing))]
     #[inline(always)]
     fn grow(&mut self, gap: bool, payload: &[u8])
@@ -377,8 +378,8 @@ impl Joining {
         }
     }
 
-    /// Takes what is given next of what is ready. Bytes that are no PES packet stay, to be read by
-    /// `extract`; `take_first` takes them too.
+    /// Takes the next item that is ready. Bytes that are no PES packet stay, so that `extract` can
+    /// read them; `take_first` takes them too.
     #[tactic(auto, using(crate::proofs::ReadyLemmas::taking))]
     #[inline(always)]
     pub fn take_next(&mut self) -> Next
@@ -420,7 +421,7 @@ impl Joining {
         }
     }
 
-    /// The bytes of what was taken.
+    /// Returns the bytes of the item that was taken.
     #[inline(always)]
     pub fn taken(&self, next: Next) -> &[u8]
         requires { IsWithin next self.now.bytes }
@@ -437,7 +438,7 @@ impl Joining {
         }
     }
 
-    // The bytes of the part.
+    // Returns the bytes of the part.
     pub(crate) fn bytes(&self) -> &[u8]
         ensures bytes { result.now ≡ self.now.bytes }
         ensures most { length result.now ≤ 1840 }
@@ -445,7 +446,7 @@ impl Joining {
         self.bytes.as_slice()
     }
 
-    // All that was ready was given, and no byte is kept of it.
+    // Clears all bytes, since everything that was ready was returned.
     #[tactic(auto, using(crate::proofs::ReadyLemmas::idling))]
     pub(crate) fn hand_over(&mut self)
         ensures { self.new ≡ emptied self.old }
@@ -454,7 +455,7 @@ impl Joining {
         self.clear();
     }
 
-    /// Takes what is given next of what is ready, whatever it is.
+    /// Takes the next item that is ready, of whatever kind.
     #[tactic(auto, using(crate::proofs::ReadyLemmas::firsts))]
     pub fn take_first(&mut self) -> Next
         ensures first { TakesFirst self.old result self.new }
@@ -469,7 +470,7 @@ impl Joining {
     }
 }
 
-// Whether a mark is due for a gap, which is one behind a PES packet.
+// Returns whether a gap needs a marker: only the first gap after a PES packet does.
 #[inline(always)]
 fn mark_gap(gap: bool, given: &mut Given) -> bool
     ensures given { given.new ≡ given_after gap given.old }

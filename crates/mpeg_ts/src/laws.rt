@@ -1,14 +1,14 @@
-//! Laws of what a recording gives, each as a call whose contract is the law.
+//! Laws of the contents of a recording, each a function whose contract is the law.
 ghost use Rattle.mpeg_ts.specs.TakenBytes.{LawOfCalls, LawOfFailedRead};
 
-/// What is given by each of several calls of a recording is given by all of them.
+/// Consecutive calls together return what each of them returned.
 #[tactic(auto, using(crate::proofs::GivenLemmas::gives_then))]
 pub fn law_of_calls()
     ensures { LawOfCalls }
 {}
 
-/// The PES packet of a recording within which a read failed is the one behind those that the bytes
-/// carry which were taken of it.
+/// If a read fails, the PES packet in which it fails is the one after those in the bytes consumed
+/// so far.
 pub fn law_of_failed_read()
     ensures { LawOfFailedRead }
 {}

@@ -1,9 +1,9 @@
-//! Transport streams (ISO/IEC 13818-1), as far as the PES packets of one PID go.
+//! Transport streams (ISO/IEC 13818-1): the PES packets of one PID.
 //!
-//! Over any source of a transport stream: the PES packets with Teletext that the packets of the PID
-//! carry, one after another, as if they stood in a file, and a mark where something is missing
-//! between two of them. So whatever reads PES packets reads them in a recording too. Stands
-//! on `sub_io` for the devices and on `ttx_pes` for the pieces.
+//! Reads the PES packets with Teletext that the transport packets of a PID carry, as if they were
+//! in a PES file, with a gap marker wherever data is missing between two of them. So every reader
+//! of PES packets can read them from a recording too. Builds on `sub_io` for devices and on
+//! `ttx_pes` for PES packets.
 //!
 //! ```text
 //! let pid = Pid::new(0x101).ok_or(..)?;

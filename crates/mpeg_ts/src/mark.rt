@@ -1,14 +1,14 @@
-//! What stands where something is missing.
+//! Gap markers, which replace missing data.
 //!
-//! It is a PES packet of its own, so that no reader needs a second way to learn of it. From byte 6
-//! on it is FF, as no PES packet of EN 300 472 is: a reader refuses it as 45, `Lost`.
+//! A gap marker is a PES packet, so no reader needs a second way to learn of gaps. It is FF from
+//! byte 6 on, unlike any PES packet of EN 300 472: a reader rejects it with fault 45, `Lost`.
 ghost use Rattle.std.specs.Prelude.{◌≡◌};
 ghost use Rattle.mpeg_ts.specs.Carried.{mark};
 
-/// The bytes of a mark.
+/// Size of a gap marker in bytes.
 pub(crate) const MARK_SIZE: usize = 184;
 
-// The mark: the start and the length of a PES packet, and FF in all other bytes (own).
+// The gap marker: the start and the length of a PES packet, and FF in all other bytes (own).
 #[rattlefmt::skip]
 static MARK: [u8; MARK_SIZE] = [
     0x00, 0x00, 0x01, 0xBD, 0x00, 0xB2, 0xFF, 0xFF, 0xFF, 0xFF, 0xFF, 0xFF, 0xFF, 0xFF, 0xFF, 0xFF,
@@ -25,7 +25,7 @@ static MARK: [u8; MARK_SIZE] = [
     0xFF, 0xFF, 0xFF, 0xFF, 0xFF, 0xFF, 0xFF, 0xFF,
 ];
 
-// The mark.
+// Returns the gap marker.
 #[tactic(auto, unfolding(crate::specs::Carried::mark))]
 pub(crate) fn mark_bytes() -> &'static [u8; MARK_SIZE]
     ensures { result.now ≡ mark }

@@ -10,10 +10,10 @@ use crate::joining::Found;
 use std::marker::Model;
 use ttx_pes::size_of;
 
-// Room for the bytes of a part whose PES packet is not there whole, and one more payload.
+// Buffer size: an incomplete PES packet and one more payload.
 const ROOM: usize = 1840;
 
-/// The bytes of a part, which are forgotten at no cost.
+/// The bytes of a part, which can be cleared at no cost.
 #[derive(Drop)]
 pub(crate) struct PartBytes {
     room: [u8; ROOM],
@@ -31,7 +31,7 @@ impl Model for PartBytes {
 }
 
 impl PartBytes {
-    // None.
+    // Creates an empty buffer.
     pub(crate) fn new() -> Self
         ensures { result ≡ [] }
     {
@@ -41,7 +41,7 @@ impl PartBytes {
         }
     }
 
-    // The bytes.
+    // Returns the bytes.
     #[inline(always)]
     pub(crate) fn as_slice(&self) -> &[u8]
         ensures bytes { result.now ≡ self.now }
@@ -51,7 +51,7 @@ impl PartBytes {
         bytes
     }
 
-    // Forgets them.
+    // Removes all bytes.
     #[inline(always)]
     pub(crate) fn clear(&mut self)
         ensures { self.new ≡ [] }
@@ -59,7 +59,7 @@ impl PartBytes {
         self.len = 0;
     }
 
-    // Adds bytes.
+    // Appends bytes.
     #[inline(always)]
     pub(crate) fn add(&mut self, more: &[u8])
         requires { length self.old + length more.now ≤ 1840 }
@@ -73,7 +73,7 @@ impl PartBytes {
     }
 }
 
-// Looks for the PES packet that bytes begin with.
+// Looks for a PES packet at the front of the bytes.
 #[inline(always)]
 pub(crate) fn find_packet(bytes: &[u8]) -> Found
     ensures found { found_in bytes.now ≡ result }
@@ -85,7 +85,7 @@ pub(crate) fn find_packet(bytes: &[u8]) -> Found
     found_at_front(bytes)
 }
 
-// The same, by its size.
+// The same, from its size.
 #[tactic(auto, unfolding(crate::specs::Joining::found_in))]
 #[inline(always)]
 fn found_at_front(bytes: &[u8]) -> Found

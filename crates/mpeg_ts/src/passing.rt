@@ -1,5 +1,4 @@
-//! Bytes that are passed over where they stand: packets of other PIDs, and bytes that belong to no
-//! packet.
+//! Skips bytes without copying them: packets of other PIDs, and bytes that belong to no packet.
 ghost use Rattle.std.specs.Prelude.{◌≡◌, ◌+◌, ◌<◌, ◌≤◌, List, ℕ, [], ◌++◌, drop, take, length};
 ghost use Rattle.std.specs.Prelude.{false, true};
 ghost use Rattle.mpeg_ts.specs.GoodPackets.{hole_size};
@@ -9,7 +8,7 @@ ghost use Rattle.mpeg_ts.specs.TransportPacket.{pid};
 
 use crate::transport_packet::{PACKET, SYNC_BYTE, pid_of};
 
-// The packet at that place of bytes.
+// Returns the packet at a place of the bytes.
 #[inline(always)]
 pub(crate) fn packet_in(bytes: &[u8], place: usize) -> &[u8; PACKET]
     requires { place + 188 ≤ length bytes.now }
@@ -19,11 +18,11 @@ pub(crate) fn packet_in(bytes: &[u8], place: usize) -> &[u8; PACKET]
     ahead.first_chunk().unwrap()
 }
 
-// The place behind the packets of other PIDs that stand in the bytes from a place on: that of a
-// packet of the PID, of a byte that is no sync byte, or of fewer bytes than the distance.
+// Returns the place after the packets of other PIDs from `from` on: that of a packet of the PID, of
+// a byte that is no sync byte, or of fewer bytes than the distance.
 //
-// Not inlined: nearly all of a multiplex is passed over here, and a loop of its own keeps what it
-// needs in registers.
+// Not inlined: most of a multiplex is skipped here, and a separate loop keeps its variables in
+// registers.
 #[inline(never)]
 #[tactic(auto, using(crate::proofs::StreamLemmas::others))]
 pub(crate) fn place_behind_others(bytes: &[u8], from: usize, distance: usize, number: u16) -> usize
@@ -52,7 +51,8 @@ pub(crate) fn place_behind_others(bytes: &[u8], from: usize, distance: usize, nu
     at
 }
 
-// Whether a packet of that PID stands at that place of bytes, and all bytes up to the next.
+// Returns whether a packet of the PID is at this place, and all bytes up to the next packet are
+// there.
 #[inline(always)]
 pub(crate) fn begins_unit(bytes: &[u8], place: usize, distance: usize, number: u16) -> bool
     requires within { place ≤ length bytes.now }
@@ -67,8 +67,8 @@ pub(crate) fn begins_unit(bytes: &[u8], place: usize, distance: usize, number: u
     packet[0] == SYNC_BYTE && pid_of(packet) == number
 }
 
-// How many bytes stand before the first sync byte: out of step no packet begins at one of them. The
-// last byte of a hole may not be among them.
+// Returns how many bytes precede the first sync byte; out of step no packet begins in them. They
+// must not include the byte that makes the skipped bytes a loss.
 #[tactic(auto, using(crate::proofs::StreamLemmas::junk))]
 pub(crate) fn junk_size(bytes: &[u8]) -> usize
     ensures within { result ≤ length bytes.now }
@@ -90,7 +90,7 @@ pub(crate) fn junk_size(bytes: &[u8]) -> usize
     at
 }
 
-// The PID of the packet that begins the bytes.
+// Returns the PID of the packet at the front of the bytes.
 #[inline(always)]
 fn unit_pid(unit: &[u8]) -> u16
     requires { 188 ≤ length unit.now }

@@ -1,7 +1,7 @@
-//! The pieces that the packets of a PID carry: PES packets and marks.
+//! The PES packets and gap markers of a PID.
 //!
-//! Transport packets are taken one by one: to take a PES packet's together saved three instructions
-//! in a hundred of a multiplex, for 1,400 lines.
+//! Transport packets are taken one by one. Taking all of a PES packet together saved 3 percent of
+//! the instructions for a multiplex, but took 1,400 lines.
 ghost use Rattle.std.specs.Prelude.{◌≡◌, ◌≤◌, [], Some, false, is_ok, length, option_map, take};
 ghost use Rattle.std.specs.Prelude.{true};
 ghost use Rattle.sub_io.specs.Asking.{Asks};
@@ -23,21 +23,20 @@ use std::marker::Model;
 use sub_io::{Failed, Source};
 use ttx_pes::{Came, FailedAt, NumberedPieces, Pieces, REST_ROOM, TakePiece};
 
-/// Gives the PES packets that the packets of one PID of a transport stream carry (ISO/IEC 13818-1),
-/// one after another. Where something is missing between two of them it gives a mark, 184 bytes
-/// that begin as a PES packet and are FF from byte 6 on (own).
+/// Reads the PES packets that the packets of one PID of a transport stream carry (ISO/IEC 13818-1).
+/// If data is missing between two of them, it returns a gap marker: 184 bytes that begin like a PES
+/// packet and are FF from byte 6 on (own).
 ///
-/// It gives a PES packet before any byte behind its last packet is asked for, but the first byte
-/// of the next where that packet was found out of step; a mark as soon as it is known. It takes no
-/// memory beside its own.
+/// It returns a PES packet before it reads any byte after the packet's last transport packet,
+/// except the first byte of the next one if that transport packet was found out of step. It returns
+/// a gap marker as soon as the gap is known. It allocates no memory.
 ///
-/// Contracts see it as the source inside, what was read of it, and whether it was told that no
-/// piece begins what is left.
+/// Its model has the inner source, the state of reading, and whether `Rest` was returned.
 #[derive(Drop)]
 pub struct RecordingPieces<S> {
     inner: S,
     stream: Stream,
-    // No piece begins what is left, and that was told.
+    // `Rest` was returned: the remaining bytes begin no packet.
     is_over: bool,
 }
 
@@ -53,12 +52,12 @@ impl<S> Model for RecordingPieces<S> {
 }
 
 impl<S: Source> RecordingPieces<S> {
-    /// The pieces of that PID, at the start of a recording, of which as many as 2^48 bytes are
-    /// read.
+    /// Creates a reader of the packets of `pid`, at the start of a recording. It reads at most 2^48
+    /// bytes.
     #[tactic(auto, using(crate::proofs::CarriedLemmas::carried_known))]
     pub fn new(source: S, pid: Pid, packet_size: PacketSize) -> Self
         ensures start { result ≡ at_start source pid (bytes_of packet_size) }
-        // What it gives is what the packets of the PID carry in the recording.
+        // It returns the PES packets that the packets of the PID carry in the recording.
         ensures carried { still_given result.stream (S.remaining result.device)
             ≡ option_map (carried pid (bytes_of packet_size)) (S.remaining source) }
     {
@@ -69,7 +68,7 @@ impl<S: Source> RecordingPieces<S> {
         }
     }
 
-    /// The source inside. What is ready is lost.
+    /// Returns the inner source. What is ready is lost.
     pub fn into_inner(self) -> S
         ensures { result ≡ self.device }
     {
@@ -89,11 +88,11 @@ impl<S: Source> Pieces for RecordingPieces<S> {
 
     ghost ready = { λ r. is_some_ready r.stream };
 
-    /// Has a taker take a PES packet or a mark. It reads on where none is ready.
+    /// Lets `taker` process the next PES packet or gap marker, and reads on if none is ready.
     ///
     /// # Errors
     ///
-    /// `Failed` where the source inside fails.
+    /// Returns `Failed` if the inner source fails.
     #[tactic(auto, using(crate::proofs::RecordingLemmas::takes))]
     #[inline(always)]
     fn next<T: TakePiece>(&mut self, taker: &mut T) -> Result<Came<T::Answer>, Failed>
@@ -104,12 +103,12 @@ impl<S: Source> Pieces for RecordingPieces<S> {
             T.is_take taker.old taker.new result }
         ensures rest { tells_rest result ≡ true → self.new.is_over ≡ true }
         ensures ready { is_some_ready self.old.stream ≡ true → is_ok result ≡ true }
-        // What was taken of the recording gives what came, whatever follows,
+        // The bytes consumed from the recording contain what was returned, whatever follows,
         ensures gives { GivesOn self.old.stream self.new.stream
             (S.remaining self.old.device) (S.remaining self.new.device) }
-        // and nothing more where a read failed.
+        // and nothing more if a read failed.
         ensures cut { is_ok result ≡ false → given_of self.new.stream [] ≡ [] }
-        // No byte is asked for behind those that give some: a PES packet or a mark.
+        // Reads no bytes after those that contain the next PES packet or gap marker.
         ensures asks { (read : StreamValue) × Asks S.is_pull S.lent S.remaining
             (gives_some self.old.stream) self.old.device (is_ok result)
             (gives_some read) self.new.device }
@@ -130,7 +129,7 @@ impl<S: Source> Pieces for RecordingPieces<S> {
         }
     }
 
-    /// The bytes that no piece begins are all that is left: the part of its first packet.
+    /// Returns the remaining bytes, which begin no packet: all bytes of the part.
     #[tactic(auto, using(crate::proofs::RecordingLemmas::rests))]
     fn read_rest(&mut self, room: &mut [u8; REST_ROOM]) -> Result<usize, Failed> {
         let bytes = self.stream.bytes();
@@ -140,7 +139,7 @@ impl<S: Source> Pieces for RecordingPieces<S> {
         Ok(count)
     }
 
-    /// Whether one is ready.
+    /// Returns whether a PES packet or gap marker is ready.
     #[inline(always)]
     fn is_ready(&self) -> bool {
         !self.stream.is_idle()
@@ -152,13 +151,13 @@ impl<S: Source> NumberedPieces for RecordingPieces<S> {
 
     ghost passed = { λ r. 0 };
 
-    /// The first one is that of the recording.
+    /// Returns 0: the first packet is that of the recording.
     fn find_first(&mut self) -> Result<u64, FailedAt> {
         Ok(0)
     }
 }
 
-// Puts bytes in front of the room.
+// Copies bytes to the front of `room`.
 fn put_in_front(room: &mut [u8; REST_ROOM], bytes: &[u8])
     requires { length bytes.now ≤ length room.old }
     ensures { take (length bytes.now) room.new ≡ bytes.now }
@@ -167,7 +166,7 @@ fn put_in_front(room: &mut [u8; REST_ROOM], bytes: &[u8])
     front.copy_from_slice(bytes);
 }
 
-// Has a taker take a piece, which are bytes.
+// Lets `taker` process a packet, and proves that it consists of bytes.
 #[inline(always)]
 fn take_by<T: TakePiece>(taker: &mut T, piece: &[u8]) -> T::Answer
     requires { IsPiece piece.now }

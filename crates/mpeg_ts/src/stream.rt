@@ -1,4 +1,4 @@
-//! Reading a recording for one PID: its packets in step, and what they give.
+//! Reads a recording for one PID: its packets in step, and their contents.
 ghost use Rattle.std.specs.Prelude.{◌≡◌, ◌+◌, ◌-◌, ◌^◌, ◌<◌, ◌≤◌, ◌↔◌, List, ℕ, [], drop};
 ghost use Rattle.std.specs.Prelude.{◌≢◌, take, length};
 ghost use Rattle.std.specs.Prelude.{Ok, false, is_ok, true};
@@ -22,19 +22,19 @@ use crate::{PacketSize, Pid};
 use std::marker::Model;
 use sub_io::{Failed, Source};
 
-// So many bytes of a recording are read at most.
+// The maximum number of bytes that are read of a recording.
 const MOST_BYTES: u64 = 1 << 48;
 
-/// How far a recording was read for one PID.
+/// The state of reading a recording for one PID.
 #[derive(Drop)]
 pub(crate) struct Stream {
     number: u16,
     distance: usize,
     window: Window,
-    // So many bytes are passed over before the next item.
+    // How many bytes are skipped before the next item.
     lead: usize,
     in_step: bool,
-    // So many bytes were skipped in a row.
+    // How many bytes were skipped in a row.
     run: u64,
     joining: Joining,
 }
@@ -59,7 +59,7 @@ impl Model for Stream {
         s.distance s.lead s.run (length s.window.held + s.window.left) s.in_step };
 }
 
-// What stands before the first packet.
+// Returns how many bytes precede the first packet.
 fn lead_of(packet_size: PacketSize) -> usize
     ensures { result ≡ lead_size (bytes_of packet_size) }
 {
@@ -69,7 +69,7 @@ fn lead_of(packet_size: PacketSize) -> usize
     }
 }
 
-// The packet at that place of the bytes that were taken.
+// Returns the packet at a place of the buffered bytes.
 fn packet_at(window: &Window, place: usize) -> &[u8; PACKET]
     requires { place + 188 ≤ length window.now.held }
     ensures { result.now ≡ take 188 (drop place window.now.held) }
@@ -78,7 +78,7 @@ fn packet_at(window: &Window, place: usize) -> &[u8; PACKET]
 }
 
 impl Stream {
-    // At the start of a recording.
+    // Creates the state at the start of a recording.
     #[tactic(auto, unfolding(crate::specs::PacketsInStep::most_bytes))]
     pub(crate) fn new(pid: Pid, packet_size: PacketSize) -> Self
         ensures { result ≡ start_of_stream pid (bytes_of packet_size) }
@@ -94,7 +94,8 @@ impl Stream {
         }
     }
 
-    // Takes bytes until they tell what stands next, and answers whether they do: not at the end.
+    // Reads until the bytes determine the next item, and returns whether they do; `false` only at
+    // the end.
     #[tactic(auto, using(crate::proofs::StreamLemmas::needing))]
     fn need<S: Source>(&mut self, source: &mut S) -> Result<bool, Failed>
         requires count { CanFail (S.failure_count source.old) }
@@ -119,7 +120,7 @@ impl Stream {
         self.window.fill_to(source, count)
     }
 
-    // So many bytes from the next item on tell what it is.
+    // Returns how many bytes determine the next item.
     fn needed(&self) -> usize
         ensures { result ≡ bytes_needed self.now.distance self.now.in_step }
     {
@@ -130,7 +131,7 @@ impl Stream {
         }
     }
 
-    // The bytes that were taken from the next item on.
+    // Returns the buffered bytes from the next item on.
     fn ahead(&self) -> &[u8]
         requires { self.now.lead ≤ length self.now.window.held }
         ensures { result.now ≡ drop self.now.lead self.now.window.held }
@@ -139,7 +140,7 @@ impl Stream {
         ahead
     }
 
-    // Whether a packet stands next.
+    // Returns whether the next item is a packet.
     #[tactic(auto, using(crate::proofs::StreamLemmas::begins_known))]
     fn begins_packet(&self) -> bool
         requires { self.now.lead + bytes_needed self.now.distance self.now.in_step
@@ -151,7 +152,7 @@ impl Stream {
         ahead[0] == SYNC_BYTE && (self.in_step || ahead[self.distance] == SYNC_BYTE)
     }
 
-    // Passes over so many bytes from the next item on.
+    // Skips bytes from the next item on.
     #[tactic(auto, using(crate::proofs::StreamLemmas::advancing))]
     fn advance(&mut self, count: usize)
         requires there { self.old.lead + 188 ≤ length self.old.window.held }
@@ -172,7 +173,7 @@ impl Stream {
         self.lead = self.window.advance(count);
     }
 
-    // Takes the packet that stands next.
+    // Takes the packet that comes next.
     #[tactic(auto, using(crate::proofs::StreamLemmas::packets))]
     fn take_packet(&mut self)
         requires there { self.old.lead + 188 ≤ length self.old.window.held }
@@ -190,7 +191,7 @@ impl Stream {
         self.advance(distance);
     }
 
-    // Joins the packet that stands next, if it is one of the PID.
+    // Reassembles from the packet that comes next, if it is one of the PID.
     fn join_packet(&mut self)
         requires there { self.old.lead + 188 ≤ length self.old.window.held }
         requires idle { self.old.joining.pending ≡ [] }
@@ -203,7 +204,7 @@ impl Stream {
         self.join(&packet);
     }
 
-    // Joins a packet, if it is one of the PID.
+    // Reassembles from a packet, if it is one of the PID.
     #[inline(always)]
     fn join(&mut self, packet: &[u8; PACKET])
         requires { self.old.joining.pending ≡ [] }
@@ -237,7 +238,8 @@ impl Stream {
         self.run += 1;
     }
 
-    // Whether so many bytes that were taken may end a hole.
+    // Returns whether `count` of the buffered bytes may reach the number that makes skipped bytes a
+    // loss.
     fn may_end_hole(&self, count: usize) -> bool
         requires { count ≤ length self.now.window.held }
         ensures { result ≡ false → self.now.run < hole_size self.now.distance
@@ -247,8 +249,8 @@ impl Stream {
         self.run < hole && hole <= self.run + count as u64
     }
 
-    // Skips the bytes up to the next sync byte, as far as they were taken. A byte that may be the
-    // last of a hole is left to `skip`.
+    // Skips the buffered bytes up to the next sync byte. The byte that may make them a loss is left
+    // to `skip`.
     #[inline(never)]
     #[tactic(auto, using(crate::proofs::StreamLemmas::junk))]
     fn skip_on(&mut self)
@@ -266,7 +268,7 @@ impl Stream {
         self.run += count as u64;
     }
 
-    // Notes a hole where the byte that is skipped next is its last.
+    // Records a loss if the next skipped byte makes it one.
     fn join_skipped(&mut self)
         ensures { self.new ≡ record self.old {
           joining = after_skipped self.old.distance self.old.run self.old.joining;
@@ -277,7 +279,7 @@ impl Stream {
         }
     }
 
-    // Takes the next item, `false` at the end.
+    // Takes the next item. Returns `false` at the end.
     #[inline(never)]
     #[tactic(auto, using(crate::proofs::StreamLemmas::steps))]
     fn step<S: Source>(&mut self, source: &mut S) -> Result<bool, Failed>
@@ -307,9 +309,9 @@ impl Stream {
         Ok(true)
     }
 
-    // Passes over the packets of other PIDs that the source lends, and takes the one of the PID
-    // behind them where the source lends all bytes up to the next. Answers whether it did either.
-    // They are looked at where the source lends them.
+    // Skips packets of other PIDs that the source lends, and takes the packet of the PID after
+    // them, if the source lends all bytes up to the next packet. Reads the bytes in the source's
+    // buffer. Returns whether it did either.
     #[inline(always)]
     #[tactic(auto, using(crate::proofs::StreamLemmas::skims))]
     fn take_lent<S: Source>(&mut self, source: &mut S) -> bool
@@ -348,7 +350,7 @@ impl Stream {
         true
     }
 
-    // Whether nothing is ready, and more may come.
+    // Returns whether nothing is ready, and more may follow.
     #[inline(always)]
     fn wants_more(&self) -> bool
         ensures wants { result ≡ true → (self.now.joining.pending ≡ [])
@@ -359,7 +361,7 @@ impl Stream {
         self.joining.is_idle() && !self.joining.has_ended()
     }
 
-    // Reads on until something is ready, or the end is reached.
+    // Reads until something is ready, or to the end.
     #[inline(always)]
     #[tactic(auto, using(crate::proofs::StreamLemmas::reads))]
     pub(crate) fn read_on<S: Source>(&mut self, source: &mut S) -> Result<(), Failed>
@@ -383,7 +385,7 @@ impl Stream {
         self.read_more(source)
     }
 
-    // Reads on where nothing is ready.
+    // Reads on if nothing is ready.
     #[inline(always)]
     #[tactic(auto, using(crate::proofs::StreamLemmas::reads))]
     fn read_more<S: Source>(&mut self, source: &mut S) -> Result<(), Failed>
@@ -406,7 +408,7 @@ impl Stream {
         Ok(())
     }
 
-    // Whether nothing is ready to be given.
+    // Returns whether nothing is ready.
     #[inline(always)]
     pub(crate) fn is_idle(&self) -> bool
         ensures { (result ≡ true) ↔ (self.now.joining.pending ≡ []) }
@@ -414,7 +416,7 @@ impl Stream {
         self.joining.is_idle()
     }
 
-    // Takes what is given next of what is ready. Bytes that are no PES packet stay.
+    // Takes the next item that is ready. Bytes that are no PES packet stay.
     #[inline(always)]
     pub(crate) fn take_next(&mut self) -> Next
         ensures next { TakesNext self.old.joining result self.new.joining }
@@ -424,7 +426,7 @@ impl Stream {
         self.joining.take_next()
     }
 
-    // The bytes of the part.
+    // Returns the bytes of the part.
     pub(crate) fn bytes(&self) -> &[u8]
         ensures bytes { result.now ≡ self.now.joining.bytes }
         ensures most { length result.now ≤ 1840 }
@@ -432,14 +434,14 @@ impl Stream {
         self.joining.bytes()
     }
 
-    // All that was ready was given, and no byte is kept of it.
+    // Clears all bytes, since everything that was ready was returned.
     pub(crate) fn hand_over(&mut self)
         ensures { self.new ≡ record self.old { joining = emptied self.old.joining } }
     {
         self.joining.hand_over();
     }
 
-    // The bytes of what was taken.
+    // Returns the bytes of the item that was taken.
     #[inline(always)]
     pub(crate) fn taken(&self, next: Next) -> &[u8]
         requires { IsWithin next self.now.joining.bytes }

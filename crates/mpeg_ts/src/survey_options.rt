@@ -1,16 +1,17 @@
-//! What is asked of a recording whose contents nobody knows yet.
+//! The options for surveying an unknown recording.
 
 use crate::packet_size::PacketSize;
 use crate::pid::Pid;
 use ttx_packet::PageId;
 
-/// What is asked of a survey: it stands here, below `ts_survey`, so that a request can name it.
+/// The options of a survey. They are defined here, below `ts_survey`, so that a request can contain
+/// them.
 #[derive(Clone, Copy, Debug, PartialEq, Eq)]
 pub struct SurveyOptions {
-    /// The page that is followed.
+    /// The page to follow.
     pub page: PageId,
-    /// The PID that alone is followed; `None` for each with Teletext.
+    /// The only PID to follow; `None` for every PID with Teletext.
     pub pid: Option<Pid>,
-    /// The bytes from one packet to the next; `None` where they are to be found.
+    /// The distance of packets; `None` to detect it.
     pub packet_size: Option<PacketSize>,
 }

@@ -1,44 +1,43 @@
-//! What waits to be given of what was joined.
+//! Reassembled items that are ready.
 ghost use Rattle.std.specs.Prelude.{◌≡◌};
 ghost use Rattle.mpeg_ts.specs.Joining.{mark_alone};
 
 use ttx_pes::PesFault;
 
-/// What waits to be given.
+/// The items that are ready.
 #[derive(Clone, Copy)]
 pub(crate) enum Waiting {
     /// Nothing.
     Nothing,
-    /// A mark.
+    /// A gap marker.
     Mark,
-    /// Perhaps a mark, then the PES packet of the part, and then perhaps a mark.
+    /// Possibly a gap marker, then the PES packet of the part, then possibly a gap marker.
     Packet {
         mark_before: bool,
         size: usize,
         mark_behind: bool,
     },
-    /// Perhaps a mark, and then the bytes of a part that has another start or another length.
+    /// Possibly a gap marker, then the bytes of a part with a wrong start code or length.
     Rest {
         mark_before: bool,
         fault: PesFault,
     },
 }
 
-/// What is given next.
+/// The next item.
 #[derive(Clone, Copy)]
 pub enum Next {
     /// Nothing is ready.
     Nothing,
-    /// A mark.
+    /// A gap marker.
     Mark,
-    /// A PES packet, the first so many bytes of the part.
+    /// A PES packet, with its size: the first bytes of the part.
     Packet(usize),
-    /// All bytes of the part, which have another start or another length than a PES packet with
-    /// Teletext.
+    /// All bytes of the part, whose start code or length is not that of a PES packet with Teletext.
     Rest(PesFault),
 }
 
-// A mark, if there is one.
+// Returns a gap marker, if one is needed.
 pub(crate) fn mark_alone(is_due: bool) -> Waiting
     ensures { result ≡ mark_alone is_due }
 {

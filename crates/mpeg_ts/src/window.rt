@@ -1,4 +1,4 @@
-//! The bytes of a recording that were taken and are to be looked at.
+//! The buffered bytes of a recording that are examined next.
 ghost use Rattle.std.specs.Prelude.{◌≡◌, ◌+◌, ◌-◌, ◌<◌, ◌≤◌, [], drop, length, Ok, IfOk, IsErr};
 ghost use Rattle.std.specs.Prelude.{false, is_ok, true};
 ghost use Rattle.std.specs.Io.KnownBytes.{IsAtEnd};
@@ -10,11 +10,11 @@ use arrayvec::ArrayVec;
 use std::marker::Model;
 use sub_io::{Failed, Source};
 
-/// Room for what stands before a packet and the packet; or for one and the first byte behind it at
-/// the longest distance.
+/// Buffer size: the bytes before a packet and the packet; or a packet and the first byte after it
+/// at the greatest distance.
 pub(crate) const WINDOW: usize = 205;
 
-/// Bytes that were taken from a source, and how many more may be.
+/// The buffered bytes, and how many more may be read.
 #[derive(Drop)]
 pub(crate) struct Window {
     bytes: ArrayVec<u8, WINDOW>,
@@ -30,7 +30,7 @@ impl Model for Window {
 }
 
 impl Window {
-    // No byte was taken, and so many may be.
+    // Creates an empty buffer. `left` bytes may be read.
     pub(crate) fn new(left: u64) -> Self
         ensures { result ≡ record { held = []; left = left } }
     {
@@ -40,7 +40,7 @@ impl Window {
         }
     }
 
-    // The bytes that were taken.
+    // Returns the buffered bytes.
     #[inline(always)]
     pub(crate) fn held(&self) -> &[u8]
         ensures held { result.now ≡ self.now.held }
@@ -49,7 +49,7 @@ impl Window {
         self.bytes.as_slice()
     }
 
-    // How many bytes were taken.
+    // Returns the number of buffered bytes.
     #[inline(always)]
     pub(crate) fn len(&self) -> usize
         ensures { result ≡ length self.now.held }
@@ -57,7 +57,7 @@ impl Window {
         self.bytes.len()
     }
 
-    // How many bytes may still be taken.
+    // Returns how many bytes may still be read.
     #[inline(always)]
     pub(crate) fn left(&self) -> u64
         ensures { result ≡ self.now.left }
@@ -65,7 +65,7 @@ impl Window {
         self.left
     }
 
-    // So many bytes were taken that are not looked at any more.
+    // Counts bytes that were read and skipped elsewhere.
     #[inline(always)]
     pub(crate) fn pass(&mut self, count: u64)
         requires { count ≤ self.old.left }
@@ -74,7 +74,7 @@ impl Window {
         self.left -= count;
     }
 
-    // How many bytes more are taken at most, where so many are wanted.
+    // Returns how many bytes may be pulled to have `count` bytes.
     fn room_for(&self, count: usize) -> usize
         requires few { length self.now.held < count }
         requires room { count ≤ window_size }
@@ -90,7 +90,7 @@ impl Window {
         }
     }
 
-    // Pulls once, for so many bytes.
+    // Pulls once, for at most `room` bytes.
     #[tactic(auto, using(crate::proofs::WindowLemmas::pulling))]
     fn pull<S: Source>(&mut self, source: &mut S, room: usize) -> Result<usize, Failed>
         requires count { CanFail (S.failure_count source.old) }
@@ -117,7 +117,7 @@ impl Window {
         Ok(n)
     }
 
-    // Takes bytes until they are so many, and answers whether they are: fewer only at the end.
+    // Reads until there are `count` bytes, and returns whether there are; `false` only at the end.
     #[tactic(auto, using(crate::proofs::WindowLemmas::filling))]
     pub(crate) fn fill_to<S: Source>(
         &mut self,
@@ -153,7 +153,7 @@ impl Window {
         Ok(true)
     }
 
-    // Passes over so many bytes, and answers how many of them were not taken yet.
+    // Skips bytes, and returns how many of them are not read yet.
     pub(crate) fn advance(&mut self, count: usize) -> usize
         ensures held { self.new.held ≡ drop count self.old.held }
         ensures left { self.new.left ≡ self.old.left }

@@ -1,4 +1,4 @@
--- What it is to take a piece, and which bytes are left where only so many may come.
+-- Reading one PES packet, and the bytes that are left if only a limited number of packets may come.
 use Rattle.std.specs.Borrow.{GName}
 use Rattle.std.specs.Prelude.{◌≡◌, ℕ, zero, suc, ◌+◌, ◌-◌, ◌<◌, nat_lt, Bool, true, false, List, []}
 use Rattle.std.specs.Prelude.{Option, Some, None, Result, Ok, Err, length, take, if◌then◌else◌}
@@ -15,31 +15,31 @@ use Rattle.ttx_pes.specs.Reading.{size_at}
 use Rattle.ttx_pes.specs.declared.pieces.Came.{Came}
 use Rattle.ttx_pes.specs.declared.pieces.Came.TheVariants.{End, Piece, Rest}
 
--- ---- one piece
+-- ---- one packet
 
--- Why so many bytes are not all of a piece whose first six tell that size, if they are not.
+-- `count` bytes are not a complete packet of the size in its first six bytes, for this fault.
 abbrev pub fault_of_size : ℕ → Result ℕ PesFault → Option PesFault
 fault_of_size count (Ok size) = if nat_lt count size then Some Truncated else None
 fault_of_size count (Err f) = Some f
 
--- Why no piece begins these bytes, if none does.
+-- The bytes do not begin with a packet, for this fault.
 unfoldable pub rest_fault : List ℕ → Option PesFault
 rest_fault b =
     if nat_lt (length b) 6 then Some Truncated else fault_of_size (length b) (size_at (take 6 b))
 
--- Bytes that were read show why no piece begins those that were to come, whatever follows.
+-- Bytes that were read show that the remaining bytes begin no packet, whatever follows.
 pub record ShowRest (behind : Option (List ℕ)) (bytes : List ℕ) (f : PesFault) : Type 0 where
   pub some : 0 < length bytes
   pub all :
       (more : List ℕ) → (IsAtEnd behind → more ≡ []) → rest_fault (bytes ++ more) ≡ Some f
 
--- No piece begins the bytes for this fault, and those of them that were read show it.
+-- The remaining bytes begin no packet, for this fault, and those that were read show it.
 pub record IsRest (old behind : Option (List ℕ)) (f : PesFault) : Type 0 where
   pub bytes : List ℕ
   pub consumed : Consumes old behind bytes
   pub shows : ShowRest behind bytes f
 
--- The bytes that were taken are a piece, and a taker took it.
+-- Exactly one packet was consumed, and a taker processed it.
 pub record TakesPieceBy
     {T A : Type 0} (is_take : T → List ℕ → A → T → Type 0) (old new : Option (List ℕ))
     (before : T) (answer : A) (after : T)
@@ -50,9 +50,9 @@ pub record TakesPieceBy
   pub consumed : Consumes old new bytes
   pub takes : is_take before bytes answer after
 
--- What came, by the bytes that were to come before, those that are to come then, and those that the
--- device has still to give; and what a taker did that is called for a piece. A piece is taken
--- whole. Where none came nothing is taken; where a read failed it failed within the next one.
+-- The effect of a call of `next`. `old` and `new` are the bytes left before and after it, `behind`
+-- those that the device has left. A packet is consumed completely, and the taker processes it.
+-- Otherwise nothing is consumed; a failure happened within the next packet.
 abbrev pub Advances : {T A E : Type 0}
     → Option (List ℕ) → Option (List ℕ) → Option (List ℕ)
     → (T → List ℕ → A → T → Type 0) → T → T → Result (Came A) E → Type 0
@@ -65,32 +65,33 @@ Advances old new behind is_take before after (Ok (Rest f)) =
 Advances old new behind is_take before after (Err e) =
     Keeps old new × FailsWithin old behind × (after ≡ before)
 
--- It was told that no piece begins what is left.
+-- The result says that the remaining bytes begin no packet.
 abbrev pub tells_rest : {A E : Type 0} → Result (Came A) E → Bool
 tells_rest (Ok (Rest f)) = true
 tells_rest _ = false
 
--- It is not known of any that it asks no device.
+-- Nothing is known about avoiding calls of the device.
 abbrev pub never_ready : {P : Type 0} → P → Bool
 never_ready pieces = false
 
--- None holds its device by a reference.
+-- It borrows no device.
 abbrev pub lends_none : {P : Type 0} → P → List GName
 lends_none pieces = []
 
--- ---- of a source
+-- ---- reading from a source
 
--- The bytes that are held, and then those that a source tells.
+-- The buffered bytes, then those of the source, if they are known.
 abbrev pub held_then : List ℕ → Option (List ℕ) → Option (List ℕ)
 held_then [] told = told
 held_then (x ∷ held) told = prepend_known (x ∷ held) told
 
--- The source lends the next piece whole, or no piece is read further than it lends.
+-- The next packet needs no call of the source's device: the source lends it completely, or has an
+-- invalid start code or length in the bytes that it lends.
 abbrev pub lends_piece : List ℕ → List ℕ → Bool
 lends_piece [] lent = holds_packet lent
 lends_piece (x ∷ held) lent = false
 
--- What these bytes are, which were read for one piece.
+-- The meaning of the bytes that were read for one packet.
 abbrev pub AreRead : {E : Type 0} → Option (List ℕ) → List ℕ → Result (Came (Unit {0})) E → Type 0
 AreRead new bytes (Ok End) = (bytes ≡ []) × IsAtEnd new
 AreRead new bytes (Ok (Piece answer)) =
@@ -98,16 +99,17 @@ AreRead new bytes (Ok (Piece answer)) =
 AreRead new bytes (Ok (Rest f)) = ShowRest new bytes f
 AreRead new bytes (Err e) = IsBegun bytes
 
--- These bytes were read for one piece.
+-- These bytes were read for one packet.
 pub record ReadsForPiece
     {E : Type 0} (old new : Option (List ℕ)) (bytes : List ℕ) (result : Result (Came (Unit {0})) E)
     : Type 0 where
   pub consumed : Consumes old new bytes
   pub are_read : AreRead new bytes result
 
--- ---- several
+-- ---- several packets
 
--- Of the first n pieces k were passed over: what is left to be passed over is what is left of all.
+-- Of the first n packets, k were skipped; skipping the others from here gives the same as skipping
+-- all from the start.
 abbrev pub HasPassed : ℕ → ℕ → Option (List ℕ) → Option (List ℕ) → Type 0
 HasPassed n k old new =
     IfKnown old (λ bytes. (rest : List ℕ)
@@ -115,42 +117,42 @@ HasPassed n k old new =
     × (behind_pieces n bytes ≡ behind_pieces (n - k) rest)
     × (count_pieces n bytes ≡ k + count_pieces (n - k) rest))
 
--- The first n pieces were passed over, or all where there are fewer, and this is their number.
+-- The first n packets were skipped, or all if there are fewer, and `passed` is their number.
 abbrev pub Passes : ℕ → Option (List ℕ) → Option (List ℕ) → ℕ → Type 0
 Passes n old new passed =
     IfKnown old (λ bytes. (new ≡ Some (behind_pieces n bytes)) × (passed ≡ count_pieces n bytes))
 
--- ---- so many at most
+-- ---- a limited number of packets
 
--- No more may come.
+-- No more packets may come.
 abbrev pub is_over : Option ℕ → Bool
 is_over None = false
 is_over (Some zero) = true
 is_over (Some (suc n)) = false
 
--- One less may come.
+-- One fewer may come.
 abbrev pub one_less : Option ℕ → Option ℕ
 one_less None = None
 one_less (Some zero) = Some zero
 one_less (Some (suc n)) = Some n
 
--- How many may come then.
+-- How many may come after this result.
 abbrev pub left_after : {A : Type 0} → Option ℕ → Came A → Option ℕ
 left_after left End = left
 left_after left (Piece answer) = one_less left
 left_after left (Rest f) = None
 
--- The bytes that are still to come.
+-- The bytes that are left under the limit.
 abbrev pub limited_known : Option ℕ → Option (List ℕ) → Option (List ℕ)
 limited_known None told = told
 limited_known (Some n) told = option_map (limited (Some n)) told
 
--- It was told that no piece begins what is left: then no number holds.
+-- After bytes that begin no packet there is no limit.
 abbrev pub limited_rest : Option ℕ → Bool → Bool
 limited_rest None rest = rest
 limited_rest (Some n) rest = false
 
--- The bytes that follow those that were read.
+-- The bytes that the device has left, under the limit.
 abbrev pub limited_behind : Option ℕ → Option (List ℕ) → Option (List ℕ) → Option (List ℕ)
 limited_behind None known behind = behind
 limited_behind (Some n) known behind = option_map (limited (Some n)) known

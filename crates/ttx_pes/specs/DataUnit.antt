@@ -1,5 +1,5 @@
--- Data units of a PES data field (EN 300 472, syntax of the PES data field): 46 bytes each, of
--- which some carry a Teletext packet and the others are passed over.
+-- Data units of a PES data field (EN 300 472, syntax of the PES data field): 46 bytes each. Some
+-- carry a Teletext packet, the others are ignored.
 use Rattle.std.specs.Prelude.{◌≡◌, ℕ, zero, suc, ◌+◌, ◌-◌, ◌*◌, ◌<◌, ◌≤◌, Bool, false, ◌==◌, ◌||◌}
 use Rattle.std.specs.Prelude.{List, [], ◌∷◌, ◌++◌, length, map, replicate, Option, Some, None}
 use Rattle.std.specs.Option.{option_to_list}
@@ -14,7 +14,7 @@ pub record UnitValue : Type 0 where
   pub line : ℕ
   pub packet : List ℕ
 
--- The bytes of a data unit.
+-- Size of a data unit in bytes.
 abbrev pub data_unit_size : ℕ
 data_unit_size = 46
 
@@ -38,14 +38,14 @@ data_unit_length = 0x2C
 abbrev pub framing_code : ℕ
 framing_code = 0xE4
 
--- The values that a Teletext unit can have.
+-- The possible values of a Teletext unit.
 pub record IsUnit (u : UnitValue) : Type 0 where
   pub id : (teletext_id ≤ u.id) × (u.id ≤ subtitle_id)
   pub field : (1 ≤ u.field) × (u.field ≤ 2)
   pub line : u.line < 32
   pub packet : IsPacket u.packet
 
--- Whether a data unit with that data_unit_id carries a Teletext packet.
+-- A data unit with this data_unit_id carries a Teletext packet.
 abbrev pub is_teletext : ℕ → Bool
 is_teletext id = (id == teletext_id) || (id == subtitle_id)
 
@@ -59,9 +59,9 @@ field_and_line reserved u = 64 * reserved + 32 * (2 - u.field) + u.line
 --   1      data_unit_length  2C
 --   2      reserved (2 bits), field_parity (1 in the first field), line_offset (5 bits)
 --   3      framing_code      E4
---   4..45  the packet, the bits of each byte in the other order: Teletext sends bit 1 first
+--   4..45  the packet, the bits of each byte reversed: Teletext sends bit 1 first
 --
--- The reserved bits may be anything, since a reader does not look at them.
+-- The reserved bits may have any value, since a reader ignores them.
 pub record IsTeletextUnit (u : UnitValue) (b : List ℕ) : Type 0 where
   pub reserved : ℕ
   pub two_bits : reserved < 4
@@ -69,7 +69,7 @@ pub record IsTeletextUnit (u : UnitValue) (b : List ℕ) : Type 0 where
       b ≡ u.id ∷ data_unit_length ∷ field_and_line reserved u ∷ framing_code ∷ map mirror u.packet
   pub is_unit : IsUnit u
 
--- A data unit with any other data_unit_id, 46 bytes, of which only the first two are looked at.
+-- A data unit with any other data_unit_id, 46 bytes, of which a reader checks only the first two.
 pub record IsPassedUnit (b : List ℕ) : Type 0 where
   pub id : ℕ
   pub rest : List ℕ
@@ -77,12 +77,12 @@ pub record IsPassedUnit (b : List ℕ) : Type 0 where
   pub other : is_teletext id ≡ false
   pub size : length rest ≡ data_unit_length
 
--- A data unit, and the Teletext unit that it is, if it is one.
+-- A data unit, and its Teletext unit, if it carries one.
 abbrev pub IsDataUnit : Option UnitValue → List ℕ → Type 0
 IsDataUnit (Some u) b = IsTeletextUnit u b
 IsDataUnit None b = IsPassedUnit b
 
--- n data units one after the other, and the Teletext units among them in their order.
+-- n consecutive data units, and the Teletext units among them in order.
 abbrev pub AreDataUnits : ℕ → List UnitValue → List ℕ → Type 0
 AreDataUnits zero units b = (units ≡ []) × (b ≡ [])
 AreDataUnits (suc n) units b =
@@ -90,7 +90,7 @@ AreDataUnits (suc n) units b =
     × IsDataUnit u first × AreDataUnits n others rest
     × (units ≡ option_to_list u ++ others) × (b ≡ first ++ rest)
 
--- The data unit that is written of a Teletext unit: both reserved bits 1.
+-- The data unit that is written for a Teletext unit, with both reserved bits 1.
 abbrev pub teletext_unit : UnitValue → List ℕ
 teletext_unit u = u.id ∷ data_unit_length ∷ field_and_line 3 u ∷ framing_code ∷ map mirror u.packet
 

@@ -1,11 +1,10 @@
--- The number and the name by which a fault of a PES packet is told (own), which faults are those of
--- a device, and after which reading can go on.
+-- The number and the name of a fault in reports (own), the faults of a device, and the faults after
+-- which reading can continue.
 use Rattle.std.specs.Prelude.{Bool, true, false, codes}
 use Rattle.sub_io.specs.FaultCode.{FaultCodeValue, fault_code}
 use Rattle.ttx_pes.specs.declared.fault.PesFault.{PesFault}
 use Rattle.ttx_pes.specs.declared.fault.PesFault.TheVariants as fault
 
--- The number and the name that a fault is told by.
 abbrev pub pes_code : PesFault → FaultCodeValue
 pes_code fault.Truncated = fault_code 30 (codes "Truncated")
 pes_code fault.Start = fault_code 31 (codes "Start")
@@ -24,7 +23,7 @@ pes_code fault.Ended = fault_code 43 (codes "Ended")
 pes_code fault.TooMany = fault_code 44 (codes "TooMany")
 pes_code fault.Lost = fault_code 45 (codes "Lost")
 
--- The fault is one of a packet that is as long as its length field says: another may follow it.
+-- The fault is in a packet that is as long as its length field says, so another packet may follow.
 abbrev pub is_of_piece : PesFault → Bool
 is_of_piece fault.Flags = true
 is_of_piece fault.NoTime = true

@@ -17,8 +17,8 @@ use Rattle.ttx_pes.specs.Refusal.{told_fault, FailFirst}
 use Rattle.ttx_pes.specs.declared.fault.PesFault.{PesFault}
 use Rattle.ttx_pes.specs.declared.fault.PesFault.TheVariants.{TooMany}
 
--- A packet has one value, and no packet is a proper prefix of another.
--- So a file falls into PES packets in one way.
+-- A valid packet has one value, and none is a proper prefix of another. So a file splits into PES
+-- packets in only one way.
 abbrev pub LawOfOneValue : Type 0
 LawOfOneValue =
     (a b x y : List ℕ) (v w : PesValue)
@@ -27,23 +27,23 @@ LawOfOneValue =
     → a ++ x ≡ b ++ y
     → (a ≡ b) × (v ≡ w)
 
--- The value of a packet is one that a frame can hold.
+-- The value of a valid packet fits in a frame.
 abbrev pub LawOfPacketValue : Type 0
 LawOfPacketValue = (v : PesValue) (b : List ℕ) → IsPesPacket v b → IsPesValue v
 
--- The canonical packet of each value that a frame can hold is a packet of that value.
--- So what is written of a frame means that frame.
+-- The canonical packet of each value that fits in a frame is a valid packet with that value. So the
+-- bytes written for a frame mean that frame.
 abbrev pub LawOfCanonicalPacket : Type 0
 LawOfCanonicalPacket = (v : PesValue) → IsPesValue v → IsPesPacket v (canonical_packet v)
 
--- A packet is read as its value, whatever follows it.
--- So a reader refuses nothing that the grammar has.
+-- A valid packet is read as its value, whatever follows it. So a reader rejects nothing that
+-- matches the grammar.
 abbrev pub LawOfReading : Type 0
 LawOfReading =
     (v : PesValue) (b rest : List ℕ) → IsPesPacket v b → packet_at (b ++ rest) ≡ Ok (v, rest)
 
--- What is read as a value is a packet of that value.
--- So a reader accepts nothing that the grammar does not have.
+-- Bytes that are read as a value are a valid packet with that value. So a reader accepts nothing
+-- that does not match the grammar.
 abbrev pub LawOfGrammar : Type 0
 LawOfGrammar =
     (v : PesValue) (bytes rest : List ℕ)
@@ -51,10 +51,10 @@ LawOfGrammar =
     → packet_at bytes ≡ Ok (v, rest)
     → (b : List ℕ) × IsPesPacket v b × (bytes ≡ b ++ rest)
 
--- Where no packet is read, the fault is that of the first question in which the bytes fail: some
--- packet of the grammar agrees with them in all that is asked before, none in what is asked there.
--- Where they fail in a question no packet is read.
--- So the numbers of refusals can be told from the grammar and the order of the questions alone.
+-- If no packet is read, the fault is that of the first check that the bytes fail: some packet of
+-- the grammar agrees with them in everything checked before, and none agrees with them there too.
+-- If they fail a check, no packet is read. So the grammar and the order of the checks determine the
+-- number of each fault.
 abbrev pub LawOfRefusal : Type 0
 LawOfRefusal =
     (bytes : List ℕ)
@@ -64,10 +64,9 @@ LawOfRefusal =
     → (question : ℕ) × (told_fault bytes question ≡ f) × FailFirst question bytes)
     × ((question : ℕ) → FailFirst question bytes → (f : PesFault) × (packet_at bytes ≡ Err f))
 
--- An answer says of the bytes to come, in the words of the grammar: at the end there are none, a
--- fault of the format means that no PES packet begins them, and more than a day has frames that
--- one is left.
--- So who knows that bytes decide an answer knows what it says of them.
+-- What an answer means for the remaining bytes, in terms of the grammar: at the end there are none;
+-- after a fault of the format they begin with no valid PES packet; after `TooMany` there are more.
+-- So where bytes determine an answer, it is known what the answer says about them.
 abbrev pub LawOfAnswers : Type 0
 LawOfAnswers =
     (given : ℕ) (bytes : List ℕ)
@@ -78,8 +77,8 @@ LawOfAnswers =
     → BeginsNone bytes)
     × (answer_at given bytes ≡ Err TooMany → 0 < length bytes)
 
--- What was written of a frame is read as that frame, whatever follows, and what follows is left.
--- So a schedule that was written is the schedule that is read.
+-- The bytes written for a frame are read as that frame, whatever follows, and what follows is left.
+-- So a schedule is read as it was written.
 abbrev pub LawOfReadingBack : Type 0
 LawOfReadingBack =
     (given : ℕ) (v : PesValue) (rest : List ℕ)
@@ -88,14 +87,14 @@ LawOfReadingBack =
     → (answer_at given (canonical_packet v ++ rest) ≡ Ok (Some v))
     × (rest_after (canonical_packet v ++ rest) ≡ rest)
 
--- Units are in line order exactly where of each two that name a line the later one's place is
--- after the earlier one's.
--- So the order is a fact of pairs, and nothing of a place that is carried along has to be known.
+-- Units are in line order exactly if, of any two with a defined line, the later one comes later in
+-- that order. So the order is a property of pairs, independent of the place carried along in the
+-- definition.
 abbrev pub LawOfLineOrder : Type 0
 LawOfLineOrder = (units : List UnitValue) → AreInLineOrder 0 units ↔ AllPairs RisesTo units
 
--- Packets that are sent as one frame make a value that a frame can hold, and are its units'
--- packets.
+-- Teletext packets that are sent as one frame make a value that fits in a frame, and its units
+-- carry these packets.
 abbrev pub LawOfNumberedFrame : Type 0
 LawOfNumberedFrame =
     (pts : ℕ) (packets : List (List ℕ))
@@ -105,17 +104,16 @@ LawOfNumberedFrame =
     → IsPesValue (numbered_frame pts packets)
     × (map (λ (u : UnitValue). u.packet) (numbered_units 0 packets) ≡ packets)
 
--- Bytes fall into the pieces that are read of them: the longest list of byte strings, each as long
--- as its length field says, that, joined, begins the bytes. What is read of a piece is what the
--- grammar says of it, or its fault.
--- So what is told of pieces that are passed over is told of all of them, and of nothing else.
+-- Bytes split into the PES packets that are read from them: the longest list of byte strings with
+-- correct length fields that, joined, begins the bytes. Each packet is read as its value by the
+-- grammar, or its fault. So skipped packets are reported completely, and nothing else is.
 abbrev pub LawOfPieces : Type 0
 LawOfPieces = (bytes : List ℕ) → AreBytes bytes → FallInto bytes (pieces_after 0 bytes)
 
--- A range of a file that falls into pieces, and a rest that no piece begins, is those of its pieces
--- that have the numbers of the range, and the rest where the file has no piece of the last number.
--- Its first piece has as many before it as the range says, if there are so many.
--- So what is read of a range is what the file has there, and numbers are those of the file.
+-- A range of a file that splits into packets and a rest that begins no packet has the packets with
+-- the numbers of the range, and the rest if the file has no packet with the last number. As many
+-- packets precede its first one as the range says, if there are so many. So a range reads the same
+-- packets as the file has there, with the same numbers.
 abbrev pub LawOfRanges : Type 0
 LawOfRanges =
     (first : ℕ) (last : Option ℕ) (pieces : List (List ℕ)) (rest : List ℕ)

@@ -1,5 +1,4 @@
--- What comes of a file of PES packets, whole: one packet after the other, and then the end or a
--- fault.
+-- The result of reading a whole file of PES packets: its packets, then the end or a fault.
 use Rattle.std.specs.Prelude.{◌≡◌, ℕ, Bool, true, false, List, [], ◌∷◌, Option, Some, None, Result}
 use Rattle.std.specs.Prelude.{Ok, Err}
 use Rattle.ttx_pes.specs.declared.fault.PesFault.{PesFault}
@@ -9,27 +8,27 @@ use Rattle.ttx_pes.specs.Pieces.{pieces_after}
 use Rattle.ttx_pes.specs.Reading.{is_format_fault}
 use Rattle.ttx_pes.specs.Reader.{FailsWithin, TakesPesPacket, TakesRefused}
 
--- What a file of PES packets gives: packets, and then the end or a fault.
+-- The packets of a file, then the end or a fault.
 pub data PesOutcome : Type 0 where
   ends : PesOutcome
   fails : PesFault → PesOutcome
   gives : PesValue → PesOutcome → PesOutcome
 
--- What is read up to the first piece that is refused, or else to the end of what is left.
+-- The result up to the first rejected packet, or to the end of the remaining bytes.
 abbrev pub until_refused : List (Result PesValue PesFault) → Option PesFault → PesOutcome
 until_refused [] None = ends
 until_refused [] (Some f) = fails f
 until_refused (Ok v ∷ pieces) left = gives v (until_refused pieces left)
 until_refused (Err f ∷ pieces) left = fails f
 
--- What the bytes that are left after `given` PES packets give: a reader that stops at the first
--- fault gives what one gives that reads on, up to there.
+-- The result for the bytes after `given` PES packets. A reader that stops at the first fault
+-- agrees, up to there, with one that continues.
 unfoldable pub outcome_after : ℕ → List ℕ → PesOutcome
 outcome_after given bytes =
     let value = pieces_after given bytes in until_refused value.pieces value.left
 
--- These PES packets were taken of a source. Where it failed, it failed within the next one; where
--- the next one is refused for a fault of the format, bytes that were taken of it show that fault.
+-- These PES packets were consumed from a source. If it failed, it failed within the next one. If
+-- the next one is rejected for a fault of the format, the bytes consumed show that fault.
 abbrev pub ReadsPackets : Bool → Option (List ℕ) → PesOutcome → Option (List ℕ) → Type 0
 ReadsPackets failed known ends left = failed ≡ false
 ReadsPackets failed known (fails f) left =

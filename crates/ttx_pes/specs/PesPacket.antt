@@ -1,4 +1,4 @@
--- PES packets with EBU Teletext (EN 300 472): the grammar, and the one packet that is written.
+-- PES packets with EBU Teletext (EN 300 472): the grammar, and the packet that is written.
 use Rattle.std.specs.Prelude.{◌≡◌, ℕ, zero, suc, ◌+◌, ◌-◌, ◌*◌, ◌/◌, ◌%◌, ◌^◌, ◌<◌, ◌≤◌, List, []}
 use Rattle.std.specs.Prelude.{◌∷◌, ◌++◌, length, replicate}
 use Rattle.std.specs.List.{flat_map, AllByRecursion}
@@ -7,7 +7,7 @@ use Rattle.ttx_pes.specs.DataUnit.{UnitValue, IsUnit, AreDataUnits, teletext_uni
 use Rattle.ttx_pes.specs.DataUnit.{stuffing_unit}
 use Rattle.ttx_pes.specs.LineOrder.{AreInLineOrder, numbered_units}
 
--- What a PES packet carries: its PTS in ticks of 90 kHz, and its Teletext units in order.
+-- The contents of a PES packet: its PTS in ticks of 90 kHz, and its Teletext units in order.
 pub record PesValue : Type 0 where
   pub pts : ℕ
   pub units : List UnitValue
@@ -20,23 +20,23 @@ empty_value = record { pts = 0; units = [] }
 abbrev pub packet_start : List ℕ
 packet_start = 0x00 ∷ 0x00 ∷ 0x01 ∷ 0xBD ∷ []
 
--- The bytes of a payload: a PES packet fills 1 to 9 of them.
+-- Size of a payload in bytes. A PES packet fills 1 to 9 payloads.
 abbrev pub payload_size : ℕ
 payload_size = 184
 
--- The bytes of the longest packet, nine payloads.
+-- Size of the longest packet in bytes, nine payloads.
 abbrev pub longest_packet : ℕ
 longest_packet = 1656
 
--- The bytes of a packet before its data units.
+-- The number of bytes before the data units.
 abbrev pub header_size : ℕ
 header_size = 46
 
--- The Teletext units of a packet at most: nine payloads have room for these.
+-- The maximum number of Teletext units of a packet: nine payloads hold so many.
 abbrev pub most_units : ℕ
 most_units = 35
 
--- PES_packet_length of n payloads: the first 6 bytes of the packet don't count.
+-- PES_packet_length of n payloads, which does not count the first 6 bytes.
 abbrev pub packet_length : ℕ → ℕ
 packet_length n = payload_size * n - 6
 
@@ -44,7 +44,7 @@ packet_length n = payload_size * n - 6
 abbrev pub header_data_length : ℕ
 header_data_length = 0x24
 
--- The PTS in five bytes. Its 33 bits are sent in three groups, each with a marker bit 1 after it:
+-- The PTS in five bytes. Its 33 bits are sent in three groups, each followed by a marker bit 1:
 --
 --   0      0010 (4 bits), bits 32 to 30, 1
 --   1      bits 29 to 22
@@ -60,15 +60,15 @@ pts_bytes pts =
     ∷ (1 + 2 * (pts % 0x80))
     ∷ []
 
--- b is a PES packet of value v, n times 184 bytes:
+-- b is a valid PES packet with value v, n times 184 bytes:
 --
 --   0..3    packet_start_code_prefix, stream_id   00 00 01 BD
 --   4..5    PES_packet_length                     184 * n - 6, high byte first
---   6       10 (2 bits), PES_scrambling_control 00, four bits that may be anything
---   7       PTS_DTS_flags 10 (a PTS alone), six flags that may be anything
+--   6       10 (2 bits), PES_scrambling_control 00, four arbitrary bits
+--   7       PTS_DTS_flags 10 (only a PTS), six arbitrary flags
 --   8       PES_header_data_length                24
 --   9..13   PTS
---   14..44  31 stuffing bytes, which may be anything
+--   14..44  31 stuffing bytes, arbitrary
 --   45      data_identifier                       10 to 1F, EBU data
 --   46..    4 * n - 1 data units of 46 bytes
 pub record IsPesPacket (v : PesValue) (b : List ℕ) : Type 0 where
@@ -93,9 +93,9 @@ pub record IsPesPacket (v : PesValue) (b : List ℕ) : Type 0 where
   pub are_units : AreDataUnits (4 * n - 1) v.units data_units
   pub in_order : AreInLineOrder 0 v.units
 
--- ---- the one packet that is written
+-- ---- the packet that is written
 
--- The least number of payloads that has room for `units` Teletext units: 3 in the first, 4 in each
+-- The smallest number of payloads that holds so many Teletext units: 3 in the first, 4 in each
 -- further one.
 unfoldable pub payloads_for : ℕ → ℕ
 payloads_for units = units / 4 + 1
@@ -105,7 +105,7 @@ abbrev pub repeated : ℕ → List ℕ → List ℕ
 repeated zero b = []
 repeated (suc n) b = b ++ repeated n b
 
--- The first 46 bytes: alignment set, a PTS alone, stuffing bytes FF, data_identifier 10.
+-- The first 46 bytes: data alignment set, only a PTS, stuffing bytes FF, data_identifier 10.
 unfoldable pub pes_packet_header : ℕ → ℕ → List ℕ
 pes_packet_header n pts =
     packet_start
@@ -114,7 +114,7 @@ pes_packet_header n pts =
     ++ (pts_bytes pts ++ (replicate 31 stuffing ++ (0x10 ∷ [])))))
 
 -- The canonical packet of a value: its units in order, then stuffing units, in the fewest payloads
--- that have room for them (own).
+-- that hold them (own).
 unfoldable pub canonical_packet : PesValue → List ℕ
 canonical_packet v =
     let n = payloads_for (length v.units) in
@@ -122,13 +122,13 @@ canonical_packet v =
     ++ (flat_map teletext_unit v.units
     ++ repeated (4 * n - 1 - length v.units) stuffing_unit)
 
--- The values that a `PesFrame` can hold: those of PES packets.
+-- The values that fit in a `PesFrame`: those of valid PES packets.
 pub record IsPesValue (v : PesValue) : Type 0 where
   pub pts : v.pts < 2 ^ 33
   pub few : length v.units ≤ most_units
   pub each : AllByRecursion IsUnit v.units
   pub in_order : AreInLineOrder 0 v.units
 
--- The value of packets that are sent as one frame.
+-- The value of Teletext packets that are sent as one frame.
 abbrev pub numbered_frame : ℕ → List (List ℕ) → PesValue
 numbered_frame pts packets = record { pts = pts; units = numbered_units 0 packets }

@@ -1,5 +1,5 @@
--- Reading a PES packet from the front of bytes: a word NAME_at gives what stands there, or the
--- first fault, in the order in which the fields stand.
+-- Reading a PES packet at the front of bytes. A function NAME_at returns what it reads there, or
+-- the first fault in the order of the fields.
 use Rattle.std.specs.Prelude.{ℕ, zero, suc, ◌+◌, ◌-◌, ◌*◌, ◌/◌, ◌%◌, ◌^◌, Bool, true, false}
 use Rattle.std.specs.Prelude.{not, ◌==◌, ◌&&◌, nat_lt, nat_le, if◌then◌else◌, List, [], ◌∷◌, ◌++◌}
 use Rattle.std.specs.Prelude.{length, take, drop, map, slice_index, Option, Some, None, Result, Ok}
@@ -14,7 +14,7 @@ use Rattle.ttx_pes.specs.DataUnit.{framing_code, stuffing}
 use Rattle.ttx_pes.specs.LineOrder.{last_place, stands_after}
 use Rattle.ttx_pes.specs.PesPacket.{PesValue, header_data_length, longest_packet, payload_size}
 
--- The Teletext unit that 46 bytes are.
+-- The Teletext unit in 46 bytes.
 abbrev pub unit_of : List ℕ → UnitValue
 unit_of b = record {
   id = slice_index b 0;
@@ -23,7 +23,7 @@ unit_of b = record {
   packet = map mirror (drop 4 b);
 }
 
--- A data unit: the Teletext unit that it is, if it is one.
+-- The Teletext unit of a data unit, if it carries one.
 unfoldable pub teletext_at : List ℕ → Result (Option UnitValue) PesFault
 teletext_at b =
     if not (slice_index b 1 == data_unit_length) then Err fault.UnitLength
@@ -31,30 +31,30 @@ teletext_at b =
     else if not (slice_index b 3 == framing_code) then Err fault.Framing
     else Ok (Some (unit_of b))
 
--- The units so far, and that unit after them, if there is one.
+-- Appends a unit, if there is one.
 abbrev pub with_unit : List UnitValue → Option UnitValue → Result (List UnitValue) PesFault
 with_unit units None = Ok units
 with_unit units (Some u) =
     if stands_after (last_place 0 units) u then Ok (units ++ u ∷ []) else Err fault.LineOrder
 
--- A data unit after the units so far.
+-- Appends the unit of a data unit.
 unfoldable pub unit_at : List UnitValue → List ℕ → Result (List UnitValue) PesFault
 unit_at units b = do
   u ← teletext_at b
   with_unit units u
 
--- n data units after the units so far.
+-- Appends the units of n data units.
 unfoldable pub units_at : ℕ → List UnitValue → List ℕ → Result (List UnitValue) PesFault
 units_at zero units b = Ok units
 units_at (suc n) units b = do
   more ← unit_at units (take data_unit_size b)
   units_at n more (drop data_unit_size b)
 
--- The byte at a place of the packet, where its first six bytes are cut off.
+-- The byte at a place of the packet, in its bytes from byte 6 on.
 abbrev pub byte_at : List ℕ → ℕ → ℕ
 byte_at b place = slice_index b (place - 6)
 
--- The 33 bits in bytes 9 to 13.
+-- The 33 bits of the PTS in bytes 9 to 13.
 abbrev pub pts_bits : List ℕ → ℕ
 pts_bits b =
     (byte_at b 9 / 2) % 8 * 2 ^ 30
@@ -71,16 +71,16 @@ has_markers b =
     && (byte_at b 11 % 2 == 1)
     && (byte_at b 13 % 2 == 1)
 
--- All bytes are FF: from byte 6 on so it is in the mark that stands where PES packets were lost
--- (own). Scrambled, or with such flags, no packet is that by chance.
+-- All bytes are FF, as from byte 6 on in a gap marker, which replaces lost PES packets (own). A
+-- packet that is scrambled or has such flags does not look like this by chance.
 abbrev pub is_filled : List ℕ → Bool
 is_filled b = list_all (λ byte. byte == stuffing) b
 
--- A piece is such a mark: it has 184 bytes.
+-- The packet is a gap marker: 184 bytes, FF from byte 6 on.
 abbrev pub is_mark : List ℕ → Bool
 is_mark piece = (length piece == payload_size) && is_filled (drop 6 piece)
 
--- What is told where byte 6 does not begin with 1000.
+-- The fault if byte 6 does not begin with 1000.
 abbrev pub flags_fault : List ℕ → PesFault
 flags_fault b = if is_filled b then fault.Lost else fault.Flags
 
@@ -109,7 +109,7 @@ is_start b =
     && (slice_index b 2 == 0x01)
     && (slice_index b 3 == 0xBD)
 
--- The size of the packet whose length bytes 4 and 5 give.
+-- The size of the packet, from its length in bytes 4 and 5.
 abbrev pub stated_size : List ℕ → ℕ
 stated_size b = 0x100 * slice_index b 4 + slice_index b 5 + 6
 
@@ -121,7 +121,7 @@ size_at b =
     Err fault.Length
     else Ok (stated_size b)
 
--- A packet's value, and the bytes after the packet.
+-- The value of a packet, and the bytes after it.
 unfoldable pub packet_at : List ℕ → Result (PesValue × List ℕ) PesFault
 packet_at b = do
   head ← (if nat_lt (length b) 6 then Err fault.Truncated else Ok (take 6 b))
@@ -130,28 +130,28 @@ packet_at b = do
   v ← value_at body
   Ok (v, drop size b)
 
--- The packets of a file at most: one for each frame of a day at 25 a second.
+-- The maximum number of packets of a file: one for each frame of a day at 25 frames per second.
 abbrev pub most_packets : ℕ
 most_packets = 2160000
 
--- What a reader answers that has given `given` packets and has these bytes to come, where its
--- source does not fail.
+-- The answer of a reader that has read `given` packets and has these bytes left, if its source does
+-- not fail.
 unfoldable pub answer_at : ℕ → List ℕ → Result (Option PesValue) PesFault
 answer_at given [] = Ok None
 answer_at given (x ∷ b) =
     if given == most_packets then Err fault.TooMany
     else (packet_at (x ∷ b) >>= λ p. Ok (Some p.0))
 
--- The bytes that are left after the packet that begins the bytes; all where none does.
+-- The bytes left after reading a packet; all if none was read.
 abbrev pub left_behind : List ℕ → Result (PesValue × List ℕ) PesFault → List ℕ
 left_behind b (Ok p) = p.1
 left_behind b (Err _) = b
 
--- The bytes after the packet that begins these bytes.
+-- The bytes after the packet at the front of these bytes.
 unfoldable pub rest_after : List ℕ → List ℕ
 rest_after b = left_behind b (packet_at b)
 
--- Whether a fault is one of the format: `Truncated` to `LineOrder`, and `Lost`.
+-- The fault is one of the format: `Truncated` to `LineOrder`, or `Lost`.
 abbrev pub is_format_fault : PesFault → Bool
 is_format_fault fault.Read = false
 is_format_fault fault.Write = false

@@ -1,15 +1,15 @@
--- Which refusal the bytes of a PES packet deserve, by the grammar alone: what is asked of them, in
--- order, and the first question in which no packet of the grammar agrees with them (EN 300 472; the
--- order of the questions is (own)). The parser says the same fault; said of it alone, that sentence
--- would need the same questions.
+-- The fault of the bytes of a PES packet, by the grammar alone: the checks in order, and the first
+-- one in which no packet of the grammar agrees with the bytes (EN 300 472; the order of the checks
+-- is (own)). The parser returns the same fault, but stating that about the parser alone would need
+-- the same checks.
 --
--- A question has a number. It asks for bytes of the packet or of data unit k, or how many bytes
--- there are, and a fault is told where the answer is wrong:
+-- A check has a number. It concerns bytes of the packet or of data unit k, or how many bytes there
+-- are, and has a fault:
 --
---   0            that there are six bytes                                       Truncated
+--   0            there are six bytes                                           Truncated
 --   1            0..3   packet_start_code_prefix, stream_id                     Start
 --   2            4..5   PES_packet_length                                       Length
---   3            that there are all bytes of the packet                         Truncated
+--   3            there are all bytes of the packet                             Truncated
 --   4            6      PES_scrambling_control, with the two bits before it     Flags, Lost
 --   5            7      PTS_DTS_flags                                           NoTime
 --   6            8      PES_header_data_length                                  HeaderLength
@@ -19,7 +19,7 @@
 --   10 + 3 * k   0, 3   data_unit_id and, of a Teletext unit, framing_code      Framing
 --   11 + 3 * k   2      field_parity and line_offset                            LineOrder
 --
--- At question 4 `Lost` is told where all bytes of the packet from 6 on are FF, else `Flags`.
+-- Check 4 gives `Lost` if all bytes of the packet from 6 on are FF, and otherwise `Flags`.
 use Rattle.std.specs.Prelude.{◌≡◌, ℕ, ◌+◌, ◌-◌, ◌*◌, ◌/◌, ◌%◌, ◌<◌, ◌≤◌, List, [], ◌∷◌, ◌++◌}
 use Rattle.std.specs.Prelude.{drop, length, replicate, slice_index, slice_index_or, take}
 use Rattle.ttx_pes.specs.declared.fault.PesFault.{PesFault}
@@ -32,36 +32,36 @@ use Rattle.ttx_pes.specs.Reading.{flags_fault}
 abbrev pub stated_body : List ℕ → List ℕ
 stated_body b = take (0x100 * slice_index b 4 + slice_index b 5) (drop 6 b)
 
--- The faults of the questions of a packet, and of those of a data unit.
+-- The faults of the checks before the data units.
 abbrev pub packet_faults : List ℕ → List PesFault
 packet_faults b =
     fault.Truncated ∷ fault.Start ∷ fault.Length ∷ fault.Truncated ∷ flags_fault (stated_body b)
     ∷ fault.NoTime ∷ fault.HeaderLength ∷ fault.Time ∷ fault.DataId ∷ []
 
--- What is refused of the fields of each data unit, in the order of the questions.
+-- The faults of the checks of each data unit, in order.
 abbrev pub unit_faults : List PesFault
 unit_faults = fault.UnitLength ∷ fault.Framing ∷ fault.LineOrder ∷ []
 
--- The fault that is told of bytes where the answer to a question is wrong.
+-- The fault of check number i for these bytes.
 abbrev pub told_fault : List ℕ → ℕ → PesFault
 told_fault b i =
     slice_index_or (packet_faults b) i (slice_index_or unit_faults (i % 3) fault.Truncated)
 
--- A number after those of all questions, for bytes that may be anything: no packet has more units.
+-- A number after those of all checks, for bytes with arbitrary values: no packet has more units.
 abbrev pub no_question : ℕ
 no_question = 9 + 3 * most_units
 
--- The numbers of the questions that ask for the bytes before the data units, one by one.
+-- For each byte before the data units, the number of its check.
 abbrev pub header_askers : List ℕ
 header_askers =
     (1 ∷ 1 ∷ 1 ∷ 1 ∷ 2 ∷ 2 ∷ 4 ∷ 5 ∷ 6 ∷ 7 ∷ 7 ∷ 7 ∷ 7 ∷ 7 ∷ [])
     ++ (replicate 31 no_question ++ (8 ∷ []))
 
--- Those of the first bytes of data unit 0.
+-- The same for the first bytes of data unit 0.
 abbrev pub unit_askers : List ℕ
 unit_askers = 10 ∷ 9 ∷ 11 ∷ 10 ∷ []
 
--- The number of the question that asks for the byte at a place.
+-- The number of the check that concerns the byte at a place.
 abbrev pub asker : ℕ → ℕ
 asker place =
     let within = place - header_size in
@@ -69,8 +69,8 @@ asker place =
     (slice_index_or unit_askers (within % data_unit_size) no_question
     + 3 * (within / data_unit_size))
 
--- The bytes agree with a packet in all that is asked before a question: there are as many, and
--- those that are asked for are the packet's, if it does not end before them.
+-- The bytes agree with a packet in all checks before this one: there are enough of them, and the
+-- bytes checked are those of the packet, as far as it goes.
 pub record AgreeBefore (question : ℕ) (bytes packet : List ℕ) : Type 0 where
   pub six : 0 < question → 6 ≤ length bytes
   pub all : 3 < question → length packet ≤ length bytes
@@ -80,8 +80,8 @@ pub record AgreeBefore (question : ℕ) (bytes packet : List ℕ) : Type 0 where
       → place < length packet
       → slice_index bytes place ≡ slice_index packet place
 
--- A question is the first in which the bytes fail: some packet of the grammar agrees with them in
--- all that is asked before, and none that does agrees in what is asked there.
+-- This is the first check that the bytes fail: some packet of the grammar agrees with them in all
+-- checks before it, and none that does agrees in this one too.
 pub record FailFirst (question : ℕ) (bytes : List ℕ) : Type 0 where
   pub value : PesValue
   pub packet : List ℕ

@@ -1,7 +1,7 @@
-//! Reading PES packets that are mostly the one before, sent again.
+//! Reads PES packets that mostly repeat the packet before.
 //!
-//! `check`, `listen` and `packets` each have their own loop over this reader: one loop for all
-//! three was proved, and took more lemmas than it saved.
+//! `check`, `listen` and `packets` each have their own loop over this reader. A common loop was
+//! tried and proved, but took more lemmas than it saved.
 ghost use Rattle.std.specs.Prelude.{◌≡◌, ℕ, ◌+◌, ◌≤◌, ◌≢◌, true, false, [], None, Ok, IfErr};
 ghost use Rattle.sub_io.specs.Device.{CanFail, CountsIf, failed};
 ghost use Rattle.ttx_pes.specs.Comparing.{as_given, behind_after, passed_over, TakesDataField};
@@ -21,29 +21,29 @@ use crate::progress::Progress;
 use crate::sent_units::SentUnits;
 use std::marker::Model;
 
-/// What a `ComparingReader` has read.
+/// The result of reading with a `ComparingReader`.
 #[derive(Clone, Copy, Debug, PartialEq, Eq)]
 pub enum Compared {
-    /// No byte is left.
+    /// The end of the file.
     End,
-    /// A PES packet with the data field, bytes 45 to the end, of the one given before it: the units
-    /// are as they were, and the PTS may be another.
+    /// A valid PES packet with the data field (bytes 45 to the end) of the packet before. Its units
+    /// are the same; its PTS may differ.
     Same,
-    /// A PES packet with another data field, or the first.
+    /// A valid PES packet with a different data field, or the first one.
     Other,
 }
 
-/// Reads PES packets as `PesReader` does, and compares the data field of each with the one before.
-/// It keeps how far it has come, the bytes of the packet, and where its Teletext units stand in
-/// them: it lends the units as they are sent, and turns no byte round.
+/// Reads PES packets like `PesReader`, and compares the data field of each with the packet before.
+/// Keeps its progress, the bytes of the packet and the positions of the Teletext units in it. It
+/// lends the units in the order of transmission, without reversing bits.
 ///
-/// A subtitle transmission sends the same page again and again: of a packet with the data field of
-/// the one before the header alone is read.
+/// A subtitle transmission repeats the same page many times. If the data field is the same, only
+/// the header of the packet is parsed.
 #[derive(Drop)]
 pub struct ComparingReader {
     progress: Progress,
-    // Directly after the fault of a piece, how many pieces were taken with it: `pass_over` goes on
-    // there, where a fault ends reading otherwise.
+    // Set after the fault of a complete packet: how many packets were consumed, including this one.
+    // `pass_over` then continues; any other fault ends reading.
     behind: Option<u32>,
     kept: KeptFrame,
 }
@@ -67,7 +67,7 @@ impl Model for ComparingReader {
         × IfSome r.behind (λ given. given ≤ most_packets) };
 }
 
-// Reads the next piece, and compares it with the one that is kept.
+// Reads the next PES packet, and compares it with the stored one.
 #[inline(always)]
 fn read_compared<P: Pieces>(
     given: u32,
@@ -108,7 +108,7 @@ fn read_compared<P: Pieces>(
 }
 
 impl ComparingReader {
-    /// A reader at the start of a file, with a frame of PTS 0 and no units.
+    /// Creates a reader at the start of a file. Its frame has PTS 0 and no units.
     pub fn new() -> Self
         ensures { result
             ≡ record { progress = Reading 0; frame = empty_value; data_field = []; behind = None } }
@@ -120,35 +120,36 @@ impl ComparingReader {
         }
     }
 
-    /// The PTS of the PES packet given last, in ticks of 90 kHz: 0 before the first packet, at the
-    /// end and after a fault.
+    /// Returns the PTS of the last PES packet in ticks of 90 kHz. It is 0 before the first packet,
+    /// at the end and after a fault.
     pub fn pts(&self) -> u64
         ensures { result ≡ self.now.frame.pts }
     {
         self.kept.pts()
     }
 
-    /// The Teletext units of the PES packet given last, in the bytes that carry them: none before
-    /// the first packet, at the end and after a fault.
+    /// Returns the Teletext units of the last PES packet, borrowed from its bytes. There are none
+    /// before the first packet, at the end and after a fault.
     pub fn units(&self) -> SentUnits<'_>
         ensures value { result ≡ self.now.frame.units }
-        // What each PES packet holds.
+        // Holds for every valid PES packet.
         ensures frame { IsPesValue self.now.frame }
     {
         self.kept.units()
     }
 
-    /// Reads the next PES packet, and tells whether its data field is that of the one before
-    /// (EN 300 472, PES data field). `pts` and `units` then give its value.
+    /// Reads the next PES packet, and returns whether it has the data field of the packet before
+    /// (EN 300 472, PES data field). `pts` and `units` then return its value.
     ///
-    /// `Same` and `Other` take exactly the packet's bytes, 184 to 1656 of them. `End` at the end of
-    /// the source, and again at each later call.
+    /// `Same` and `Other` consume exactly the packet's bytes, 184 to 1656. Returns `End` at the end
+    /// of the source and at each later call.
     ///
     /// # Errors
     ///
-    /// Those of `PesReader::next`, in its order: the header of each packet is read, and the units
-    /// of a data field that is sent again were read before. After `Flags` to `LineOrder` exactly
-    /// the packet's bytes were taken, and `pass_over` lets reading go on.
+    /// Returns the errors of `PesReader::next`, in the same order: the header of each packet is
+    /// checked, and the units of a repeated data field were checked before. After `Flags` to
+    /// `LineOrder`, exactly the packet's bytes were consumed, and `pass_over` allows reading to
+    /// continue.
     #[inline(always)]
     pub fn next<P: Pieces>(&mut self, pieces: &mut P) -> Result<Compared, PesFault>
         requires { CanFail (P.failure_count pieces.old) }
@@ -157,26 +158,26 @@ impl ComparingReader {
         ensures taken { as_given result ≡ Ok true → TakesDataField (P.remaining pieces.old)
             (P.left pieces.new) self.new.frame self.new.data_field }
         ensures empty { as_given result ≢ Ok true → self.new.frame ≡ empty_value }
-        // What is compared.
+        // The meaning of `Same` and `Other`.
         ensures same { result ≡ Ok Same → self.new.data_field ≡ self.old.data_field }
         ensures units { result ≡ Ok Same → self.new.frame.units ≡ self.old.frame.units }
         ensures other { result ≡ Ok Other → self.new.data_field ≢ self.old.data_field }
 
-        // After the fault of a piece its bytes were taken.
+        // After the fault of a complete packet, its bytes were consumed.
         ensures piece { IfErr result (λ fault. is_of_piece fault ≡ true
             → TakesPiece (P.remaining pieces.old) (P.left pieces.new) fault) }
         ensures behind { self.new.behind ≡ behind_after self.old.progress result }
         ensures progress { self.new.progress
             ≡ progress_after self.old.progress (given_frame (as_given result) self.new.frame) }
         ensures few { (given : ℕ) → self.new.progress ≡ Reading given → given ≤ most_packets }
-        // After the end and after a fault nothing is taken.
+        // Consumes nothing after the end or a fault.
         ensures at_end { self.old.progress ≡ AtEnd → pieces.new ≡ pieces.old }
         ensures broken { self.old.progress ≡ Broken → pieces.new ≡ pieces.old }
-        // What was read is taken where a packet is given, and after the fault of a piece.
+        // After a valid packet, or the fault of a complete one, no bytes have been read ahead.
         ensures settled { as_given result ≡ Ok true → P.left pieces.new ≡ P.remaining pieces.new }
         ensures piece_settled { IfErr result (λ fault. is_of_piece fault ≡ true
             → P.left pieces.new ≡ P.remaining pieces.new) }
-        // Where no device is asked, none fails.
+        // Cannot fail if no device is called.
         ensures ready { P.ready pieces.old ≡ true → failed is_read result ≡ false }
         ensures device { P.device pieces.new ≡ P.device pieces.old }
         ensures count { CountsIf P.failure_count pieces.old (failed is_read result) pieces.new }
@@ -210,7 +211,7 @@ impl ComparingReader {
         }
     }
 
-    // Lends nothing, and gives this answer.
+    // Clears the frame, and returns this answer.
     #[inline(always)]
     fn give_none(&mut self, answer: Result<Compared, PesFault>) -> Result<Compared, PesFault>
         ensures answer { result ≡ answer }
@@ -220,8 +221,8 @@ impl ComparingReader {
         answer
     }
 
-    /// Goes on behind the piece whose fault was answered last: one of what stands in a packet that
-    /// is as long as its length field says. After any other answer nothing is done.
+    /// Continues after a packet with a fault, if the last answer was the fault of a complete
+    /// packet, whose length field says where it ends. Does nothing after any other answer.
     pub fn pass_over(&mut self)
         ensures over { self.new ≡ passed_over self.old }
         ensures few { (given : ℕ) → self.new.progress ≡ Reading given → given ≤ most_packets }

@@ -1,4 +1,4 @@
-//! Data units, read and written (EN 300 472, data unit syntax).
+//! Reads and writes data units (EN 300 472, data unit syntax).
 ghost use Rattle.std.specs.Prelude.{◌≡◌, ◌+◌, ◌*◌, ◌≤◌, ◌++◌, true, length, Ok, Err, OnOk};
 ghost use Rattle.std.specs.Prelude.{IfErr, IfOk, slice_index};
 ghost use Rattle.ttx_pes.specs.DataUnit.{data_unit_size, teletext_unit, stuffing_unit};
@@ -13,16 +13,16 @@ use crate::unit::Unit;
 use crate::writer::{Bytes, add};
 use ttx_packet::{Packet, mirrored};
 
-/// The bytes of a data unit.
+/// Size of a data unit in bytes.
 pub(crate) const DATA_UNIT: usize = 46;
 
-// data_unit_length of each.
+// data_unit_length of every data unit.
 const LENGTH: u8 = 0x2C;
 
 // The framing code of a Teletext unit.
 const FRAMING: u8 = 0xE4;
 
-// Whether a data unit is a Teletext unit.
+// Returns whether a data unit carries a Teletext packet.
 #[inline(always)]
 #[tactic(auto, unfolding(crate::specs::Reading::teletext_at))]
 pub(crate) fn is_teletext(block: &[u8]) -> Result<bool, PesFault>
@@ -46,7 +46,7 @@ pub(crate) fn is_teletext(block: &[u8]) -> Result<bool, PesFault>
     Ok(true)
 }
 
-// The Teletext unit that a data unit is, if it is one.
+// Returns the Teletext unit of a data unit, if it carries one.
 fn teletext_of(block: &[u8]) -> Result<Option<Unit>, PesFault>
     requires { length block.now ≡ data_unit_size }
     ensures exact { teletext_at block.now ≡ result }
@@ -59,7 +59,7 @@ fn teletext_of(block: &[u8]) -> Result<Option<Unit>, PesFault>
     }
 }
 
-// The unit that a Teletext unit's data unit carries.
+// Decodes the Teletext unit of a data unit.
 pub(crate) fn unit_in(block: &[u8]) -> Unit
     requires block { length block.now ≡ data_unit_size }
     requires id { (2 ≤ slice_index block.now 0) × (slice_index block.now 0 ≤ 3) }
@@ -72,7 +72,7 @@ pub(crate) fn unit_in(block: &[u8]) -> Unit
     Unit::new(block[0], field, line, packet)
 }
 
-// Adds the Teletext unit that a data unit is, if it is one.
+// Appends the Teletext unit of a data unit, if it carries one.
 #[tactic(auto, unfolding(crate::specs::Reading::unit_at))]
 fn take_unit(frame: &mut PesFrame, block: &[u8]) -> Result<(), PesFault>
     requires room { length frame.old.units + 1 ≤ most_units }
@@ -91,7 +91,7 @@ fn take_unit(frame: &mut PesFrame, block: &[u8]) -> Result<(), PesFault>
     Ok(())
 }
 
-// Adds the Teletext units among that many data units, up to the first fault.
+// Appends the Teletext units of `count` data units, up to the first fault.
 #[tactic(auto, using(crate::proofs::DataUnitLemmas::units_left))]
 pub(crate) fn take_units(frame: &mut PesFrame, count: usize, blocks: &[u8]) -> Result<(), PesFault>
     requires room { length frame.old.units + count ≤ most_units }
@@ -110,7 +110,7 @@ pub(crate) fn take_units(frame: &mut PesFrame, count: usize, blocks: &[u8]) -> R
     Ok(())
 }
 
-// Adds the data unit of a Teletext unit.
+// Appends the data unit of a Teletext unit.
 pub(crate) fn add_unit(out: &mut Bytes, unit: &Unit)
     requires { length out.old.items + data_unit_size ≤ longest_packet }
     ensures items { out.new.items ≡ out.old.items ++ teletext_unit unit.now }
@@ -121,7 +121,7 @@ pub(crate) fn add_unit(out: &mut Bytes, unit: &Unit)
     add(out, &unit.packet().mirrored());
 }
 
-// Adds a stuffing unit.
+// Appends a stuffing unit.
 pub(crate) fn add_stuffing(out: &mut Bytes)
     requires { length out.old.items + data_unit_size ≤ longest_packet }
     ensures items { out.new.items ≡ out.old.items ++ stuffing_unit }

@@ -1,11 +1,11 @@
-//! Why a PES packet is not read or not written.
+//! Faults of reading and writing PES packets.
 ghost use Rattle.std.specs.Prelude.{◌≡◌};
 ghost use Rattle.ttx_pes.specs.declared.fault.PesFault.TheVariants.{Read};
 
 use sub_io::{Failed, FaultCode};
 
-/// Why a PES packet is not read or not written (EN 300 472), in the order of the faults' numbers.
-/// `PesReader::next` says in which order a reader looks.
+/// A fault of reading or writing a PES packet (EN 300 472), in the order of their numbers.
+/// `PesReader::next` documents the order of the checks.
 #[derive(Clone, Copy, Debug, PartialEq, Eq)]
 pub enum PesFault {
     /// The bytes end within a packet.
@@ -15,38 +15,39 @@ pub enum PesFault {
     Start,
     /// PES_packet_length does not give a packet of 1 to 9 times 184 bytes.
     Length,
-    /// Byte 6 does not begin with 1000: 10 and PES_scrambling_control 00.
+    /// Byte 6 does not begin with 1000: the bits 10, then PES_scrambling_control 00.
     Flags,
-    /// PTS_DTS_flags is not 10: there is no PTS, or a DTS too.
+    /// PTS_DTS_flags is not 10: there is no PTS, or also a DTS.
     NoTime,
     /// PES_header_data_length is not 24 (hexadecimal).
     HeaderLength,
     /// The PTS does not begin with 0010, or one of its three marker bits is 0.
     Time,
-    /// data_identifier is not 10 to 1F (hexadecimal), those of EBU data.
+    /// data_identifier is not in the range 10 to 1F (hexadecimal) of EBU data.
     DataId,
     /// data_unit_length of a data unit is not 2C (hexadecimal).
     UnitLength,
     /// The framing code of a Teletext unit is not E4 (hexadecimal).
     Framing,
-    /// A Teletext unit's line does not come after the one before it in its packet (own).
+    /// The line of a Teletext unit does not follow those of the units before it in the packet
+    /// (own).
     LineOrder,
     /// The source failed.
     Read,
     /// The sink failed.
     Write,
-    /// There was a fault before.
+    /// A fault occurred before.
     Ended,
-    /// A byte follows 2,160,000 packets, one for each frame of a day (own).
+    /// More bytes follow 2,160,000 packets, one for each frame of a day (own).
     TooMany,
-    /// All bytes from 6 on are FF: the mark that stands where PES packets were lost (own).
+    /// All bytes from 6 on are FF: a gap marker, which replaces lost PES packets (own).
     Lost,
 }
 
 impl PesFault {
     ghost use Rattle.ttx_pes.specs.Fault.{is_of_piece, pes_code};
 
-    /// The number and the name by which the fault is told (own).
+    /// Returns the number and the name of the fault in reports (own).
     pub fn code(self) -> FaultCode
         ensures { result ≡ pes_code self }
     {
@@ -70,8 +71,8 @@ impl PesFault {
         }
     }
 
-    /// Whether it is a fault of what stands in a packet that is as long as its length field says
-    /// (EN 300 472, PES_packet_length): it is known then where the next one begins.
+    /// Returns whether the fault is in the contents of a packet that is as long as its length field
+    /// says (EN 300 472, PES_packet_length). Then it is known where the next packet begins.
     pub fn is_of_piece(self) -> bool
         ensures { result ≡ is_of_piece self }
     {

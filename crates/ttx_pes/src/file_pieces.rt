@@ -1,4 +1,4 @@
-//! The pieces of a source that gives the bytes of a PES file.
+//! The PES packets of a source with the bytes of a PES file.
 ghost use Rattle.std.specs.Prelude.{◌≡◌, ◌≤◌, [], ◌∷◌, IfNone, IfSome, Ok, Some, length, take};
 ghost use Rattle.std.specs.Prelude.{true};
 ghost use Rattle.sub_io.specs.Device.{CanFail};
@@ -13,16 +13,16 @@ use crate::piece_room::{PieceRoom, front_of};
 use crate::pieces::{Came, Pieces, REST_ROOM, TakePiece};
 use sub_io::{Failed, Source};
 
-/// Gives the pieces of a PES file. One that the source lends whole is taken where it stands.
+/// Reads the PES packets of a PES file. A packet that the source lends completely is not copied.
 #[derive(Drop)]
 pub struct FilePieces<'a, S> {
     source: &'a mut S,
-    // What was read of a piece that the source has not lent whole.
+    // The bytes read so far of a packet that the source did not lend completely.
     begun: PieceRoom,
 }
 
 impl<'a, S: Source> FilePieces<'a, S> {
-    /// The pieces of what the source has still to give.
+    /// Creates a reader of the PES packets that the source has left.
     pub fn new(source: &'a mut S) -> Self
         ensures none { result.begun ≡ [] }
         ensures same { result.source.ghost_name ≡ source.entry.ghost_name }
@@ -35,7 +35,7 @@ impl<'a, S: Source> FilePieces<'a, S> {
     }
 }
 
-// The size of the piece that begins the bytes, if a whole one does.
+// Returns the size of the PES packet at the front of `bytes`, if it is complete.
 #[inline(always)]
 fn whole_size(bytes: &[u8]) -> Option<usize>
     ensures told { IfSome result (λ size. size_at (take 6 bytes.now) ≡ Ok size) }
@@ -57,8 +57,8 @@ fn whole_size(bytes: &[u8]) -> Option<usize>
     }
 }
 
-// Has a taker take the next piece where the source lends it, and passes over it. `None` where it
-// does not lend it whole: then nothing was done.
+// Lets `taker` process the next packet if the source lends it completely, and skips it. Otherwise
+// does nothing and returns `None`.
 #[inline(always)]
 fn take_lent<S: Source, T: TakePiece>(source: &mut S, taker: &mut T) -> Option<T::Answer>
     requires count { CanFail (S.failure_count source.old) }
@@ -118,7 +118,7 @@ impl<S: Source> NumberedPieces for FilePieces<'_, S> {
 
     ghost passed = { λ f. 0 };
 
-    /// 0.
+    /// Returns 0, since no packet is skipped.
     fn find_first(&mut self) -> Result<u64, FailedAt> {
         Ok(0)
     }

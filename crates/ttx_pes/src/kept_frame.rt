@@ -12,10 +12,10 @@ use crate::room_packet::RoomPacket;
 use crate::sent_units::SentUnits;
 use std::marker::Model;
 
-/// A PTS and a data field, bytes 45 to the end of a packet, with its Teletext units.
+/// A PTS and a data field (bytes 45 to the end of a packet) with its Teletext units.
 #[derive(Drop)]
 pub(crate) struct KeptFrame {
-    // The packet that is kept.
+    // The stored packet.
     room: Room,
     known: RoomPacket,
 }
@@ -33,7 +33,7 @@ impl Model for KeptFrame {
     ghost invariant = { λ k. IsInRoom (field_in k.known.count k.room) k.known };
 }
 
-// The bytes of a piece from byte 6 on.
+// Returns the bytes of a packet from byte 6 on.
 #[inline(always)]
 #[tactic(auto, using(crate::proofs::PieceRoomLemmas::piece_sized))]
 pub(crate) fn body_of_piece(piece: &[u8]) -> &[u8]
@@ -48,7 +48,7 @@ pub(crate) fn body_of_piece(piece: &[u8]) -> &[u8]
     body
 }
 
-// Puts a piece in front of the room.
+// Copies a packet to the front of the buffer.
 #[inline(always)]
 fn put_in_room(room: &mut Room, piece: &[u8])
     requires { length piece.now ≤ longest_packet }
@@ -59,7 +59,7 @@ fn put_in_room(room: &mut Room, piece: &[u8])
 }
 
 impl KeptFrame {
-    // The empty frame, and no data field.
+    // Creates an empty frame without a data field.
     pub(crate) fn new() -> Self
         ensures { result ≡ record { frame = empty_value; data_field = [] } }
     {
@@ -69,14 +69,14 @@ impl KeptFrame {
         }
     }
 
-    // The PTS.
+    // Returns the PTS.
     pub(crate) fn pts(&self) -> u64
         ensures { result ≡ self.now.frame.pts }
     {
         self.known.pts()
     }
 
-    // The Teletext units.
+    // Returns the Teletext units.
     pub(crate) fn units(&self) -> SentUnits<'_>
         ensures value { result ≡ self.now.frame.units }
         ensures frame { IsPesValue self.now.frame }
@@ -84,15 +84,15 @@ impl KeptFrame {
         self.known.units(&self.room)
     }
 
-    // Makes it as `new` does.
+    // Resets it to the state of `new`.
     pub(crate) fn clear(&mut self)
         ensures { self.new ≡ record { frame = empty_value; data_field = [] } }
     {
         self.known.clear();
     }
 
-    // Takes a piece that may be another packet. These are few packets: this stands apart, so that
-    // the others are taken quicker.
+    // Takes a packet that may differ from the stored one. Such packets are rare, so this is a
+    // function of its own, which makes the others faster.
     #[inline(never)]
     fn take_other(&mut self, piece: &[u8]) -> Result<bool, PesFault>
         requires { IsPiece piece.now }
@@ -113,14 +113,15 @@ impl KeptFrame {
 }
 
 impl TakePiece for KeptFrame {
-    // Whether it has the data field that was kept, or why it is no PES packet.
+    // `Ok(true)` if the data field is the stored one, `Ok(false)` if not, or the fault of the
+    // packet.
     type Answer = Result<bool, PesFault>;
 
     ghost is_take = { KeepsPiece };
 
-    // Keeps it, and compares it with the one that was kept. Mostly it is that one, sent again. That
-    // is looked for only where that one was sent again too: where each packet is another, none is
-    // compared twice.
+    // Stores the packet, and compares it with the stored one. Usually it is a repetition. This is
+    // tested only if the stored packet was a repetition too, so that no time is lost if every
+    // packet is different.
     #[inline(always)]
     fn take(&mut self, piece: &[u8]) -> Result<bool, PesFault> {
         if self.known.repeats() {

@@ -1,4 +1,4 @@
-//! Before a PES packet is read that its source does not lend whole, what was told is handed on.
+//! Flushes pending reports before a PES packet is read that its source does not lend completely.
 ghost use Rattle.std.specs.Prelude.{◌≡◌, OnOk, is_ok};
 ghost use Rattle.sub_io.specs.HandingOn.{HandsOnIfWaiting, HoldsWhileWaiting};
 ghost use Rattle.ttx_pes.specs.LentPacket.{NothingWaits, holds_packet};
@@ -7,9 +7,9 @@ use crate::pes_header::size_of;
 use crate::pieces::Pieces;
 use sub_io::{Live, Stopped};
 
-/// Whether bytes that a source lends hold all that is read of the next PES packet: as many as its
-/// length field says (EN 300 472, PES_packet_length). Where the start code or the length is wrong
-/// no more is read than the first of them.
+/// Returns whether lent bytes contain all that is read of the next PES packet: as many bytes as its
+/// length field says (EN 300 472, PES_packet_length). If the start code or the length is wrong,
+/// only the first six bytes are read.
 #[tactic(auto, using(crate::proofs::LentPacketLemmas::holds_none))]
 pub fn holds_packet(lent: &[u8]) -> bool
     ensures { result ≡ holds_packet lent.now }
@@ -23,12 +23,12 @@ pub fn holds_packet(lent: &[u8]) -> bool
     }
 }
 
-/// Has a device hand on what it may hold back, before the next piece is read: where that asks a
-/// device, the read may have to wait.
+/// Flushes a device that may have pending reports, before a read that may block because it calls a
+/// device.
 ///
 /// # Errors
 ///
-/// `Stopped` where the device can't.
+/// Returns `Stopped` if flushing fails.
 #[inline(always)]
 pub fn hand_on_first<P: Pieces, A: Live>(pieces: &P, device: &mut A) -> Result<(), Stopped>
     ensures call { HandsOnIfWaiting A.is_waiting A.is_handed_on device.old (is_ok result)

@@ -1,9 +1,9 @@
-//! EBU Teletext in PES packets (EN 300 472), both ways.
+//! Reads and writes EBU Teletext in PES packets (EN 300 472).
 //!
-//! A reader gives the PTS and the Teletext units of each PES packet, and takes exactly the packet's
-//! bytes; one that compares tells also whether the data field is that of the packet before. A
-//! writer puts a frame's canonical packet. Stands on `sub_io` for the devices and on
-//! `ttx_packet` for the packets; schedules are written and checked over it.
+//! A reader returns the PTS and the Teletext units of each PES packet, and consumes exactly the
+//! packet's bytes. A comparing reader also says whether the data field is that of the packet
+//! before. A writer writes the canonical packet of a frame. Builds on `sub_io` for devices and on
+//! `ttx_packet` for Teletext packets; the crates that write and check schedules build on this one.
 //!
 //! ```text
 //! let mut reader = PesReader::new();

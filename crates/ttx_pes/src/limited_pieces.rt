@@ -1,4 +1,4 @@
-//! So many pieces at most.
+//! A limited number of PES packets.
 ghost use Rattle.std.specs.Prelude.{◌≡◌, ◌∷◌, ◌<◌, ◌≤◌, OnErr, OnOk, false, is_ok, true};
 ghost use Rattle.sub_io.specs.Device.{CanFail, CountsFailure};
 ghost use Rattle.ttx_pes.specs.Advancing.{Advances, HasPassed, Passes, is_over, limited_behind};
@@ -9,16 +9,16 @@ use crate::passing::pass_pieces;
 use crate::pieces::{Came, Pieces, REST_ROOM, TakePiece};
 use sub_io::Failed;
 
-/// Gives so many pieces at most of those that another gives; then nothing is left.
+/// Reads at most a given number of the PES packets of another reader, and then ends.
 #[derive(Drop)]
 pub struct LimitedPieces<'a, P> {
     inner: &'a mut P,
-    // How many may still come; all where there is no number.
+    // How many packets may still come; `None` for no limit.
     left: Option<u64>,
 }
 
 impl<'a, P: Pieces> LimitedPieces<'a, P> {
-    /// Those that `inner` gives, `left` at most; all of them where no number is given.
+    /// Limits `inner` to `left` packets, or to none if `left` is `None`.
     pub fn new(inner: &'a mut P, left: Option<u64>) -> Self
         ensures same { result.inner.ghost_name ≡ inner.entry.ghost_name }
         ensures now { result.inner.now ≡ inner.old }
@@ -27,8 +27,8 @@ impl<'a, P: Pieces> LimitedPieces<'a, P> {
         LimitedPieces { inner, left }
     }
 
-    /// Passes over the first `n` pieces of those that are limited, or over all where there are
-    /// fewer, and answers how many it passed over, and whether the device failed then.
+    /// Skips the first `n` packets, or all if there are fewer, without counting them towards the
+    /// limit. Returns how many it skipped, and whether the device failed.
     pub(crate) fn pass(&mut self, n: u64) -> (u64, Result<(), Failed>)
         requires failures { CanFail (P.failure_count self.old.inner.now) }
         ensures most { result.0 ≤ n }
@@ -63,7 +63,7 @@ impl<P: Pieces> Pieces for LimitedPieces<'_, P> {
     #[inline(always)]
     fn next<T: TakePiece>(&mut self, taker: &mut T) -> Result<Came<T::Answer>, Failed>
         requires failures { CanFail (P.failure_count self.old.inner.now) }
-        // Once so many have come nothing is read.
+        // Reads nothing once the limit is reached.
         ensures over { is_over self.old.left ≡ true → self.new ≡ self.old }
         ensures came { Advances (limited_known self.old.left (P.remaining self.old.inner.now))
             (limited_known self.new.left (P.remaining self.new.inner.now))
@@ -95,7 +95,7 @@ impl<P: Pieces> Pieces for LimitedPieces<'_, P> {
     }
 }
 
-// No more may come.
+// Returns whether no more packets may come.
 #[inline(always)]
 fn is_over(left: Option<u64>) -> bool
     ensures { result ≡ is_over left }
@@ -106,7 +106,8 @@ fn is_over(left: Option<u64>) -> bool
     }
 }
 
-// How many may come then. All that follows where no piece begins was to come.
+// Returns how many packets may come after this one. After bytes that begin no packet there is no
+// limit, since all of them belong to the range.
 #[inline(always)]
 fn left_after<A>(left: Option<u64>, came: &Came<A>) -> Option<u64>
     requires { is_over left ≡ false }

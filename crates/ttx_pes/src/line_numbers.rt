@@ -1,4 +1,4 @@
-//! Packets that are sent as one frame, on the lines of EN 300 472.
+//! Teletext packets that are sent as one frame, on the lines of EN 300 472.
 ghost use Rattle.std.specs.Prelude.{◌≡◌, ◌+◌, ◌^◌, ◌<◌, ◌≤◌, ◌==◌, false, length, IfErr};
 ghost use Rattle.sub_io.specs.Device.{CanFail, CountsIf, Writes, failed};
 ghost use Rattle.ttx_pes.specs.Fault.{is_write};
@@ -13,7 +13,7 @@ use crate::writer::PesWriter;
 use sub_io::Sink;
 use ttx_packet::Packet;
 
-// The unit of the packet that is sent as number i of a frame.
+// Returns the unit of the Teletext packet number `i` of a frame.
 fn unit_of_number(i: usize, packet: &Packet) -> Unit
     requires { i < 32 }
     ensures value { result ≡ numbered_unit i packet.now }
@@ -28,7 +28,7 @@ fn unit_of_number(i: usize, packet: &Packet) -> Unit
     }
 }
 
-// The frame of these packets.
+// Returns the frame with these Teletext packets.
 pub(crate) fn frame_of(pts: u64, packets: &[Packet]) -> PesFrame
     requires pts { pts < 2 ^ 33 }
     requires few { length packets.now ≤ 32 }
@@ -41,14 +41,14 @@ pub(crate) fn frame_of(pts: u64, packets: &[Packet]) -> PesFrame
     frame
 }
 
-/// Writes these packets as one PES packet: as subtitle units (data_unit_id 03) on lines 7 to 22 of
-/// the first field, then 7 to 22 of the second, those that EN 300 472 names.
+/// Writes Teletext packets as one PES packet: as subtitle units (data_unit_id 03) on lines 7 to 22
+/// of the first field, then lines 7 to 22 of the second, as in EN 300 472.
 ///
-/// `pts` is in ticks of 90 kHz, 33 bits; 32 packets at most.
+/// `pts` is in ticks of 90 kHz, 33 bits. At most 32 packets.
 ///
 /// # Errors
 ///
-/// `Write` where the sink failed: a prefix of the packet was written.
+/// Returns `Write` if the sink fails. A prefix of the packet was written.
 pub fn put_frame<K: Sink>(sink: &mut K, pts: u64, packets: &[Packet]) -> Result<(), PesFault>
     requires pts { pts < 2 ^ 33 }
     requires few { length packets.now ≤ 32 }

@@ -1,42 +1,43 @@
-//! Who gives pieces, and knows which one of a file's the first of them is.
+//! Readers of PES packets that know the number of their first packet in the file.
 ghost use Rattle.std.specs.Prelude.{◌≡◌, ◌≤◌, ℕ, IfErr, IfOk, OnErr, Option, Some};
 ghost use Rattle.std.specs.Io.KnownBytes.{Keeps};
 ghost use Rattle.sub_io.specs.Device.{CanFail, CountsFailure};
 
 use crate::pieces::Pieces;
 
-/// The device failed before the first piece was found.
+/// The error of a device that failed before the first packet was found.
 #[derive(Clone, Copy, Debug, PartialEq, Eq)]
 pub struct FailedAt {
-    /// The piece of the file at which it did, counted from 0.
+    /// The packet of the file at which it failed, counted from 0.
     pub pes: u64,
 }
 
-/// Gives pieces of a file or of a recording. All of them, or some: places are told by the numbers
-/// that they have in the file.
+/// Reads some or all PES packets of a file or recording. Reports give positions by the numbers that
+/// the packets have in the file.
 pub trait NumberedPieces: Pieces {
-    // The number of the first piece that it gives, where it tells its bytes.
+    // The number of the first packet, if the bytes are known.
     ghost first: { Self → Option ℕ };
 
-    // How many pieces of the file it has passed over, before the first one that it gives.
+    // How many packets of the file were skipped before the first one.
     ghost passed: { Self → ℕ };
 
-    /// Passes over the pieces before those that it gives, and answers which one of the file the
-    /// first of them is, counted from 0. Nothing of what it gives is taken.
+    /// Skips the packets before the first one, and returns its number in the file, counted from 0.
+    /// Consumes none of the packets to be read.
     ///
     /// # Errors
     ///
-    /// Where the device failed before.
+    /// Returns an error if the device fails.
     fn find_first(&mut self) -> Result<u64, FailedAt>
         requires failures { CanFail (Self.failure_count self.old) }
         ensures kept { Keeps (Self.remaining self.old) (Self.remaining self.new) }
         ensures first { (n : ℕ) → first self.old ≡ Some n → IfOk result (λ found. found ≡ n) }
         ensures before { (n : ℕ) → first self.old ≡ Some n → IfErr result (λ at. at.pes ≤ n) }
-        // It fails at the piece behind those that it has passed over, and the number is kept.
+        // It fails at the packet after the skipped ones, and the number of the first packet does
+        // not change.
         ensures failed { IfErr result (λ at. at.pes ≡ passed self.new) }
         ensures left { (n : ℕ) → first self.old ≡ Some n
             → IfErr result (λ _. first self.new ≡ Some n) }
-        // Where it failed, nothing of what it gives was read.
+        // If it failed, none of the packets to be read was touched.
         ensures unread { OnErr result (Keeps (Self.remaining self.old) (Self.left self.new)) }
         ensures same { Self.device self.new ≡ Self.device self.old }
         ensures count { CountsFailure (Self.failure_count self.old) result

@@ -1,4 +1,4 @@
-//! Some of the pieces of a file or of a recording.
+//! Some of the PES packets of a file or recording.
 ghost use Rattle.std.specs.Prelude.{◌≡◌, ◌∷◌, ◌≤◌, ℕ, IfErr, IfOk, OnErr, OnOk, Ok, Some};
 ghost use Rattle.std.specs.Io.KnownBytes.{Keeps};
 ghost use Rattle.sub_io.specs.Device.{CanFail, CountsFailure};
@@ -11,21 +11,21 @@ use crate::pieces::{Came, Pieces, REST_ROOM, TakePiece};
 use crate::pieces_ahead::PiecesAhead;
 use sub_io::Failed;
 
-/// Gives the pieces of a range of those that another gives. Where there are fewer than go up to the
-/// last one of the range, it ends as that one does. Nothing behind the last one is asked for.
+/// Reads a range of the PES packets of another reader. If that has no packet of the range's last
+/// number, this one ends in the same way. Nothing after the last packet is read.
 ///
-/// It is made where it is used: of one that a function gives back the prover does not know what
-/// was lent, two structs deep.
+/// Callers construct it in place: if a function returned it, the prover would not know what was
+/// borrowed two structs deep.
 #[derive(Drop)]
 pub struct PartOfPieces<'a, P> {
-    /// All up to the last one of the range.
+    /// All packets up to the last one of the range.
     pub inner: LimitedPieces<'a, P>,
-    /// Those before the range.
+    /// The packets before the range.
     pub ahead: PiecesAhead,
 }
 
 impl<P: Pieces> PartOfPieces<'_, P> {
-    // Passes over the pieces before those that it gives.
+    // Skips the packets before the range.
     fn pass_others(&mut self) -> Result<u64, FailedAt>
         requires failures { CanFail (P.failure_count self.old.inner.inner.now) }
         ensures kept { Keeps

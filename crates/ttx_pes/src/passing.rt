@@ -1,4 +1,4 @@
-//! Pieces that are passed over.
+//! Skips PES packets.
 ghost use Rattle.std.specs.Prelude.{◌≡◌, ◌<◌, ◌≤◌, ⊤, Err, IfErr, None, Ok, OnErr, OnOk, false};
 ghost use Rattle.std.specs.Prelude.{true};
 ghost use Rattle.sub_io.specs.Device.{CanFail, CountsFailure, CountsIf, failed};
@@ -12,10 +12,11 @@ use crate::fault::PesFault;
 use crate::pieces::{Came, Pieces, TakePiece};
 use sub_io::Failed;
 
-/// The PES packets of a file at most: one for each frame of a day at 25 a second.
+/// The maximum number of PES packets of a file: one for each frame of a day at 25 frames per
+/// second.
 pub const MOST_PACKETS: u32 = 2_160_000;
 
-// Takes no notice of a piece.
+// Ignores a packet.
 #[derive(Drop)]
 pub(crate) struct PassOver;
 
@@ -27,16 +28,16 @@ impl TakePiece for PassOver {
     fn take(&mut self, _piece: &[u8]) {}
 }
 
-/// Passes over the first `n` pieces, or over all where there are fewer, and answers how many it
-/// passed over, and whether the device failed then.
+/// Skips the first `n` packets, or all if there are fewer. Returns how many it skipped, and whether
+/// the device failed.
 pub fn pass_pieces<P: Pieces>(n: u64, pieces: &mut P) -> (u64, Result<(), Failed>)
     requires failures { CanFail (P.failure_count pieces.old) }
     ensures most { result.0 ≤ n }
-    // It failed at one that was to be passed over.
+    // If it failed, fewer than `n` were skipped.
     ensures fewer { OnErr result.1 (result.0 < n) }
     ensures passed { OnOk result.1
         (Passes n (P.remaining pieces.old) (P.remaining pieces.new) result.0) }
-    // Also where the device failed it is known how many are still to be passed over.
+    // Even if the device failed, it is known how many remain to be skipped.
     ensures so_far { HasPassed n result.0 (P.remaining pieces.old) (P.remaining pieces.new) }
     ensures same { P.device pieces.new ≡ P.device pieces.old }
     ensures count { CountsFailure (P.failure_count pieces.old) result.1
@@ -56,7 +57,7 @@ pub fn pass_pieces<P: Pieces>(n: u64, pieces: &mut P) -> (u64, Result<(), Failed
     (passed, Ok(()))
 }
 
-// Reads on after as many pieces as a day has frames: none may be left.
+// Reads on after the maximum number of packets: no byte may be left.
 #[inline(never)]
 pub(crate) fn read_end<P: Pieces>(given: u32, pieces: &mut P) -> Result<(), PesFault>
     requires count { CanFail (P.failure_count pieces.old) }

@@ -1,4 +1,4 @@
-//! What one PES packet carries.
+//! The contents of one PES packet.
 ghost use Rattle.std.specs.Prelude.{◌≡◌, ◌+◌, ◌^◌, ◌<◌, ◌≤◌, ◌↔◌, true, [], ◌∷◌, ◌++◌, length};
 ghost use Rattle.std.specs.Prelude.{take};
 ghost use Rattle.std.specs.Prelude.{IsOk, OnOk, IfErr, OnErr};
@@ -8,19 +8,19 @@ use crate::unit::Unit;
 use arrayvec::ArrayVec;
 use std::marker::Model;
 
-/// The Teletext units of a PES packet at most: nine payloads have room for these.
+/// The maximum number of Teletext units in a PES packet: nine payloads hold so many.
 pub const MOST_UNITS: usize = 35;
 
-/// What one PES packet carries: a PTS, and Teletext units in the order of their lines (EN 300 472;
-/// the order is (own)).
+/// The contents of one PES packet: a PTS, and Teletext units in the order of their lines (EN 300
+/// 472; the order is (own)).
 #[derive(Drop)]
 pub struct PesFrame {
     pts: u64,
-    // The first `count` are the frame's. Those after them are left from frames before: to set them
-    // to the default would cost a write of each.
+    // Only the first `count` belong to the frame. The rest is left from earlier frames; resetting
+    // it would cost a write for each.
     units: ArrayVec<Unit, MOST_UNITS>,
     count: usize,
-    // The place that the next unit's has to come after.
+    // The place in line order that the next unit has to follow.
     last: u8,
 }
 
@@ -48,7 +48,7 @@ impl PesFrame {
     ghost use Rattle.ttx_pes.specs.LineOrder.{last_place, stands_after};
     ghost use Rattle.ttx_pes.specs.PesPacket.{IsPesValue, empty_value};
 
-    /// A frame with no units. `pts` is in ticks of 90 kHz, 33 bits.
+    /// Creates a frame without units. `pts` is in ticks of 90 kHz, 33 bits.
     pub fn new(pts: u64) -> Self
         requires { pts < 2 ^ 33 }
         ensures { result ≡ record { pts = pts; units = [] } }
@@ -61,7 +61,7 @@ impl PesFrame {
         }
     }
 
-    /// The presentation time, PTS, in ticks of 90 kHz: 33 bits.
+    /// Returns the presentation time stamp, PTS, in ticks of 90 kHz, 33 bits.
     pub fn pts(&self) -> u64
         ensures value { result ≡ self.now.pts }
         ensures range { result < 2 ^ 33 }
@@ -69,21 +69,21 @@ impl PesFrame {
         self.pts
     }
 
-    /// The Teletext units, in the order of the packet: `MOST_UNITS` at most.
+    /// Returns the Teletext units in the order of the packet, at most `MOST_UNITS`.
     pub fn units(&self) -> &[Unit]
         ensures value { result.now ≡ self.now.units }
-        // What each frame holds.
+        // Holds for every frame.
         ensures frame { IsPesValue self.now }
     {
         &self.units.as_slice()[..self.count]
     }
 
-    /// Adds a unit at the end.
+    /// Appends a unit.
     ///
     /// # Errors
     ///
-    /// The unit itself, where there are `MOST_UNITS` or its line does not come after those before
-    /// it; the frame stays as it was. A unit of line 0 may stand anywhere.
+    /// Returns the unit if there are `MOST_UNITS` already, or if its line does not follow those
+    /// before it. The frame does not change. A unit of line 0 may be anywhere.
     #[tactic(auto, using(crate::proofs::LineOrderLemmas::order))]
     pub fn add(&mut self, unit: Unit) -> Result<(), Unit>
         ensures variant { IsOk result ↔ ((length self.old.units < most_units)
@@ -105,7 +105,7 @@ impl PesFrame {
         Ok(())
     }
 
-    // Adds a unit at the end, where it is known to fit.
+    // Appends a unit that is known to fit.
     #[tactic(auto, using(crate::proofs::LineOrderLemmas::order))]
     pub(crate) fn push(&mut self, unit: Unit)
         requires room { length self.old.units < most_units }
@@ -126,7 +126,7 @@ impl PesFrame {
         self.pts = pts;
     }
 
-    // Makes it a frame of that PTS with no units.
+    // Sets the PTS, and removes all units.
     pub(crate) fn restart(&mut self, pts: u64)
         requires { pts < 2 ^ 33 }
         ensures { self.new ≡ record { pts = pts; units = [] } }
@@ -137,7 +137,7 @@ impl PesFrame {
     }
 }
 
-// Puts a unit at a place, over one that is left from a frame before or at the end.
+// Stores a unit at a place: over one left from an earlier frame, or at the end.
 fn put_at(units: &mut ArrayVec<Unit, MOST_UNITS>, place: usize, unit: Unit)
     requires place { place ≤ length units.old.items }
     requires room { place < most_units }

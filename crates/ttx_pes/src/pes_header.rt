@@ -1,4 +1,4 @@
-//! The first 46 bytes of a PES packet, read and written (EN 300 472, PES packet header and
+//! Reads and writes the first 46 bytes of a PES packet (EN 300 472, PES packet header and
 //! data_identifier).
 ghost use Rattle.std.specs.Prelude.{◌≡◌, ◌+◌, ◌*◌, ◌/◌, ◌%◌, ◌^◌, ◌<◌, ◌≤◌, true, false, length};
 ghost use Rattle.std.specs.Prelude.{slice_index, IfOk, IfErr};
@@ -14,18 +14,18 @@ use crate::writer::{Bytes, add};
 use arrayvec::ArrayVec;
 use byteorder::{BigEndian, ByteOrder, LittleEndian};
 
-/// The bytes of a payload: a packet fills 1 to 9 of them.
+/// Size of a payload in bytes. A packet fills 1 to 9 payloads.
 pub(crate) const PAYLOAD: usize = 184;
 
-/// The bytes of the longest packet.
+/// Size of the longest packet in bytes.
 pub(crate) const LONGEST_PACKET: usize = 9 * PAYLOAD;
 
-/// The size of the PES packet that begins with these six bytes, 184 to 1656 (EN 300 472,
-/// PES_packet_length).
+/// Returns the size in bytes of the PES packet that begins with these six bytes, 184 to 1656 (EN
+/// 300 472, PES_packet_length).
 ///
 /// # Errors
 ///
-/// `Start`, then `Length`.
+/// Returns `Start` if the start code is wrong, then `Length` if the length is.
 #[inline(always)]
 #[tactic(auto, unfolding(crate::specs::Reading::size_at))]
 pub fn size_of(head: &[u8; 6]) -> Result<usize, PesFault>
@@ -45,7 +45,7 @@ pub fn size_of(head: &[u8; 6]) -> Result<usize, PesFault>
     Ok(size)
 }
 
-// Whether they are the start of a packet with private data, compared as one word.
+// Returns whether the bytes are the start of a packet with private data, compared as one word.
 #[tactic(auto, using(crate::proofs::PesHeaderLemmas::start_word))]
 pub(crate) fn is_start(head: &[u8; 6]) -> bool
     ensures { result ≡ is_start head.now }
@@ -53,15 +53,15 @@ pub(crate) fn is_start(head: &[u8; 6]) -> bool
     LittleEndian::read_u32(head) == 0xBD01_0000
 }
 
-// PES_packet_length.
+// Returns PES_packet_length.
 pub(crate) fn length_of(head: &[u8; 6]) -> u16
     ensures { result ≡ 0x100 * slice_index head.now 4 + slice_index head.now 5 }
 {
     BigEndian::read_u16(&head[4..])
 }
 
-// The PTS, of the packet's bytes from byte 6 on. The fields are tested in the order in which they
-// stand. (Inlined: a call, with its answer in memory, is a third of what it takes.)
+// Returns the PTS from the packet's bytes from byte 6 on. Checks the fields in their order.
+// (Inlined, since a call with its result in memory takes a third of the time.)
 #[inline(always)]
 #[tactic(auto, unfolding(crate::specs::Reading::pts_at))]
 pub(crate) fn pts_of(body: &[u8]) -> Result<u64, PesFault>
@@ -89,7 +89,8 @@ pub(crate) fn pts_of(body: &[u8]) -> Result<u64, PesFault>
     Ok(high * (1 << 30) + fifteen_bits(body, 4) * (1 << 15) + fifteen_bits(body, 6))
 }
 
-// What is told where byte 6 does not begin with 1000, by the packet's bytes from byte 6 on.
+// Returns the fault of a packet whose byte 6 does not begin with 1000, from its bytes from byte 6
+// on.
 fn flags_fault(body: &[u8]) -> PesFault
     ensures { result ≡ flags_fault body.now }
 {
@@ -100,15 +101,15 @@ fn flags_fault(body: &[u8]) -> PesFault
     }
 }
 
-// Whether all bytes are FF, as those of the mark of lost packets from byte 6 on.
+// Returns whether all bytes are FF, as in a gap marker from byte 6 on.
 fn is_filled(body: &[u8]) -> bool
     ensures { result ≡ is_filled body.now }
 {
     body.iter().all(|byte| *byte == 0xFF)
 }
 
-/// Whether a piece is the mark that stands where PES packets were lost: 184 bytes, which are FF
-/// from byte 6 on (own).
+/// Returns whether a packet is a gap marker, which replaces lost PES packets: 184 bytes, FF from
+/// byte 6 on (own).
 pub fn is_mark(piece: &[u8]) -> bool
     ensures { result ≡ is_mark piece.now }
 {
@@ -119,7 +120,7 @@ pub fn is_mark(piece: &[u8]) -> bool
     is_filled(body)
 }
 
-// A group of 15 bits of the PTS, without the marker bit after it.
+// Returns a group of 15 bits of the PTS, without the marker bit after it.
 fn fifteen_bits(body: &[u8], place: usize) -> u64
     requires { place + 2 ≤ length body.now }
     ensures value { result
@@ -129,7 +130,7 @@ fn fifteen_bits(body: &[u8], place: usize) -> u64
     BigEndian::read_u16(&body[place..]) as u64 / 2
 }
 
-// The five bytes of a PTS.
+// Returns the five bytes of a PTS.
 pub(crate) fn bytes_of_pts(pts: u64) -> [u8; 5]
     requires { pts < 2 ^ 33 }
     ensures { result ≡ pts_bytes pts }
@@ -143,7 +144,7 @@ pub(crate) fn bytes_of_pts(pts: u64) -> [u8; 5]
     ]
 }
 
-// The first 46 bytes of the canonical packet of n payloads.
+// Returns the first 46 bytes of the canonical packet of `n` payloads.
 #[tactic(auto, unfolding(crate::specs::PesPacket::pes_packet_header))]
 pub(crate) fn header_of(n: u16, pts: u64) -> Bytes
     requires n { (1 ≤ n) × (n ≤ 9) }

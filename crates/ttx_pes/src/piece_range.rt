@@ -1,11 +1,11 @@
-//! Which pieces of a PES file are read.
+//! Ranges of the PES packets of a file.
 ghost use Rattle.std.specs.Prelude.{◌≡◌, ◌+◌, ◌-◌};
 ghost use Rattle.ttx_pes.specs.PieceRange.{most_of, range_of};
 
 use std::marker::Model;
 
-/// Some pieces of a PES file: PES packets, and such byte strings as are as long as their length
-/// field says, by their numbers in the file from 0. Contracts see it as the two numbers.
+/// A range of PES packets by their numbers in the file, counted from 0. Invalid packets count if
+/// they are as long as their length field says. The model has the two numbers.
 #[derive(Clone, Copy, Debug, PartialEq, Eq)]
 pub struct PieceRange {
     first: u64,
@@ -27,8 +27,8 @@ impl Model for PieceRange {
 }
 
 impl PieceRange {
-    /// The pieces from the first to the last, both included; to the end of the file where no last
-    /// one is given. `None` where the last stands before the first, or is the greatest number.
+    /// Creates the range from `first` to `last`, both included, or to the end of the file without
+    /// `last`. Returns `None` if `last` is less than `first`, or the greatest number.
     #[tactic(auto, unfolding(crate::specs::PieceRange::range_of))]
     pub fn new(first: u64, last: Option<u64>) -> Option<PieceRange>
         ensures { result ≡ range_of first last }
@@ -41,14 +41,14 @@ impl PieceRange {
         Some(PieceRange { first, last })
     }
 
-    /// How many pieces stand before it.
+    /// Returns how many packets precede the range.
     pub fn first(self) -> u64
         ensures { result ≡ self.first }
     {
         self.first
     }
 
-    /// How many pieces it has room for. `None` where it has no end.
+    /// Returns how many packets the range has. `None` if it has no end.
     pub fn most(self) -> Option<u64>
         ensures { result ≡ most_of self }
     {

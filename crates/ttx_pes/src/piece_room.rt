@@ -1,4 +1,4 @@
-//! Room for the bytes of a piece that a source does not lend whole.
+//! A buffer for a PES packet that its source does not lend completely.
 ghost use Rattle.std.specs.Prelude.{◌≡◌, ◌+◌, ◌<◌, ◌≤◌, ◌++◌, [], IsSome, false, is_ok, length};
 ghost use Rattle.std.specs.Prelude.{take, true};
 ghost use Rattle.std.specs.Io.KnownBytes.{Consumes, IsAtEnd, prepend_known};
@@ -14,15 +14,15 @@ use crate::pieces::{Came, REST_ROOM, TakePiece};
 use std::marker::Model;
 use sub_io::{Failed, Source};
 
-/// Room for the bytes of one piece.
+/// A buffer for one PES packet.
 pub(crate) type Room = [u8; LONGEST_PACKET];
 
-// The bytes that tell how many the piece has.
+// The bytes that contain the packet's size.
 const HEAD: usize = 6;
 
-/// The first bytes of a piece that is not yet whole, or bytes that no piece begins.
+/// The first bytes of a packet that is not complete yet, or bytes that begin no packet.
 ///
-/// Contracts see them as a list.
+/// Its model is the list of bytes.
 #[derive(Drop)]
 pub(crate) struct PieceRoom {
     room: Room,
@@ -41,9 +41,9 @@ impl Model for PieceRoom {
     ghost invariant = { λ h. (h.len ≤ longest_packet) × IsSome (rest_fault (take h.len h.room)) };
 }
 
-// Pulls into the room, of which the first bytes are held already, until it holds the least number
-// of bytes, or the source is at its end or fails. Answers how many it holds, and whether it failed.
-// It asks for the most that the room may hold.
+// Pulls into `room`, which already has `held` bytes, until it has at least `least` bytes, or the
+// source ends or fails. Requests at most `most` bytes in total. Returns how many bytes it has, and
+// whether the source failed.
 fn fill_on<S: Source>(
     source: &mut S,
     room: &mut [u8],
@@ -80,8 +80,8 @@ fn fill_on<S: Source>(
     (at, false)
 }
 
-// Reads the piece whose first bytes are held, and answers how many bytes are held then. No pull
-// comes before the faults that these show.
+// Reads the packet whose first bytes are in the buffer, and returns how many bytes are in it then.
+// Checks the bytes for faults before each pull.
 fn read_piece<S: Source>(
     source: &mut S,
     room: &mut Room,
@@ -121,7 +121,7 @@ fn read_piece<S: Source>(
     (all, Ok(Came::Piece(())))
 }
 
-// The first bytes, as many.
+// Returns the first `size` bytes.
 #[inline(always)]
 pub(crate) fn front_of(bytes: &[u8], size: usize) -> &[u8]
     requires { size ≤ length bytes.now }
@@ -133,7 +133,7 @@ pub(crate) fn front_of(bytes: &[u8], size: usize) -> &[u8]
 }
 
 impl PieceRoom {
-    // No bytes.
+    // Creates an empty buffer.
     #[tactic(auto, unfolding(crate::specs::Advancing::rest_fault))]
     pub(crate) fn new() -> Self
         ensures { result ≡ [] }
@@ -144,7 +144,7 @@ impl PieceRoom {
         }
     }
 
-    // Whether there is none.
+    // Returns whether the buffer is empty.
     #[inline(always)]
     pub(crate) fn is_empty(&self) -> bool
         ensures { result ≡ true → self.now ≡ [] }
@@ -152,7 +152,7 @@ impl PieceRoom {
         self.len == 0
     }
 
-    // Gives them, and keeps none.
+    // Copies the bytes to `to`, and empties the buffer.
     #[tactic(auto, unfolding(crate::specs::Advancing::rest_fault))]
     pub(crate) fn give(&mut self, to: &mut [u8; REST_ROOM]) -> usize
         ensures bound { result ≤ length to.new }
@@ -166,8 +166,8 @@ impl PieceRoom {
         held
     }
 
-    // Reads the piece that begins with them, and has a taker take it. Few pieces are not lent
-    // whole: this stands apart, so that the others are taken quicker.
+    // Reads the rest of the packet in the buffer, and lets `taker` process it. Few packets are not
+    // lent completely, so this is a function of its own, which makes the others faster.
     #[inline(never)]
     pub(crate) fn next<S: Source, T: TakePiece>(
         &mut self,

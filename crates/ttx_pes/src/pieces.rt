@@ -1,8 +1,9 @@
-//! Who gives PES packets, and such byte strings as are as long as their length field says: pieces.
+//! Readers of PES packets. A PES packet is a byte string that is as long as its length field says;
+//! it may be invalid.
 //!
-//! `next` hands a piece to a taker where the source lends it, and passes it over at once. So none
-//! is copied, and none that was given stays in the source. What no piece begins is read by a call
-//! of its own: only `extract` asks for it.
+//! `next` passes a packet to a taker while the source lends it, and then skips it. So no packet is
+//! copied, and none stays in the source. Bytes that begin no packet are read by a separate call,
+//! which only `extract` uses.
 ghost use Rattle.std.specs.Borrow.{GName};
 ghost use Rattle.std.specs.Prelude.{◌≡◌, ℕ, Bool, List, Option, is_ok, true};
 ghost use Rattle.std.specs.Io.{ReadsAtMost};
@@ -13,63 +14,65 @@ ghost use Rattle.ttx_pes.specs.Pieces.{IsPiece};
 use crate::fault::PesFault;
 use sub_io::Failed;
 
-/// Room for bytes that no piece begins, as many as are ever read of them before that is told.
+/// Size in bytes of a buffer for bytes that begin no packet. No reader has read more of them before
+/// it reports the fault.
 pub const REST_ROOM: usize = 2048;
 
-/// What comes next, with what was answered to it where it is a piece.
+/// What comes next; for a packet, with the taker's answer.
 #[derive(Clone, Copy, Debug, PartialEq, Eq)]
 pub enum Came<A> {
-    /// Nothing is left.
+    /// The end.
     End,
-    /// A piece.
+    /// A PES packet.
     Piece(A),
-    /// Bytes that no piece begins, for this fault: `Truncated`, `Start` or `Length`.
+    /// Bytes that begin no packet, for this fault: `Truncated`, `Start` or `Length`.
     Rest(PesFault),
 }
 
-/// Takes pieces, and answers to each.
+/// Processes PES packets, and returns an answer for each.
 pub trait TakePiece {
-    /// What it answers.
+    /// The answer for one packet.
     type Answer;
 
-    // Which calls go so: its state before, the piece, the answer, its state after.
+    // How processing a packet changes the taker: the state before, the packet, the answer, the
+    // state after.
     ghost is_take: { Self → List ℕ → Self.Answer → Self → Type 0 };
 
-    /// Takes a piece. It is lent where it stands.
+    /// Processes a packet, which is borrowed from the source.
     fn take(&mut self, piece: &[u8]) -> Self::Answer
         requires { IsPiece piece.now }
         ensures { is_take self.old piece.now result self.new };
 }
 
-/// Gives the pieces of a PES file or of a recording, one after another, up to its end or to bytes
-/// that no piece begins. A piece begins as a PES packet does, and is as long as its length field
-/// says (EN 300 472, PES_packet_length), whatever else is in it.
+/// Reads the PES packets of a file or recording in order, up to the end or to bytes that begin no
+/// packet. A packet has a start code and is as long as its length field says (EN 300 472,
+/// PES_packet_length); it may be invalid.
 pub trait Pieces {
-    // The bytes that are still to come, where they are told.
+    // The bytes that are left, if they are known.
     ghost remaining: { Self → Option (List ℕ) };
 
-    // The bytes that its device has still to give: where a read failed, or no piece began, some of
-    // those that are still to come were read.
+    // The bytes that the device has left. After a failure, or bytes that begin no packet, some of
+    // the remaining bytes have already been read from it.
     ghost left: { Self → Option (List ℕ) };
 
-    // How many calls of its device have failed.
+    // How many calls of the device have failed.
     ghost failure_count: { Self → ℕ };
 
-    // It was told that no piece begins what is left.
+    // It has returned `Rest`: the remaining bytes begin no packet.
     ghost is_rest: { Self → Bool };
 
-    // The next call asks no device.
+    // The next call uses no device.
     ghost ready: { Self → Bool } = { never_ready };
 
-    // By which references it holds its device, the outermost first.
+    // The references by which it borrows its device, outermost first.
     ghost device: { Self → List GName } = { lends_none };
 
-    /// Has a taker take the next piece, if one comes. Where none does it is not called, and nothing
-    /// is taken by later calls.
+    /// Lets `taker` process the next packet, if there is one. Otherwise the taker is not called,
+    /// and later calls consume nothing.
     ///
     /// # Errors
     ///
-    /// Where the device failed: no byte of the piece was taken.
+    /// Returns an error if the device fails. No byte of the packet was consumed.
     fn next<T: TakePiece>(&mut self, taker: &mut T) -> Result<Came<T::Answer>, Failed>
         requires failures { CanFail (failure_count self.old) }
         ensures came { Advances (remaining self.old) (remaining self.new) (left self.new)
@@ -79,12 +82,12 @@ pub trait Pieces {
         ensures same { device self.new ≡ device self.old }
         ensures count { CountsFailure (failure_count self.old) result (failure_count self.new) };
 
-    /// Takes bytes of what is left, once it was told that no piece begins it, and answers how many
-    /// stand in front of the room then: first those that were read to tell that. 0 at the end.
+    /// Reads remaining bytes after `Rest`, and returns how many are at the front of `room`. The
+    /// bytes that were already read to find the fault come first. Returns 0 at the end.
     ///
     /// # Errors
     ///
-    /// Where the device failed: no byte was taken.
+    /// Returns an error if the device fails. No byte was consumed.
     fn read_rest(&mut self, room: &mut [u8; REST_ROOM]) -> Result<usize, Failed>
         requires rest { is_rest self.old ≡ true }
         requires failures { CanFail (failure_count self.old) }
@@ -94,7 +97,7 @@ pub trait Pieces {
         ensures same { device self.new ≡ device self.old }
         ensures count { CountsFailure (failure_count self.old) result (failure_count self.new) };
 
-    /// Whether the next call asks no device, as far as that is known.
+    /// Returns whether it is known that the next call uses no device.
     fn is_ready(&self) -> bool
         ensures { result ≡ true → ready self.now ≡ true };
 }

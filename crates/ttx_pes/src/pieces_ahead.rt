@@ -1,9 +1,9 @@
-//! The pieces before those that are read, counted.
+//! Counts the PES packets before those to be read.
 ghost use Rattle.std.specs.Prelude.{◌≡◌, ◌+◌, ◌-◌, ◌≤◌};
 
 use std::marker::Model;
 
-/// How many pieces were passed over, and how many are still to be. Contracts see both numbers.
+/// How many packets were skipped, and how many remain to be skipped. The model has both numbers.
 #[derive(Drop)]
 pub struct PiecesAhead {
     passed: u64,
@@ -22,28 +22,28 @@ impl Model for PiecesAhead {
 }
 
 impl PiecesAhead {
-    /// So many are to be passed over.
+    /// Creates a counter with `to_pass` packets to be skipped.
     pub fn new(to_pass: u64) -> Self
         ensures { result ≡ record { passed = 0; to_pass = to_pass } }
     {
         PiecesAhead { passed: 0, to_pass }
     }
 
-    // How many were passed over.
+    // Returns how many were skipped.
     pub(crate) fn passed(&self) -> u64
         ensures { result ≡ self.now.passed }
     {
         self.passed
     }
 
-    // How many are to be passed over.
+    // Returns how many remain to be skipped.
     pub(crate) fn to_pass(&self) -> u64
         ensures { result ≡ self.now.to_pass }
     {
         self.to_pass
     }
 
-    // So many were passed over.
+    // Counts packets that were skipped.
     pub(crate) fn count(&mut self, passed: u64)
         requires { passed ≤ self.old.to_pass }
         ensures { self.new ≡ record {
@@ -55,7 +55,7 @@ impl PiecesAhead {
         self.to_pass -= passed;
     }
 
-    // None is to be passed over any more.
+    // Sets the number of packets to be skipped to 0.
     pub(crate) fn end(&mut self)
         ensures { self.new ≡ record self.old { to_pass = 0 } }
     {

@@ -1,11 +1,11 @@
-//! How far a reader of PES packets has come.
+//! The progress of a reader of PES packets.
 
-/// How far a reader has come: what the contracts see of a `PesReader`.
+/// The progress of a reader: the model of a `PesReader`.
 #[derive(Clone, Copy, Debug, PartialEq, Eq)]
 pub enum Progress {
-    /// That number of packets was given, 0 to `MOST_PACKETS`.
+    /// So many packets were read, 0 to `MOST_PACKETS`.
     Reading(u32),
-    /// The source was at its end.
+    /// The source has ended.
     AtEnd,
     /// There was a fault.
     Broken,

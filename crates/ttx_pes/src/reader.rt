@@ -1,4 +1,4 @@
-//! Reading PES packets.
+//! Reads PES packets.
 ghost use Rattle.std.specs.Prelude.{◌≡◌, ℕ, ◌+◌, ◌%◌, ◌≤◌, ◌≢◌, true, length, Ok, Err, OnOk, IfErr};
 ghost use Rattle.sub_io.specs.Device.{CanFail, CountsIf, failed};
 ghost use Rattle.ttx_pes.specs.Fault.{is_read};
@@ -20,7 +20,7 @@ use crate::progress::Progress;
 use std::marker::Model;
 use sub_io::Source;
 
-/// Reads PES packets with Teletext units. It keeps how far it has come.
+/// Reads PES packets with Teletext units, and keeps its progress.
 #[derive(Drop)]
 pub struct PesReader {
     progress: Progress,
@@ -38,7 +38,7 @@ impl Model for PesReader {
     ghost invariant = { λ r. GivesAtMost most_packets r.progress };
 }
 
-// Puts the value of a packet's bytes from byte 6 on into the frame.
+// Stores the value of a packet, given its bytes from byte 6 on, in the frame.
 #[tactic(auto, unfolding(crate::specs::Reading::value_at))]
 fn read_value(body: &[u8], frame: &mut PesFrame) -> Result<(), PesFault>
     requires short { length body.now + 6 ≤ longest_packet }
@@ -54,18 +54,18 @@ fn read_value(body: &[u8], frame: &mut PesFrame) -> Result<(), PesFault>
 }
 
 impl TakePiece for PesFrame {
-    // Whether it is a PES packet, or why it is none.
+    // Whether the packet is valid, or its fault.
     type Answer = Result<(), PesFault>;
 
     ghost is_take = { ReadsValue };
 
-    // Puts the value of a piece into the frame.
+    // Stores the value of a packet in the frame.
     fn take(&mut self, piece: &[u8]) -> Result<(), PesFault> {
         read_value(body_of_piece(piece), self)
     }
 }
 
-// Puts the next packet's value into the frame, `false` where none is left.
+// Stores the next packet's value in the frame. Returns `false` at the end.
 fn read_packet<P: Pieces>(
     given: u32,
     pieces: &mut P,
@@ -90,7 +90,7 @@ fn read_packet<P: Pieces>(
     }
 }
 
-// Puts the next packet's value into the frame, `false` at the end of the source.
+// Stores the next packet's value in the frame. Returns `false` at the end of the source.
 fn read_next<S: Source>(given: u32, source: &mut S, frame: &mut PesFrame) -> Result<bool, PesFault>
     requires { CanFail (S.failure_count source.old) }
     ensures tells { TellsPacket (Reading given) (S.remaining source.old) (S.remaining source.new)
@@ -103,7 +103,7 @@ fn read_next<S: Source>(given: u32, source: &mut S, frame: &mut PesFrame) -> Res
 }
 
 impl PesReader {
-    /// A reader at the start of a file.
+    /// Creates a reader at the start of a file.
     pub fn new() -> Self
         ensures { result ≡ Reading 0 }
     {
@@ -112,24 +112,24 @@ impl PesReader {
         }
     }
 
-    /// Reads the next PES packet and gives its PTS and its Teletext units (EN 300 472).
+    /// Reads the next PES packet, and returns its PTS and its Teletext units (EN 300 472).
     ///
-    /// Takes exactly the packet's bytes, 184 to 1656 of them. `None` at the end of the source, and
-    /// again at each later call.
+    /// Consumes exactly the packet's bytes, 184 to 1656. Returns `None` at the end of the source
+    /// and at each later call.
     ///
     /// # Errors
     ///
-    /// The first in this order: `TooMany` for a byte after 2,160,000 packets, one for each frame of
-    /// a day; `Truncated` for fewer than six bytes; `Start`, `Length`; `Truncated` where the bytes
-    /// end within the packet; `Flags` to `DataId`; then in each data unit `UnitLength`, `Framing`,
-    /// `LineOrder`. `Read` where the source failed before the bytes that show a fault were there.
-    /// After any of them each call answers `Ended` and takes nothing.
+    /// Checks in this order: `TooMany` if bytes follow 2,160,000 packets, one for each frame of a
+    /// day; `Truncated` if fewer than six bytes are left; `Start`, `Length`; `Truncated` if the
+    /// bytes end within the packet; `Flags` to `DataId`; then for each data unit `UnitLength`,
+    /// `Framing`, `LineOrder`. Returns `Read` if the source fails before the bytes that show a
+    /// fault are read. After any error each call returns `Ended` and consumes nothing.
     pub fn next<S: Source>(&mut self, source: &mut S) -> Result<Option<PesFrame>, PesFault>
         requires { CanFail (S.failure_count source.old) }
         ensures tells { TellsPacket self.old (S.remaining source.old) (S.remaining source.new)
             result }
         ensures progress { self.new ≡ progress_after self.old result }
-        // After the end and after a fault nothing is taken.
+        // Consumes nothing after the end or a fault.
         ensures at_end { self.old ≡ AtEnd → source.new ≡ source.old }
         ensures broken { self.old ≡ Broken → source.new ≡ source.old }
         ensures count { CountsIf S.failure_count source.old (failed is_read result) source.new }
@@ -142,15 +142,15 @@ impl PesReader {
         }
     }
 
-    /// Reads the next PES packet into a frame that the caller keeps: `true` where `next` gives a
-    /// frame, `false` where it gives `None`.
+    /// Reads the next PES packet into `frame`: returns `true` if `next` would return a frame, and
+    /// `false` if it would return `None`.
     ///
-    /// The frame then is the one that `next` would give, and has PTS 0 and no units where it gives
-    /// none. Whatever was in it before is gone.
+    /// The frame is the one that `next` would return. If there is none, it has PTS 0 and no units.
+    /// Its previous contents are lost.
     ///
     /// # Errors
     ///
-    /// Those of `next`.
+    /// Returns the errors of `next`.
     pub fn next_into<S: Source>(
         &mut self,
         source: &mut S,
@@ -162,7 +162,7 @@ impl PesReader {
         ensures empty { result ≢ Ok true → frame.new ≡ empty_value }
         ensures progress { self.new ≡ progress_after self.old (given_frame result frame.new) }
         ensures few { (given : ℕ) → self.new ≡ Reading given → given ≤ most_packets }
-        // After the end and after a fault nothing is taken.
+        // Consumes nothing after the end or a fault.
         ensures at_end { self.old ≡ AtEnd → source.new ≡ source.old }
         ensures broken { self.old ≡ Broken → source.new ≡ source.old }
         ensures count { CountsIf S.failure_count source.old (failed is_read result) source.new }

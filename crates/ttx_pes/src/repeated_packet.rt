@@ -1,4 +1,4 @@
-//! A PES packet that is sent again and again, each time with another PTS.
+//! PES packets that are sent repeatedly, each time with another PTS.
 ghost use Rattle.std.specs.Prelude.{◌≡◌, ◌++◌, ◌^◌, ◌<◌, ◌≤◌, drop, length, take};
 ghost use Rattle.sub_io.specs.Device.{CanFail, CountsFailure, Writes};
 ghost use Rattle.ttx_pes.specs.PesPacket.{canonical_packet, numbered_frame, pts_bytes};
@@ -11,13 +11,13 @@ use std::marker::Model;
 use sub_io::{Failed, Sink, put_all};
 use ttx_packet::Packet;
 
-/// A PES packet whose bytes are made once: for each sending its PTS alone is set (EN 300 472).
+/// A PES packet whose bytes are built once. For each transmission only its PTS is set (EN 300 472).
 ///
-/// Contracts see it as what it carries: its PTS and its units.
+/// Its model is its contents: the PTS and the units.
 #[derive(Drop)]
 pub struct RepeatedPacket {
     frame: PesFrame,
-    // The frame's canonical packet.
+    // The canonical packet of the frame.
     bytes: Bytes,
 }
 
@@ -33,9 +33,10 @@ impl Model for RepeatedPacket {
 }
 
 impl RepeatedPacket {
-    /// These packets as one PES packet, on the lines of `put_frame`. Its PTS is 0.
+    /// Creates one PES packet with these Teletext packets, on the lines of `put_frame`. Its PTS is
+    /// 0.
     ///
-    /// 32 packets at most.
+    /// At most 32 packets.
     pub fn of_packets(packets: &[Packet]) -> Self
         requires { length packets.now ≤ 32 }
         ensures { result ≡ numbered_frame 0 packets.now }
@@ -45,7 +46,7 @@ impl RepeatedPacket {
         RepeatedPacket { frame, bytes }
     }
 
-    /// Sets the PTS, in ticks of 90 kHz: 33 bits. The units stay.
+    /// Sets the PTS in ticks of 90 kHz, 33 bits. The units do not change.
     pub fn set_pts(&mut self, pts: u64)
         requires { pts < 2 ^ 33 }
         ensures { self.new ≡ record self.old { pts = pts } }
@@ -54,11 +55,11 @@ impl RepeatedPacket {
         put_pts(self.bytes.as_mut_slice(), pts);
     }
 
-    /// Writes the packet: the canonical one of its PTS and its units.
+    /// Writes the canonical packet of its PTS and its units.
     ///
     /// # Errors
     ///
-    /// `Failed` where the sink failed: a prefix of the packet was written.
+    /// Returns `Failed` if the sink fails. A prefix of the packet was written.
     pub fn put<K: Sink>(&self, sink: &mut K) -> Result<(), Failed>
         requires { CanFail (K.failure_count sink.old) }
         ensures bytes { Writes (K.contents sink.old) (K.contents sink.new)

@@ -1,5 +1,4 @@
-//! What is known of the PES packet in a room, so that one that is sent again is compared and not
-//! read again.
+//! Facts about the PES packet in a buffer, so that a repetition is only compared and not parsed.
 ghost use Rattle.std.specs.Prelude.{◌≡◌, ◌+◌, ◌/◌, ◌%◌, ◌≤◌, ◌↔◌, true, Ok, Err, OnOk, IfOk, IfErr};
 ghost use Rattle.std.specs.Prelude.{IfSome, length, drop, take, []};
 ghost use Rattle.ttx_pes.specs.DataUnit.{data_unit_size};
@@ -18,17 +17,17 @@ use crate::sent_units::SentUnits;
 use crate::unit_places::{UnitPlaces, take_places};
 use std::marker::Model;
 
-// Where the data field begins in a packet.
+// The offset of the data field in a packet.
 const FIELD: usize = 45;
 
-/// What is known of the PES packet at the front of a room: its PTS, how many bytes its data field
-/// has, bytes 45 to the end, and where the Teletext units stand in it.
+/// Facts about the PES packet at the front of a buffer: its PTS, the size of its data field (bytes
+/// 45 to the end), and the positions of the Teletext units in it.
 #[derive(Drop)]
 pub(crate) struct RoomPacket {
     pts: u64,
     count: usize,
     places: UnitPlaces,
-    // Whether it was the packet before, sent again: then it may be so of the next one too.
+    // The packet was a repetition of the one before. Then the next one may be, too.
     repeats: bool,
 }
 
@@ -43,8 +42,9 @@ impl Model for RoomPacket {
     ghost invariant = { λ h. h.repeats ≡ true → IsFieldSize h.count };
 }
 
-// Makes the places, which are those of the data field that is kept, those of another. Mostly its
-// data units begin as those that are kept, on the same lines of each frame: then they stand.
+// Changes the positions, which are those of the data field `kept`, to those of `field`. Usually the
+// data units of both begin in the same way, on the same lines of each frame. Then the positions
+// stay.
 #[inline(always)]
 fn find_places(places: &mut UnitPlaces, kept: &[u8], field: &[u8]) -> Result<(), PesFault>
     requires within { AreWithin (length kept.now) places.old }
@@ -68,7 +68,7 @@ fn find_places(places: &mut UnitPlaces, kept: &[u8], field: &[u8]) -> Result<(),
     take_places(places, field)
 }
 
-// Whether a data field is the one that is kept. One that is not is mostly another in its first
+// Returns whether a data field is the stored one. Different ones usually differ in their first
 // eight bytes, or in those that are compared next.
 #[inline(always)]
 fn is_kept(kept: &[u8], field: &[u8]) -> bool
@@ -79,7 +79,7 @@ fn is_kept(kept: &[u8], field: &[u8]) -> bool
 }
 
 impl RoomPacket {
-    // What is known of no packet.
+    // Creates the facts about no packet.
     pub(crate) fn new() -> Self
         ensures { result ≡ no_packet }
     {
@@ -91,7 +91,7 @@ impl RoomPacket {
         }
     }
 
-    // Makes it as `new` does.
+    // Resets it to the state of `new`.
     pub(crate) fn clear(&mut self)
         ensures { self.new ≡ no_packet }
     {
@@ -101,14 +101,14 @@ impl RoomPacket {
         self.repeats = false;
     }
 
-    // The PTS.
+    // Returns the PTS.
     pub(crate) fn pts(&self) -> u64
         ensures { result ≡ self.now.pts }
     {
         self.pts
     }
 
-    // The size of the packet, which is that of none where no packet is known.
+    // Returns the size of the packet. Without a packet this is 45, which no packet has.
     pub(crate) fn size(&self) -> usize
         requires { self.now.count + 45 ≤ longest_packet }
         ensures { result ≡ self.now.count + 45 }
@@ -116,15 +116,15 @@ impl RoomPacket {
         FIELD + self.count
     }
 
-    // Another PTS.
+    // Sets the PTS.
     pub(crate) fn set_pts(&mut self, pts: u64)
         ensures { self.new ≡ record self.old { pts = pts } }
     {
         self.pts = pts;
     }
 
-    // Whether the packet was the one before, sent again, so that the next one may be too. Nothing
-    // but the way in which that is read depends on it.
+    // Returns whether the packet was a repetition, so that the next one may be, too. Only the way
+    // of reading depends on it, not the result.
     #[inline(always)]
     pub(crate) fn repeats(&self) -> bool
         ensures { result ≡ true → IsFieldSize self.now.count }
@@ -132,8 +132,8 @@ impl RoomPacket {
         self.repeats
     }
 
-    // The PTS of a piece, if that is the packet in the room, sent again: it has no fault, and the
-    // same data field.
+    // Returns the PTS of a packet that repeats the one in the buffer: it is valid, and has the same
+    // data field.
     #[inline(always)]
     pub(crate) fn pts_again(&self, before: &Room, piece: &[u8]) -> Option<u64>
         requires known { IsInRoom (field_in self.now.count before.now) self.now }
@@ -155,7 +155,7 @@ impl RoomPacket {
         }
     }
 
-    // The data field, in the packet's room.
+    // Returns the data field in the packet's buffer.
     fn field<'a>(&self, room: &'a Room) -> &'a [u8]
         requires { self.now.count + 45 ≤ longest_packet }
         ensures { result.now ≡ field_in self.now.count room.now }
@@ -165,7 +165,7 @@ impl RoomPacket {
         field
     }
 
-    // The Teletext units, in the packet's room.
+    // Returns the Teletext units in the packet's buffer.
     pub(crate) fn units<'a>(&'a self, room: &'a Room) -> SentUnits<'a>
         requires { IsInRoom (field_in self.now.count room.now) self.now }
         ensures value { result
@@ -174,8 +174,8 @@ impl RoomPacket {
         SentUnits::new(self.field(room), self.places.as_slice())
     }
 
-    // Makes it what is known of a packet by its bytes from byte 6 on, and answers whether their
-    // data field is the one of the packet before, in that one's room.
+    // Takes the facts about a packet from its bytes from byte 6 on. Returns whether its data field
+    // is that of the packet before, which is in the buffer `before`.
     #[inline(always)]
     #[tactic(auto, unfolding(crate::specs::Reading::value_at))]
     pub(crate) fn take(&mut self, before: &Room, body: &[u8]) -> Result<bool, PesFault>

@@ -1,4 +1,4 @@
-//! Whether the bytes of two slices are the same, found by blocks.
+//! Compares byte slices in blocks.
 ghost use Rattle.std.specs.Prelude.{◌≡◌, ◌↔◌, ◌≤◌, length, true};
 ghost use Rattle.ttx_pes.specs.Taking.{IsFieldSize};
 
@@ -7,10 +7,10 @@ mod lanes;
 use self::lanes::{is_same_block, is_same_long_block};
 use byteorder::{ByteOrder, LittleEndian};
 
-// The bytes of a data field in a packet of one payload.
+// Size in bytes of the data field in a packet of one payload.
 const ONE_PAYLOAD: usize = 139;
 
-// Whether two slices have the same first eight bytes.
+// Returns whether two slices have the same first eight bytes.
 #[inline(always)]
 pub(crate) fn begin_alike(a: &[u8], b: &[u8]) -> bool
     requires a { 8 ≤ length a.now }
@@ -20,8 +20,8 @@ pub(crate) fn begin_alike(a: &[u8], b: &[u8]) -> bool
     LittleEndian::read_u64(a) == LittleEndian::read_u64(b)
 }
 
-// Whether two data fields of one length hold the same bytes. (It is called from where the room is
-// chosen: inlined there it loads each byte of both rooms.)
+// Returns whether two data fields of the same length are equal. (Called where the buffer is chosen:
+// inlined there, it would load each byte of both buffers.)
 #[inline(never)]
 pub(crate) fn is_same(a: &[u8], b: &[u8]) -> bool
     requires size { IsFieldSize (length a.now) }
@@ -35,8 +35,8 @@ pub(crate) fn is_same(a: &[u8], b: &[u8]) -> bool
     }
 }
 
-// Whether the data fields of one payload are equal. Their second 64 bytes are compared first: of
-// subtitles the text of the row stands there.
+// Returns whether two data fields of one payload are equal. Compares their second 64 bytes first,
+// which contain the text of the row in subtitles.
 #[inline(always)]
 #[tactic(auto, using(crate::proofs::SameBytesLemmas::payload_same))]
 fn is_same_payload(a: &[u8], b: &[u8]) -> bool
@@ -55,8 +55,9 @@ fn is_same_payload(a: &[u8], b: &[u8]) -> bool
     is_same_block::<16>(a.last_chunk().unwrap(), b.last_chunk().unwrap())
 }
 
-// Whether bytes are equal, by blocks of 256. The last one takes in bytes of the one before it, so
-// that none is left over; it is compared first, since of subtitles the last row is mostly another.
+// Returns whether two slices are equal, in blocks of 256 bytes. The last block overlaps the one
+// before, so that no byte is left over. It is compared first, because different subtitles mostly
+// differ in the last row.
 #[inline(always)]
 #[tactic(auto, using(crate::proofs::SameBytesLemmas::same_blocks))]
 fn is_same_by_long_blocks(a: &[u8], b: &[u8]) -> bool

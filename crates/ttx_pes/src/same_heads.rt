@@ -1,5 +1,5 @@
-//! Whether the data units of two data fields begin alike, so that where the Teletext units of the
-//! one stand those of the other do.
+//! Compares the heads of the data units of two data fields. If they are equal, both have their
+//! Teletext units at the same positions.
 ghost use Rattle.std.specs.Prelude.{◌≡◌, ◌+◌, ◌%◌, ◌≤◌, length, true};
 ghost use Rattle.ttx_pes.specs.PesPacket.{payload_size};
 ghost use Rattle.ttx_pes.specs.Taking.{AreSameHeads, IsSameHead};
@@ -8,10 +8,11 @@ use crate::data_unit::DATA_UNIT;
 use crate::pes_header::PAYLOAD;
 use byteorder::{ByteOrder, LittleEndian};
 
-// The bytes of a data field in the first payload: data_identifier and three data units.
+// Size in bytes of the data field in the first payload: data_identifier and three data units.
 const FIRST: usize = 1 + 3 * DATA_UNIT;
 
-// Whether two data fields have the same head of the data unit at a place, compared as one word.
+// Returns whether two data fields have the same head of the data unit at a position, compared as
+// one word.
 #[inline(always)]
 #[tactic(auto, using(crate::proofs::HeadLemmas::same_word))]
 fn is_same_head(a: &[u8], b: &[u8], place: usize) -> bool
@@ -24,7 +25,7 @@ fn is_same_head(a: &[u8], b: &[u8], place: usize) -> bool
     LittleEndian::read_u32(a_from) == LittleEndian::read_u32(b_from)
 }
 
-// Whether they have the same heads of three data units, the first of them at a place.
+// Returns whether the heads of three data units are the same, the first of them at `place`.
 #[inline(always)]
 fn are_same_three(a: &[u8], b: &[u8], place: usize) -> bool
     requires a { place + 96 ≤ length a.now }
@@ -38,8 +39,8 @@ fn are_same_three(a: &[u8], b: &[u8], place: usize) -> bool
         && is_same_head(a, b, place + 2 * DATA_UNIT)
 }
 
-// Whether two data fields of one length have the same heads of all data units. Four of them are
-// compared in each turn, those of a payload; the first payload has three.
+// Returns whether two data fields of the same length have the same heads of all data units. Each
+// iteration compares the four of a payload; the first payload has three.
 #[tactic(auto, using(crate::proofs::HeadLemmas::same_heads))]
 pub(crate) fn are_same_heads(a: &[u8], b: &[u8]) -> bool
     requires long { 139 ≤ length a.now }

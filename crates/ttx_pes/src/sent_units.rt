@@ -1,4 +1,4 @@
-//! The Teletext units of a PES packet, lent in the bytes that carry them.
+//! The Teletext units of a PES packet, borrowed from its bytes.
 ghost use Rattle.std.specs.Prelude.{◌≡◌, ◌<◌, ◌≤◌, [], length, slice_index_or};
 ghost use Rattle.std.specs.List.{AllByRecursion};
 ghost use Rattle.ttx_pes.specs.DataUnit.{IsUnit, UnitValue};
@@ -10,15 +10,15 @@ use crate::unit::Unit;
 use std::marker::Model;
 use ttx_packet::SentPacket;
 
-/// The Teletext units of a PES packet, as they are sent: they stay in the data field, and its bytes
-/// are lent (EN 300 472, PES data field).
+/// The Teletext units of a PES packet in the order of transmission, borrowed from its data field
+/// (EN 300 472, PES data field).
 ///
-/// Contracts see it as the list of the units.
+/// Its model is the list of the units.
 #[derive(Drop)]
 pub struct SentUnits<'a> {
     // Bytes 45 to the end of the PES packet.
     field: &'a [u8],
-    // Where the data units of the units begin.
+    // The offsets of the data units of the Teletext units.
     places: &'a [u16],
 }
 
@@ -39,7 +39,7 @@ impl<'a> Model for SentUnits<'a> {
 }
 
 impl<'a> SentUnits<'a> {
-    // The units whose data units begin at these places of a data field.
+    // Creates the list of units whose data units begin at these offsets of a data field.
     pub(crate) fn new(field: &'a [u8], places: &'a [u16]) -> Self
         requires few { length places.now ≤ most_units }
         requires within { AreWithin (length field.now) places.now }
@@ -49,7 +49,7 @@ impl<'a> SentUnits<'a> {
         SentUnits { field, places }
     }
 
-    /// How many units there are, `MOST_UNITS` at most.
+    /// Returns the number of units, at most `MOST_UNITS`.
     #[inline(always)]
     pub fn len(&self) -> usize
         ensures value { result ≡ length self.now }
@@ -58,7 +58,7 @@ impl<'a> SentUnits<'a> {
         self.places.len()
     }
 
-    /// The packet of a unit, by its number from 0.
+    /// Returns the Teletext packet of a unit, by its number from 0.
     #[inline(always)]
     pub fn packet(&self, number: usize) -> SentPacket<'a>
         requires { number < length self.now }
@@ -69,7 +69,7 @@ impl<'a> SentUnits<'a> {
         SentPacket::new(block.last_chunk().unwrap())
     }
 
-    /// A unit, by its number from 0: its packet is turned round.
+    /// Returns a unit by its number from 0. This reverses the bits of its packet.
     pub fn unit(&self, number: usize) -> Unit
         requires { number < length self.now }
         ensures { (other : UnitValue) → result ≡ slice_index_or self.now number other }

@@ -1,4 +1,4 @@
-//! A Teletext unit: a packet with the line that it is sent on.
+//! Teletext units: a Teletext packet with the line on which it is sent.
 ghost use Rattle.std.specs.Prelude.{◌≡◌, ◌<◌, ◌≤◌, ◌==◌, if◌then◌else◌, is_some, IfSome};
 ghost use Rattle.std.specs.Prelude.{replicate};
 
@@ -29,8 +29,8 @@ impl Model for Unit {
 }
 
 impl Default for Unit {
-    /// What stands in the unused places of a frame: data_unit_id 02, line 0 of the first field, and
-    /// zero bytes.
+    /// Returns the filler for unused places of a frame: data_unit_id 02, line 0 of the first field,
+    /// and zero bytes.
     fn default() -> Self
         ensures { result ≡ record { id = 2; field = 1; line = 0; packet = replicate 42 0 } }
     {
@@ -42,10 +42,10 @@ impl Unit {
     ghost use Rattle.ttx_pes.specs.DataUnit.{IsUnit};
     ghost use Rattle.ttx_pes.specs.LineOrder.{line_order_place, stands_after};
 
-    /// The unit of these fields.
+    /// Creates a unit from its fields.
     ///
     /// `id` is data_unit_id, 02 or 03; `field` is 1 for the first field (field_parity 1) and 2 for
-    /// the second; `line` is line_offset, 0 to 31, where 0 names no line.
+    /// the second; `line` is line_offset, 0 to 31, where 0 means that no line is defined.
     pub fn new(id: u8, field: u8, line: u8, packet: Packet) -> Self
         requires id { (2 ≤ id) × (id ≤ 3) }
         requires field { (1 ≤ field) × (field ≤ 2) }
@@ -61,7 +61,7 @@ impl Unit {
         }
     }
 
-    /// data_unit_id: 2 for Teletext that is not subtitles, 3 for subtitles.
+    /// Returns data_unit_id: 2 for Teletext that is not subtitles, 3 for subtitles.
     pub fn id(&self) -> u8
         ensures value { result ≡ self.now.id }
         ensures range { (2 ≤ result) × (result ≤ 3) }
@@ -69,7 +69,7 @@ impl Unit {
         self.id
     }
 
-    /// The field: 1 where field_parity is 1, 2 where it is 0.
+    /// Returns the field: 1 if field_parity is 1, 2 if it is 0.
     pub fn field(&self) -> u8
         ensures value { result ≡ self.now.field }
         ensures range { (1 ≤ result) × (result ≤ 2) }
@@ -77,7 +77,7 @@ impl Unit {
         self.field
     }
 
-    /// line_offset, 0 to 31: the line of the field, or 0 where it is not defined.
+    /// Returns line_offset, 0 to 31: the line of the field, or 0 if it is not defined.
     pub fn line(&self) -> u8
         ensures value { result ≡ self.now.line }
         ensures range { result < 32 }
@@ -85,14 +85,14 @@ impl Unit {
         self.line
     }
 
-    /// The packet, in Teletext's own order of bits.
+    /// Returns the Teletext packet in Teletext's own bit order.
     pub fn packet(&self) -> &Packet
         ensures value { result.now ≡ self.now.packet }
     {
         &self.packet
     }
 
-    // The place after the place `last` and this unit, if the unit may stand there.
+    // Returns the place in line order after this unit, if the unit may follow the place `last`.
     pub(crate) fn place_after(&self, last: u8) -> Option<u8>
         requires { last < 64 }
         ensures variant { is_some result ≡ stands_after last self.now }

@@ -1,4 +1,4 @@
-//! Where the Teletext units of a data field stand, so that they stay in the bytes that carry them.
+//! The offsets of the Teletext units in a data field, so that they need not be copied.
 ghost use Rattle.std.specs.Prelude.{◌≡◌, ◌+◌, ◌*◌, ◌/◌, ◌<◌, ◌≤◌, [], ◌∷◌, ◌++◌, length, take};
 ghost use Rattle.std.specs.Prelude.{drop};
 ghost use Rattle.std.specs.Prelude.{Err, IfErr, IfOk, MatchOption, Ok, OnOk, false, true};
@@ -14,10 +14,10 @@ use crate::fault::PesFault;
 use crate::pes_frame::MOST_UNITS;
 use std::marker::Model;
 
-/// The places in a data field at which the data units of its Teletext units begin, in order.
+/// The offsets in a data field at which the data units of its Teletext units begin, in order.
 #[derive(Drop)]
 pub(crate) struct UnitPlaces {
-    // The first `count` are kept.
+    // Only the first `count` are used.
     places: [u16; MOST_UNITS],
     count: usize,
 }
@@ -34,7 +34,7 @@ impl Model for UnitPlaces {
 }
 
 impl UnitPlaces {
-    /// No place.
+    /// Creates an empty list.
     pub fn new() -> Self
         ensures { result ≡ [] }
     {
@@ -44,14 +44,14 @@ impl UnitPlaces {
         }
     }
 
-    /// Makes it as `new` does.
+    /// Resets it to the state of `new`.
     pub fn clear(&mut self)
         ensures { self.new ≡ [] }
     {
         self.count = 0;
     }
 
-    /// The places, `MOST_UNITS` at most.
+    /// Returns the offsets, at most `MOST_UNITS`.
     pub fn as_slice(&self) -> &[u16]
         ensures value { result.now ≡ self.now }
         ensures few { length self.now ≤ most_units }
@@ -59,7 +59,7 @@ impl UnitPlaces {
         &self.places[..self.count]
     }
 
-    /// Adds a place.
+    /// Appends an offset.
     fn push(&mut self, place: u16)
         requires { length self.old < most_units }
         ensures { self.new ≡ self.old ++ place ∷ [] }
@@ -69,8 +69,8 @@ impl UnitPlaces {
     }
 }
 
-// The place in the order of lines that the next unit's has to come after, after `last` and the unit
-// that a data unit is, if that may stand there.
+// Returns the place in line order after the unit of this data unit, if the unit may follow the
+// place `last`.
 #[inline(always)]
 fn place_after(last: u8, block: &[u8]) -> Option<u8>
     requires last { last < 64 }
@@ -88,8 +88,8 @@ fn place_after(last: u8, block: &[u8]) -> Option<u8>
     if last < place { Some(place) } else { None }
 }
 
-// Adds the place of a data unit, if it is a Teletext unit. `last` is the place in the order of
-// lines that its own has to come after; answers that of the next one.
+// Appends the offset of a data unit if it is a Teletext unit. `last` is the place in line order
+// that it has to follow; returns that for the next unit.
 #[inline(always)]
 #[tactic(auto, using(crate::proofs::SentUnitLemmas::one_more))]
 fn take_place(places: &mut UnitPlaces, last: u8, field: &[u8], place: u16) -> Result<u8, PesFault>
@@ -122,8 +122,8 @@ fn take_place(places: &mut UnitPlaces, last: u8, field: &[u8], place: u16) -> Re
     Ok(next)
 }
 
-/// Finds the Teletext units of a data field, up to the first fault. No byte of a packet is looked
-/// at.
+/// Finds the Teletext units of a data field, up to the first fault. Reads no bytes of the Teletext
+/// packets.
 #[tactic(auto, using(crate::proofs::SentUnitLemmas::places_left))]
 pub(crate) fn take_places(places: &mut UnitPlaces, field: &[u8]) -> Result<(), PesFault>
     requires none { places.old ≡ [] }

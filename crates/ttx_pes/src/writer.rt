@@ -1,4 +1,4 @@
-//! Writing PES packets.
+//! Writes PES packets.
 ghost use Rattle.std.specs.Prelude.{◌≡◌, ◌+◌, ◌<◌, ◌≤◌, ◌++◌, length, Err, IfErr, is_err, true};
 ghost use Rattle.std.specs.Prelude.{false, if◌then◌else◌};
 ghost use Rattle.sub_io.specs.Device.{CanFail, CountsIf, Writes, failed};
@@ -17,7 +17,7 @@ use sub_io::{Sink, put_all};
 /// The bytes of a packet.
 pub(crate) type Bytes = ArrayVec<u8, LONGEST_PACKET>;
 
-// Adds bytes at the end, where there is room.
+// Appends bytes, for which there must be room.
 pub(crate) fn add(out: &mut Bytes, bytes: &[u8])
     requires { length out.old.items + length bytes.now ≤ longest_packet }
     ensures items { out.new.items ≡ out.old.items ++ bytes.now }
@@ -26,7 +26,7 @@ pub(crate) fn add(out: &mut Bytes, bytes: &[u8])
     out.try_extend_from_slice(bytes).unwrap();
 }
 
-// The frame's canonical packet.
+// Returns the canonical packet of a frame.
 #[tactic(auto, using(crate::proofs::PesPacketLemmas::packing))]
 pub(crate) fn packet_of(frame: &PesFrame) -> Bytes
     ensures { result.items ≡ canonical_packet frame.now }
@@ -43,7 +43,7 @@ pub(crate) fn packet_of(frame: &PesFrame) -> Bytes
     out
 }
 
-/// Writes PES packets with Teletext units. It keeps whether there was a fault.
+/// Writes PES packets with Teletext units, and remembers whether there was a fault.
 #[derive(Drop)]
 pub struct PesWriter {
     broken: bool,
@@ -52,27 +52,27 @@ pub struct PesWriter {
 impl Model for PesWriter {
     ghost use Rattle.std.specs.Prelude.{Bool};
 
-    // Whether there was a fault.
+    // There was a fault.
     ghost Value = { Bool };
 
     ghost view = { λ w. w.broken };
 }
 
 impl PesWriter {
-    /// A writer that has met no fault.
+    /// Creates a writer without faults.
     pub fn new() -> Self
         ensures { result ≡ false }
     {
         PesWriter { broken: false }
     }
 
-    /// Writes the frame's canonical packet: its units in order, then stuffing units, in the fewest
-    /// payloads of 184 bytes that have room for them (EN 300 472; the choice of stuffing is (own)).
+    /// Writes the canonical packet of a frame: its units in order, then stuffing units, in the
+    /// fewest payloads of 184 bytes that hold them (EN 300 472; the choice of stuffing is (own)).
     ///
     /// # Errors
     ///
-    /// `Write` where the sink failed: a prefix of the packet was written. `Ended` at each call
-    /// after that: nothing was.
+    /// Returns `Write` if the sink fails; a prefix of the packet was written. Each later call
+    /// returns `Ended` and writes nothing.
     pub fn put<K: Sink>(&mut self, sink: &mut K, frame: &PesFrame) -> Result<(), PesFault>
         requires { CanFail (K.failure_count sink.old) }
         ensures bytes { Writes (K.contents sink.old) (K.contents sink.new)

@@ -1,9 +1,9 @@
-//! Blocks of bytes compared at once, a byte in each lane of a vector.
+//! Compares blocks of bytes at once, one byte per lane of a vector.
 ghost use Rattle.std.specs.Prelude.{◌≡◌, ◌↔◌, ◌≤◌, true};
 
 use std::simd::prelude::*;
 
-// Whether two blocks hold the same bytes.
+// Returns whether two blocks are equal.
 #[inline(always)]
 pub(super) fn is_same_block<const N: usize>(a: &[u8; N], b: &[u8; N]) -> bool
     requires { N ≤ 64 }
@@ -15,7 +15,7 @@ pub(super) fn is_same_block<const N: usize>(a: &[u8; N], b: &[u8; N]) -> bool
         == 0
 }
 
-// Whether 256 bytes are equal: no branch stands between their quarters.
+// Returns whether 256 bytes are equal, without branches between their quarters.
 #[inline(always)]
 pub(super) fn is_same_long_block(a: &[u8; 256], b: &[u8; 256]) -> bool
     ensures { (result ≡ true) ↔ (a.now ≡ b.now) }
