@@ -1,5 +1,7 @@
-"""Lets pytest run the tests of dev/check-tools, with `--forked`, each in a process of its own as
-there. The program is the one that ./subttx runs, or that of the variable SUBTTX."""
+"""Let pytest run the tests of dev/check-tools. `--forked` gives each its own process, as there.
+
+The program is the one that ./subttx runs, or the one that the variable SUBTTX names.
+"""
 import os
 import sys
 
@@ -13,23 +15,23 @@ COMPILED = compiled()
 
 
 def pytest_configure() -> None:
-    """As dev/check-tools does before all tests."""
+    """Prepare the machine as dev/check-tools does before its first test."""
     BENCH.chosen = os.path.realpath(os.environ.get("SUBTTX") or built_program(None))
     COMPILED.__enter__()
     BENCH.make_top()
 
 
 def pytest_runtest_call() -> None:
-    """What is printed goes to the process's own output, which those that it forks have too."""
+    """Print to the process's own output, which forked processes share."""
     sys.stdout, sys.stderr = sys.__stdout__, sys.__stderr__
 
 
 def pytest_unconfigure() -> None:
-    """And after them."""
+    """Remove the compiled tools."""
     COMPILED.__exit__(None, None, None)
 
 
 def pytest_terminal_summary() -> None:
-    """What this machine lacks."""
+    """List the tests that were skipped, since this machine lacks something."""
     if BENCH.over:
-        print("passed over: " + "; ".join(dict.fromkeys(BENCH.over)))
+        print("skipped: " + "; ".join(dict.fromkeys(BENCH.over)))

@@ -1,34 +1,34 @@
-"""What the scripts of dev/ share, one idea each.
+"""Modules that the scripts of dev/ share, one idea each.
 
-proved        what PROVED says of the built program
-debian        a package of it
-pages         man pages and completion, made of the help and one table of options
-crates        the crates, and what each stands on
-prover        how one is proved
-sizes         how many lines they have of what
-definitions   the definitions of specs/, and what a name or a clause rests on
-sources       what a file of specs/, proofs/ or src/ defines
-graph         what names what among them, and what serves what
-signs         the signs of antt, with their meaning
+proved        the facts about the built program in dist/PROVED
+debian        the Debian package
+pages         man pages and completion, generated from the help and one table of options
+crates        the crates and their dependencies
+prover        how a crate is proved
+sizes         lines of the crates by kind
+definitions   the definitions of specs/, and those that a name or a clause depends on
+sources       the names that a file of specs/, proofs/ or src/ defines
+graph         which of these names uses which, and which promises it serves
+signs         the symbols of antt and their meanings
 promises      the index of clauses in CLAUSES
 cited         names that documents cite
-shown         the command lines of documents, with what they print there
-edits         wrong programs
-bugs          what a tired programmer gets wrong, by ast
-planting      the tests that call a function, run with a bug in it
+shown         the command lines of documents, with the output shown there
+edits         mutants of the crates
+bugs          mutants of the tools: small mistakes, made in the syntax tree
+planting      runs the tests of a function with a mistake planted in it
 looks         how a report looks in a browser
-compiled      the tools compiled once for many calls of tests
-pes           Teletext packets and PES packets of them, written and read
-stl           blocks of subtitle files, written
-multiplex     a transport stream that is written
+compiled      the tools, compiled once for many test calls
+pes           writes and reads Teletext packets and their PES packets
+stl           writes blocks of subtitle files
+multiplex     writes a transport stream
 trial         a run in which something fails, and what has to happen
-trial_inputs  the commands that are run so, and what they read
-trial_memory  runs in which memory is short
-every_place   the second implementation; on purpose it shares no more than codes, times and layouts
-tests         the tests of check-tools, of unittest: a module for a tool or an idea
+trial_inputs  the commands of such runs, and their input files
+trial_memory  runs with little memory
+every_place   the second implementation; on purpose it shares only codes, times and layouts
+tests         the unittest modules of check-tools, one for each tool or idea
 
-It stands on the packages of tools/subtitles, which know nothing of it.
-A script imports something of it before anything of those, so that they are found.
+It uses the packages of tools/subtitles, which do not use it. A script imports a module from here
+before any of those, so that tools/ is on the import path.
 """
 from __future__ import annotations
 
@@ -42,8 +42,10 @@ sys.path.insert(1, TOOLS)  # after the script's own folder
 
 
 def counts_in(said: str, status: int) -> tuple[int, int] | None:
-    """How many passed and failed of a script, by its last line `N passed, M failed`; `None` where
-    it has none, or ended with a status that does not go with it."""
+    """Return the counts of a script's last line, `N passed, M failed`.
+
+    Return `None` if there is no such line, or if the exit status contradicts it.
+    """
     found = re.search(r"^(\d+) passed, (\d+) failed\n\Z", said, re.M)
     is_so = found is not None and (status != 0) == (found[2] != "0")
     return (int(found[1]), int(found[2])) if found and is_so else None
