@@ -1,5 +1,5 @@
--- For `law_of_plain_acceptance`: what both files mean is a programme, `programme_of`; and what is
--- good by the options is good, and the other way.
+-- For `law_of_plain_acceptance`: both files mean a programme, `programme_of`; a transmission is
+-- good by the options exactly if it is good.
 use Rattle.std.proofs.Common.{◌≡◌, ℕ, Bool, List, [], ◌∷◌, sym, subst}
 use Rattle.std.specs.Prelude.{All, IsFalse}
 use Rattle.std.specs.List.{AllZip}
@@ -17,7 +17,6 @@ use Rattle.sub_laws.proofs.PesFileLemmas.{law_of_exact_frames}
 use Rattle.sub_check.specs.CheckedFiles.{IsAccepted, IsAcceptedBy, Mean, MeanWithin}
 use Rattle.sub_headline.specs.Acceptance.{LawOfPlainAcceptance}
 
--- Each subtitle of a file is one.
 pub all_subtitles : (ts : List SubtitleValue) (gs : List (List (List ℕ)))
     → AllZip AreBlocksOf ts gs
     → All IsSubtitle ts
@@ -28,7 +27,7 @@ all_subtitles (t ∷ ts) (g ∷ gs) e =
 
 module _ (drawing : Drawing) (options : OptionsValue) (stl pes : List ℕ)
     (subtitles : List SubtitleValue) (t : Transmission) where
-  -- What files mean is a programme.
+  -- The files mean a programme.
   pub programme_of :
       Mean drawing options.origin stl pes subtitles t
       → IsProgramme drawing subtitles
@@ -38,7 +37,7 @@ module _ (drawing : Drawing) (options : OptionsValue) (stl pes : List ℕ)
     drawable = mean.drawable;
   }
 
-  -- Within no frames they mean the same.
+  -- If `within` is 0, they mean the same.
   exact_of :
       options.within ≡ 0
       → MeanWithin drawing options stl pes subtitles t

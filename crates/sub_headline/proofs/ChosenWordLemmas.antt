@@ -1,5 +1,5 @@
--- For `law_of_chosen_words`: what the rows say behind `check STL PES` and choices, `rows_say`; so
--- what is asked for, `check_is`.
+-- For `law_of_chosen_words`: the rows for `check STL PES` with choices, `rows_say`, give the
+-- request, `check_is`.
 use Rattle.std.proofs.Common.{◌≡◌, ◌∙◌, Bool, true, false, List, [], ◌∷◌, ◌++◌, Option, Some}
 use Rattle.std.proofs.Common.{ℕ, None, Ok, Err, refl, sym, ap, arith, codes, drop, ◌^◌, ◌-◌}
 use Rattle.std.proofs.Common.{inl, inr, subst, append_assoc, append-nil}
@@ -51,17 +51,17 @@ use Rattle.sub_headline.proofs.PlainWordLemmas.{at_rest, held_of_two, walked_pla
 use Rattle.sub_headline.proofs.RowLemmas.{default_at, defaulted, first_is, first_text, held_at}
 use Rattle.sub_headline.proofs.RowLemmas.{or_default}
 
--- ---- what an argument is given as
+-- ---- the value of an argument
 
--- Its values, by parts, and with its default.
+-- The values of an argument after these options.
 abbrev given_by : Text → List (List Text) → List Look → List (List Text)
 given_by id vs parts = fold (then_held id) vs parts
 
--- The text that is read of values, where this is the default.
+-- The text of the values, or the default.
 abbrev text_in : Text → List (List Text) → Text
 text_in default vs = unwrap_or (first_text (or_default vs (default ∷ []))) []
 
--- The arguments that parts may give.
+-- The arguments that these options may give.
 abbrev keys : List Text
 keys =
     codes "page" ∷
@@ -123,15 +123,15 @@ not_given id apart vs (part ∷ parts) =
     (apart part)
     ∙ not_given id apart vs parts
 
--- What a text says, where there is one.
+-- The meaning of a text, if there is one.
 abbrev said_by : {A : Type 0} → (Text → Option A) → Option Text → Option (Option A)
 said_by said text = option_map_or (λ text. option_map Some (said text)) text (Some None)
 
--- What a text of `--pace` says.
+-- The meaning of the text of `--pace`.
 abbrev pace_of_text : Text → Option ℕ
 pace_of_text text = between 1 day (number_of_text text)
 
--- What is held for arguments says how they are read and drawn.
+-- The values of the arguments mean this reading and drawing.
 record Meant (held : Text → List (List Text)) (l : Looking) : Type 0 where
   pub page_is :
       page_of_text (text_in (codes "888") (held (codes "page"))) ≡ Some l.reading.options.page
@@ -166,15 +166,13 @@ record Meant (held : Text → List (List Text)) (l : Looking) : Type 0 where
       option_map_or layout_of_text (first_text (held (codes "layout"))) (Some default_layout)
       ≡ Some l.layout
 
--- With other options.
 abbrev with_options : Reading → OptionsValue → Reading
 with_options r o = record r { options = o }
 
--- With another reading.
 abbrev with_reading : Looking → Reading → Looking
 with_reading l r = record l { reading = r }
 
--- What is held behind one more part.
+-- The values after one more option.
 abbrev then_all : (Text → List (List Text)) → Look → Text → List (List Text)
 then_all held part id = then_held id (held id) part
 
@@ -198,7 +196,7 @@ meant_then held l (Of OpenToo) m =
 meant_then held l (Letters text n name is) m = assumption (is, m)
 meant_then held l (Lines text n name is) m = assumption (is, m)
 
--- By parts, where this is held before them.
+-- The values after these options, starting from given ones.
 abbrev held_behind : (Text → List (List Text)) → List Look → Text → List (List Text)
 held_behind held parts id = given_by id (held id) parts
 
@@ -213,7 +211,7 @@ english_named : option_named (codes "english") ≡ Some English
 unfolding option_named sub_set
 english_named = refl
 
--- Nothing is held at first.
+-- No values.
 abbrev nothing : Text → List (List Text)
 nothing id = []
 
@@ -286,7 +284,7 @@ no_default (v ∷ vs) = refl
 
 -- ---- the rows
 
--- What they say, argument by argument, where this is given for options.
+-- Their meaning, argument by argument, given the values of options.
 record RowsSay (rows : List Row) (stl recording : Text) (held : Text → List (List Text))
     : Type 0 where
   pub stl_is : first_of (codes "stl") rows ≡ Some stl
@@ -319,7 +317,7 @@ module _ (stl pes : Text) (parts : List Look) where
   abbrev pub all_held : Held
   all_held = fold next (held_of_two stl pes) parts
 
-  -- What is read for an argument, by what two words hold for it.
+  -- The text of an argument, from the values of two words.
   first_by :
       (id : Text) (vs : List (List Text))
       → bytes_eq id id ≡ true
@@ -413,7 +411,7 @@ module _ (stl pes : Text) (parts : List Look) where
         (key_apart (codes "keeping") refl);
   }
 
--- ---- what is asked
+-- ---- the request
 
 within_number : number_of_text (codes "0") ≡ Some 0
 unfolding number_of_text
@@ -432,7 +430,7 @@ unfolding pes_packets_of
 pes_packets_are rows name size pid pes r recording pid_is size_is pes_is pid_says size_says
     pes_says = rw (pid_is, pid_says, size_is, size_says, pes_is, pes_says, recording) refl
 
--- The options that parts give, of which the others are the default ones.
+-- The options that can be chosen, with defaults for all others.
 abbrev options_in : OptionsValue → OptionsValue
 options_in o = record {
   page = o.page;
@@ -452,7 +450,7 @@ pacing_is : (options : OptionsValue) (rows : List Row) (pace : Option Text) (fra
 pacing_is options rows None frames none first says = grind (arith, nat_tests)
 pacing_is options rows (Some text) frames none first says = grind (arith, nat_tests)
 
--- A time where one is given, else this.
+-- The time that is given, or the default.
 time_by : (text : Option Text) (default frame : ℕ)
     → option_map_or frame_of_text text (Some default) ≡ Some frame
     → (o : Option ℕ)
@@ -484,7 +482,7 @@ scope_is rows from to also scope from_is to_is open_is from_says to_says open_sa
       open_says,
     ) refl
 
--- All that is broken is listed.
+-- Each fault is listed.
 abbrev lists_all : (Text → List (List Text)) → Bool
 lists_all held = bytes_eq (text_in (codes "false") (held (codes "all"))) (codes "true")
 
@@ -538,7 +536,7 @@ module _ (rows : List Row) (stl recording : Text) (held : Text → List (List Te
         say.stl_is,
       ) refl
 
-  -- Where a check was asked for, by such rows, it is that.
+  -- If these rows request a check, it is that one.
   in_range :
       (near time : Bool) (asked : Asked)
       → nat_le 1 l.reading.options.every && nat_le l.reading.options.every day ≡ near
@@ -559,7 +557,7 @@ options_are : (o : OptionsValue)
     → options_in o ≡ o
 options_are o within keeps = grind (arith, nat_tests)
 
--- Such options allow no frames, and no repeat that keeps the page.
+-- With these options `within` is 0 and no repeat may keep the page.
 pub plain_by : (parts : List Look)
     → ((looking_of parts).reading.options.within ≡ 0)
     × IsFalse (looking_of parts).reading.options.keeps
@@ -567,9 +565,9 @@ plain_by parts =
     let m = meant_by nothing (looking_of []) parts meant_at_first in
     (m.within_is, m.keeps_is)
 
--- ---- the words
+-- ---- the arguments
 
--- Behind the name of a command each word is one of its own.
+-- After the name of a command each word is one of its own.
 stopped_walk : (c : List Rule) (names : Names) (name : Text) (words more : List Text) (w : Walk)
     → w.stopped ≡ Some (name, words)
     → (fold (walked c names) w more).stopped ≡ Some (name, words ++ more)
@@ -620,7 +618,7 @@ no_version : (program stl pes : Text) (more : List Text)
 unfolding asks_version
 no_version program stl pes more = refl
 
--- The arguments ask for what the words do.
+-- The rows give the request that the arguments make.
 asked_so : (words : List Text) (rows : List Row) (asked : Asked)
     → command_in words ≡ Some (codes "check", rows)
     → asked_for words ≡ Some (Ok asked)
@@ -665,7 +663,7 @@ law_of_look_words program stl pes parts request is_stl is_pes (inr (inr asks)) =
     (rows_after rules [] (stl ∷ pes ∷ flat_map words_for parts)) (asked_by request)
     (command_of program (stl ∷ pes ∷ flat_map words_for parts)) asks.2.asked)
 
--- ---- parts alone
+-- ---- options of a recording alone
 
 words_of_parts : (parts : List Portion)
     → flat_map words_for (map Of parts) ≡ flat_map words_in parts

@@ -1,6 +1,6 @@
--- For `law_of_english_acceptance`: the files that mean subtitles and a transmission are theirs,
--- `files_of` and `mean_of`; and what is good for these is good by English's own
--- page and rules, `english_of` and `good_of`.
+-- For `law_of_english_acceptance`: the files mean subtitles and a transmission exactly if they
+-- contain them, `files_of` and `mean_of`; and a transmission is good exactly if it is by the page
+-- and rules for English, `english_of` and `good_of`.
 use Rattle.std.proofs.Common.{◌≡◌, ◌∙◌, ℕ, Bool, false, List, Result, ap, subst, sym}
 use Rattle.std.specs.Prelude.{All, IsFalse, IsOk, IsTrue}
 use Rattle.ttx_packet.specs.declared.header.Header.{Header}
@@ -120,7 +120,7 @@ module _ (options : OptionsValue) (subtitles : List SubtitleValue) (transmission
 
 -- ---- both files
 
--- The default options, by the PTS of frame 0.
+-- The default options with this PTS of frame 0.
 abbrev from_origin : ℕ → OptionsValue
 from_origin origin = record default_options { origin = origin }
 

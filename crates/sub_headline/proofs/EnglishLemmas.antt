@@ -1,6 +1,6 @@
--- For `law_of_headline`: by the default layout an English subtitle is drawn as its English page,
--- `drawn_is`, so what is due is the English page that is due, `due_is`; and it is drawn where
--- nothing of its text is left out, `ok_of_whole`.
+-- For `law_of_headline`: with the default layout an English subtitle is drawn as its English page,
+-- `drawn_is`, so the due page is the English one, `due_is`; and it is drawn if its text can be
+-- drawn completely, `ok_of_whole`.
 use Rattle.std.proofs.lemmas.Bool.Decides.{nat_tests}
 use Rattle.std.proofs.lemmas.List.Elements.{All-cons, All-head, All-nil, All-tail}
 use Rattle.std.proofs.Common.{◌≡◌, ◌≢◌, ◌⊎◌, ◌∙◌, ℕ, ◌+◌, ◌≤◌, Bool, true, false, List, [], ◌∷◌}
@@ -36,12 +36,12 @@ use Rattle.sub_headline.specs.EnglishPage.{english_lines, english_page, page_or_
 
 -- ---- the cells of bytes
 
--- A character without a mark is none of a pair.
+-- A character that is no diacritical mark is not part of a pair.
 no_mark : (x : Bool) (a rest : Option ℕ) → rest ≡ None → (if x && false then a else rest) ≡ None
 no_mark true a rest e = e
 no_mark false a rest e = e
 
--- English has none of a pair.
+-- English has no such pairs.
 no_second : (byte next : ℕ) → cell_in (sub_set English).characters (Some byte) next ≡ None
 unfolding sub_set has_bytes
 no_second byte next =
@@ -75,7 +75,7 @@ cell_is byte =
 
 -- ---- the lines of a text
 
--- Each byte speaks by itself.
+-- Each byte has a meaning of its own.
 codes_step : (place byte : ℕ) (bytes : List ℕ)
     → codes_after English place 0 (byte ∷ bytes)
     ≡ (place, text_code English byte) ∷ codes_after English (place + 1) 0 bytes
@@ -100,7 +100,7 @@ lines_are place (byte ∷ bytes) =
     ∙ ap (with_code (text_code English byte)) (lines_are (place + 1) bytes)
     ∙ put_by (english_cell byte) byte (english_lines bytes) (cell_is byte)
 
--- ---- the bytes that are read
+-- ---- the bytes that are handled
 
 none_read : (byte place : ℕ)
     → refused_code place (code_of_other byte) ≡ None
@@ -188,7 +188,7 @@ not_under [] under e is = refl
 not_under (c ∷ cells) true e is = cc
 not_under (c ∷ cells) false e is = cc
 
--- What is said of a line of which nothing is refused.
+-- A line without a fault.
 fit_line : (row : ℕ) (under : Bool) (line : List ℕ)
     → line_fault_kinds row under line ≡ []
     → IsFit row under line
@@ -218,7 +218,7 @@ fit_of number row under (line ∷ ls) e =
       fit_of (number + 1) (row + 1) (is_double line) ls of.1,
     )
 
--- A subtitle that is drawn is drawn as its English page, and nothing of its text is left out.
+-- A subtitle that is drawn has its English page, and its text is drawn completely.
 pub record IsDrawn (t : SubtitleValue) : Type 0 where
   pub page : drawn default_drawing t ≡ Ok (english_page t)
   pub whole : IsWhole t
@@ -290,7 +290,7 @@ due_is ts f each = found_is ts f each
 
 -- ---- a part of the file
 
--- What is drawn of a subtitle, and due, does not go by which of them are taken.
+-- How a subtitle is drawn does not depend on the requested part.
 abbrev pub english_within : Scope → Drawing
 english_within scope = drawing_within English default_layout scope
 
@@ -311,7 +311,7 @@ pub due_within : (scope : Scope) (ts : List SubtitleValue) (f : ℕ)
 unfolding due
 due_within scope ts f each = same_page scope (find (is_due f) ts) ∙ due_is ts f each
 
--- ---- a subtitle of which nothing is left out
+-- ---- a subtitle that is drawn completely
 
 both_none : {A : Type 0} (xs ys : List A) → xs ≡ [] → ys ≡ [] → xs ++ ys ≡ []
 both_none [] ys e f = f

@@ -16,9 +16,9 @@ use Rattle.sub_rules.specs.Transmission.{SentFrame, Transmission}
 use Rattle.sub_headline.specs.PlainReading.{frame_read, frames_by_place, packet_read, packets_read}
 use Rattle.sub_headline.specs.PlainReading.{pieces_of, pts_read, size_read}
 
--- ---- pieces of one size
+-- ---- parts of one size
 
--- A piece later, of bytes that begin with one piece.
+-- Skips one part of the bytes.
 piece_after : (size : ℕ) (first rest : List ℕ) (k : ℕ)
     → length first ≡ size
     → drop (size * suc k) (first ++ rest) ≡ drop (size * k) rest
@@ -44,7 +44,7 @@ pieces_after size first rest a b (suc n) is next =
     ∙ ap (λ (ps : List (List ℕ)). piece_at size rest a ∷ ps)
     (pieces_after size first rest (a + 1) (b + 1) n is (omega arith))
 
--- The first piece is cut off.
+-- The first part is cut off.
 pub pieces_cons : (size : ℕ) (first rest : List ℕ)
     → length first ≡ size
     → length (first ++ rest) / size ≡ suc (length rest / size)
@@ -59,7 +59,7 @@ pieces_cons size first rest is count =
 teletext_id : (id : ℕ) → 2 ≤ id → id ≤ 3 → (id == 0x02) || (id == 0x03) ≡ true
 teletext_id id low high = grind (arith, nat_tests)
 
--- The packets of units.
+-- The packets of data units.
 abbrev packets_in : List UnitValue → List (List ℕ)
 packets_in units = map (λ (u : UnitValue). u.packet) units
 
@@ -90,7 +90,7 @@ units_are (suc n) units b (u, others, first, rest, held, after, units_are_so, b_
       units_are_so,
     ) (sym (map-append (λ (u : UnitValue). u.packet) (option_to_list u) others))
 
--- ---- a packet
+-- ---- a PES packet
 
 -- Its size, read from its first six bytes.
 size_is : (n : ℕ) (more : List ℕ) → 1 ≤ n → n ≤ 9 → size_read (six_of n ++ more) ≡ 184 * n
@@ -128,7 +128,6 @@ module _ (v : PesValue) (p : List ℕ) (h : IsPesPacket v p) where
       ∙ drop_at (h.header_stuffing ++ h.data_identifier ∷ []) h.data_units 32
       (length-append h.header_stuffing (h.data_identifier ∷ []) ∙ omega (arith, h.header_filled))
 
--- A frame of these.
 abbrev frame_with : ℕ → List (List ℕ) → SentFrame
 frame_with frame packets = record { frame = frame; packets = packets }
 
@@ -155,7 +154,7 @@ frame_is origin v p s fits h sent =
 
 -- ---- the file
 
--- The first packet is cut off.
+-- The first PES packet is cut off.
 packet_cut : (most : ℕ) (p rest : List ℕ)
     → 0 < length p
     → size_read (p ++ rest) ≡ length p
@@ -193,7 +192,6 @@ frames_from origin (suc most) (v ∷ values) (p ∷ packets) (s ∷ t) fits each
       frames_from origin most values packets t fits each.1 sent.1 left,
     ) refl
 
--- The frames that a PES file carries are read from it.
 pub frames_are : (origin : ℕ) (bytes : List ℕ) (t : Transmission)
     → origin < 2 ^ 33
     → Carries origin bytes t

@@ -1,5 +1,5 @@
--- For `law_of_headline`. A run of `check` over files in memory that does not end with code 2 ends
--- with 0 exactly where the bytes are accepted, `code_tells`.
+-- For `law_of_headline`. A run of `check` on files in memory that does not end with code 2 ends
+-- with 0 exactly if the bytes are accepted, `code_tells`.
 use Rattle.std.proofs.Common.{◌≡◌, ◌≢◌, ◌↔◌, ◌⊎◌, ◌∙◌, ℕ, List, [], ◌∷◌, Option, Some, None, Ok}
 use Rattle.std.proofs.Common.{Result}
 use Rattle.std.proofs.Common.{Bool, ap, arith, codes, refl, subst, sym}
@@ -75,7 +75,7 @@ use Rattle.sub_headline.proofs.RunLemmas.{HasAnswered, answered, done_by_code, n
 use Rattle.sub_headline.proofs.ScreenLemmas.{screens_of}
 use Rattle.sub_headline.proofs.SubtitleReadingLemmas.{subtitles_are, taken_subtitles_are}
 
--- What is asked of two files by options.
+-- The request for a check of two files with options.
 abbrev check_by :
     (stl pes : Text) → Option TransportStream → Option PieceRangeValue → OptionsValue → National
     → Layout → Scope → Bool → Asked
@@ -83,7 +83,7 @@ check_by stl pes stream range options national layout scope all =
     Asked.Check stl (record { name = pes; stream = stream; range = range }) options national layout
     scope all
 
--- What it names and asks for is that.
+-- The request is this one.
 record IsCheckBy
     (stl0 name : Text) (stream0 : Option TransportStream) (range0 : Option PieceRangeValue)
     (options0 : OptionsValue) (national0 : National) (layout0 : Layout) (scope0 : Scope)
@@ -113,7 +113,7 @@ is_check_by :
 is_check_by stl0 name stream0 range0 options0 national0 layout0 scope0 all0 stl pes stream range
     options national layout scope all e = grind (arith, nat_tests)
 
--- What the status of such a check tells.
+-- What the status of such a check says.
 tells :
     (request : Request) (stl pes : Text) (stream : Option TransportStream)
     (range : Option PieceRangeValue) (options : OptionsValue) (national : National)
@@ -168,12 +168,12 @@ tells
     (ask.Survey a b) stl pes st ra o n y c all file bytes read files s e at_stl at_pes r told =
     cc
 
--- The words that were given are those that were answered.
+-- The program has only one list of arguments.
 given_words :
     (given : Result (List Text) UsageFault) (a b : List Text) → given ≡ Ok a → given ≡ Ok b → a ≡ b
 given_words given a b one other = let e = sym one ∙ other in cc
 
--- What both files mean, where the transmission is good.
+-- What both files mean, if the transmission is good.
 module _ (scope : Scope) (options : OptionsValue) (stl pes : List ℕ)
     (is : IsAccepted (english_within scope) options stl pes) where
   files : AreFilesOf scope options.origin stl pes is.subtitles is.transmission
@@ -203,7 +203,7 @@ module _ (scope : Scope) (options : OptionsValue) (stl pes : List ℕ)
             (served.cells header row column is_cell);
       }
 
-  -- Where complete pages were asked for, they are on the screens.
+  -- If complete pages were required, they are on the screens.
   complete : IsTrue options.asks_complete
       → EachDisplayShows options.page is.subtitles is.transmission
   complete asks = λ class g j f arrived got old new is_got shows header.
@@ -242,7 +242,7 @@ module _ (scope : Scope) (options : OptionsValue) (stl pes : List ℕ)
         receivers = each Storing;
       }
 
-  -- What is so of what they mean is so of what is read by place.
+  -- A property of what they mean holds for what is read by place.
   read : options.origin < 2 ^ 33
       → (IsSo : List SubtitleValue → Transmission → Type 0)
       → IsSo is.subtitles is.transmission
@@ -253,7 +253,7 @@ module _ (scope : Scope) (options : OptionsValue) (stl pes : List ℕ)
       (subst (λ (t : Transmission). IsSo is.subtitles t)
       (sym (frames_are options.origin pes is.transmission fits files.carries)) so)
 
-  -- Other receivers and screens, of what is read by place.
+  -- The same for other receivers and screens.
   kept : options.origin < 2 ^ 33
       → ServesOthers options (subtitles_within scope stl) (frames_by_place options.origin pes)
   kept fits = record {
@@ -265,7 +265,7 @@ module _ (scope : Scope) (options : OptionsValue) (stl pes : List ℕ)
     complete = λ asks. read fits (EachDisplayShows options.page) (complete asks);
   }
 
--- Of the whole subtitle file.
+-- The whole subtitle file.
 read_whole : (options : OptionsValue) (stl pes : List ℕ)
     (is : IsAccepted default_drawing options stl pes)
     → options.origin < 2 ^ 33
@@ -279,9 +279,9 @@ read_whole options stl pes is fits IsSo so =
     (subst (λ (t : Transmission). IsSo is.subtitles t)
     (sym (frames_are options.origin pes is.transmission fits of.carries)) so)
 
--- ---- the headline by any national option and layout
+-- ---- the headline with any national option and layout
 
--- What is due of subtitles does not go by which of them are taken.
+-- The due page does not depend on the requested part.
 drawn_within : (national : National) (layout : Layout) (scope : Scope) (o : Option SubtitleValue)
     → drawn_or_blank (drawing_within national layout scope) o
     ≡ drawn_or_blank (drawing_by national layout) o
@@ -343,7 +343,7 @@ module _ (national : National) (layout : Layout) (scope : Scope) (options : Opti
       (subst (λ (t : Transmission). IsSo is.subtitles t)
       (sym (frames_are options.origin pes is.transmission fits is.mean.carries)) drawn_headline)
 
--- ---- what is read of a recording
+-- ---- the selected part of a recording
 
 abbrev stream_of : Reading → Option TransportStream
 stream_of r = option_map (λ pid. record { pid = pid; packet_size = r.size }) r.pid
@@ -363,8 +363,8 @@ read_so (Some pid) size range bytes = range_so range (carried_by (Some pid) size
 
 -- ---- a run
 
--- Words ask for nothing but a check of these files, and of this part of the one, by options that
--- allow no frames and no repeat that keeps the page.
+-- The arguments request nothing but a check of these files, and of this part of the recording, if
+-- `within` is 0 and no repeat may keep the page.
 record AskForCheck
     (words : List Text) (stl pes : Text) (stream : Option TransportStream)
     (range : Option PieceRangeValue) (options : OptionsValue) (national : National)
@@ -379,7 +379,7 @@ record AskForCheck
   pub none : options.within ≡ 0
   pub off : IsFalse options.keeps
 
--- What the code of a run then tells of the bytes of both files.
+-- What the code of a run says about the bytes of both files then.
 record TellsBytes
     (drawing : Drawing) (options : OptionsValue) (file read : List ℕ) (code : ℕ)
     : Type 0 where
@@ -427,7 +427,7 @@ module _ {K : Type 0} (contents : K → Option (List ℕ)) (failure_count : K �
           );
         }
 
-  -- The words of parts.
+  -- The arguments for a recording.
   ask_for_parts :
       (program stl pes : Text) (parts : List Portion)
       → IsName stl
@@ -454,7 +454,7 @@ module _ {K : Type 0} (contents : K → Option (List ℕ)) (failure_count : K �
       (ask_for_parts program stl pes parts is_stl is_pes) given_is stl_is pes_is
       (read_so r.pid r.size r.range bytes) not_two
 
-  -- The words of all that may be chosen.
+  -- The arguments with everything that may be chosen.
   look_tells : OfLook given before
       (λ l file bytes.
       code ≢ 2
@@ -472,7 +472,7 @@ module _ {K : Type 0} (contents : K → Option (List ℕ)) (failure_count : K �
         off = by.1;
       }) given_is stl_is pes_is (read_so r.pid r.size r.range bytes) not_two
 
-  -- The words of choices.
+  -- The arguments with choices.
   ask_for_chosen :
       (program stl pes : Text) (choices : List Choice)
       → IsName stl
@@ -498,7 +498,7 @@ module _ {K : Type 0} (contents : K → Option (List ℕ)) (failure_count : K �
       bytes
       (ask_for_chosen program stl pes choices is_stl is_pes) given_is stl_is pes_is refl not_two
 
-  -- Where the code is 0, what is so of all that is accepted is so of what is read by place.
+  -- If the code is 0, a property of all accepted files holds for what is read by place.
   of_accepted :
       (IsSo : OptionsValue → List ℕ → List ℕ → List SubtitleValue → Transmission → Type 0)
       → ((o : OptionsValue) (file bytes : List ℕ) (is : IsAccepted default_drawing o file bytes)

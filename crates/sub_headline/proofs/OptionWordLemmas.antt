@@ -1,4 +1,4 @@
--- For `law_of_chosen_words`: the words of choices behind `check STL PES` leave what they say in the
+-- For `law_of_chosen_words`: the words of choices after `check STL PES` put their values into the
 -- rows, `held_by`.
 use Rattle.std.proofs.Common.{◌≡◌, ◌∙◌, ℕ, Bool, true, false, List, [], ◌∷◌, Option, Some}
 use Rattle.std.proofs.Common.{None, refl, sym, ap, arith, codes, drop, subst}
@@ -39,7 +39,7 @@ use Rattle.sub_headline.specs.PlainWords.{IsName}
 use Rattle.sub_headline.proofs.PlainWordLemmas.{at_rest, check_shape, no_dashes, no_long, no_short}
 use Rattle.sub_headline.proofs.RowLemmas.{held_at, same_id, set_other, set_row, set_same}
 
--- ---- texts of options are values
+-- ---- the texts of options are values
 
 page_is_name : (text : Text) (page : PageIdValue) → page_of_text text ≡ Some page → IsName text
 unfolding page_of_text
@@ -116,9 +116,9 @@ range_is_name (x ∷ xs) range is = λ e.
     let at : x ≡ 0x2D = cc in
     no_range xs range (subst (λ (c : ℕ). range_of_text (c ∷ xs) ≡ Some range) at is)
 
--- ---- a value behind its option
+-- ---- a value after its option
 
--- Where an option waits for its value.
+-- The state after an option, before its value.
 abbrev at_option : Text → Held → Walk
 at_option id h = record {
   held = h;
@@ -191,7 +191,7 @@ vals (Lines text layout name is) = text ∷ []
 abbrev rule_at : Text → Rule
 rule_at id = unwrap_or (arg_by_id rules id) (new_rule [])
 
--- What is held behind an option, its value, or a flag.
+-- The state after an option, after its value, or after a flag.
 abbrev waiting_held : Text → Held → Held
 waiting_held id h = record (settled rules h) { pending = Some (id, []) }
 
@@ -431,7 +431,7 @@ walk_all h (choice ∷ choices) =
 
 -- ---- the rows of a choice
 
--- The rows of what is held.
+-- The rows of a state.
 abbrev pub rows_held : Held → List Row
 rows_held h = (settled rules h).rows
 
@@ -454,7 +454,7 @@ rows_step h (Of OpenToo) = refl
 rows_step h (Letters text national name is) = refl
 rows_step h (Lines text layout name is) = refl
 
--- The values of an argument, by one more choice.
+-- The values of an argument after one more choice.
 abbrev pub then_held : Text → List (List Text) → Look → List (List Text)
 then_held id vs choice = if bytes_eq (key choice) id then vals choice ∷ [] else vs
 

@@ -1,5 +1,5 @@
 -- For `law_of_plain_words`. A word that is no option is a value, `plain_other`; so two of them are
--- the two files, `rows_are`, and ask for a check by the default options, `asked_are`.
+-- the two files, `rows_are`, and request a check with the default options, `asked_are`.
 use Rattle.std.proofs.Common.{◌≡◌, ◌∙◌, ℕ, Bool, false, List, [], ◌∷◌, Option, Some, None}
 use Rattle.std.proofs.Common.{Ok, Result, refl, sym, ap, arith, codes, inl, inr}
 use Rattle.std.proofs.lemmas.Bool.Decides.{nat_tests}
@@ -43,13 +43,13 @@ no_dashes [] name = refl
 no_dashes (x ∷ xs) name =
     ap (λ (b : Bool). b && bytes_eq xs (45 ∷ [])) (no_hyphen x xs name)
 
--- So many words ask for none.
+-- These arguments request no help,
 no_help : (program stl pes : Text)
     → asks_help (program ∷ codes "check" ∷ stl ∷ pes ∷ []) ≡ false
 unfolding asks_help
 no_help program stl pes = refl
 
--- Nor for the version.
+-- nor the version.
 no_version : (program stl pes : Text)
     → asks_version (program ∷ codes "check" ∷ stl ∷ pes ∷ []) ≡ false
 unfolding asks_version
@@ -86,7 +86,7 @@ plain_other c position word h name =
     ∙ ap (λ o. long_or_other c idle word o h) (no_long word name)
     ∙ ap (λ o. short_or_plain c idle word o h) (no_short word name)
 
--- Where nothing waits for a value.
+-- The state in which no option waits for a value.
 abbrev pub at_rest : Held → ℕ → Walk
 at_rest h position =
     record { held = h; waiting = idle; position = position; is_trailing = false; stopped = None }
@@ -102,13 +102,13 @@ walked_plain c h position word name =
 
 -- ---- the words of `check`
 
--- How `check` is built.
+-- The definition of the command `check`.
 abbrev pub check_shape : Shape
 check_shape =
     unwrap_or (find (λ s. answers_to (codes "check") (label_of s)) (built subttx_app).subs)
     (built subttx_app).top
 
--- What two words leave of it.
+-- The state after two words.
 abbrev pub held_of_two : (stl pes : Text) → Held
 held_of_two stl pes =
     let c = check_shape.rules in
@@ -142,7 +142,6 @@ unfolding subttx_app clap_on_literals number_of_text page_of_text option_named s
     pes_packets_of packet_size_of_text
 asked_are stl pes = refl
 
--- What was asked once is the same.
 same_asked : (told : Option (Result Asked UsageFault)) (a b : Asked)
     → told ≡ Some (Ok a)
     → told ≡ Some (Ok b)

@@ -1,5 +1,5 @@
--- For `law_of_chosen_words`: what rows hold for an argument, by its id, where it is used again,
--- `set_same` and `set_other`, and where what is left out gets its default, `defaulted`.
+-- For `law_of_chosen_words`: the values of the rows for an argument, by its id, after it is used
+-- again, `set_same` and `set_other`, and after defaults are added, `defaulted`.
 use Rattle.std.proofs.Common.{◌≡◌, ◌∙◌, Bool, true, false, List, [], ◌∷◌, ◌++◌, Option, Some}
 use Rattle.std.proofs.Common.{None, refl, sym, ap, drop}
 use Rattle.std.proofs.lemmas.Slice.Eq.{bytes_eq-Decides}
@@ -11,12 +11,12 @@ use Rattle.clap.specs.declared.builder.value_parser.Reading.{Reading}
 use Rattle.clap.specs.declared.parser.matches.ValueSource.{ValueSource}
 use Rattle.clap.specs.declared.parser.matches.ValueSource.TheVariants.{CommandLine, DefaultValue}
 
--- The values of each row of an id.
+-- The values of each row with an id.
 abbrev pub held_at : Text → List Row → List (List Text)
 held_at id [] = []
 held_at id (r ∷ rs) = if bytes_eq r.id id then r.values ∷ held_at id rs else held_at id rs
 
--- The first text of them.
+-- Their first text.
 abbrev pub first_text : List (List Text) → Option Text
 first_text [] = None
 first_text (v ∷ vs) = slice_get v 0
@@ -26,14 +26,14 @@ abbrev is_there : List (List Text) → Bool
 is_there [] = false
 is_there (v ∷ vs) = true
 
--- The argument used once more, in place of what was there.
+-- The rows after an argument is used again.
 abbrev pub set_row : Text → Reading → List Text → List Row → List Row
 set_row id how vals rows = with_values id how CommandLine vals (without id rows)
 
 pub same_id : (a b : Text) → bytes_eq a b ≡ true → a ≡ b
 same_id a b is = (bytes_eq-Decides a b).0 is
 
--- ---- what is read of rows
+-- ---- the values of rows
 
 first_by : (b : Bool) (id : Text) (r : Row) (rs : List Row)
     → first_of id rs ≡ first_text (held_at id rs)
@@ -63,7 +63,7 @@ module _ (id other : Text) (apart : bytes_eq id other ≡ false) where
   row_apart : (r : Row) → bytes_eq r.id id ≡ true → bytes_eq r.id other ≡ false
   row_apart r is = ap (λ (x : Text). bytes_eq x other) (same_id r.id id is) ∙ apart
 
-  -- What is changed or added of an id is nothing to another.
+  -- A change of the rows of one id does not affect another.
   module _ (change : Row → List Row) (missing : List Row)
       (changed : (r : Row) → bytes_eq r.id other ≡ false
       → (rs : List Row) → held_at other (change r ++ rs) ≡ held_at other rs)
@@ -158,7 +158,7 @@ module _ (id : Text) (same : bytes_eq id id ≡ true) where
 
 -- ---- defaults
 
--- Values, or else the default ones.
+-- The values, or else the default ones.
 abbrev pub or_default : List (List Text) → List Text → List (List Text)
 or_default [] [] = []
 or_default [] (v ∷ vs) = (v ∷ vs) ∷ []

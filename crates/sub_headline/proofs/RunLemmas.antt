@@ -1,4 +1,4 @@
--- For `law_of_headline`: a run that does not end with code 2 answered its words, `answered`.
+-- For `law_of_headline`: a run that does not end with code 2 answered its request, `answered`.
 use Rattle.std.proofs.lemmas.Bool.Decides.{nat_tests}
 use Rattle.std.proofs.Common.{◌≡◌, ◌≢◌, ◌⊎◌, ◌∙◌, ℕ, List, [], Option, Result, ap, arith, inl, inr}
 use Rattle.clap.specs.Words.{Text}
@@ -11,13 +11,13 @@ use Rattle.sub_listing.specs.declared.status.Status.TheVariants.{Done, Fault}
 use Rattle.sub_answer.specs.Ending.{BufferHoldsLineAlone, KnownOfFiles, Lines, Says}
 use Rattle.sub_headline.specs.Run.{Answered, EndsRun, RunsProgram}
 
--- A fault that is said ends a run with `Fault`.
+-- A run that reports a fault ends with `Fault`.
 said : (fault : UsageFault) (old new : Lines) (result : Status)
     → Says fault old new result
     → result ≡ Fault
 said fault old new result says = grind (arith, nat_tests)
 
--- It answered its words, and the code is that of the answer's status.
+-- It answered its request, and the code is that of the answer's status.
 pub record HasAnswered
     {I O : Type 0} (AreMade : List (FileCall I O) → Type 0) (told : KnownOfFiles I O)
     (IsClose : O → O → Type 0) (given : Result (List Text) UsageFault) (IsAlone : Lines → Type 0)
@@ -57,7 +57,6 @@ pub answered :
 answered AreMade told IsClose given contents failure_count IsPush output left code runs not_two =
     answered_so AreMade told IsClose given _ code runs.status _ _ runs.code_is not_two runs.ends
 
--- Status by code.
 pub done_by_code : (status : Status) → exit_code status ≡ 0 → status ≡ Done
 done_by_code status e = grind (arith, nat_tests)
 

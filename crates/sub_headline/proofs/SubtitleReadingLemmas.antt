@@ -28,12 +28,11 @@ blocks_are (b ∷ bs) each =
     pieces_cons 128 b (concat bs) each.0 (omega (arith, length-append b (concat bs), each.0))
     ∙ ap (λ (rest : List (List ℕ)). b ∷ rest) (blocks_are bs each.1)
 
--- It is no comment.
+-- The block is no comment.
 abbrev IsNoComment : List ℕ → Type 0
 IsNoComment b = cf b ≡ 0
 
--- Of a block that is kept, which is no comment, and of one that is passed over, both tests say one
--- thing.
+-- Both tests agree for a block that is kept, which is no comment, and for one that is skipped.
 same_kept : (e c : ℕ)
     → c ≡ 0
     → not ((e == 0xFE) || ((nat_lt e 0xF0 || (e == 0xFF)) && (c == 0x01))) ≡ true
@@ -45,7 +44,7 @@ same_passed : (e c : ℕ)
     → not ((e == 0xFE) || (c == 0x01)) ≡ false
 same_passed e c is = grind (arith, nat_tests)
 
--- What is kept by a test, where the other one keeps the same.
+-- The blocks that a test keeps, if the other test keeps the same.
 kept_by : (is : Bool) (b : List ℕ) (bs : List (List ℕ))
     → is_kept b ≡ is
     → AllByRecursion IsNoComment (if is then b ∷ filter is_kept bs else filter is_kept bs)
@@ -62,7 +61,6 @@ kept_are (b ∷ bs) none =
 
 -- ---- groups
 
--- The blocks of groups, joined.
 abbrev joined : List (List (List ℕ)) → List (List ℕ)
 joined groups = flat_map (λ group. group) groups
 
@@ -131,9 +129,9 @@ subtitle_is t g of =
       text_is,
     ) refl
 
--- ---- the groups of a file, of which some are outside
+-- ---- the groups of a file, some of which are outside the part
 
--- Linked blocks, of whatever numbers.
+-- Linked blocks, with any numbers.
 abbrev AreOneSubtitle : List (List ℕ) → Type 0
 AreOneSubtitle g = (sgn_is : ℕ) × (sn_is : ℕ) × AreLinked sgn_is sn_is g
 
@@ -153,7 +151,7 @@ outside_rest : (scope : Scope) (out : Bool) (g : List (List ℕ)) (outs : List (
 outside_rest scope true g outs outside = outside.1
 outside_rest scope false g outs outside = outside
 
--- What is left of the subtitles behind a group.
+-- The remaining subtitles after a group.
 abbrev left_by : Bool → List SubtitleValue → List SubtitleValue
 left_by true ts = ts
 left_by false [] = []
@@ -167,7 +165,7 @@ are_rest true ts g ins are = are
 are_rest false [] g ins are = absurd are
 are_rest false (t ∷ ts) g ins are = are.1
 
--- Each is the blocks of one subtitle.
+-- Each group is the blocks of one subtitle.
 all_linked : (scope : Scope) (ts : List SubtitleValue) (groups : List (List (List ℕ)))
     → AllByRecursion (AreOutside scope) (filter (is_outside scope) groups)
     → AllZip AreBlocksOf ts (filter (is_inside scope) groups)
@@ -200,7 +198,7 @@ groups_cut (g ∷ groups) each =
       groups_cut groups each.1,
     ) refl
 
--- A first block is not outside where its time is one that is taken.
+-- A first block is not outside if its time is in the part.
 outside_by : (scope : Scope) (b : List ℕ)
     → begins_outside scope b ≡ true
     → (nat_le scope.from (frame_in (tci b)) && nat_lt (frame_in (tci b)) scope.to) ≡ false
@@ -232,7 +230,7 @@ begins_so scope t g of is =
     ap (λ (n : ℕ). nat_le scope.from n && nat_lt n scope.to) of.begins.tci_is.is
     ∙ inside_by scope of.first of.begins.tci_is.in_range here
 
--- Those that are taken are those of the groups that are inside.
+-- The subtitles of the part are those of the groups that are inside.
 taken_by : (scope : Scope) (out : Bool) (ts : List SubtitleValue) (g : List (List ℕ))
     (groups ins outs : List (List (List ℕ)))
     → is_outside scope g ≡ out
@@ -299,7 +297,7 @@ groups_are scope bytes gsi ts file =
       groups_cut file.rest.groups each,
     ) refl
 
--- The subtitles of a file are read from it, and those that are taken of it.
+-- The subtitles of a file, and those of the part, are read from it.
 pub subtitles_are : (bytes gsi : List ℕ) (ts : List SubtitleValue)
     → IsFile bytes gsi ts
     → subtitles_by_place bytes ≡ ts

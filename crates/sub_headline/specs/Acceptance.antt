@@ -1,5 +1,5 @@
--- What is accepted by options that allow no frames and no repeats that keep the page, and of it in
--- English by the default layout.
+-- Acceptance if `within` is 0 and no repeat may keep the page, in general and in English with the
+-- default layout.
 use Rattle.std.specs.Prelude.{◌≡◌, ◌↔◌, ℕ, List, IsFalse}
 use Rattle.stl_rows.specs.Layout.{default_layout, drawing_by}
 use Rattle.stl_rows.specs.declared.layout.Drawing.{Drawing}
@@ -8,8 +8,8 @@ use Rattle.sub_plan.specs.Options.{OptionsValue}
 use Rattle.sub_check.specs.CheckedFiles.{IsAccepted, IsAcceptedBy}
 use Rattle.sub_headline.specs.PlainAcceptance.{IsPlainlyAccepted}
 
--- There files are accepted by the options exactly where they mean subtitles and a good transmission
--- of these.
+-- Files are then accepted by the options exactly if they mean subtitles and a good transmission of
+-- these.
 abbrev pub LawOfPlainAcceptance : Type 0
 LawOfPlainAcceptance =
     (drawing : Drawing) (options : OptionsValue) (stl pes : List ℕ)
@@ -17,12 +17,12 @@ LawOfPlainAcceptance =
     → options.within ≡ 0
     → IsAcceptedBy drawing options stl pes ↔ IsAccepted drawing options stl pes
 
--- English letters, the default layout, all of the file.
+-- English letters, the default layout, the whole file.
 abbrev pub default_drawing : Drawing
 default_drawing = drawing_by English default_layout
 
--- With these files are accepted by any options exactly where they are by English's own page and
--- rules.
+-- With these, files are accepted by any options exactly if they are by the page and the rules for
+-- English.
 abbrev pub LawOfEnglishAcceptance : Type 0
 LawOfEnglishAcceptance =
     (options : OptionsValue) (stl pes : List ℕ)

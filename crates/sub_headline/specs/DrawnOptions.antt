@@ -1,5 +1,5 @@
--- What may be written behind `check STL RECORDING`, in any order, where the national option and the
--- layout are chosen too.
+-- The options that may follow `check STL RECORDING`, in any order, with the national option and the
+-- layout among them.
 use Rattle.std.specs.Prelude.{◌≡◌, ◌<◌, ◌^◌, Bool, List, [], ◌∷◌, Some, codes, fold}
 use Rattle.std.specs.List.{flat_map}
 use Rattle.clap.specs.Words.{Text}
@@ -16,7 +16,7 @@ use Rattle.sub_headline.specs.RecordingOptions.{Portion, Reading, read_by, readi
 use Rattle.sub_headline.specs.RecordingOptions.{recording_asked}
 use Rattle.sub_headline.specs.RecordingOptions.{words_in}
 
--- An option of what is drawn and its text, which says this; or another part.
+-- A national option or a layout with the text of its value, or one of the other options.
 pub data Look : Type 0 where
   Letters : (text : Text)
       → (national : National)
@@ -30,32 +30,32 @@ pub data Look : Type 0 where
       → Look
   Of : Portion → Look
 
--- Its words.
+-- Its arguments.
 abbrev pub words_for : Look → List Text
 words_for (Letters text national name is) = codes "--option" ∷ text ∷ []
 words_for (Lines text layout name is) = codes "--layout" ∷ text ∷ []
 words_for (Of part) = words_in part
 
--- How a recording is read, and subtitles are drawn.
+-- How a recording is read and subtitles are drawn.
 pub record Looking : Type 0 where
   pub reading : Reading
   pub national : National
   pub layout : Layout
 
--- With one more.
+-- The same with one more option.
 abbrev pub looked_by : Looking → Look → Looking
 looked_by l (Letters text national name is) = record l { national = national }
 looked_by l (Lines text layout name is) = record l { layout = layout }
 looked_by l (Of part) = record l { reading = read_by l.reading part }
 
--- In English by the default layout, where nothing is chosen.
+-- English and the default layout, unless chosen otherwise.
 abbrev pub looking_of : List Look → Looking
 looking_of looks =
     fold looked_by
     (record { reading = reading_of []; national = English; layout = default_layout }) looks
 
--- These words, behind the program's name, ask for a check of these two files, read and drawn so,
--- and their origin is a PTS.
+-- These arguments, after the program's name, request a check of these two files, read and drawn in
+-- this way, and their origin is a PTS.
 abbrev pub LawOfLookWords : Type 0
 LawOfLookWords =
     (program stl recording : Text) (looks : List Look) (request : Request)

@@ -1,4 +1,4 @@
--- The page of a subtitle in English by the default layout: what its text shows, and where.
+-- The page of an English subtitle in the default layout: the cells of its text, and their places.
 use Rattle.std.specs.Prelude.{◌≡◌, ◌≢◌, ◌⊎◌, ⊤, ℕ, ◌+◌, ◌-◌, ◌≤◌, Bool, true, false, List, []}
 use Rattle.std.specs.Prelude.{◌∷◌, All, IsTrue, Option, Some, None, ◌==◌, length}
 use Rattle.std.specs.Prelude.{nat_lt, if◌then◌else◌, map, slice_index_or}
@@ -9,8 +9,8 @@ use Rattle.stl_rows.specs.DuePage.{is_due}
 use Rattle.stl_rows.specs.Line.{is_double, prepared, row_of}
 use Rattle.stl_rows.specs.TextCode.{is_common, is_within, new_line}
 
--- The cell of a byte (EBU Tech 3264, code table 00; EN 300 706, English sub-set): its own number,
--- or a place of the sub-set.
+-- The code of a byte of text (EBU Tech 3264, code table 00; EN 300 706, English sub-set): the same
+-- number, or a place of the national sub-set.
 unfoldable pub english_cell : ℕ → Option ℕ
 english_cell byte =
     if is_common byte then Some byte
@@ -21,8 +21,8 @@ english_cell byte =
     else (if 0x23 == byte then Some 0x5F  -- #
     else None)))))
 
--- What a byte puts before lines: its cell; an end of a line; or, of italics, underline and boxing,
--- nothing.
+-- Puts a byte in front of lines: its cell; the end of a line; or nothing, for italics, underline
+-- and boxing.
 abbrev pub put : Option ℕ → ℕ → List (List ℕ) → List (List ℕ)
 put (Some cell) byte lines = onto_first cell lines
 put None byte lines = if byte == new_line then [] ∷ lines else lines
@@ -32,49 +32,51 @@ abbrev pub english_lines : List ℕ → List (List ℕ)
 english_lines [] = [] ∷ []
 english_lines (byte ∷ bytes) = put (english_cell byte) byte (english_lines bytes)
 
--- A byte that is put so: no other is left out of a text.
+-- A byte that is handled in this way. A text with any other byte is not drawn completely.
 abbrev pub IsRead : ℕ → Type 0
 IsRead byte =
     (english_cell byte ≢ None) ⊎ (byte ≡ new_line) ⊎ (is_within 0x80 0x85 byte ≡ true)
 
--- A prepared line fits on a row, under a line of double height or not: it has at most 40 cells;
--- none of them is below row 23, nor double height on it, since row 24 is kept free; and under a
--- line of double height, which would hide them, it has none.
+-- A prepared line fits on a row, whether it is below a line of double height or not: it has at most
+-- 40 cells; it is not below row 23, nor of double height in row 23, since row 24 is kept free; and
+-- below a line of double height, which would hide it, it is empty.
 pub record IsFit (row : ℕ) (is_under_double : Bool) (line : List ℕ) : Type 0 where
   pub short : length line ≤ 40
   pub high : line ≢ [] → row ≤ 23
   pub tall : IsTrue (is_double line) → row ≢ 23
   pub seen : IsTrue is_under_double → line ≡ []
 
--- Prepared lines fit on a page from a row on, under such a line or not.
+-- Prepared lines fit on a page from a row on.
 abbrev pub Fit : ℕ → Bool → List (List ℕ) → Type 0
 Fit row is_under_double [] = ⊤
 Fit row is_under_double (line ∷ lines) =
     IsFit row is_under_double line × Fit (row + 1) (is_double line) lines
 
--- The prepared lines of a subtitle: each that has cells in a box.
+-- The prepared lines of a subtitle: each one with cells is in a box.
 abbrev pub boxed_lines : SubtitleValue → List (List ℕ)
 boxed_lines t = map prepared (english_lines t.text)
 
--- Nothing of its text is left out: each byte is read, and its lines fit on the page from row VP on.
+-- The text of a subtitle is drawn completely: each byte is handled, and its lines fit on the page
+-- from row VP on.
 pub record IsWhole (t : SubtitleValue) : Type 0 where
   pub read : All IsRead t.text
   pub fit : Fit t.vp false (boxed_lines t)
 
--- The line of a row, where line 0 goes to row VP; none above it or below the last.
+-- The line of a row: line 0 goes to row VP; rows above it and below the last line are empty.
 abbrev pub english_line : SubtitleValue → ℕ → List ℕ
 english_line t row =
     if nat_lt row t.vp then [] else slice_index_or (boxed_lines t) (row - t.vp) []
 
--- The page of a subtitle: rows 1 to 24, each with its line, in a box, at the column of JC.
+-- The page of a subtitle: rows 1 to 24, each with its line, in a box, at the column that JC gives.
 abbrev pub english_page : SubtitleValue → Rows
 english_page t = map (λ row. row_of t.jc (english_line t row)) (range_with_len 1 24)
 
--- The page that is due of a subtitle, or of none.
+-- The page of a subtitle, or a blank page.
 abbrev pub page_or_blank : Option SubtitleValue → Rows
 page_or_blank None = blank
 page_or_blank (Some t) = english_page t
 
--- The page that is due at a frame: of the subtitle whose TCI has come and whose TCO has not.
+-- The page that is due at a frame: that of the subtitle whose TCI is not after the frame and whose
+-- TCO is.
 abbrev pub english_due : List SubtitleValue → ℕ → Rows
 english_due subtitles frame = page_or_blank (find (is_due frame) subtitles)

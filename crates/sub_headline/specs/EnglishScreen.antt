@@ -1,4 +1,4 @@
--- What a viewer sees of a page in English: characters, by their numbers in ISO/IEC 10646 (Unicode).
+-- The characters that a viewer sees on an English page, as numbers of ISO/IEC 10646 (Unicode).
 use Rattle.std.specs.Prelude.{◌≡◌, ◌⊎◌, ℕ, Bool, IsTrue, List, Some, ◌==◌, nat_lt}
 use Rattle.std.specs.Prelude.{if◌then◌else◌}
 use Rattle.ttx_packet.specs.PageId.{PageIdValue}
@@ -13,13 +13,12 @@ use Rattle.sub_rules.specs.Transmission.{Transmission, first_frame, last_frame, 
 use Rattle.sub_laws.specs.LostRows.{IsGot}
 use Rattle.sub_headline.specs.EnglishPage.{english_cell, english_due}
 
--- A space.
 abbrev pub blank_character : ℕ
 blank_character = 0x20
 
--- The character that a cell of this code shows (EN 300 706, Latin G0 primary set, Table 35, with
--- the English one of the Latin national option sub-sets, Table 36): a letter, figure or sign by its
--- own number, but at the places of the sub-set; a space for a spacing attribute.
+-- The character of a cell with this code (EN 300 706, Latin G0 primary set, Table 35, with the
+-- English one of the Latin national option sub-sets, Table 36): a letter, digit or sign has its own
+-- number, except at the places of the sub-set; a spacing attribute is a space.
 unfoldable pub english_character : ℕ → ℕ
 english_character code =
     if nat_lt code 0x20 then blank_character
@@ -37,27 +36,27 @@ english_character code =
     else (if 0x7F == code then 0x25A0  -- ■
     else code))))))))))))
 
--- The character of a byte of a text (EBU Tech 3264, code table 00): its own number, which A3, the
--- pound sign, has too; A4 is a dollar, as 24 is; a space for a control code.
+-- The character of a byte of text (EBU Tech 3264, code table 00): its own number, which includes
+-- A3, the pound sign; A4 is a dollar, as 24 is; a control code is a space.
 unfoldable pub text_character : ℕ → ℕ
 text_character byte =
     if nat_lt byte 0x20 then blank_character else (if 0xA4 == byte then 0x24 else byte)
 
--- The cell of a byte shows its character.
--- So who looks at the page that is due reads the text of the subtitle file.
+-- The cell of a byte shows its character. So a viewer of the due page reads the text of the
+-- subtitle file.
 abbrev pub LawOfEnglishCharacters : Type 0
 LawOfEnglishCharacters =
     (byte code : ℕ)
     → english_cell byte ≡ Some code
     → english_character code ≡ text_character byte
 
--- What is seen in a cell of a page, where a decoder shows that cell: inside a box.
+-- The character in a cell of a page, if a decoder shows that cell, which it does inside a box.
 abbrev pub seen : Rows → ℕ → ℕ → ℕ
 seen page row column = english_character (cell page row column)
 
--- On the screen of every receiver, at the end of frame f, in each cell: the character of the page
--- that is due, or a space where that is excused. It is one of those of `EachOfClassGets`, once
--- a header of the page was sent since it was switched on in frame g.
+-- The screen of every receiver, at the end of frame f, shows in each cell the character of the due
+-- page, or a space if that is excused. The receiver is one of those of `EachOfClassGets`, and a
+-- header of the page was sent since it was switched on in frame g.
 abbrev pub EachScreenShows : PageIdValue → List SubtitleValue → Transmission → Type 0
 EachScreenShows page subtitles transmission =
     (class : ReceiverClass) (g j f : ℕ) (arrived : List Bool) (got : List (List ℕ))

@@ -1,4 +1,4 @@
--- What the exit status of `check` tells of the bytes of both files.
+-- What the exit status of `check` says about the bytes of both files.
 use Rattle.std.specs.Prelude.{◌≡◌, ◌≢◌, ◌↔◌, ℕ, List, [], ◌∷◌, Option, Some, Ok, Result, codes}
 use Rattle.std.specs.Prelude.{IsTrue}
 use Rattle.std.specs.List.{flat_map}
@@ -29,8 +29,8 @@ use Rattle.sub_headline.specs.PlainReading.{frames_by_place, subtitles_by_place,
 use Rattle.sub_headline.specs.PlainWords.{IsName}
 use Rattle.sub_headline.specs.Run.{RunsProgram}
 
--- Where the words that the system gave are `check STL PES`, behind the program's own name, and the
--- files hold these bytes, this is so.
+-- If the program was called with the arguments `check STL PES`, `IsSo` holds for the contents of
+-- these two files.
 abbrev pub OfCheck :
     Result (List Text) UsageFault → MemFilesValue → (List ℕ → List ℕ → Type 0) → Type 0
 OfCheck given files IsSo =
@@ -42,8 +42,8 @@ OfCheck given files IsSo =
     → bytes_at pes files ≡ Some bytes
     → IsSo file bytes
 
--- Where the code is 0, every receiver of page 888 gets what the headline says, and a header of it
--- within 250 frames, 10 seconds, where frame 0 has the PTS 0.
+-- If the exit code is 0, the headline holds for page 888: every receiver gets a header of it within
+-- 250 frames, 10 seconds, and then has the due page. Frame 0 has the PTS 0.
 abbrev pub TellsHeadline : Result (List Text) UsageFault → MemFilesValue → ℕ → Type 0
 TellsHeadline given files code =
     OfCheck given files
@@ -51,8 +51,8 @@ TellsHeadline given files code =
     code ≡ 0
     → Headline page_888 250 english_due (subtitles_by_place file) (frames_by_place 0 bytes))
 
--- Where the words are `check STL PES` and choices, in any order, and the files hold these bytes,
--- this is so by their options.
+-- If the program was called with `check STL PES` and these options, in any order, `IsSo` holds for
+-- the chosen options and the contents of these two files.
 abbrev pub OfChosen :
     Result (List Text) UsageFault → MemFilesValue
     → (OptionsValue → List ℕ → List ℕ → Type 0) → Type 0
@@ -65,8 +65,8 @@ OfChosen given files IsSo =
     → bytes_at pes files ≡ Some bytes
     → IsSo (options_by choices) file bytes
 
--- Where the code is 0, this is so of the options, and of the subtitles and the frames that stand in
--- both files.
+-- If the exit code is 0, `IsSo` holds for the options, and for the subtitles and frames in both
+-- files.
 abbrev pub OfAccepted :
     Result (List Text) UsageFault → MemFilesValue → ℕ
     → (OptionsValue → List SubtitleValue → Transmission → Type 0) → Type 0
@@ -74,22 +74,22 @@ OfAccepted given files code IsSo =
     OfChosen given files
     (λ o file bytes. code ≡ 0 → IsSo o (subtitles_by_place file) (frames_by_place o.origin bytes))
 
--- Where the code is 0, every receiver of the page that is chosen gets what the headline says.
+-- If the exit code is 0, the headline holds for every receiver of the chosen page.
 abbrev pub TellsChosen : Result (List Text) UsageFault → MemFilesValue → ℕ → Type 0
 TellsChosen given files code =
     OfAccepted given files code (λ o. Headline o.page o.every english_due)
 
--- So does every receiver that drops a row with a hit byte.
+-- It also holds for every receiver that drops a row with a hit byte.
 abbrev pub TellsDropping : Result (List Text) UsageFault → MemFilesValue → ℕ → Type 0
 TellsDropping given files code =
     OfAccepted given files code (λ o. EachOfClassGets Dropping o.page o.every)
 
--- And the screens of all of them show what is due.
+-- The screens of all these receivers show what is due.
 abbrev pub TellsScreens : Result (List Text) UsageFault → MemFilesValue → ℕ → Type 0
 TellsScreens given files code = OfAccepted given files code (λ o. EachScreenShows o.page)
 
--- Where the code is 0 the bytes of both files are of their formats, and hold these subtitles and
--- frames and nothing else.
+-- If the exit code is 0, the bytes of both files match their formats, and contain these subtitles
+-- and frames and nothing else.
 abbrev pub TellsFiles : Result (List Text) UsageFault → MemFilesValue → ℕ → Type 0
 TellsFiles given files code =
     OfChosen given files
@@ -98,15 +98,16 @@ TellsFiles given files code =
     → AreFilesOf whole o.origin file bytes (subtitles_by_place file)
     (frames_by_place o.origin bytes))
 
--- Where complete pages were asked for and the code is 0, they are on the screens.
+-- If the exit code is 0 and complete pages were required, displays that wait for complete pages
+-- show the due page, too.
 abbrev pub TellsComplete : Result (List Text) UsageFault → MemFilesValue → ℕ → Type 0
 TellsComplete given files code =
     OfAccepted given files code
     (λ o subtitles transmission.
     IsTrue o.asks_complete → EachDisplayShows o.page subtitles transmission)
 
--- Where the words are `check STL RECORDING` and parts, in any order, and the files hold these
--- bytes, this is so by how the recording is read.
+-- If the program was called with `check STL RECORDING` and these options, in any order, `IsSo`
+-- holds for how the recording is read and for the contents of these two files.
 abbrev pub OfRecording :
     Result (List Text) UsageFault → MemFilesValue → (Reading → List ℕ → List ℕ → Type 0) → Type 0
 OfRecording given files IsSo =
@@ -118,8 +119,8 @@ OfRecording given files IsSo =
     → bytes_at recording files ≡ Some bytes
     → IsSo (reading_of parts) file bytes
 
--- Where the code is 0, the headline is so of the subtitles and the frames that stand in what is
--- read of both files.
+-- If the exit code is 0, the headline holds for the subtitles and frames in the selected parts of
+-- both files.
 abbrev pub TellsRecording : Result (List Text) UsageFault → MemFilesValue → ℕ → Type 0
 TellsRecording given files code =
     OfRecording given files
@@ -128,7 +129,7 @@ TellsRecording given files code =
     → Headline r.options.page r.options.every english_due (subtitles_within r.scope file)
     (frames_by_place r.options.origin (bytes_read r bytes)))
 
--- And so is what is so of other receivers and of screens.
+-- The promises to other receivers and for screens.
 pub record ServesOthers
     (o : OptionsValue) (subtitles : List SubtitleValue) (transmission : Transmission)
     : Type 0 where
@@ -136,7 +137,7 @@ pub record ServesOthers
   pub screens : EachScreenShows o.page subtitles transmission
   pub complete : IsTrue o.asks_complete → EachDisplayShows o.page subtitles transmission
 
--- Where the code is 0, that is so of the same subtitles and frames.
+-- If the exit code is 0, they hold for the same subtitles and frames.
 abbrev pub TellsRecordingToo : Result (List Text) UsageFault → MemFilesValue → ℕ → Type 0
 TellsRecordingToo given files code =
     OfRecording given files
@@ -145,8 +146,8 @@ TellsRecordingToo given files code =
     → ServesOthers r.options (subtitles_within r.scope file)
     (frames_by_place r.options.origin (bytes_read r bytes)))
 
--- And the bytes that are read are those of a PES file, which holds these frames and nothing else;
--- the subtitle file holds these subtitles, and others only outside of what is read of it.
+-- The selected bytes are a PES file that contains these frames and nothing else; the subtitle file
+-- contains these subtitles, and others only outside of the selected part.
 abbrev pub TellsRecordingFiles : Result (List Text) UsageFault → MemFilesValue → ℕ → Type 0
 TellsRecordingFiles given files code =
     OfRecording given files
@@ -155,8 +156,9 @@ TellsRecordingFiles given files code =
     → AreFilesOf r.scope r.options.origin file (bytes_read r bytes) (subtitles_within r.scope file)
     (frames_by_place r.options.origin (bytes_read r bytes)))
 
--- Where the words are `check STL RECORDING` and any of these options, in any order, and the files
--- hold these bytes, this is so by how the recording is read and subtitles are drawn.
+-- If the program was called with `check STL RECORDING` and any of these options, in any order,
+-- `IsSo` holds for how the recording is read and subtitles are drawn, and for the contents of these
+-- two files.
 abbrev pub OfLook :
     Result (List Text) UsageFault → MemFilesValue → (Looking → List ℕ → List ℕ → Type 0) → Type 0
 OfLook given files IsSo =
@@ -168,7 +170,7 @@ OfLook given files IsSo =
     → bytes_at recording files ≡ Some bytes
     → IsSo (looking_of looks) file bytes
 
--- Where the code is 0, the headline is so by the page that is due by a national option and a
+-- If the exit code is 0, the headline holds with the due page drawn in the national option and the
 -- layout.
 abbrev pub TellsDrawn : Result (List Text) UsageFault → MemFilesValue → ℕ → Type 0
 TellsDrawn given files code =
@@ -179,15 +181,15 @@ TellsDrawn given files code =
     → Headline o.page o.every (due (drawing_by l.national l.layout))
     (subtitles_within l.reading.scope file) (frames_by_place o.origin (bytes_read l.reading bytes)))
 
--- Where it is not 2, which tells that a device failed or memory ran out, it is 0 exactly where they
--- are accepted: they are those of some subtitles and of a good transmission of these, by the
--- options that are chosen.
+-- Unless the exit code is 2, which means that a device failed or memory ran out, it is 0 exactly if
+-- the files are accepted: they contain some subtitles and a good transmission of these, by the
+-- chosen options.
 abbrev pub TellsAcceptance : Result (List Text) UsageFault → MemFilesValue → ℕ → Type 0
 TellsAcceptance given files code =
     OfChosen given files (λ o file bytes. code ≢ 2 → (code ≡ 0) ↔ IsPlainlyAccepted o file bytes)
 
--- Of a run of the program over files in memory, whatever standard output is, its code tells all
--- this.
+-- The exit code of a run of the program on files in memory says all this, whatever standard output
+-- is.
 abbrev pub LawOfHeadline :
     {K : Type 0}
     → (K → Option (List ℕ)) → (K → ℕ) → (K → List ℕ → Option ℕ → K → Type 0) → Type 0

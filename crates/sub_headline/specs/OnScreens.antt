@@ -1,4 +1,4 @@
--- What is on the screens of displays where complete pages were asked for.
+-- The screens of displays, if complete pages were required.
 use Rattle.std.specs.Prelude.{◌≡◌, ◌⊎◌, ℕ, Bool, IsTrue, List, Some}
 use Rattle.ttx_packet.specs.PageId.{PageIdValue}
 use Rattle.ttx_page.specs.Screen.{Display, ShowsBy}
@@ -13,9 +13,9 @@ use Rattle.sub_rules.specs.Transmission.{Transmission, first_frame, last_frame, 
 use Rattle.sub_laws.specs.LostRows.{IsGot}
 use Rattle.sub_headline.specs.EnglishPage.{english_due}
 
--- Each display of a receiver, which shows a page once it has come whole, shows a page once a header
--- of it was sent since it was switched on, whatever it showed before; and in each cell the code of
--- the due page or, where that is excused, a space.
+-- Each display, which shows a page only after all of it has come, shows a page after a header of it
+-- was sent since it was switched on, whatever it showed before: in each cell the code of the due
+-- page or, if that is excused, a space.
 abbrev pub EachDisplayShows : PageIdValue → List SubtitleValue → Transmission → Type 0
 EachDisplayShows page subtitles transmission =
     (class : ReceiverClass) (g j f : ℕ) (arrived : List Bool) (got : List (List ℕ))

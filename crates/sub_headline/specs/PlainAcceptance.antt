@@ -1,5 +1,5 @@
--- What is accepted by `check STL PES` and choices: the seven rules of `Good` for English subtitles,
--- in as few words as there are.
+-- What `check STL PES` with choices accepts: the seven rules of `Good` for English subtitles, in as
+-- few words as possible.
 use Rattle.std.specs.Prelude.{◌≡◌, ℕ, ◌<◌, ◌≤◌, IfSome, IsFalse, IsTrue, List, length}
 use Rattle.ttx_packet.specs.declared.header.Header.{Header}
 use Rattle.ttx_packet.specs.PageHeader.{HasExactWords, c10, c12, c13, c14, c4, c5, c6, c7}
@@ -19,10 +19,10 @@ use Rattle.sub_rules.specs.Transmission.{last_frame, on_air_until}
 use Rattle.sub_headline.specs.EnglishPage.{english_due}
 use Rattle.sub_headline.specs.PlainFiles.{AreFilesOf}
 
--- The control bits of the header of a subtitle in English: the page is erased, C4; it is a
--- subtitle, C6, and no newsflash, C5; the header row is suppressed, C7; display is not inhibited,
--- C10; and C12 to C14 are clear, which is English. C8, update indicator, and C9, interrupted
--- sequence, may be set or clear.
+-- The control bits of the header of an English subtitle page: C4, erase page, is set; C5,
+-- newsflash, is clear; C6, subtitle, is set; C7, suppress header, is set; C10, inhibit display, is
+-- clear; C12 to C14 are clear, which means English. C8, update indicator, and C9, interrupted
+-- sequence, may have any value.
 pub record IsEnglishHeader (h : Header) : Type 0 where
   pub erases : IsTrue (c4 h)
   pub no_newsflash : IsFalse (c5 h)
@@ -33,13 +33,13 @@ pub record IsEnglishHeader (h : Header) : Type 0 where
   pub second_option : IsFalse (c13 h)
   pub third_option : IsFalse (c14 h)
 
--- Where the packet is a header of the page, it is such a header.
+-- If the packet is a header of the page, it has these control bits.
 abbrev pub IsControlledInEnglish : PageIdValue → List ℕ → Type 0
 IsControlledInEnglish page packet =
     (h : Header) → kind page packet ≡ ThisPage h → IsEnglishHeader h
 
--- At the end of each frame from the first to the last, with packets of its own or not, the page
--- that is due is shown.
+-- At the end of each frame from the first to the last, whether it has packets of its own or not,
+-- the page that is due is shown.
 abbrev pub ShowsEnglishPages : PageIdValue → List SubtitleValue → Transmission → Type 0
 ShowsEnglishPages page subtitles transmission =
     (f row column : ℕ)
@@ -53,36 +53,36 @@ ShowsEnglishPages page subtitles transmission =
 pub record IsEnglishGood
     (o : OptionsValue) (subtitles : List SubtitleValue) (transmission : Transmission)
     : Type 0 where
-  -- 1. There is a frame, the frames rise, packets are 42 bytes, and the frames reach from the first
-  -- TCI to the last TCO.
+  -- 1. There is at least one frame, the frames are in rising order, and packets have 42 bytes. The
+  -- first frame is not after the first TCI, and the last frame is not before the last TCO.
   pub not_empty : 0 < length transmission
   pub rising : IsRising transmission
   pub whole : EachPacket (λ packet. length packet ≡ 42) transmission
   pub starts : IfSome (first_in subtitles) (λ tci. first_frame transmission ≤ tci)
   pub lasts : IfSome (last_out subtitles) (λ tco. tco ≤ last_frame transmission)
   -- 2. The address bytes of each packet, and all eight coded bytes of each packet X/0, are code
-  -- words with no bit wrong.
+  -- words without a wrong bit.
   pub exact : EachPacket HasExactWords transmission
-  -- 3. All page headers, of any page, agree on C11.
+  -- 3. All page headers, of any page, have the same C11.
   pub serial : EachPacket (λ one. EachPacket (IsInOneMode one) transmission) transmission
-  -- 4. Each header of the page is that of a subtitle in English.
+  -- 4. Each header of the page has the control bits of an English subtitle.
   pub control : EachPacket (IsControlledInEnglish o.page) transmission
-  -- 5. While the page is open each row has odd parity and stays as it is, and no packet X/25 to
-  -- X/28 of its magazine comes.
+  -- 5. While the page is open, each row has odd parity and is repeated unchanged, and there is no
+  -- packet X/25 to X/28 of its magazine.
   pub spans : HasCleanSpans o.page transmission
-  -- 6. The first frame holds a header of the page, and so does one of each `every` that follow one
-  -- another.
+  -- 6. The first frame contains a header of the page, and so does at least one of any `every`
+  -- consecutive frames.
   pub opens : HoldsHeader o.page transmission (first_frame transmission)
   pub repeats : Repeats o.page o.every transmission
-  -- 7. At each frame's end the page that is due is shown.
+  -- 7. At the end of each frame, the page that is due is shown.
   pub content : ShowsEnglishPages o.page subtitles transmission
-  -- And, where the options ask for it, PES packets are at most so many frames apart, and pages are
+  -- If the options require it, PES packets are at most so many frames apart, and pages are
   -- complete.
   pub paced : KeepsPace o.pace transmission
   pub complete : IsTrue o.asks_complete → Complete transmission o
 
--- The bytes of both files are accepted: they are those of some subtitles and of a good transmission
--- of these.
+-- The bytes of both files are accepted: they contain some subtitles and a good transmission of
+-- these.
 pub record IsPlainlyAccepted (o : OptionsValue) (stl pes : List ℕ) : Type 0 where
   pub subtitles : List SubtitleValue
   pub transmission : Transmission

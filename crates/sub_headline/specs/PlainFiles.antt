@@ -1,4 +1,4 @@
--- What the bytes of both files are, by their formats.
+-- The contents of both files, by their formats.
 use Rattle.std.specs.Prelude.{ℕ, All, List}
 use Rattle.stl_file.specs.File.{IsFileFor}
 use Rattle.stl_file.specs.declared.scope.Scope.{Scope}
@@ -8,16 +8,17 @@ use Rattle.sub_rules.specs.PesFrames.{Carries}
 use Rattle.sub_rules.specs.Transmission.{Transmission}
 use Rattle.sub_headline.specs.EnglishPage.{IsWhole}
 
--- What the bytes of both files are, by the PTS of frame 0, where this is taken of the subtitles.
+-- The contents of both files, given the PTS of frame 0 and the requested part of the subtitles.
 pub record AreFilesOf
     (scope : Scope) (origin : ℕ) (stl pes : List ℕ) (subtitles : List SubtitleValue)
     (transmission : Transmission)
     : Type 0 where
-  -- The one is a GSI block and the TTI blocks of subtitles (EBU Tech 3264). Those that are taken
-  -- are these, in order, and nothing of their texts is left out.
+  -- The subtitle file is a GSI block and the TTI blocks of subtitles (EBU Tech 3264). Those of the
+  -- requested part are these, in order, and their texts can be drawn completely.
   pub gsi : List ℕ
   pub subtitle_file : IsFileFor scope stl gsi subtitles
   pub in_order : AreInOrder subtitles
   pub texts : All IsWhole subtitles
-  -- The other is PES packets (EN 300 472), one for each frame of this transmission, by that PTS.
+  -- The PES file is PES packets (EN 300 472), one for each frame of this transmission, with the PTS
+  -- of that frame.
   pub carries : Carries origin pes transmission

@@ -1,4 +1,4 @@
--- The headline of `check`, in as few words as there are: what every receiver of a page holds of a
+-- The headline of `check`, in as few words as possible: the page that every receiver has, given a
 -- transmission.
 use Rattle.std.specs.Prelude.{◌≡◌, ◌⊎◌, ◌||◌, ℕ, ◌+◌, ◌≤◌, All, Bool, IsTrue, List}
 use Rattle.ttx_packet.specs.PageId.{PageIdValue}
@@ -11,10 +11,10 @@ use Rattle.stl_file.specs.Subtitle.{SubtitleValue}
 use Rattle.sub_rules.specs.Transmission.{Transmission, first_frame, last_frame, on_air}
 use Rattle.sub_laws.specs.LostRows.{IsGot}
 
--- What a receiver gets by the end of frame f that was switched on in frame g, of what was sent
--- since, where these bytes of it arrived wrong or not at all: within so many frames a header of the
--- page; it has heard the page exactly where it had before, or there was one; and once
--- there was one, in each cell the code of the due page or, where that is excused, a space.
+-- What a receiver has at the end of frame f, if it was switched on in frame g and `sent` was
+-- transmitted since: a header of the page was sent if `every` frames have passed; the receiver has
+-- received a header of the page exactly if it had before or one was sent since; and after one was
+-- sent, each cell has the code of the due page or, if the cell is excused, a space.
 pub record Gets
     (page : PageIdValue) (every : ℕ) (due : Rows) (g f : ℕ)
     (sent : List (List ℕ)) (IsExcused : ℕ → ℕ → Type 0) (old new : State)
@@ -28,10 +28,11 @@ pub record Gets
       → (cell new.page row column ≡ cell due row column)
       ⊎ ((cell new.page row column ≡ space) × IsExcused row column)
 
--- Every receiver gets that: wherever it is switched on, and asked, in the frames of the
--- transmission; whatever packets arrive, of which all page headers do, each with at most one wrong
--- bit in a byte; whatever it held before, any page, heard or not, open or not; and whatever it may
--- choose. A space is excused where its byte was hit or its row lost.
+-- Every receiver gets this: wherever it is switched on (at packet j of frame g) and observed (at
+-- the end of frame f) within the transmission; whichever packets arrive, as long as all page
+-- headers do, each with at most one wrong bit per byte; whatever it had before, any page, open or
+-- not, with or without a header; and whatever it chooses at bytes of even parity. A cell is excused
+-- if its byte was hit or its row lost.
 abbrev pub EachReceiverGets : PageIdValue → ℕ → (ℕ → Rows) → Transmission → Type 0
 EachReceiverGets page every due transmission =
     (g j f : ℕ) (arrived : List Bool) (got : List (List ℕ)) (old new : State)
@@ -40,14 +41,14 @@ EachReceiverGets page every due transmission =
     → Gets page every (due f) g f (on_air transmission g j f)
     (IsHitOrLost page (on_air transmission g j f) (arrivals_of arrived got)) old new
 
--- The headline, of some subtitles and a transmission, on a page whose headers come within so many
--- frames, by the page that is due of subtitles at a frame.
+-- The headline for subtitles and a transmission, on a page whose header is repeated within `every`
+-- frames. `due` gives the page that is due at a frame.
 pub record Headline
     (page : PageIdValue) (every : ℕ) (due : List SubtitleValue → ℕ → Rows)
     (subtitles : List SubtitleValue) (transmission : Transmission)
     : Type 0 where
-  -- It lasts from the first TCI to the last TCO.
+  -- The transmission lasts from the first TCI to the last TCO.
   pub covers :
       All (λ t. (first_frame transmission ≤ t.tci) × (t.tco ≤ last_frame transmission)) subtitles
-  -- And where it is sent,
+  -- While it lasts, every receiver gets the due page.
   pub receivers : EachReceiverGets page every (due subtitles) transmission

@@ -1,5 +1,6 @@
--- What may be written behind `check STL PES`, in any order, and the options that it makes. How
--- `clap` reads words is 700 lines: this list spares them, and that words ask for it is proved.
+-- The options that may follow `check STL PES`, in any order, and their meaning. The definition of
+-- how `clap` reads arguments has 700 lines: this list replaces them, and that arguments request it
+-- is proved.
 use Rattle.std.specs.Prelude.{◌≡◌, ◌<◌, ◌^◌, ℕ, Bool, true, List, [], ◌∷◌, Some, codes, fold}
 use Rattle.std.specs.List.{flat_map}
 use Rattle.clap.specs.Words.{Text}
@@ -15,7 +16,7 @@ use Rattle.sub_words.specs.Requests.{Asked, AsksFor, asked_by}
 use Rattle.sub_words.specs.Texts.{number_of_text}
 use Rattle.sub_headline.specs.PlainWords.{IsName, default_options, whole_pes_file}
 
--- An option and its text, which says this; or a flag.
+-- An option with the text of its value and the meaning of that text; or a flag.
 pub data Choice : Type 0 where
   Page : (text : Text) → (page : PageIdValue) → page_of_text text ≡ Some page → Choice
   Every : (text : Text) → (frames : ℕ) → number_of_text text ≡ Some frames → Choice
@@ -24,7 +25,7 @@ pub data Choice : Type 0 where
   Complete : Choice
   EveryFault : Choice
 
--- Its words.
+-- Its arguments.
 abbrev pub choice_words : Choice → List Text
 choice_words (Page text page is) = codes "--page" ∷ text ∷ []
 choice_words (Every text frames is) = codes "--every" ∷ text ∷ []
@@ -33,7 +34,7 @@ choice_words (Pace text frames is) = codes "--pace" ∷ text ∷ []
 choice_words Complete = codes "--complete" ∷ []
 choice_words EveryFault = codes "--all" ∷ []
 
--- The options, with one more choice: by `--all` each fault is listed, and nothing else is asked.
+-- The options with one more choice. `--all` lists each fault, and changes nothing else.
 abbrev pub with_choice : OptionsValue → Choice → OptionsValue
 with_choice o (Page text page is) = record o { page = page }
 with_choice o (Every text frames is) = record o { every = frames }
@@ -42,12 +43,12 @@ with_choice o (Pace text frames is) = record o { pace = Some frames }
 with_choice o Complete = record o { asks_complete = true }
 with_choice o EveryFault = o
 
--- The options of choices: the default ones where nothing is chosen.
+-- The options of a list of choices, starting from the default ones.
 abbrev pub options_by : List Choice → OptionsValue
 options_by choices = fold with_choice default_options choices
 
--- The words `check STL PES` and choices, behind the program's name, ask for a check of these two
--- files by their options, of which the origin is a PTS.
+-- The arguments `check STL PES` and choices, after the program's name, request a check of these two
+-- files with their options, whose origin is a PTS.
 abbrev pub LawOfChosenWords : Type 0
 LawOfChosenWords =
     (program stl pes : Text) (choices : List Choice) (request : Request)

@@ -1,7 +1,7 @@
--- What the bytes of both files say at the places of their formats: the subtitles of the one, the
--- frames and packets of the other. Nothing is tested here. That the bytes are of these formats, and
--- hold nothing else, is `AreFilesOf`. Fixed places spare a reader of the headline the grammars of
--- both formats, which were two fifths of all that had to be read.
+-- What the bytes of both files contain at the places of their formats: the subtitles, and the
+-- frames and packets. Nothing is tested here; that the bytes match these formats, and contain
+-- nothing else, is `AreFilesOf`. Fixed places spare a reader of the headline the grammars of both
+-- formats, which were two fifths of what had to be read.
 use Rattle.std.specs.Prelude.{ℕ, zero, suc, ◌+◌, ◌-◌, ◌*◌, ◌/◌, ◌%◌, ◌^◌, Bool, not, ◌==◌, ◌||◌}
 use Rattle.std.specs.Prelude.{List}
 use Rattle.std.specs.Prelude.{[], ◌∷◌, length, take, drop, map, filter, slice_index, slice_index_or}
@@ -14,27 +14,27 @@ use Rattle.stl_file.specs.TimeCode.{frame_of}
 use Rattle.stl_file.specs.Tti.{before_unused}
 use Rattle.sub_rules.specs.Transmission.{SentFrame, Transmission}
 
--- The bytes cut into pieces of one size; what is left behind the last of them is none.
+-- The bytes cut into parts of one size; a rest that is too short is left out.
 abbrev pub pieces_of : ℕ → List ℕ → List (List ℕ)
 pieces_of size bytes =
     map (λ k. take size (drop (size * k) bytes)) (range_with_len 0 (length bytes / size))
 
 -- ---- a PES file
 
--- The size of the PES packet at the front (ISO/IEC 13818-1): PES_packet_length, bytes 4 and 5,
--- counts from byte 6.
+-- The size of the first PES packet (ISO/IEC 13818-1): PES_packet_length, bytes 4 and 5, counts from
+-- byte 6.
 abbrev pub size_read : List ℕ → ℕ
 size_read b = 0x100 * slice_index b 4 + slice_index b 5 + 6
 
--- The PES packets of a file, one behind the other, so many at most.
+-- The PES packets of a file, one after another, at most so many.
 abbrev pub packets_read : ℕ → List ℕ → List (List ℕ)
 packets_read zero b = []
 packets_read (suc most) [] = []
 packets_read (suc most) (x ∷ b) =
     take (size_read (x ∷ b)) (x ∷ b) ∷ packets_read most (drop (size_read (x ∷ b)) (x ∷ b))
 
--- Its PTS (ISO/IEC 13818-1), bytes 9 to 13: the 33 bits in groups of 3, 15 and 15, each with a
--- marker bit behind it.
+-- The PTS of a PES packet (ISO/IEC 13818-1), bytes 9 to 13: 33 bits in groups of 3, 15 and 15, each
+-- followed by a marker bit.
 abbrev pub pts_read : List ℕ → ℕ
 pts_read b =
     (slice_index b 9 / 2) % 8 * 2 ^ 30
@@ -43,34 +43,35 @@ pts_read b =
     + slice_index b 12 * 2 ^ 7
     + slice_index b 13 / 2
 
--- The packet of a data unit (EN 300 472), where it is one of Teletext, data_unit_id, byte 0, 02 or
--- 03: bytes 4 to 45, the bits of each in the other order.
+-- The packet of a data unit (EN 300 472), if it is one of Teletext (data_unit_id, byte 0, is 02 or
+-- 03): bytes 4 to 45, each with its bits in reverse order.
 abbrev pub packet_read : List ℕ → List (List ℕ)
 packet_read unit =
     if (slice_index unit 0 == 0x02) || (slice_index unit 0 == 0x03)
     then map mirror (drop 4 unit) ∷ []
     else []
 
--- The frame of a PES packet, by the PTS of frame 0: its number, where a frame has 3600 ticks of the
--- PTS, of 33 bits; and the packets of its data units (EN 300 472), 46 bytes each from byte 46 on.
+-- The frame of a PES packet, given the PTS of frame 0: its number, where a frame has 3600 ticks of
+-- the PTS, which has 33 bits; and the packets of its data units (EN 300 472), 46 bytes each from
+-- byte 46 on.
 abbrev pub frame_read : ℕ → List ℕ → SentFrame
 frame_read origin b = record {
   frame = (pts_read b + (2 ^ 33 - origin)) % 2 ^ 33 / 3600;
   packets = flat_map packet_read (pieces_of 46 (drop 46 b));
 }
 
--- The frames of a PES file, by that PTS. It has a packet for a byte at most.
+-- The frames of a PES file, given that PTS. It has at most as many packets as bytes.
 abbrev pub frames_by_place : ℕ → List ℕ → Transmission
 frames_by_place origin bytes = map (frame_read origin) (packets_read (length bytes) bytes)
 
 -- ---- a subtitle file
 
--- A block of a subtitle (EBU Tech 3264, TTI block), and not user data, EBN, byte 3, FE, or a
--- comment, CF, byte 15, 01.
+-- The block belongs to a subtitle (EBU Tech 3264, TTI block): it is neither user data (EBN, byte 3,
+-- is FE) nor a comment (CF, byte 15, is 01).
 abbrev pub is_of_subtitle : List ℕ → Bool
 is_of_subtitle b = not ((slice_index b 3 == 0xFE) || (slice_index b 15 == 0x01))
 
--- The blocks of each subtitle: EBN, byte 3, of its last is FF.
+-- The blocks of each subtitle: EBN, byte 3, of its last block is FF.
 abbrev pub groups_read : List (List ℕ) → List (List (List ℕ))
 groups_read [] = []
 groups_read (b ∷ blocks) =
@@ -78,7 +79,7 @@ groups_read (b ∷ blocks) =
     then (b ∷ []) ∷ groups_read blocks
     else onto_first b (groups_read blocks)
 
--- The frame of the day that four bytes from a place on name: hours, minutes, seconds, frames.
+-- The frame of the day in four bytes from a place on: hours, minutes, seconds, frames.
 abbrev pub time_read : List ℕ → ℕ → ℕ
 time_read b at =
     frame_of (slice_index b at) (slice_index b (at + 1)) (slice_index b (at + 2))
@@ -100,12 +101,12 @@ subtitle_read group =
       text = flat_map (λ block. before_unused (drop 16 block)) group;
     }
 
--- The subtitles of a file. Its blocks, 128 bytes each, stand behind the GSI block, 1024 bytes.
+-- The subtitles of a file. Its blocks, 128 bytes each, follow the GSI block, 1024 bytes.
 abbrev pub subtitles_by_place : List ℕ → List SubtitleValue
 subtitles_by_place bytes =
     map subtitle_read (groups_read (filter is_of_subtitle (pieces_of 128 (drop 1024 bytes))))
 
--- Whether a subtitle begins in a part of it, by its TCI.
+-- The subtitle begins in the requested part, by its TCI.
 abbrev pub begins_in : Scope → SubtitleValue → Bool
 begins_in scope t = nat_le scope.from t.tci && nat_lt t.tci scope.to
 

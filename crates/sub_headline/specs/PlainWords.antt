@@ -1,4 +1,4 @@
--- What the words `check STL PES` ask for, with no option.
+-- The meaning of the arguments `check STL PES` without options.
 use Rattle.std.specs.Prelude.{◌≡◌, ◌≢◌, [], ◌∷◌, Some, None, false, codes, slice_get}
 use Rattle.clap.specs.Words.{Text}
 use Rattle.stl_file.specs.Scope.{whole}
@@ -10,9 +10,9 @@ use Rattle.sub_request.specs.declared.request.Request.{Request}
 use Rattle.sub_words.specs.Arguments.{PesAsked}
 use Rattle.sub_words.specs.Requests.{Asked, AsksFor, asked_by}
 
--- The options where none is given: page 888; a header of it within 250 frames, 10 seconds; frame 0
--- has the PTS 0; complete pages and a pace are not asked for; at each frame's end the page has to
--- be whole; and each header of it has to erase it.
+-- The default options: page 888; a header of it within 250 frames, 10 seconds; frame 0 has the PTS
+-- 0; neither complete pages nor a maximum distance of PES packets is required; the page has to be
+-- right at the end of each frame; and each header of it has to erase it.
 abbrev pub default_options : OptionsValue
 default_options = record {
   page = page_888;
@@ -24,16 +24,16 @@ default_options = record {
   keeps = false;
 }
 
--- A word that does not begin with `-`, and so is no option.
+-- An argument that does not begin with `-`, and so is no option.
 abbrev pub IsName : Text → Type 0
 IsName word = slice_get word 0 ≢ Some 0x2D
 
--- All of a file of PES packets.
+-- The whole of a PES file.
 abbrev pub whole_pes_file : Text → PesAsked
 whole_pes_file name = record { name = name; stream = None; range = None }
 
--- The words `check STL PES` alone, behind the program's name, ask for a check of these two files by
--- the default options.
+-- The arguments `check STL PES` alone, after the program's name, request a check of these two files
+-- with the default options.
 abbrev pub LawOfPlainWords : Type 0
 LawOfPlainWords =
     (program stl pes : Text) (request : Request)

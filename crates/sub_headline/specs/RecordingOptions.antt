@@ -1,5 +1,5 @@
--- What may be written behind `check STL RECORDING`, in any order, and what is read of both files
--- then.
+-- The options that may follow `check STL RECORDING`, in any order, and the parts of both files that
+-- they select.
 use Rattle.std.specs.Prelude.{◌≡◌, ◌<◌, ◌^◌, ℕ, Bool, true, List, [], ◌∷◌, Option, Some, None}
 use Rattle.std.specs.Prelude.{codes, fold}
 use Rattle.std.specs.Prelude.{option_map}
@@ -23,9 +23,10 @@ use Rattle.sub_words.specs.Texts.{frame_of_text}
 use Rattle.sub_headline.specs.PlainOptions.{Choice, with_choice, choice_words}
 use Rattle.sub_headline.specs.PlainWords.{IsName, default_options}
 
--- An option of what is read and its text, which says this: the PID of the transport packets that
--- carry PES packets, their size, the numbers of the PES packets; from which frame on, and up to
--- which, subtitles begin, and whether the file may be of open ones; or a choice for any files.
+-- An option with the text of its value and the meaning of that text: the PID of the transport
+-- packets that carry PES packets, their size, the numbers of the PES packets; the frames from which
+-- and up to which subtitles begin; whether the file may have open subtitles; or one of the choices
+-- for any files.
 pub data Portion : Type 0 where
   Pid : (text : Text) → (pid : ℕ) → pid_of_text text ≡ Some pid → Portion
   Size : (text : Text) → (size : PacketSize) → packet_size_of_text text ≡ Some size → Portion
@@ -35,7 +36,7 @@ pub data Portion : Type 0 where
   OpenToo : Portion
   Any : Choice → Portion
 
--- Its words.
+-- Its arguments.
 abbrev pub words_in : Portion → List Text
 words_in (Pid text pid is) = codes "--pid" ∷ text ∷ []
 words_in (Size text size is) = codes "--packet-size" ∷ text ∷ []
@@ -45,8 +46,8 @@ words_in (To text frame name is) = codes "--to" ∷ text ∷ []
 words_in OpenToo = codes "--open" ∷ []
 words_in (Any choice) = choice_words choice
 
--- How both are read: by options; the recording as a transport stream where there is a PID, of
--- packets of a size; which of its PES packets, where not all of them are; and which subtitles.
+-- How both files are read: the options; the recording as a transport stream, if there is a PID,
+-- with this packet size; which of its PES packets, if not all; and which subtitles.
 pub record Reading : Type 0 where
   pub options : OptionsValue
   pub pid : Option ℕ
@@ -54,7 +55,7 @@ pub record Reading : Type 0 where
   pub range : Option PieceRangeValue
   pub scope : Scope
 
--- With one more part.
+-- The same with one more option.
 abbrev pub read_by : Reading → Portion → Reading
 read_by r (Pid text pid is) = record r { pid = Some pid }
 read_by r (Size text size is) = record r { size = size }
@@ -70,7 +71,7 @@ read_by r OpenToo = record r {
 }
 read_by r (Any choice) = record r { options = with_choice r.options choice }
 
--- All of a PES file and of a subtitle file by the default options, where nothing is chosen.
+-- The whole of a PES file and of a subtitle file with the default options, unless chosen otherwise.
 abbrev pub reading_of : List Portion → Reading
 reading_of parts =
     fold read_by
@@ -83,21 +84,21 @@ reading_of parts =
     })
     parts
 
--- The PES packets that a transport stream carries; all bytes where there is no PID.
+-- The PES packets that a transport stream carries; all bytes if there is no PID.
 abbrev pub carried_by : Option ℕ → PacketSize → List ℕ → List ℕ
 carried_by None size bytes = bytes
 carried_by (Some pid) size bytes = carried pid (bytes_of size) bytes
 
--- Those of a range; all where there is none.
+-- The PES packets of a range; all if there is none.
 abbrev pub numbered_by : Option PieceRangeValue → List ℕ → List ℕ
 numbered_by None bytes = bytes
 numbered_by (Some range) bytes = in_range range bytes
 
--- The bytes of a PES file that are read of those of a recording.
+-- The bytes of a PES file that are selected from those of a recording.
 abbrev pub bytes_read : Reading → List ℕ → List ℕ
 bytes_read r bytes = numbered_by r.range (carried_by r.pid r.size bytes)
 
--- What is asked of a recording that has a name.
+-- The request for a recording with this name.
 abbrev pub recording_asked : Text → Reading → PesAsked
 recording_asked name r = record {
   name = name;
@@ -105,8 +106,8 @@ recording_asked name r = record {
   range = r.range;
 }
 
--- The words `check STL RECORDING` and parts, behind the program's name, ask for a check of these
--- two files, read so, and their origin is a PTS.
+-- The arguments `check STL RECORDING` and options, after the program's name, request a check of
+-- these two files, read in this way, and their origin is a PTS.
 abbrev pub LawOfPartWords : Type 0
 LawOfPartWords =
     (program stl recording : Text) (parts : List Portion) (request : Request)

@@ -1,5 +1,5 @@
--- How a run of the program ends, of the words that the system gave: what was answered, or why
--- nothing was.
+-- How a run of the program ends, given its arguments: with the answer to a request, or with the
+-- reason why there is none.
 use Rattle.std.specs.Prelude.{◌≡◌, ◌⊎◌, ℕ, List, [], Option, None, Result, Ok, Err, false}
 use Rattle.clap.specs.Words.{Text}
 use Rattle.sub_io.specs.Buffered.{HeldBack}
@@ -14,8 +14,8 @@ use Rattle.sub_listing.specs.Listing.{exit_code}
 use Rattle.sub_listing.specs.declared.status.Status.{Status}
 use Rattle.sub_answer.specs.Ending.{BufferHoldsLineAlone, Ends, KnownOfFiles, Lines, Says, lines_of}
 
--- The words that the system gave asked for a request, and it was answered so, over the files that
--- were opened, and let go as they were left, by the calls that were made.
+-- The arguments made a request, which was answered. Files were opened and closed by the calls that
+-- were made.
 pub record Answered
     {I O : Type 0} (AreMade : List (FileCall I O) → Type 0) (known : KnownOfFiles I O)
     (IsClose : O → O → Type 0) (given : Result (List Text) UsageFault) (IsAlone : Lines → Type 0)
@@ -27,8 +27,8 @@ pub record Answered
   pub asked : AsksFor words request
   pub ends : Ends AreMade known IsClose request IsAlone old new result
 
--- Why words are not answered: by the calls that were made, files that they ask for could not be
--- opened; or memory ran out, or this is their fault, and no file was asked for.
+-- Why arguments have no answer: files that they name could not be opened, by the calls that were
+-- made; or memory ran out, or the arguments have this fault, and no file was opened.
 abbrev pub IsWhy :
     {I O : Type 0} → (List (FileCall I O) → Type 0) → List Text → UsageFault → Type 0
 IsWhy AreMade words usage.Memory = AreMade []
@@ -36,14 +36,14 @@ IsWhy AreMade words usage.Open =
     (request : Request) × AsksFor words request × OpensBy AreMade (files_of request) None
 IsWhy AreMade words fault = IsFaultOf words fault × AreMade []
 
--- Why a run answers no request, of the words that the system gave or why it gave none.
+-- Why a run answers no request: because of its arguments, or because the system gave none.
 abbrev pub IsCause :
     {I O : Type 0}
     → (List (FileCall I O) → Type 0) → Result (List Text) UsageFault → UsageFault → Type 0
 IsCause AreMade (Ok words) fault = IsWhy AreMade words fault
 IsCause AreMade (Err why) fault = (fault ≡ why) × AreMade []
 
--- No request was answered, and the line of the fault was printed that tells why.
+-- No request was answered, and a line with the fault was printed.
 pub record IsUnanswered
     {I O : Type 0} (AreMade : List (FileCall I O) → Type 0) (given : Result (List Text) UsageFault)
     (old new : Lines) (result : Status)
@@ -52,9 +52,8 @@ pub record IsUnanswered
   pub cause : IsCause AreMade given fault
   pub says : Says fault old new result
 
--- How a run ends of what the system gave as words, by the calls for files, by what is told of these
--- and which closes of a file go so, by what is printed, of which lines all but that of a fault was
--- handed on, and the status.
+-- How a run ends: the calls for files, the contents of these and which files close without a
+-- failure, the printed lines, of which all were flushed except for that of a fault, and the status.
 abbrev pub EndsRun :
     {I O : Type 0}
     → (List (FileCall I O) → Type 0) → KnownOfFiles I O → (O → O → Type 0)
@@ -63,9 +62,9 @@ EndsRun AreMade known IsClose given IsAlone old new result =
     Answered AreMade known IsClose given IsAlone old new result
     ⊎ IsUnanswered AreMade given old new result
 
--- A run of the program, from the words that the system gave, its files and standard output to the
--- exit status, and standard output as it was left. There is a buffer before it, which held nothing,
--- and no other device; behind what is said to be printed nothing is.
+-- A run of the program, from its arguments, its files and standard output to the exit status, and
+-- standard output afterwards. Before standard output is a buffer, which was empty, and no other
+-- device; nothing is printed after what is named here.
 pub record RunsProgram
     {I O K : Type 0} (AreMade : List (FileCall I O) → Type 0) (known : KnownOfFiles I O)
     (IsClose : O → O → Type 0) (given : Result (List Text) UsageFault)
@@ -77,7 +76,7 @@ pub record RunsProgram
   pub left_is : left ≡ new.device
   pub status : Status
   pub code_is : code ≡ exit_code status
-  -- It ends as said above, or memory ran out before the words were looked at.
+  -- It ends in this way, or memory ran out before the arguments were read.
   pub ends :
       (let old : HeldBack K =
       record { device = output; held = []; room = room; failed = false; refused = 0 } in

@@ -1,4 +1,4 @@
-//! What exit status 0 of `check` tells, in four steps and as one law; and what is seen of it.
+//! The meaning of exit status 0 of `check`, in four steps and as one law; and what viewers see.
 ghost use Rattle.sub_headline.specs.Acceptance.{LawOfEnglishAcceptance, LawOfPlainAcceptance};
 ghost use Rattle.sub_headline.specs.DrawnOptions.{LawOfLookWords};
 ghost use Rattle.sub_headline.specs.EnglishScreen.{LawOfEnglishCharacters};
@@ -9,49 +9,51 @@ ghost use Rattle.sub_headline.specs.RecordingOptions.{LawOfPartWords};
 
 use sub_io::Sink;
 
-/// Where no frames are allowed, and repeats may not keep the page, files are accepted by the
-/// options exactly where they mean subtitles and a good transmission of these.
+/// If `within` is 0 and repeats may not keep the page, files are accepted by the options exactly if
+/// they mean subtitles and a good transmission of these.
 pub fn law_of_plain_acceptance()
     ensures { LawOfPlainAcceptance }
 {}
 
-/// In English by the default layout files are accepted by any options exactly where they are by
-/// English's own page and rules.
+/// In English with the default layout, files are accepted by any options exactly if they are by the
+/// page and the rules for English.
 pub fn law_of_english_acceptance()
     ensures { LawOfEnglishAcceptance }
 {}
 
-/// The words `check STL PES` alone ask for a check of these two files by the default options.
+/// The arguments `check STL PES` alone request a check of these two files with the default options.
 pub fn law_of_plain_words()
     ensures { LawOfPlainWords }
 {}
 
-/// Those words and choices behind them, in any order, ask for a check of these two files by their
+/// With choices after them, in any order, they request a check of these two files with the chosen
 /// options.
 pub fn law_of_chosen_words()
     ensures { LawOfChosenWords }
 {}
 
-/// With options of a recording among them they ask for a check of what is read of it so.
+/// With options for a recording among them, they request a check of the part that these select.
 pub fn law_of_part_words()
     ensures { LawOfPartWords }
 {}
 
-/// With a national option or a layout among them they ask for a check of subtitles drawn so.
+/// With a national option or a layout among them, they request a check of subtitles drawn in that
+/// way.
 pub fn law_of_look_words()
     ensures { LawOfLookWords }
 {}
 
-/// The cell of a byte of a text in English shows its character.
+/// The cell of a byte of English text shows its character.
 pub fn law_of_english_characters()
     ensures { LawOfEnglishCharacters }
 {}
 
-/// Where the program is run over files in memory, with these words, and ends with 0, the subtitles
-/// and the frames that stand in both files keep the headline, by the options that are chosen, for
-/// receivers that drop rows too, and the screens of all show what is due; the bytes are of their
-/// formats, and hold nothing else; so it is of what is read of a recording, and of subtitles drawn
-/// by a national option and a layout. By choices any code but 2 tells whether they are accepted.
+/// If the program is run on files in memory with these arguments and ends with 0, the subtitles and
+/// frames in both files keep the headline with the chosen options, also for receivers that drop
+/// rows, and the screens of all show the due page; the bytes match their formats and contain
+/// nothing else. The same holds for the selected part of a recording, and for subtitles drawn with
+/// a national option and a layout. With choices, any code other than 2 says whether the files are
+/// accepted.
 pub fn law_of_headline<K: Sink>()
     ensures { LawOfHeadline K.contents K.failure_count K.is_push }
 {}

@@ -1,6 +1,6 @@
-//! What exit status 0 of `check` tells: from a run of the program to the headline.
+//! The meaning of exit status 0 of `check`: from a run of the program to the headline.
 //!
-//! The functions do nothing: their contracts are laws over the definitions of `specs/`.
+//! The functions do nothing: their contracts are laws about the definitions of `specs/`.
 #![tactic(auto)]
 
 mod laws;

@@ -1,6 +1,6 @@
 -- For reports and trusted frames. Follows the steps of PES packets: the frames that they send, each
 -- of which ends, and the skipped ones. The state is any value X; `told_of` moves it to another PES
--- packet. Main lemmas: `each_piece`; `waits`, the end of the last frame.
+-- packet. Main lemmas: `each_piece`; `waits`. The second one ends the last frame.
 use Rattle.std.proofs.lemmas.Bool.Decides.{nat_tests}
 use Rattle.std.proofs.Common.{◌≡◌, ℕ, suc, ◌-◌, ◌<◌, ◌⊎◌, inl, inr, Bool, true, false, ◌==◌}
 use Rattle.std.proofs.Common.{List, [], ◌∷◌, ◌++◌, length, map, Some, refl, sym, ap, ◌∙◌, subst}
