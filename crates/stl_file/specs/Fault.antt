@@ -1,5 +1,5 @@
--- The number and the name by which a fault is told; which refusals are faults of the bytes, and
--- which come of the device or of the reader's state.
+-- The number and the name of a fault in reports; and which faults are in the file's bytes, in the
+-- device or in the reader's state.
 use Rattle.std.specs.Prelude.{Bool, true, false, codes}
 use Rattle.sub_io.specs.FaultCode.{FaultCodeValue, fault_code}
 use Rattle.stl_file.specs.declared.fault.StlFault.{StlFault}
@@ -28,12 +28,12 @@ stl_code fault.TooManyBlocks = fault_code 25 (codes "TooManyBlocks")
 stl_code fault.Read = fault_code 26 (codes "Read")
 stl_code fault.Ended = fault_code 27 (codes "Ended")
 
--- The number and the name of the fault of a normal form that is not written.
+-- The number and the name of the error of writing a normal form.
 abbrev pub normal_code : NormalFault → FaultCodeValue
 normal_code (Refused fault block) = stl_code fault
 normal_code Write = fault_code 29 (codes "Write")
 
--- The bytes of the file are at fault, and neither the device nor a fault before.
+-- The fault is in the bytes of the file, not in the device or an earlier fault.
 abbrev pub is_format : StlFault → Bool
 is_format fault.Read = false
 is_format fault.Ended = false
@@ -49,7 +49,7 @@ abbrev pub is_normal_write : NormalFault → Bool
 is_normal_write Write = true
 is_normal_write _ = false
 
--- A block's own bytes or its place among the blocks of its subtitle are at fault.
+-- The fault is in a block's own bytes, or in its position among the blocks of its subtitle.
 abbrev pub is_of_block : StlFault → Bool
 is_of_block fault.Extension = true
 is_of_block fault.Cumulative = true
@@ -62,7 +62,8 @@ is_of_block fault.Sequence = true
 is_of_block fault.TooLong = true
 is_of_block _ = false
 
--- What the first block of a subtitle says of it is at fault, and not where its blocks end.
+-- The fault is in the fields of a subtitle's first block, so that it is still known where its
+-- blocks end.
 abbrev pub is_of_first : StlFault → Bool
 is_of_first fault.Cumulative = true
 is_of_first fault.Justify = true
@@ -71,7 +72,7 @@ is_of_first fault.Time = true
 is_of_first fault.EmptyTime = true
 is_of_first _ = false
 
--- The file ends too early: only its end is at fault, and more bytes might cure it.
+-- The file ends too early: more bytes might make it valid.
 abbrev pub is_cut : StlFault → Bool
 is_cut fault.Truncated = true
 is_cut fault.Unfinished = true

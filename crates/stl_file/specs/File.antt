@@ -1,6 +1,6 @@
--- What a subtitle file is (EBU Tech 3264): a GSI block that is taken, then at most 99,999 TTI
--- blocks that hold the blocks of its subtitles, with comments, user data and what is outside the
--- scope between them.
+-- Definition of a subtitle file (EBU Tech 3264): an accepted GSI block, then at most 99,999 TTI
+-- blocks: the blocks of its subtitles, with comments, user data and subtitles outside the scope
+-- between them.
 use Rattle.std.specs.Prelude.{◌≡◌, ℕ, List, ◌++◌}
 use Rattle.std.specs.List.{concat}
 use Rattle.stl_file.specs.Tti.{most_blocks}
@@ -10,13 +10,13 @@ use Rattle.stl_file.specs.Gsi.{IsGsiFor}
 use Rattle.stl_file.specs.Scope.{whole}
 use Rattle.stl_file.specs.declared.scope.Scope.{Scope}
 
--- The bytes s are a file with the GSI block g, and what of it is taken is the subtitles ts.
+-- The bytes s are a file with the GSI block g, and its subtitles in the scope are ts.
 pub record IsFileFor (scope : Scope) (s g : List ℕ) (ts : List SubtitleValue) : Type 0 where
   pub gsi : IsGsiFor scope.takes_open g
   pub blocks : List (List ℕ)
   pub bytes : s ≡ g ++ concat blocks
   pub rest : AreSubtitleBlocks scope most_blocks blocks ts
 
--- They are a file for Teletext with these subtitles in all.
+-- The bytes are a file for Teletext, and its subtitles are ts.
 abbrev pub IsFile : List ℕ → List ℕ → List SubtitleValue → Type 0
 IsFile s g ts = IsFileFor whole s g ts

@@ -1,5 +1,4 @@
--- The GSI block (EBU Tech 3264), 1024 bytes. Each field by its place, counted from 0, and its
--- length:
+-- The GSI block (EBU Tech 3264), 1024 bytes. Each field with its offset and its length:
 --
 --   CPN    0   3   code page number           TNG  248   3   number of subtitle groups
 --   DFC    3   8   disk format code           MNC  251   2   displayable characters in a row
@@ -19,7 +18,7 @@
 --   TNB  238   5   number of TTI blocks
 --   TNS  243   5   number of subtitles
 --
--- DFC, DSC and CCT decide whether a file is taken; all other bytes are kept and not looked at.
+-- DFC, DSC and CCT decide whether a file is accepted; all other bytes are kept but not checked.
 use Rattle.std.specs.Prelude.{◌≡◌, ℕ, ◌+◌, ◌/◌, ◌%◌, Bool, false, true, not, ◌&&◌, ◌||◌, ◌==◌}
 use Rattle.std.specs.Prelude.{◌⊎◌, List, [], ◌∷◌, ◌++◌, length, take, drop, slice_index}
 use Rattle.std.specs.Prelude.{bytes_eq, Result, Ok}
@@ -27,11 +26,11 @@ use Rattle.stl_file.specs.declared.fault.StlFault.{StlFault}
 use Rattle.stl_file.specs.declared.fault.StlFault.TheVariants as fault
 use Rattle.stl_file.specs.Questions.{Questions, asked}
 
--- Bytes of a GSI block.
+-- Size of a GSI block in bytes.
 abbrev pub gsi_size : ℕ
 gsi_size = 1024
 
--- `len` bytes from a place
+-- `len` bytes from an offset.
 abbrev pub field : ℕ → ℕ → List ℕ → List ℕ
 field at len g = take len (drop at g)
 
@@ -47,11 +46,11 @@ dsc g = slice_index g 11
 abbrev pub cct : List ℕ → List ℕ
 cct g = field 12 2 g
 
--- The DFC "STL25.01": 25 frames a second.
+-- The DFC "STL25.01": 25 frames per second.
 abbrev pub stl_25 : List ℕ
 stl_25 = 0x53 ∷ 0x54 ∷ 0x4C ∷ 0x32 ∷ 0x35 ∷ 0x2E ∷ 0x30 ∷ 0x31 ∷ []
 
--- The DFC "STL30.01": 30 frames a second.
+-- The DFC "STL30.01": 30 frames per second.
 abbrev pub stl_30 : List ℕ
 stl_30 = 0x53 ∷ 0x54 ∷ 0x4C ∷ 0x33 ∷ 0x30 ∷ 0x2E ∷ 0x30 ∷ 0x31 ∷ []
 
@@ -67,7 +66,7 @@ level_2 = 0x32
 abbrev pub open_subtitles : ℕ
 open_subtitles = 0x30
 
--- The DSC " ": the file does not say.
+-- The DSC " ": unspecified.
 abbrev pub no_display : ℕ
 no_display = 0x20
 
@@ -75,25 +74,25 @@ no_display = 0x20
 abbrev pub latin : List ℕ
 latin = 0x30 ∷ 0x30 ∷ []
 
--- A display that is taken: Teletext of level 1 or 2, and where open subtitles are taken these and
--- those of a file that does not say.
+-- An accepted display: Teletext of level 1 or 2; if open subtitles are accepted, also these and an
+-- unspecified display.
 abbrev pub IsDisplay : Bool → ℕ → Type 0
 IsDisplay takes_open display =
     (display ≡ level_1) ⊎ (display ≡ level_2)
     ⊎ ((takes_open ≡ true) × ((display ≡ open_subtitles) ⊎ (display ≡ no_display)))
 
--- A GSI block that is taken: 25 frames a second, such a display, the Latin table.
+-- An accepted GSI block: 25 frames per second, an accepted display, the Latin table.
 pub record IsGsiFor (takes_open : Bool) (g : List ℕ) : Type 0 where
   pub size : length g ≡ gsi_size
   pub format : dfc g ≡ stl_25
   pub display : IsDisplay takes_open (dsc g)
   pub alphabet : cct g ≡ latin
 
--- One that is taken where the file is for Teletext.
+-- The GSI block of a file for Teletext.
 abbrev pub IsGsi : List ℕ → Type 0
 IsGsi g = IsGsiFor false g
 
--- What is asked of the block.
+-- The checks of a GSI block.
 abbrev pub asked_of_gsi : Bool → List ℕ → Questions
 asked_of_gsi takes_open g =
     (fault.Format, not (bytes_eq (dfc g) stl_25) && not (bytes_eq (dfc g) stl_30))
@@ -114,12 +113,12 @@ gsi_at takes_open g = asked (asked_of_gsi takes_open g) (Ok g)
 abbrev pub digit : ℕ → ℕ
 digit n = 0x30 + n
 
--- Five decimal digits, with zeros in front.
+-- Five decimal digits with leading zeros.
 abbrev pub five_digits : ℕ → List ℕ
 five_digits n =
     digit (n / 10000) ∷ digit ((n / 1000) % 10) ∷ digit ((n / 100) % 10)
     ∷ digit ((n / 10) % 10) ∷ digit (n % 10) ∷ []
 
--- TNB and TNS set, and all other bytes kept
+-- Sets TNB and TNS, and keeps all other bytes.
 abbrev pub with_counts : ℕ → ℕ → List ℕ → List ℕ
 with_counts tnb tns g = take 238 g ++ (five_digits tnb ++ (five_digits tns ++ drop 248 g))

@@ -1,5 +1,5 @@
--- The fields of a GSI block (EBU Tech 3264) by name: its table of places, counted from 0, and
--- lengths. `dfc`, `dsc` and `cct`, which decide whether a file is taken, stand in Gsi.
+-- The fields of a GSI block (EBU Tech 3264) by name, with their offsets and lengths. `dfc`, `dsc`
+-- and `cct`, which decide whether a file is accepted, are in Gsi.
 use Rattle.std.specs.Prelude.{ℕ, List, slice_index}
 use Rattle.stl_file.specs.Gsi.{field}
 
@@ -63,11 +63,11 @@ tns g = field 243 5 g
 abbrev pub tng : List ℕ → List ℕ
 tng g = field 248 3 g
 
--- MNC, the most characters in a row
+-- MNC, the maximum number of characters in a row
 abbrev pub mnc : List ℕ → List ℕ
 mnc g = field 251 2 g
 
--- MNR, the most rows of a display
+-- MNR, the maximum number of rows
 abbrev pub mnr : List ℕ → List ℕ
 mnr g = field 253 2 g
 

@@ -1,5 +1,4 @@
--- What the two passes of `normal` need to know of the subtitles of a file. No public clause cites
--- this.
+-- Facts about the subtitles of a file for the two passes of `normal`. No public clause uses this.
 use Rattle.std.specs.Prelude.{ℕ, List, [], length, Bool, true, false, Result, Ok, Err}
 use Rattle.stl_file.specs.declared.counts.Counts.{Counts}
 use Rattle.stl_file.specs.declared.fault.StlFault.{StlFault}
@@ -8,18 +7,17 @@ use Rattle.stl_file.specs.declared.fault.NormalFault.TheVariants.{Refused}
 use Rattle.stl_file.specs.Subtitle.{SubtitleValue}
 use Rattle.stl_file.specs.NormalForm.{Judged, all_blocks, cons_all}
 
--- The subtitles of a file that was not refused.
+-- The subtitles of an accepted file.
 abbrev pub given : Judged → List SubtitleValue
 given (Ok ts) = ts
 given (Err f) = []
 
--- How many blocks and subtitles the normal form has.
+-- The numbers of blocks and subtitles in the normal form.
 abbrev pub normal_counts : Judged → Result Counts NormalFault
 normal_counts (Ok ts) = Ok (record { tnb = length (all_blocks ts); tns = length ts })
 normal_counts (Err f) = Err f
 
--- All that was left to be given, by the next answer, the block that it names and what is left after
--- it.
+-- All remaining subtitles, given the next result, its block and the subtitles after it.
 abbrev pub judged_on : Result Bool StlFault → SubtitleValue → ℕ → Judged → Judged
 judged_on (Ok true) s block left = cons_all s left
 judged_on (Ok false) s block left = Ok []

@@ -1,5 +1,5 @@
--- The normal form of a subtitle file (own): its GSI block with the counts of what follows, and each
--- subtitle in the fewest blocks, without comments and user data.
+-- The normal form of a subtitle file (own): its GSI block with the counts of blocks and subtitles,
+-- and each subtitle in the fewest blocks, without comments and user data.
 use Rattle.std.specs.Prelude.{◌≡◌, ℕ, zero, suc, ◌-◌, ◌+◌, ◌/◌, ◌%◌, List, [], ◌∷◌, ◌++◌, length}
 use Rattle.std.specs.Prelude.{take, drop, replicate, Option, Result, Ok, Err}
 use Rattle.std.specs.List.{flat_map, concat}
@@ -17,27 +17,27 @@ use Rattle.stl_file.specs.File.{IsFile}
 
 -- ---- a subtitle's blocks
 
--- SGN, SN with its low byte first, EBN, CS, TCI, TCO, VP, JC and CF
+-- SGN, SN with its low byte first, EBN, CS, TCI, TCO, VP, JC and CF.
 abbrev pub block_head : SubtitleValue → ℕ → List ℕ
 block_head s ebn =
     s.sgn ∷ (s.sn % 256) ∷ (s.sn / 256) ∷ ebn ∷ not_cumulative
     ∷ (time_bytes s.tci ++ (time_bytes s.tco ++ (s.vp ∷ s.jc ∷ no_comment ∷ [])))
 
--- A text field: a piece of text, and unused space up to 112 bytes.
+-- A text field: a part of the text, padded with unused space to 112 bytes.
 abbrev pub text_field : List ℕ → List ℕ
 text_field piece = piece ++ replicate (112 - length piece) unused_space
 
--- A block of a subtitle with this EBN and this piece of its text.
+-- A block of a subtitle with this EBN and this part of its text.
 unfoldable pub block_of : SubtitleValue → ℕ → List ℕ → List ℕ
 block_of s ebn piece = block_head s ebn ++ text_field piece
 
--- `full` blocks with full text fields, numbered on from an EBN, and a last one
+-- `full` blocks with full text fields, with EBN counting up, and a last one.
 unfoldable pub blocks_from : SubtitleValue → ℕ → ℕ → List ℕ → List (List ℕ)
 blocks_from s zero ebn text = block_of s last_block text ∷ []
 blocks_from s (suc full) ebn text =
     block_of s ebn (take 112 text) ∷ blocks_from s full (ebn + 1) (drop 112 text)
 
--- The pieces of 112 bytes before the last piece of a text.
+-- How many parts of 112 bytes precede the last part of a text.
 abbrev pub full_pieces : List ℕ → ℕ
 full_pieces text = (length text - 1) / 112
 
@@ -51,7 +51,7 @@ blocks_of s = blocks_from s (full_pieces s.text) 0x00 s.text
 abbrev pub all_blocks : List SubtitleValue → List (List ℕ)
 all_blocks ts = flat_map blocks_of ts
 
--- The GSI block with TNB and TNS as the subtitles have them.
+-- The GSI block with TNB and TNS set for the subtitles.
 abbrev pub counted_gsi : List ℕ → List SubtitleValue → List ℕ
 counted_gsi g ts = with_counts (length (all_blocks ts)) (length ts) g
 
@@ -59,13 +59,13 @@ counted_gsi g ts = with_counts (length (all_blocks ts)) (length ts) g
 abbrev pub normal_form : List ℕ → List SubtitleValue → List ℕ
 normal_form g ts = counted_gsi g ts ++ concat (all_blocks ts)
 
--- ---- what is given, as one list
+-- ---- the subtitles as one list
 
 -- All subtitles of a file, or its first fault with its block.
 abbrev pub Judged : Type 0
 Judged = Result (List SubtitleValue) NormalFault
 
--- One subtitle in front.
+-- Puts a subtitle in front.
 abbrev pub cons_all : SubtitleValue → Judged → Judged
 cons_all s (Ok ss) = Ok (s ∷ ss)
 cons_all s (Err f) = Err f
@@ -76,7 +76,7 @@ subtitles_of ends = Ok []
 subtitles_of (fails f block) = Err (Refused f block)
 subtitles_of (gives s block o) = cons_all s (subtitles_of o)
 
--- ---- what `normal` does
+-- ---- the effect of `normal`
 
 -- The normal form of the file s was written, with n subtitles.
 pub record WritesNormal (s : List ℕ) (old new : Option (List ℕ)) (n : ℕ) : Type 0 where
@@ -91,8 +91,8 @@ pub record WritesPrefix (s : List ℕ) (old new : Option (List ℕ)) : Type 0 wh
   pub is_file : IsFile s (take gsi_size s) subtitles
   pub wrote : AppendsPrefix old new (normal_form (take gsi_size s) subtitles)
 
--- The normal form was written; or nothing, where the file is refused with its first fault and
--- block; or a prefix, where the sink failed.
+-- The normal form was written; or nothing, if the file is rejected with its first fault and block;
+-- or a prefix, if the sink failed.
 abbrev pub NormalAnswers :
     List ℕ → Option (List ℕ) → Option (List ℕ) → Result ℕ NormalFault → Type 0
 NormalAnswers s old new (Ok n) = WritesNormal s old new n

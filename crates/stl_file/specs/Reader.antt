@@ -1,4 +1,4 @@
--- A reader of a subtitle file, and what each of its calls takes and leaves.
+-- A reader of a subtitle file, and what each call consumes.
 use Rattle.std.specs.Prelude.{◌≡◌, ⊤, ℕ, ◌+◌, ◌-◌, ◌/◌, ◌≤◌, Bool, true, false, nat_lt}
 use Rattle.std.specs.Prelude.{if◌then◌else◌, List, [], ◌∷◌, ◌++◌, length, take, drop, filter}
 use Rattle.std.specs.Prelude.{Option, Some, None, Result, Ok, Err}
@@ -19,49 +19,48 @@ use Rattle.stl_file.specs.Reading.{Begun, Findings, breaks, findings_from, finds
 use Rattle.stl_file.specs.Reading.{Outcome, ends, fails, gives, stopped}
 use Rattle.stl_file.specs.File.{IsFileFor}
 
--- A reader: the GSI block, the last TTI block that was read or begun (0 before the first), and how
--- far it has come.
+-- A reader: the GSI block, the last TTI block that was read or begun (0 before the first), and the
+-- progress.
 pub record ReaderValue : Type 0 where
   pub gsi : List ℕ
   pub block : ℕ
   pub progress : Progress
 
--- A reader counts up to 99,999 blocks; only a fault can name one more.
+-- A reader counts up to 99,999 blocks; only a fault can have one more.
 abbrev pub HasPlace : Progress → ℕ → Type 0
 HasPlace Broken block = block ≤ most_blocks + 1
 HasPlace _ block = block ≤ most_blocks
 
--- What `next_into` answers together with the subtitle that it fills, as `next` answers it.
+-- The result of `next_into` with its subtitle, in the form of a result of `next`.
 abbrev pub given_subtitle :
     Result Bool StlFault → SubtitleValue → Result (Option SubtitleValue) StlFault
 given_subtitle (Ok true) s = Ok (Some s)
 given_subtitle (Ok false) s = Ok None
 given_subtitle (Err f) s = Err f
 
--- ---- what is left to be given
+-- ---- remaining results
 
--- What these bytes give after `block` TTI blocks, where the next one begins a subtitle.
+-- The results for these bytes after `block` TTI blocks, if the next one begins a subtitle.
 abbrev pub outcome_from : ℕ → List ℕ → Outcome
 outcome_from block b = stopped (findings_from whole block None b)
 
--- What a reader has still to give, where these bytes are left.
+-- The remaining results of a reader, given the bytes left.
 abbrev pub outcome_in : Progress → ℕ → List ℕ → Outcome
 outcome_in Reading block b = outcome_from block b
 outcome_in AtEnd block b = ends
 outcome_in Broken block b = fails fault.Ended block
 
--- What is left to be given by a reader.
+-- The remaining results of a reader.
 abbrev pub outcome_left : ReaderValue → List ℕ → Outcome
 outcome_left r b = outcome_in r.progress r.block b
 
--- What an answer says of all that was left, where the reader and the bytes are left so.
+-- The remaining results before a call, given its result and the state after it.
 abbrev pub outcome_with : ReaderValue → List ℕ → Result (Option SubtitleValue) StlFault → Outcome
 outcome_with r rest (Err f) = fails f r.block
 outcome_with r rest (Ok None) = ends
 outcome_with r rest (Ok (Some s)) = gives s r.block (outcome_left r rest)
 
--- The answer is the first thing that was left to be given, with its block, and what comes after it
--- is what is left now.
+-- The result is the first of the remaining results, with its block, and the others remain.
 pub record GivesNextSubtitle
     (old : ReaderValue) (bytes : List ℕ) (new : ReaderValue) (now : Option (List ℕ))
     (result : Result (Option SubtitleValue) StlFault)
@@ -72,33 +71,33 @@ pub record GivesNextSubtitle
 
 -- ---- the same within one call
 
--- The block that a fault names: one block too many and the block of a byte that could not be read
--- come after the last block.
+-- The block to report for a fault. For a block too many, or a byte that could not be read, it is
+-- the one after the last block.
 abbrev pub block_after : ℕ → StlFault → ℕ
 block_after block fault.TooManyBlocks = block + 1
 block_after block fault.Read = block + 1
 block_after block _ = block
 
--- The block that an answer names, where this is the last block that was read or begun.
+-- The block to report for a result, after the last block that was read or begun.
 abbrev pub block_by : ℕ → Result (Option SubtitleValue) StlFault → ℕ
 block_by block (Err f) = block_after block f
 block_by block (Ok found) = block
 
--- The last block of these bytes is no passed block.
+-- The last block of these bytes is not a skipped one.
 abbrev pub LastIsKept : List ℕ → Type 0
 LastIsKept bytes =
     (front last : List ℕ) → bytes ≡ front ++ last → IsBlock last → is_kept last ≡ true
 
--- ---- what a call takes
+-- ---- bytes consumed by a call
 
--- The last of these blocks is no passed block, neither user data nor a comment; so there is one.
+-- There is a last block, and it is not skipped: neither user data nor a comment.
 abbrev pub EndsKept : List (List ℕ) → Type 0
 EndsKept [] = ⊥
 EndsKept (b ∷ []) = is_kept b ≡ true
 EndsKept (b ∷ c ∷ bs) = EndsKept (c ∷ bs)
 
--- The bytes taken are the blocks of one subtitle, with the passed blocks before and inside them:
--- `from` blocks were read before, `to` are read now.
+-- The bytes consumed are the blocks of one subtitle, with the skipped blocks before and inside
+-- them; the number of blocks read goes from `from` to `to`.
 pub record TakesSubtitle (from to : ℕ) (old new : Option (List ℕ)) (s : SubtitleValue) : Type 0
   where
     pub blocks : List (List ℕ)
@@ -108,7 +107,7 @@ pub record TakesSubtitle (from to : ℕ) (old new : Option (List ℕ)) (s : Subt
     pub ends : EndsKept blocks
     pub consumed : Consumes old new (concat blocks)
 
--- The bytes taken are passed blocks alone, and the end of the file comes after them.
+-- The bytes consumed are only skipped blocks, followed by the end of the file.
 pub record TakesPassed (from to : ℕ) (old new : Option (List ℕ)) : Type 0 where
   pub blocks : List (List ℕ)
   pub counted : from + length blocks ≡ to
@@ -117,9 +116,9 @@ pub record TakesPassed (from to : ℕ) (old new : Option (List ℕ)) : Type 0 wh
   pub consumed : Consumes old new (concat blocks)
   pub ended : IsAtEnd new
 
--- No file goes on with the bytes that were taken, after `from` TTI blocks that end where a
--- subtitle may begin; for the faults of a file that was cut, none goes on with them and ends there.
--- The block is the last one that has a byte among those that were taken.
+-- After `from` TTI blocks, where a subtitle may begin, no file continues with the bytes consumed;
+-- for faults of a truncated file, none continues with them and ends there. The block is the last
+-- one with a byte among them.
 pub record Refuses (from to : ℕ) (old new : Option (List ℕ)) (f : StlFault) : Type 0 where
   pub bytes : List ℕ
   pub consumed : Consumes old new bytes
@@ -133,12 +132,12 @@ pub record Refuses (from to : ℕ) (old new : Option (List ℕ)) (f : StlFault) 
       → concat bs ≡ bytes ++ more
       → ⊥
 
--- The block of the byte that stands after n bytes of a file: 0 is the GSI block.
+-- The block of the byte after n bytes of a file: 0 is the GSI block.
 abbrev pub block_of_byte : ℕ → ℕ
 block_of_byte n = if nat_lt n gsi_size then 0 else (n - gsi_size) / 128 + 1
 
--- What is found names this block or one after it; but the end of the file inside a subtitle names
--- the last whole block, so one less.
+-- All results have this block number or a greater one. But if the file ends within a subtitle, the
+-- last complete block is reported, which may be one less.
 abbrev pub FindsFrom : ℕ → Findings → Type 0
 FindsFrom block no_more = ⊤
 FindsFrom block (breaks fault.Unfinished at) = block ≤ at + 1
@@ -146,8 +145,8 @@ FindsFrom block (breaks f at) = block ≤ at
 FindsFrom block (finds s at more) = (block ≤ at) × FindsFrom block more
 FindsFrom block (refuses f at more) = (block ≤ at) × FindsFrom block more
 
--- The source failed: the block is that of the byte that was asked for, the first one after those
--- that were taken. Whatever comes after these, nothing is found before that block.
+-- The source failed: the block is that of the first byte after those consumed. Whatever follows
+-- them, no result has a smaller block number.
 pub record FailsReading
     (scope : Scope) (from to : ℕ) (refused : Option Begun) (old new : Option (List ℕ))
     : Type 0 where
@@ -156,10 +155,10 @@ pub record FailsReading
   pub block : to ≡ from + length bytes / 128 + 1
   pub none : (more : List ℕ) → FindsFrom to (findings_from scope from refused (bytes ++ more))
 
--- What a call takes, by its answer: the blocks of a subtitle, with the passed blocks before and
--- inside them, or passed blocks alone, where no subtitle is left. A refusal is that of no file, and
--- a source that failed failed at the block `to`. `from` blocks were read before, and the next one
--- begins a subtitle.
+-- What a call consumes, by its result: the blocks of a subtitle with the skipped blocks before and
+-- inside them, or only skipped blocks if no subtitle is left. No file has rejected bytes, and a
+-- failing source failed at the block `to`. Before the call, `from` blocks were read, and the next
+-- one begins a subtitle.
 abbrev pub TakesByAnswer :
     ℕ → ℕ → Option (List ℕ) → Option (List ℕ) → Result (Option SubtitleValue) StlFault → Type 0
 TakesByAnswer from to old new (Ok (Some s)) = TakesSubtitle from to old new s
@@ -168,7 +167,7 @@ TakesByAnswer from to old new (Err f) =
     (is_format f ≡ true → Refuses from to old new f)
     × (is_file_read f ≡ true → FailsReading whole from to None old new)
 
--- How far a reader has come after an answer.
+-- The progress of a reader after a result.
 abbrev pub progress_after_answer : Progress → Result (Option SubtitleValue) StlFault → Progress
 progress_after_answer p (Err f) = Broken
 progress_after_answer p (Ok None) = AtEnd
@@ -187,12 +186,12 @@ gsi_of takes_open s =
     if nat_lt (length s) gsi_size then Err fault.Truncated
     else gsi_at takes_open (take gsi_size s)
 
--- What `open` answers over these bytes.
+-- The result of `open` for these bytes.
 abbrev pub opened_at : List ℕ → Result ReaderValue StlFault
 opened_at s = opened (gsi_of false s)
 
--- No file begins with the bytes that were taken; for a file that was cut, none is these bytes
--- alone.
+-- No file begins with the bytes consumed; for faults of a truncated file, no file is exactly these
+-- bytes.
 pub record RefusesOpeningFor (scope : Scope) (old new : Option (List ℕ)) (f : StlFault) : Type 0
   where
     pub bytes : List ℕ
@@ -211,20 +210,20 @@ RefusesOpening old new f = RefusesOpeningFor whole old new f
 
 -- ---- a whole file
 
--- What the bytes of a whole file give: a fault of the GSI block names block 0.
+-- The results for the bytes of a whole file; a fault of the GSI block is reported for block 0.
 abbrev pub findings_opened : Scope → List ℕ → Result (List ℕ) StlFault → Findings
 findings_opened scope b (Err f) = breaks f 0
 findings_opened scope b (Ok g) = findings_from scope 0 None b
 
--- What reading the bytes of a whole file gives, of what is taken.
+-- The results of reading a whole file within the scope.
 unfoldable pub findings_for : Scope → List ℕ → Findings
 findings_for scope s =
     findings_opened scope (drop gsi_size s) (gsi_of scope.takes_open s)
 
--- What reading all of a file for Teletext gives.
+-- The results of reading a whole file for Teletext.
 abbrev pub findings_of : List ℕ → Findings
 findings_of s = findings_for whole s
 
--- What reading the bytes of a whole file gives, up to the first fault.
+-- The results of reading a whole file, up to the first fault.
 abbrev pub outcome_of : List ℕ → Outcome
 outcome_of s = stopped (findings_of s)

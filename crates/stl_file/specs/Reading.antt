@@ -1,8 +1,8 @@
--- Reading TTI blocks one after the other, past subtitles that are outside and also after one that
--- is refused; and what that is as far as the first fault.
+-- Reading TTI blocks in order, skipping subtitles outside the scope and continuing after a rejected
+-- one; and the same up to the first fault.
 --
--- The suffix `_at` means: as read at the front of these bytes, or the first fault in the order of
--- the lines below.
+-- The suffix `_at` means: the value read at the front of these bytes, or the first fault in the
+-- order of the lines below.
 use Rattle.std.specs.Prelude.{ℕ, zero, suc, ◌+◌, ◌-◌, ◌*◌, ◌≤◌, Bool, true, false, not, ◌==◌, ◌&&◌}
 use Rattle.std.specs.Prelude.{nat_lt, nat_le, List, [], ◌∷◌, ◌++◌, length, take, drop}
 use Rattle.std.specs.Prelude.{if◌then◌else◌, Option, Some, None, Result, Ok, Err}
@@ -22,20 +22,20 @@ use Rattle.stl_file.specs.declared.subtitle_blocks.BlocksRead.{BlocksRead}
 
 -- ---- one block
 
--- A subtitle whose last block was not read yet: its fields, the text so far, its blocks so far, 1
--- to 9, and whether it is passed over, since it is outside or was refused.
+-- A subtitle whose last block has not been read: its fields and the text so far, its blocks so far,
+-- 1 to 9, and whether it is skipped because it is outside the scope or was rejected.
 pub record Begun : Type 0 where
   pub subtitle : SubtitleValue
   pub blocks : ℕ
   pub is_passed : Bool
 
--- What a block brings: the blocks go on, within a subtitle or between two, or the block was the
--- last of this subtitle.
+-- The effect of a block: more blocks follow, within a subtitle or between two, or it was the last
+-- block of this subtitle.
 pub data BlockStep : Type 0 where
   More : Option Begun → BlockStep
   Give : SubtitleValue → BlockStep
 
--- What is asked of the first block of a subtitle.
+-- The checks of the first block of a subtitle.
 abbrev pub asked_of_first : List ℕ → Questions
 asked_of_first b =
     (fault.Cumulative, not (cs b == not_cumulative))
@@ -46,7 +46,7 @@ asked_of_first b =
     ∷ (fault.EmptyTime, not (nat_lt (frame_in (tci b)) (frame_in (tco b))))
     ∷ []
 
--- The subtitle that a first block begins, with the text of that block.
+-- The subtitle that starts with this block, with the block's text.
 unfoldable pub first_at : List ℕ → Result SubtitleValue StlFault
 first_at b =
     asked (asked_of_first b) (Ok (record {
@@ -59,21 +59,21 @@ first_at b =
       text = text_of b;
     }))
 
--- What is asked of a further block.
+-- The checks of a further block.
 abbrev pub asked_of_further : Begun → List ℕ → Questions
 asked_of_further begun b =
     (fault.Sequence, not ((sgn b == begun.subtitle.sgn) && (sn b == begun.subtitle.sn)))
     ∷ (fault.TooLong, begun.blocks == most_of_subtitle)
     ∷ []
 
--- EBN FF ends a subtitle, any other that is kept goes on. One that is passed over is not given.
+-- EBN FF ends a subtitle; otherwise it continues. A skipped subtitle is not returned.
 abbrev pub closed : ℕ → Begun → BlockStep
 closed n begun =
     if n == last_block then (if begun.is_passed then More None else Give begun.subtitle)
     else More (Some begun)
 
--- A subtitle that begins with this block and is passed over: of its other blocks it is asked that
--- they have the SGN and SN of this one, and that they are not too many.
+-- A skipped subtitle that starts with this block: its other blocks must have the same SGN and SN,
+-- and must not be too many.
 abbrev pub passed_by : List ℕ → Begun
 passed_by b = record {
   subtitle = record empty_subtitle { sgn = sgn b; sn = sn b };
@@ -81,12 +81,12 @@ passed_by b = record {
   is_passed = true;
 }
 
--- It goes on where this block is not its last.
+-- It continues if this block is not its last.
 abbrev pub passed_at : List ℕ → Option Begun
 passed_at b = if ebn b == last_block then None else Some (passed_by b)
 
--- A block of a subtitle: its first, or a further one of the subtitle that was begun. Nothing is
--- asked of the first block of one that is outside.
+-- A block of a subtitle: its first, or a further one of the current subtitle. The first block of a
+-- subtitle outside the scope is not checked.
 unfoldable pub kept_at : Scope → Option Begun → List ℕ → Result BlockStep StlFault
 kept_at scope None b =
     if begins_outside scope b then Ok (More (passed_at b))
@@ -99,52 +99,52 @@ kept_at scope (Some begun) b =
       blocks = begun.blocks + 1;
     })))
 
--- What was begun, where a subtitle is read in place, by what was read of its blocks.
+-- The current subtitle, if it is read in place, with the state of reading its blocks.
 abbrev pub begun_by : SubtitleValue → BlocksRead → Begun
 begun_by s read = record { subtitle = s; blocks = read.count; is_passed = read.is_passed }
 
--- Nothing was before the first.
+-- There is none before its first block.
 abbrev pub begun_in : SubtitleValue → BlocksRead → Option Begun
 begun_in s read = if read.count == 0 then None else Some (begun_by s read)
 
--- What a block brings, by the subtitle and the blocks read that it leaves and by whether the
--- subtitle is whole.
+-- The effect of a block, given the subtitle and the state that it leaves, and whether the subtitle
+-- is complete.
 abbrev pub step_in : SubtitleValue → BlocksRead → Result Bool StlFault → Result BlockStep StlFault
 step_in s read (Err f) = Err f
 step_in s read (Ok true) = Ok (Give s)
 step_in s read (Ok false) = Ok (More (begun_in s read))
 
--- What is asked of any block but user data.
+-- The checks of every block except user data.
 abbrev pub asked_of_block : List ℕ → Questions
 asked_of_block b =
     (fault.Extension, nat_le first_reserved (ebn b) && not (ebn b == last_block))
     ∷ (fault.CommentFlag, nat_lt is_comment (cf b))
     ∷ []
 
--- Any block: user data and comments leave what was begun as it is.
+-- Any block. User data and comments do not change the current subtitle.
 unfoldable pub step_at : Scope → Option Begun → List ℕ → Result BlockStep StlFault
 step_at scope begun b =
     if ebn b == user_data then Ok (More begun)
     else asked (asked_of_block b)
     (if cf b == is_comment then Ok (More begun) else kept_at scope begun b)
 
--- ---- all blocks that follow
+-- ---- all following blocks
 
--- Five faults are of what the first block of a subtitle says of it: its CS, JC, VP, TCI and TCO.
--- Which blocks are those of the subtitle is known all the same: that one and the next ones up to
--- the first with EBN FF, comments and user data left aside. So the subtitle is no record, and
--- reading can go on after its blocks, in which all other faults are met as ever (own).
+-- Five faults concern fields of a subtitle's first block: CS, JC, VP, TCI and TCO. It is still
+-- known which blocks belong to the subtitle: this one and the next ones up to the first with EBN
+-- FF, without comments and user data. So the subtitle is rejected, and reading can continue after
+-- its blocks, in which all other faults are still reported (own).
 
--- What the rest of a file gives, one after the other: subtitles, each with the number of its last
--- block, and those that are refused, each with its fault and the number of its first block; then
--- the end, or the fault that ends reading, with the block that it names.
+-- The results for the rest of a file, in order: subtitles, each with the number of its last block,
+-- and rejected ones, each with its fault and the number of its first block; then the end, or the
+-- fault that ends reading, with its block.
 pub data Findings : Type 0 where
   no_more : Findings
   breaks : StlFault → ℕ → Findings
   finds : SubtitleValue → ℕ → Findings → Findings
   refuses : StlFault → ℕ → Findings → Findings
 
--- What comes of a block after which `room` blocks may still follow.
+-- The results after a block, after which `room` blocks may still follow.
 abbrev pub findings_after :
     ℕ → (Option Begun → Findings) → List ℕ → Result BlockStep StlFault → Findings
 findings_after room next b (Err f) =
@@ -153,9 +153,9 @@ findings_after room next b (Err f) =
 findings_after room next b (Ok (More begun)) = next begun
 findings_after room next b (Ok (Give s)) = finds s (most_blocks - room) (next None)
 
--- What bytes after the GSI block give, where `room` blocks may still follow and a subtitle was
--- begun or not. The end inside a subtitle names the last whole block, every other fault the block
--- that was begun; one byte after 99,999 blocks is a block too many.
+-- The results for bytes after the GSI block, if `room` blocks may still follow and `begun` is the
+-- current subtitle. If the file ends within a subtitle, the last complete block is reported; for
+-- every other fault the block that was begun. A byte after 99,999 blocks is a block too many.
 unfoldable pub findings_at : Scope → ℕ → Option Begun → List ℕ → Findings
 findings_at scope room None [] = no_more
 findings_at scope room (Some begun) [] = breaks fault.Unfinished (most_blocks - room)
@@ -165,30 +165,30 @@ findings_at scope (suc room) begun (x ∷ b) =
     else findings_after room (λ next. findings_at scope room next (drop block_size (x ∷ b)))
     (take block_size (x ∷ b)) (step_at scope begun (take block_size (x ∷ b)))
 
--- What these bytes give after `block` TTI blocks, within a subtitle that was refused or where the
--- next one begins.
+-- The results for these bytes after `block` TTI blocks, within a rejected subtitle or before the
+-- next one.
 abbrev pub findings_from : Scope → ℕ → Option Begun → List ℕ → Findings
 findings_from scope block refused b = findings_at scope (most_blocks - block) refused b
 
 -- ---- up to the first fault
 
--- What a reader gives that stops at the first fault: subtitles, each with the number of its last
--- block, and then the end, or that fault with the block that it names.
+-- The results of a reader that stops at the first fault: subtitles, each with the number of its
+-- last block, then the end, or that fault with its block.
 pub data Outcome : Type 0 where
   ends : Outcome
   fails : StlFault → ℕ → Outcome
   gives : SubtitleValue → ℕ → Outcome → Outcome
 
--- What is found up to there.
+-- The results up to the first fault.
 abbrev pub stopped : Findings → Outcome
 stopped no_more = ends
 stopped (breaks f block) = fails f block
 stopped (finds s block more) = gives s block (stopped more)
 stopped (refuses f block more) = fails f block
 
--- ---- what a subtitle that was begun keeps
+-- ---- bound of the current subtitle
 
--- Each of its blocks, nine at most, brought at most 112 bytes of text.
+-- Each of its blocks, at most nine, has added at most 112 bytes of text.
 abbrev pub BegunFits : Option Begun → Type 0
 BegunFits None = Unit {0}
 BegunFits (Some begun) =

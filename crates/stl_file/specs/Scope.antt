@@ -1,5 +1,4 @@
--- What of a subtitle file is taken (own): for which displays it may be, and which of its subtitles,
--- by their TCI.
+-- The accepted subtitle files, by their display, and the subtitles to read, by their TCI (own).
 use Rattle.std.specs.Prelude.{ℕ, Bool, false, not, ◌&&◌, nat_le, nat_lt, List, [], ◌∷◌}
 use Rattle.stl_file.specs.declared.scope.Scope.{Scope}
 use Rattle.stl_file.specs.TimeCode.{day, frame_in, is_time}
@@ -9,17 +8,17 @@ use Rattle.stl_file.specs.Tti.{tci}
 abbrev pub whole : Scope
 whole = record { takes_open = false; from = 0; to = day }
 
--- The TCI of this block is a time code, but of none of the frames that are taken.
+-- The TCI of this block is a time code outside the range of frames.
 unfoldable pub begins_outside : Scope → List ℕ → Bool
 begins_outside scope b =
     is_time (tci b)
     && not (nat_le scope.from (frame_in (tci b)) && nat_lt (frame_in (tci b)) scope.to)
 
--- The blocks of one subtitle are outside where their first is.
+-- A group of blocks is outside if its first block is.
 abbrev pub is_outside : Scope → List (List ℕ) → Bool
 is_outside scope [] = false
 is_outside scope (b ∷ bs) = begins_outside scope b
 
--- The others are those that are read.
+-- The other groups are read.
 abbrev pub is_inside : Scope → List (List ℕ) → Bool
 is_inside scope group = not (is_outside scope group)

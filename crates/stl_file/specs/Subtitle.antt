@@ -1,4 +1,4 @@
--- Subtitles: what one record of a subtitle file says.
+-- The subtitles of a file.
 use Rattle.std.specs.Prelude.{◌≡◌, ℕ, ◌<◌, ◌≤◌, Bool, true, false, ◌==◌, if◌then◌else◌}
 use Rattle.std.specs.Prelude.{List, [], ◌∷◌, length}
 use Rattle.stl_file.specs.TimeCode.{day}
@@ -20,7 +20,7 @@ pub record SubtitleValue : Type 0 where
 abbrev pub empty_subtitle : SubtitleValue
 empty_subtitle = record { sgn = 0; sn = 0; tci = 0; tco = 1; vp = 1; jc = 0; text = [] }
 
--- Bytes of text that nine blocks have room for.
+-- The maximum number of bytes of text that nine blocks hold.
 abbrev pub most_text : ℕ
 most_text = 1008
 
@@ -29,8 +29,8 @@ abbrev pub has_no_unused : List ℕ → Bool
 has_no_unused [] = true
 has_no_unused (x ∷ xs) = if x == unused_space then false else has_no_unused xs
 
--- What a subtitle can be: shown for some time within the day (TCI before TCO), from a row 1 to 23
--- on, with a justification code 0 to 3 and a text that nine blocks can hold.
+-- The possible values of a subtitle: it is shown for some time within the day (TCI before TCO),
+-- from a row 1 to 23 on, with a justification code 0 to 3 and a text that fits in nine blocks.
 pub record IsSubtitle (s : SubtitleValue) : Type 0 where
   pub times : s.tci < s.tco
   pub in_day : s.tco < day

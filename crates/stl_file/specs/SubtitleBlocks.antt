@@ -1,6 +1,5 @@
--- The blocks of a subtitle, and the blocks of a file, as relations: they say what a file is and
--- nothing of how it is read (EBU Tech 3264, TTI blocks; the rules on one subtitle's blocks are
--- (own)).
+-- The blocks of a subtitle, and the blocks of a file, as relations that define a file, independent
+-- of how it is read (EBU Tech 3264, TTI blocks; the rules on one subtitle's blocks are (own)).
 use Rattle.std.specs.Prelude.{◌≡◌, ℕ, ◌<◌, ◌≤◌, true, List, [], ◌∷◌, length, filter}
 use Rattle.std.specs.List.{flat_map, AllByRecursion, AllZip}
 use Rattle.stl_file.specs.TimeCode.{frame_in, is_time}
@@ -27,15 +26,15 @@ pub record BelongsTo (sgn_is sn_is : ℕ) (b : List ℕ) : Type 0 where
   pub same_sgn : sgn b ≡ sgn_is
   pub same_sn : sn b ≡ sn_is
 
--- EBN 00 to EF in all blocks but the last, FF in the last, and one SGN and SN in all; the numbers
--- of the extension blocks are not compared (own)
+-- EBN is 00 to EF in all blocks but the last, and FF in the last; all have the same SGN and SN. The
+-- order of extension block numbers is not checked (own).
 abbrev pub AreLinked : ℕ → ℕ → List (List ℕ) → Type 0
 AreLinked sgn_is sn_is [] = ⊥
 AreLinked sgn_is sn_is (b ∷ []) = BelongsTo sgn_is sn_is b × (ebn b ≡ last_block)
 AreLinked sgn_is sn_is (b ∷ c ∷ bs) =
     BelongsTo sgn_is sn_is b × (ebn b < first_reserved) × AreLinked sgn_is sn_is (c ∷ bs)
 
--- What the first block of a subtitle says of it: all but the text of its other blocks.
+-- The first block of a subtitle has its fields: all except the text of its other blocks.
 pub record Begins (s : SubtitleValue) (b : List ℕ) : Type 0 where
   pub cumulative : cs b ≡ not_cumulative
   pub sgn_is : sgn b ≡ s.sgn
@@ -48,8 +47,8 @@ pub record Begins (s : SubtitleValue) (b : List ℕ) : Type 0 where
   pub vp_range : (1 ≤ s.vp) × (s.vp ≤ 23)
   pub jc_range : s.jc ≤ 3
 
--- These 1 to 9 blocks are the blocks of the subtitle s: the first says its fields, and its text
--- joins the text of each.
+-- These 1 to 9 blocks are the blocks of the subtitle s: the first has its fields, and its text is
+-- the joined text of all.
 pub record AreBlocksOf (s : SubtitleValue) (bs : List (List ℕ)) : Type 0 where
   pub first : List ℕ
   pub others : List (List ℕ)
@@ -59,8 +58,8 @@ pub record AreBlocksOf (s : SubtitleValue) (bs : List (List ℕ)) : Type 0 where
   pub linked : AreLinked s.sgn s.sn bs
   pub text_is : s.text ≡ flat_map text_of bs
 
--- These 1 to 9 blocks are those of one subtitle that is outside: but for its TCI nothing is asked
--- of what the first says.
+-- These 1 to 9 blocks are those of one subtitle outside the scope. Only the TCI of the first block
+-- is checked.
 pub record AreOutside (scope : Scope) (bs : List (List ℕ)) : Type 0 where
   pub first : List ℕ
   pub others : List (List ℕ)
@@ -69,9 +68,9 @@ pub record AreOutside (scope : Scope) (bs : List (List ℕ)) : Type 0 where
   pub linked : AreLinked (sgn first) (sn first) bs
   pub outside : begins_outside scope first ≡ true
 
--- The blocks of a file from a place on where a subtitle may begin, `most` at most: where the
--- passed blocks are taken out, groups of blocks are left, one subtitle after the other. Those that
--- are outside are taken out too, and the others are those of these subtitles.
+-- The blocks of a file, at most `most`, from a place on where a subtitle may begin. Without the
+-- skipped blocks they are groups, one for each subtitle. The groups outside the scope are
+-- well-formed, and the others are those of these subtitles.
 pub record AreSubtitleBlocks (scope : Scope) (most : ℕ) (bs : List (List ℕ))
     (ts : List SubtitleValue) : Type 0 where
   pub each : AllByRecursion IsBlock bs

@@ -1,4 +1,4 @@
--- A file from which the blocks of all subtitles that are outside were taken out.
+-- A file without the blocks of the subtitles outside the scope.
 use Rattle.std.specs.Prelude.{◌≡◌, ℕ, Bool, false, true, not, ◌==◌, if◌then◌else◌, List, [], ◌∷◌}
 use Rattle.std.specs.Prelude.{◌++◌, length, Option, Some, None}
 use Rattle.std.specs.List.{AllByRecursion, concat}
@@ -11,18 +11,18 @@ use Rattle.stl_file.specs.SubtitleBlocks.{IsBlock}
 use Rattle.stl_file.specs.TimeCode.{day}
 use Rattle.stl_file.specs.Tti.{ebn, is_passed_block, last_block}
 
--- Whether a block stays that is no comment and no user data: the first of a subtitle where that is
--- not outside, each other one where the first does, which `within` tells.
+-- A block that is neither comment nor user data is kept. The first block of a subtitle is kept if
+-- it is not outside, each other one if the first was, which `within` says.
 abbrev pub stays : Scope → Option Bool → List ℕ → Bool
 stays scope None b = not (begins_outside scope b)
 stays scope (Some stayed) b = stayed
 
--- What is told of the next block: a subtitle begins after EBN FF.
+-- The state for the next block: a new subtitle begins after EBN FF.
 abbrev pub within_after : Scope → Option Bool → List ℕ → Option Bool
 within_after scope within b =
     if ebn b == last_block then None else Some (stays scope within b)
 
--- The blocks that are left. Comments and user data stay.
+-- The blocks that are kept. Comments and user data stay.
 abbrev pub taken_out : Scope → Option Bool → List (List ℕ) → List (List ℕ)
 taken_out scope within [] = []
 taken_out scope within (b ∷ bs) =
@@ -34,23 +34,23 @@ taken_out scope within (b ∷ bs) =
 abbrev pub all_day : Scope → Scope
 all_day scope = record scope { from = 0; to = day }
 
--- Nothing ends reading before the end of the file: it is whole, and its blocks are linked.
+-- Reading reaches the end of the file: the file is complete, and its blocks are linked.
 abbrev pub is_read_whole : Findings → Bool
 is_read_whole no_more = true
 is_read_whole (breaks f block) = false
 is_read_whole (finds s block more) = is_read_whole more
 is_read_whole (refuses f block more) = is_read_whole more
 
--- Block numbers aside.
+-- Ignores block numbers.
 abbrev pub unnumbered : Findings → Findings
 unnumbered no_more = no_more
 unnumbered (breaks f block) = breaks f 0
 unnumbered (finds s block more) = finds s 0 (unnumbered more)
 unnumbered (refuses f block more) = refuses f 0 (unnumbered more)
 
--- What is read of a file within a scope is what is read of all the day of the file from which the
--- blocks of the subtitles outside were taken out. So nobody has to cut a file to judge a part of
--- it.
+-- Reading a file within a scope gives the same as reading, for the whole day, the file without the
+-- blocks of the subtitles outside the scope. So a part of a file can be checked without cutting it
+-- out.
 abbrev pub LawOfScope : Type 0
 LawOfScope =
     (scope : Scope) (gsi : List ℕ) (blocks : List (List ℕ))
@@ -60,6 +60,6 @@ LawOfScope =
     → unnumbered (findings_for scope (gsi ++ concat blocks))
     ≡ unnumbered (findings_for (all_day scope) (gsi ++ concat (taken_out scope None blocks)))
 
--- Nothing is outside the day.
+-- No subtitle is outside the day.
 abbrev pub LawOfWholeDay : Type 0
 LawOfWholeDay = (scope : Scope) (b : List ℕ) → begins_outside (all_day scope) b ≡ false

@@ -1,13 +1,13 @@
--- Time codes (EBU Tech 3264, TTI block, fields TCI and TCO) at 25 frames a second, as frames of the
--- day: 0 to 2,159,999.
+-- Time codes (EBU Tech 3264, TTI block, fields TCI and TCO) at 25 frames per second, as frames of
+-- the day: 0 to 2,159,999.
 use Rattle.std.specs.Prelude.{ℕ, ◌+◌, ◌*◌, ◌/◌, ◌%◌, Bool, ◌&&◌, nat_lt, List, [], ◌∷◌}
 use Rattle.std.specs.Prelude.{slice_index}
 
--- Frames of a day.
+-- The number of frames of a day.
 abbrev pub day : ℕ
 day = 2160000
 
--- The frame of the day that a time code names.
+-- The frame of the day for a time code.
 abbrev pub frame_of : ℕ → ℕ → ℕ → ℕ → ℕ
 frame_of hours minutes seconds frames = ((hours * 60 + minutes) * 60 + seconds) * 25 + frames
 
@@ -16,16 +16,16 @@ abbrev pub is_time_code : ℕ → ℕ → ℕ → ℕ → Bool
 is_time_code hours minutes seconds frames =
     nat_lt hours 24 && nat_lt minutes 60 && nat_lt seconds 60 && nat_lt frames 25
 
--- Whether these four bytes are a time code.
+-- The four bytes are a time code.
 unfoldable pub is_time : List ℕ → Bool
 is_time b =
     is_time_code (slice_index b 0) (slice_index b 1) (slice_index b 2) (slice_index b 3)
 
--- The frame of the time code that they are.
+-- The frame of the day for these four bytes.
 unfoldable pub frame_in : List ℕ → ℕ
 frame_in b = frame_of (slice_index b 0) (slice_index b 1) (slice_index b 2) (slice_index b 3)
 
--- Hours, minutes, seconds and frames of a frame of the day, in a byte each.
+-- Hours, minutes, seconds and frames of a frame of the day, one byte each.
 abbrev pub time_bytes : ℕ → List ℕ
 time_bytes frame =
     (frame / 90000) ∷ ((frame / 1500) % 60) ∷ ((frame / 25) % 60) ∷ (frame % 25) ∷ []

@@ -12,24 +12,24 @@
 --   15       CF   comment flag: 0 subtitle, 1 comment
 --   16 on    TF   text field, 112 bytes
 --
--- The functions take the block's bytes; places count from 0.
+-- The functions take the block's bytes; offsets count from 0.
 use Rattle.std.specs.Prelude.{ℕ, ◌+◌, ◌*◌, Bool, not, ◌==◌, ◌||◌, ◌&&◌, nat_lt}
 use Rattle.std.specs.Prelude.{List, drop, slice_index, [], ◌∷◌, if◌then◌else◌}
 use Rattle.stl_file.specs.Gsi.{field}
 
--- Bytes of a TTI block.
+-- Size of a TTI block in bytes.
 abbrev pub block_size : ℕ
 block_size = 128
 
--- TTI blocks that a file may have: TNB has five digits
+-- The maximum number of TTI blocks of a file: TNB has five digits.
 abbrev pub most_blocks : ℕ
 most_blocks = 99999
 
--- Blocks that a subtitle may have (own).
+-- The maximum number of blocks of a subtitle (own).
 abbrev pub most_of_subtitle : ℕ
 most_of_subtitle = 9
 
--- The first EBN that is reserved: a subtitle goes on after each EBN below.
+-- The first reserved EBN: a subtitle continues after each smaller EBN.
 abbrev pub first_reserved : ℕ
 first_reserved = 0xF0
 
@@ -53,7 +53,7 @@ no_comment = 0x00
 abbrev pub is_comment : ℕ
 is_comment = 0x01
 
--- The byte of a text field that stands for nothing: the text ends before the first one.
+-- The byte of a text field that means unused space: the text ends before the first one.
 abbrev pub unused_space : ℕ
 unused_space = 0x8F
 
@@ -106,12 +106,12 @@ before_unused (x ∷ xs) = if x == unused_space then [] else x ∷ before_unused
 abbrev pub text_of : List ℕ → List ℕ
 text_of b = before_unused (tf b)
 
--- User data, whatever its CF, and comments are passed over: they are no part of a subtitle.
+-- User data, whatever its CF, and comments are skipped: they are not part of a subtitle.
 abbrev pub is_passed_block : List ℕ → Bool
 is_passed_block b =
     (ebn b == user_data)
     || ((nat_lt (ebn b) first_reserved || (ebn b == last_block)) && (cf b == is_comment))
 
--- The blocks that are left where the passed ones are taken out.
+-- A block that is not skipped.
 abbrev pub is_kept : List ℕ → Bool
 is_kept b = not (is_passed_block b)

@@ -1,4 +1,4 @@
-//! What the normal form of a file will have.
+//! The counts in the normal form of a file.
 
 /// The counts of a GSI block.
 #[derive(Clone, Copy)]

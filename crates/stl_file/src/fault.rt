@@ -1,4 +1,4 @@
-//! Why a subtitle file is refused, or its normal form not written.
+//! Faults of reading a subtitle file, and of writing its normal form.
 
 ghost use Rattle.std.specs.Prelude.{◌≡◌};
 ghost use Rattle.stl_file.specs.declared.fault.NormalFault.TheVariants.{Write};
@@ -6,52 +6,52 @@ ghost use Rattle.stl_file.specs.declared.fault.StlFault.TheVariants.{Read};
 
 use sub_io::{Failed, FaultCode};
 
-/// Why a subtitle file could not be read, in the order of the refusals' numbers, 10 to 27.
+/// A fault of reading a subtitle file, in the order of the numbers 10 to 27.
 #[derive(Clone, Copy, Debug, PartialEq, Eq)]
 pub enum StlFault {
     /// 10: the file ends within the GSI block or within a TTI block.
     Truncated,
     /// 11: DFC is neither `STL25.01` nor `STL30.01`.
     Format,
-    /// 12: DFC is `STL30.01`: 30 frames a second are left out (own).
+    /// 12: DFC is `STL30.01`; 30 frames per second are not supported (own).
     Rate,
-    /// 13: DSC is not `1` or `2`, Teletext of level 1 or 2; nor, where open subtitles are taken,
-    /// `0` or a space.
+    /// 13: DSC is not `1` or `2`, Teletext of level 1 or 2. If open subtitles are accepted, `0` and
+    /// a space are allowed too.
     Display,
     /// 14: CCT is not `00`, the Latin table.
     Alphabet,
-    /// 15: EBN is F0 to FD, which are reserved.
+    /// 15: EBN is F0 to FD, which is reserved.
     Extension,
-    /// 16: CS of a subtitle's first block is not 0: cumulative sets are left out (own).
+    /// 16: CS of a subtitle's first block is not 0; cumulative sets are not supported (own).
     Cumulative,
     /// 17: CF is neither 0, subtitle, nor 1, comment.
     CommentFlag,
-    /// 18: JC of a subtitle's first block is over 3.
+    /// 18: JC of a subtitle's first block is greater than 3.
     Justify,
     /// 19: VP of a subtitle's first block is not 1 to 23.
     Row,
-    /// 20: TCI or TCO of a subtitle's first block is no time code at 25 frames a second.
+    /// 20: TCI or TCO of a subtitle's first block is no time code at 25 frames per second.
     Time,
     /// 21: TCI of a subtitle's first block is not before its TCO.
     EmptyTime,
-    /// 22: SGN or SN of a further block is not that of the subtitle's first block.
+    /// 22: SGN or SN of a further block differs from that of the subtitle's first block.
     Sequence,
     /// 23: a subtitle has a tenth block (own).
     TooLong,
-    /// 24: the file ends within a subtitle, whose last block has EBN FF.
+    /// 24: the file ends within a subtitle, before a block with EBN FF.
     Unfinished,
-    /// 25: there is a byte after 99,999 TTI blocks.
+    /// 25: there are bytes after 99,999 TTI blocks.
     TooManyBlocks,
     /// 26: the source failed.
     Read,
-    /// 27: the reader met a fault before.
+    /// 27: a fault occurred before.
     Ended,
 }
 
 impl StlFault {
     ghost use Rattle.stl_file.specs.Fault.{is_of_first, stl_code};
 
-    /// The number and the name by which the fault is told (own).
+    /// Returns the number and the name of the fault in reports (own).
     pub fn code(self) -> FaultCode
         ensures { result ≡ stl_code self }
     {
@@ -77,7 +77,8 @@ impl StlFault {
         }
     }
 
-    // Whether it is what the first block of a subtitle says of it, and not where its blocks end.
+    // Returns whether the fault is in the fields of a subtitle's first block, so that it is still
+    // known where its blocks end.
     pub(crate) fn is_of_first(&self) -> bool
         ensures { result ≡ is_of_first self.now }
     {
@@ -100,24 +101,24 @@ impl From<Failed> for StlFault {
     }
 }
 
-/// Why a file's normal form was not written whole.
+/// The error of writing a normal form.
 #[derive(Clone, Copy, Debug, PartialEq, Eq)]
 pub enum NormalFault {
-    /// 10 to 25: the file was refused, and nothing was written.
+    /// 10 to 25: the file was rejected, and nothing was written.
     Refused {
-        /// What is wrong.
+        /// The fault.
         fault: StlFault,
         /// The TTI block, counted from 1; 0 is the GSI block.
         block: u32,
     },
-    /// 29: the sink failed, and a prefix was written.
+    /// 29: the sink failed; a prefix was written.
     Write,
 }
 
 impl NormalFault {
     ghost use Rattle.stl_file.specs.Fault.{normal_code};
 
-    /// The number and the name by which the fault is told (own).
+    /// Returns the number and the name of the fault in reports (own).
     pub fn code(self) -> FaultCode
         ensures { result ≡ normal_code self }
     {

@@ -1,4 +1,4 @@
-//! GSI blocks (EBU Tech 3264), kept as the bytes that were read.
+//! GSI blocks (EBU Tech 3264), stored as the bytes that were read.
 
 ghost use Rattle.std.specs.Prelude.{◌≡◌, ◌+◌, ◌<◌, ◌≤◌, IfErr, IfOk, length, true};
 ghost use Rattle.stl_file.specs.Fault.{is_format};
@@ -11,10 +11,10 @@ ghost use Rattle.stl_file.specs.GsiFields.{tet, tn, tnb, tnd, tng, tns, tpt, uda
 use crate::fault::StlFault;
 use std::marker::Model;
 
-/// A GSI block of any bytes: what a file says of itself. Contracts see it as the list of its 1024
-/// bytes.
+/// A GSI block with arbitrary bytes: general information on the file. Its model is the list of its
+/// 1024 bytes.
 ///
-/// The readers give a field's bytes as they stand in the block.
+/// The methods return a field's bytes unchanged.
 #[derive(Clone, Copy)]
 pub struct Gsi {
     bytes: [u8; 1024],
@@ -32,16 +32,16 @@ impl Model for Gsi {
     ghost inverse = { λ b. record { bytes = b } };
 }
 
-/// DFC of 25 frames a second.
+/// DFC for 25 frames per second.
 const STL_25: [u8; 8] = *b"STL25.01";
 
-/// DFC of 30 frames a second.
+/// DFC for 30 frames per second.
 const STL_30: [u8; 8] = *b"STL30.01";
 
-/// CCT of the Latin table.
+/// CCT for the Latin table.
 const LATIN: [u8; 2] = *b"00";
 
-/// The five decimal digits of a number, in ASCII, as TNB and TNS have them (EBU Tech 3264).
+/// Returns a number as five decimal digits in ASCII, as in TNB and TNS (EBU Tech 3264).
 pub fn five_digits_of(n: u32) -> [u8; 5]
     requires { n < 100000 }
     ensures { result ≡ five_digits n }
@@ -56,14 +56,14 @@ pub fn five_digits_of(n: u32) -> [u8; 5]
 }
 
 impl Gsi {
-    /// The block of these bytes, whatever they are.
+    /// Creates a block of any 1024 bytes.
     pub fn read(bytes: &[u8; 1024]) -> Gsi
         ensures { result ≡ bytes.now }
     {
         Gsi { bytes: *bytes }
     }
 
-    /// The block's bytes.
+    /// Returns the block's bytes.
     pub fn bytes(&self) -> &[u8; 1024]
         ensures value { result.now ≡ self.now }
         ensures size { length self.now ≡ 1024 }
@@ -72,7 +72,7 @@ impl Gsi {
     }
 
     /// Sets TNB and TNS, the numbers of TTI blocks and of subtitles, to five decimal digits each
-    /// with zeros in front, and keeps all other bytes.
+    /// with leading zeros. All other bytes are unchanged.
     #[tactic(auto, using(crate::proofs::GsiLemmas::counts_put))]
     pub fn set_counts(&mut self, tnb: u32, tns: u32)
         requires blocks { tnb < 100000 }
@@ -96,7 +96,7 @@ impl Gsi {
         self.bytes[238..248].copy_from_slice(&counts);
     }
 
-    // The block, where a file with it is taken, or its first fault.
+    // Returns the block if a file with it is accepted, or its first fault.
     #[tactic(auto, unfolding(crate::specs::Gsi::gsi_at))]
     pub(crate) fn checked(self, takes_open: bool) -> Result<Gsi, StlFault>
         ensures exact { gsi_at takes_open self ≡ result }
@@ -130,217 +130,217 @@ impl Gsi {
         front
     }
 
-    /// CPN, the code page number.
+    /// Returns CPN, the code page number.
     pub fn cpn(&self) -> &[u8]
         ensures { result.now ≡ cpn self.now }
     {
         self.field_at(0, 3)
     }
 
-    /// DFC, the disk format code: `STL25.01` in a file that is taken.
+    /// Returns DFC, the disk format code: `STL25.01` in a file that is accepted.
     pub fn dfc(&self) -> &[u8]
         ensures { result.now ≡ dfc self.now }
     {
         self.field_at(3, 8)
     }
 
-    /// DSC, the display standard code: `1` or `2` in a file for Teletext.
+    /// Returns DSC, the display standard code: `1` or `2` in a file for Teletext.
     pub fn dsc(&self) -> u8
         ensures { result ≡ dsc self.now }
     {
         self.bytes[11]
     }
 
-    /// CCT, the character code table: `00` in a file that is taken.
+    /// Returns CCT, the character code table: `00` in a file that is accepted.
     pub fn cct(&self) -> &[u8]
         ensures { result.now ≡ cct self.now }
     {
         self.field_at(12, 2)
     }
 
-    /// LC, the language code.
+    /// Returns LC, the language code.
     pub fn lc(&self) -> &[u8]
         ensures { result.now ≡ lc self.now }
     {
         self.field_at(14, 2)
     }
 
-    /// OPT, the original programme title.
+    /// Returns OPT, the original programme title.
     pub fn opt(&self) -> &[u8]
         ensures { result.now ≡ opt self.now }
     {
         self.field_at(16, 32)
     }
 
-    /// OET, the original episode title.
+    /// Returns OET, the original episode title.
     pub fn oet(&self) -> &[u8]
         ensures { result.now ≡ oet self.now }
     {
         self.field_at(48, 32)
     }
 
-    /// TPT, the translated programme title.
+    /// Returns TPT, the translated programme title.
     pub fn tpt(&self) -> &[u8]
         ensures { result.now ≡ tpt self.now }
     {
         self.field_at(80, 32)
     }
 
-    /// TET, the translated episode title.
+    /// Returns TET, the translated episode title.
     pub fn tet(&self) -> &[u8]
         ensures { result.now ≡ tet self.now }
     {
         self.field_at(112, 32)
     }
 
-    /// TN, the translator's name.
+    /// Returns TN, the translator's name.
     pub fn tn(&self) -> &[u8]
         ensures { result.now ≡ tn self.now }
     {
         self.field_at(144, 32)
     }
 
-    /// TCD, the translator's contact details.
+    /// Returns TCD, the translator's contact details.
     pub fn tcd(&self) -> &[u8]
         ensures { result.now ≡ tcd self.now }
     {
         self.field_at(176, 32)
     }
 
-    /// SLR, the subtitle list reference code.
+    /// Returns SLR, the subtitle list reference code.
     pub fn slr(&self) -> &[u8]
         ensures { result.now ≡ slr self.now }
     {
         self.field_at(208, 16)
     }
 
-    /// CD, the creation date, as YYMMDD.
+    /// Returns CD, the creation date, as YYMMDD.
     pub fn cd(&self) -> &[u8]
         ensures { result.now ≡ cd self.now }
     {
         self.field_at(224, 6)
     }
 
-    /// RD, the revision date, as YYMMDD.
+    /// Returns RD, the revision date, as YYMMDD.
     pub fn rd(&self) -> &[u8]
         ensures { result.now ≡ rd self.now }
     {
         self.field_at(230, 6)
     }
 
-    /// RN, the revision number.
+    /// Returns RN, the revision number.
     pub fn rn(&self) -> &[u8]
         ensures { result.now ≡ rn self.now }
     {
         self.field_at(236, 2)
     }
 
-    /// TNB, the number of TTI blocks, not compared with the file.
+    /// Returns TNB, the number of TTI blocks. It is not compared with the file.
     pub fn tnb(&self) -> &[u8]
         ensures { result.now ≡ tnb self.now }
     {
         self.field_at(238, 5)
     }
 
-    /// TNS, the number of subtitles, not compared with the file.
+    /// Returns TNS, the number of subtitles. It is not compared with the file.
     pub fn tns(&self) -> &[u8]
         ensures { result.now ≡ tns self.now }
     {
         self.field_at(243, 5)
     }
 
-    /// TNG, the number of subtitle groups.
+    /// Returns TNG, the number of subtitle groups.
     pub fn tng(&self) -> &[u8]
         ensures { result.now ≡ tng self.now }
     {
         self.field_at(248, 3)
     }
 
-    /// MNC, the most characters in a row.
+    /// Returns MNC, the maximum number of characters in a row.
     pub fn mnc(&self) -> &[u8]
         ensures { result.now ≡ mnc self.now }
     {
         self.field_at(251, 2)
     }
 
-    /// MNR, the most rows of a display.
+    /// Returns MNR, the maximum number of rows.
     pub fn mnr(&self) -> &[u8]
         ensures { result.now ≡ mnr self.now }
     {
         self.field_at(253, 2)
     }
 
-    /// TCS, the time code status.
+    /// Returns TCS, the time code status.
     pub fn tcs(&self) -> u8
         ensures { result ≡ tcs self.now }
     {
         self.bytes[255]
     }
 
-    /// TCP, the time code of the programme's start.
+    /// Returns TCP, the time code of the programme's start.
     pub fn tcp(&self) -> &[u8]
         ensures { result.now ≡ tcp self.now }
     {
         self.field_at(256, 8)
     }
 
-    /// TCF, the time code of the first in-cue.
+    /// Returns TCF, the time code of the first in-cue.
     pub fn tcf(&self) -> &[u8]
         ensures { result.now ≡ tcf self.now }
     {
         self.field_at(264, 8)
     }
 
-    /// TND, the number of disks.
+    /// Returns TND, the number of disks.
     pub fn tnd(&self) -> u8
         ensures { result ≡ tnd self.now }
     {
         self.bytes[272]
     }
 
-    /// DSN, the disk sequence number.
+    /// Returns DSN, the disk sequence number.
     pub fn dsn(&self) -> u8
         ensures { result ≡ dsn self.now }
     {
         self.bytes[273]
     }
 
-    /// CO, the country of origin.
+    /// Returns CO, the country of origin.
     pub fn co(&self) -> &[u8]
         ensures { result.now ≡ co self.now }
     {
         self.field_at(274, 3)
     }
 
-    /// PUB, the publisher.
+    /// Returns PUB, the publisher.
     pub fn publisher(&self) -> &[u8]
         ensures { result.now ≡ publisher self.now }
     {
         self.field_at(277, 32)
     }
 
-    /// EN, the editor's name.
+    /// Returns EN, the editor's name.
     pub fn en(&self) -> &[u8]
         ensures { result.now ≡ en self.now }
     {
         self.field_at(309, 32)
     }
 
-    /// ECD, the editor's contact details.
+    /// Returns ECD, the editor's contact details.
     pub fn ecd(&self) -> &[u8]
         ensures { result.now ≡ ecd self.now }
     {
         self.field_at(341, 32)
     }
 
-    /// The spare bytes.
+    /// Returns the spare bytes.
     pub fn spare(&self) -> &[u8]
         ensures { result.now ≡ spare self.now }
     {
         self.field_at(373, 75)
     }
 
-    /// UDA, the user-defined area.
+    /// Returns UDA, the user-defined area.
     pub fn uda(&self) -> &[u8]
         ensures { result.now ≡ uda self.now }
     {

@@ -1,4 +1,4 @@
-//! What holds of files and their normal forms.
+//! Laws of files and their normal forms.
 
 ghost use Rattle.std.specs.Prelude.{◌≡◌, ◌↔◌, ℕ, List, Ok, take};
 ghost use Rattle.stl_file.specs.File.{IsFile, IsFileFor};
@@ -9,10 +9,11 @@ ghost use Rattle.stl_file.specs.Subtitle.{SubtitleValue};
 ghost use Rattle.stl_file.specs.TakenOut.{LawOfWholeDay, LawOfScope};
 ghost use Rattle.stl_file.specs.declared.scope.Scope.{Scope};
 
-/// Bytes are a file of which these subtitles are taken exactly where reading gives these subtitles
+/// Bytes are a file from which these subtitles are read exactly if reading returns these subtitles
 /// and no fault.
 ///
-/// So what a reader gives is what a file is, and nothing of how it reads has to be known.
+/// So what a reader returns is determined by the definition of a file, independent of the way of
+/// reading.
 pub fn law_of_files()
     ensures { (scope : Scope)
         → (s g : List ℕ)
@@ -21,9 +22,9 @@ pub fn law_of_files()
         ↔ ((g ≡ take 1024 s) × (subtitles_of (stopped (findings_for scope s)) ≡ Ok ts)) }
 {}
 
-/// What is read of a file within a scope is what is read of all the day of the file from which the
-/// blocks of the subtitles outside were taken out, block numbers aside; and nothing is outside the
-/// day.
+/// Reading a file with a scope gives the same as reading, for the whole day, the file without the
+/// blocks of subtitles outside the scope, apart from block numbers. No subtitle is outside the
+/// whole day.
 pub fn law_of_scope()
     ensures part { LawOfScope }
     ensures day { LawOfWholeDay }
@@ -38,7 +39,7 @@ pub fn law_of_one_reading()
         → (g ≡ h) × (ts ≡ us) }
 {}
 
-/// The normal form of a file is a file with the same subtitles, whose GSI block is the same but for
+/// The normal form of a file is a file with the same subtitles, and its GSI block differs only in
 /// TNB and TNS.
 pub fn law_of_normal_form()
     ensures { (s g : List ℕ)
@@ -47,7 +48,7 @@ pub fn law_of_normal_form()
         → IsFile (normal_form g ts) (counted_gsi g ts) ts }
 {}
 
-/// The normal form of a normal form is itself.
+/// The normal form of a normal form is the same.
 pub fn law_of_normal_form_again()
     ensures { (s g h : List ℕ)
         → (ts us : List SubtitleValue)

@@ -1,6 +1,6 @@
-//! EBU Tech 3264 subtitle files: a GSI block and TTI blocks in, subtitles out, and back.
+//! Reads and writes EBU Tech 3264 subtitle files: a GSI block and TTI blocks.
 //!
-//! A file is read block by block from any `sub_io::Source` and refused at its first fault:
+//! A file is read block by block from any `sub_io::Source`, and rejected at its first fault:
 //!
 //! ```text
 //! let mut reader = StlReader::open(&mut source)?;
@@ -9,8 +9,8 @@
 //! }
 //! ```
 //!
-//! The crate stands on `sub_io` alone. `stl_rows` draws the subtitles as Teletext rows; the other
-//! crates use the records and what a file is, `IsFile` in `specs/File.antt`.
+//! The crate builds only on `sub_io`. `stl_rows` draws the subtitles as Teletext rows; the other
+//! crates use the subtitles and the definition of a file, `IsFile` in `specs/File.antt`.
 #![tactic(auto)]
 
 mod counts;

@@ -1,4 +1,4 @@
-//! The normal form of a subtitle file: its subtitles in the fewest blocks, and the counts of them.
+//! The normal form of a subtitle file: its subtitles in the fewest blocks, with the correct counts.
 
 ghost use Rattle.std.specs.Prelude.{◌≡◌, ◌≢◌, ◌+◌, ◌<◌, ◌≤◌, ◌++◌, length, true};
 ghost use Rattle.std.specs.Prelude.{IfErr, IfOk, Ok, is_ok};
@@ -20,16 +20,16 @@ use crate::subtitle::Subtitle;
 use crate::writer::write_subtitle;
 use sub_io::{Failed, MemSource, Sink, put_all};
 
-/// Writes the normal form of a subtitle file, and answers how many subtitles it has.
+/// Writes the normal form of a subtitle file, and returns the number of its subtitles.
 ///
 /// The normal form is the GSI block with TNB and TNS set to the numbers of blocks and subtitles
-/// that follow, then each subtitle as `write_subtitle` writes it: comments and user data are
+/// that follow, then each subtitle in the form of `write_subtitle`. Comments and user data are
 /// dropped. The whole file is read first.
 ///
 /// # Errors
 ///
-/// `Refused` with the file's first fault and its block: nothing was written. `Write` where the sink
-/// failed: a prefix of the normal form was written.
+/// Returns `Refused` with the file's first fault and its block if the file is rejected; nothing was
+/// written. Returns `Write` if the sink fails; a prefix of the normal form was written.
 pub fn normal<K: Sink>(file: &[u8], sink: &mut K) -> Result<u32, NormalFault>
     requires { CanFail (K.failure_count sink.old) }
     ensures answer { NormalAnswers file.now (K.contents sink.old) (K.contents sink.new) result }
@@ -48,7 +48,7 @@ pub fn normal<K: Sink>(file: &[u8], sink: &mut K) -> Result<u32, NormalFault>
     Ok(counts.tns)
 }
 
-// Reads all blocks after the GSI block, and counts what the normal form will have.
+// Reads all blocks after the GSI block, and computes the counts of the normal form.
 #[tactic(auto, using(crate::proofs::NormalCountsLemmas::judging))]
 fn judge(gsi: Gsi, body: &[u8]) -> Result<Counts, NormalFault>
     ensures exact { normal_counts (subtitles_of (outcome_from 0 body.now)) ≡ result }
@@ -76,7 +76,7 @@ fn judge(gsi: Gsi, body: &[u8]) -> Result<Counts, NormalFault>
     }
 }
 
-// The next subtitle of those that are left, of no fewer blocks than it is written in.
+// Reads the next subtitle. It has at least as many blocks as its normal form.
 fn read_on(
     reader: &mut StlReader,
     source: &mut MemSource,
@@ -94,7 +94,7 @@ fn read_on(
     reader.next_into(source, subtitle)
 }
 
-// How many blocks a subtitle is written in.
+// Returns the number of blocks of a subtitle's normal form.
 #[tactic(auto, using(crate::proofs::BlocksOfLemmas::blocks_count))]
 fn count_of(subtitle: &Subtitle) -> u32
     ensures { result ≡ length (blocks_of subtitle.now) }
@@ -133,7 +133,7 @@ fn put_subtitles<K: Sink>(gsi: Gsi, body: &[u8], sink: &mut K) -> Result<(), Fai
                 write_subtitle(&subtitle, sink)?;
             }
             Ok(false) => return Ok(()),
-            // The first reading has refused no block.
+            // The first pass has rejected no block.
             Err(_) => unreachable!(),
         }
     }

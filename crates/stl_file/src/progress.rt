@@ -1,12 +1,12 @@
-//! How far a reader has come.
+//! The progress of a reader.
 
-/// How far a reader of a subtitle file has come.
+/// The progress of a reader of subtitle files.
 #[derive(Clone, Copy, Debug, PartialEq, Eq)]
 pub enum Progress {
-    /// The next block begins a subtitle, or is passed over, or there is none.
+    /// The next block begins a subtitle or is skipped, or there is none.
     Reading,
-    /// The file has ended: each call answers `None`.
+    /// The file has ended: each call returns `None`.
     AtEnd,
-    /// There was a fault: each call answers `Ended`.
+    /// There was a fault: each call returns `Ended`.
     Broken,
 }

@@ -1,4 +1,4 @@
-//! Reading a subtitle file from a source, one subtitle after the other (EBU Tech 3264).
+//! Reads a subtitle file from a source, one subtitle at a time (EBU Tech 3264).
 
 ghost use Rattle.std.specs.Prelude.{◌≡◌, ◌≢◌, ◌↔◌, ◌+◌, ◌-◌, ◌<◌, ◌≤◌, drop, ℕ};
 ghost use Rattle.std.specs.Prelude.{List, length};
@@ -29,11 +29,10 @@ use crate::tti::Tti;
 use std::marker::Model;
 use sub_io::{Source, fill};
 
-/// A reader of a subtitle file. It keeps no source: each call takes the one that the file comes
-/// from.
+/// A reader of a subtitle file. It does not own the source: each call takes the source of the file.
 ///
-/// Contracts see it as its GSI block, the last TTI block that was read or begun, and how far it has
-/// come.
+/// Its model has the GSI block, the number of the last TTI block that was read or begun, and the
+/// progress.
 #[derive(Drop)]
 pub struct StlReader {
     gsi: Gsi,
@@ -54,28 +53,28 @@ impl Model for StlReader {
 impl StlReader {
     ghost use Rattle.stl_file.specs.declared.progress.Progress.TheVariants.{AtEnd, Broken, Reading};
 
-    /// Reads a file's GSI block and takes nothing after it.
+    /// Reads the GSI block of a file, and nothing after it.
     ///
     /// # Errors
     ///
-    /// In this order: `Read` where the source failed, `Truncated` (fewer than 1024 bytes),
-    /// `Format`, `Rate`, `Display`, `Alphabet`. All are told of block 0.
+    /// Checks in this order: `Read` if the source fails, `Truncated` (fewer than 1024 bytes),
+    /// `Format`, `Rate`, `Display`, `Alphabet`. All are reported for block 0.
     pub fn open<S: Source>(source: &mut S) -> Result<StlReader, StlFault>
         requires { CanFail (S.failure_count source.old) }
-        // Where the source tells its bytes and does not fail, they decide the answer.
+        // If the source's bytes are known and it does not fail, they determine the result.
         ensures exact { IfKnown (S.remaining source.old) (λ bytes.
             failed is_file_read result ≡ false → opened_at bytes ≡ result) }
-        // The GSI block alone is taken.
+        // Only the GSI block is consumed.
         ensures taken { IfOk result (λ reader. IsGsi reader.gsi
             × Consumes (S.remaining source.old) (S.remaining source.new) reader.gsi) }
         ensures left { IfKnown (S.remaining source.old) (λ bytes.
             IfOk result (λ reader. S.remaining source.new ≡ Some (drop 1024 bytes))) }
         ensures start { IfOk result (λ reader.
             (reader.block ≡ 0) × (reader.progress ≡ Reading)) }
-        // No file begins with the bytes that were refused.
+        // No file begins with the rejected bytes.
         ensures refused { IfErr result (λ fault. is_format fault ≡ true →
             RefusesOpening (S.remaining source.old) (S.remaining source.new) fault) }
-        // A source that failed failed within the GSI block.
+        // A failing source failed within the GSI block.
         ensures failed { failed is_file_read result ≡ true →
             (bytes : List ℕ) × (length bytes < 1024)
             × Consumes (S.remaining source.old) (S.remaining source.new) bytes }
@@ -89,7 +88,7 @@ impl StlReader {
         }
     }
 
-    // A reader after this GSI block.
+    // Creates a reader after this GSI block.
     pub(crate) fn behind(gsi: Gsi) -> StlReader
         ensures { result ≡ record { gsi = gsi; block = 0; progress = Reading } }
     {
@@ -100,17 +99,18 @@ impl StlReader {
         }
     }
 
-    /// The file's GSI block.
+    /// Returns the file's GSI block.
     pub fn gsi(&self) -> Gsi
         ensures { result ≡ self.now.gsi }
     {
         self.gsi
     }
 
-    /// The last TTI block that was read or begun, counted from 1; 0 before the first.
+    /// Returns the number of the last TTI block that was read or begun, counted from 1; 0 before
+    /// the first.
     ///
-    /// After `Unfinished` it is the last whole block, after `Read` the block of the byte that was
-    /// asked for.
+    /// After `Unfinished` it is the last complete block, after `Read` the block of the byte that
+    /// could not be read.
     pub fn block(&self) -> u32
         ensures value { result ≡ self.now.block }
         ensures place { HasPlace self.now.progress self.now.block }
@@ -121,37 +121,37 @@ impl StlReader {
     /// Reads the next subtitle: all its blocks, with comments and user data before and between
     /// them.
     ///
-    /// `None` at the end of the file, and again at each later call.
+    /// Returns `None` at the end of the file and at each later call.
     ///
     /// # Errors
     ///
-    /// The first fault by block: `TooManyBlocks` (a byte after 99,999 blocks), `Truncated` (fewer
-    /// than 128 bytes), `Extension`, `CommentFlag`; of a block that is not passed over, within a
-    /// subtitle `Sequence`, `TooLong`, else `Cumulative`, `Justify`, `Row`, `Time`, `EmptyTime`.
-    /// `Unfinished` where the file ends within a subtitle, `Read` where the source failed. After
-    /// any of them each call answers `Ended` and takes nothing.
+    /// Returns the first fault by block: `TooManyBlocks` (bytes after 99,999 blocks), `Truncated`
+    /// (fewer than 128 bytes), `Extension`, `CommentFlag`. Unless the block is skipped: within a
+    /// subtitle `Sequence`, `TooLong`; otherwise `Cumulative`, `Justify`, `Row`, `Time`,
+    /// `EmptyTime`. Returns `Unfinished` if the file ends within a subtitle, and `Read` if the
+    /// source fails. After any error each call returns `Ended` and consumes nothing.
     pub fn next<S: Source>(&mut self, source: &mut S) -> Result<Option<Subtitle>, StlFault>
         requires { CanFail (S.failure_count source.old) }
-        // Where the source tells its bytes and does not fail, they decide the answer, its block and
-        // what is left.
+        // If the source's bytes are known and it does not fail, they determine the result, its
+        // block and the bytes left.
         ensures exact { IfKnown (S.remaining source.old) (λ bytes.
             failed is_file_read result ≡ false →
             GivesNextSubtitle self.old bytes self.new (S.remaining source.new) result) }
 
-        // A subtitle is that of the blocks that were taken, with the passed blocks before and
-        // inside them.
+        // A subtitle consists of the blocks consumed, with the skipped blocks before and inside
+        // them.
         ensures subtitle { self.old.progress ≡ Reading → IfOk result (λ found. IfSome found
             (TakesSubtitle self.old.block self.new.block
             (S.remaining source.old) (S.remaining source.new))) }
-        // `None` comes where passed blocks alone are left.
+        // `None` means that only skipped blocks were left.
         ensures none { self.old.progress ≡ Reading → IfOk result (λ found. IfNone found
             (TakesPassed self.old.block self.new.block
             (S.remaining source.old) (S.remaining source.new))) }
-        // A refusal is that of no file.
+        // No file has the rejected bytes.
         ensures refused { self.old.progress ≡ Reading → IfErr result (λ fault.
             is_format fault ≡ true → Refuses self.old.block self.new.block
             (S.remaining source.old) (S.remaining source.new) fault) }
-        // A source that failed failed at this block.
+        // A failing source failed at this block.
         ensures failed { self.old.progress ≡ Reading → failed is_file_read result ≡ true →
             FailsReading whole self.old.block self.new.block None
             (S.remaining source.old) (S.remaining source.new) }
@@ -159,7 +159,7 @@ impl StlReader {
         ensures progress { self.new.progress ≡ progress_after_answer self.old.progress result }
         ensures place { HasPlace self.new.progress self.new.block }
         ensures gsi { self.new.gsi ≡ self.old.gsi }
-        // After the end and after a fault nothing is taken, and the reader stays as it is.
+        // After the end and after a fault nothing is consumed, and the reader does not change.
         ensures at_end { self.old.progress ≡ AtEnd →
             (result ≡ Ok None) × (self.new ≡ self.old) × (source.new ≡ source.old) }
         ensures ended { (self.old.progress ≡ Broken) ↔ (result ≡ Err Ended) }
@@ -176,15 +176,15 @@ impl StlReader {
         }
     }
 
-    /// Reads the next subtitle into one that the caller keeps: `true` where `next` gives a
-    /// subtitle, `false` where it gives `None`.
+    /// Reads the next subtitle into `subtitle`: returns `true` if `next` would return a subtitle,
+    /// and `false` if it would return `None`.
     ///
-    /// The subtitle then is the one that `next` would give. Where it gives none, nothing is said of
-    /// what the subtitle holds.
+    /// `subtitle` is the one that `next` would return. If there is none, its contents are
+    /// unspecified.
     ///
     /// # Errors
     ///
-    /// Those of `next`.
+    /// Returns the errors of `next`.
     #[tactic(auto, using(crate::proofs::ReaderLemmas::led))]
     pub fn next_into<S: Source>(
         &mut self,
@@ -192,15 +192,15 @@ impl StlReader {
         subtitle: &mut Subtitle,
     ) -> Result<bool, StlFault>
         requires { CanFail (S.failure_count source.old) }
-        // Where the source tells its bytes and does not fail, they decide the answer, its block and
-        // what is left.
+        // If the source's bytes are known and it does not fail, they determine the result, its
+        // block and the bytes left.
         ensures exact { IfKnown (S.remaining source.old) (λ bytes.
             failed is_file_read result ≡ false →
             GivesNextSubtitle self.old bytes self.new (S.remaining source.new)
             (given_subtitle result subtitle.new)) }
 
-        // A subtitle is that of the blocks that were taken, and `false` comes where passed blocks
-        // alone are left. A refusal is that of no file; a source that failed failed at this block.
+        // A subtitle consists of the blocks consumed; `false` means that only skipped blocks were
+        // left. No file has the rejected bytes; a failing source failed at this block.
         ensures taken { self.old.progress ≡ Reading → TakesByAnswer self.old.block self.new.block
             (S.remaining source.old) (S.remaining source.new)
             (given_subtitle result subtitle.new) }
@@ -209,7 +209,7 @@ impl StlReader {
             (given_subtitle result subtitle.new) }
         ensures place { HasPlace self.new.progress self.new.block }
         ensures gsi { self.new.gsi ≡ self.old.gsi }
-        // After the end and after a fault nothing is taken, and the reader stays as it is.
+        // After the end and after a fault nothing is consumed, and the reader does not change.
         ensures at_end { self.old.progress ≡ AtEnd →
             (result ≡ Ok false) × (self.new ≡ self.old) × (source.new ≡ source.old) }
         ensures ended { (self.old.progress ≡ Broken) ↔ (result ≡ Err Ended) }
@@ -223,7 +223,7 @@ impl StlReader {
             Progress::AtEnd => return Ok(false),
             Progress::Broken => return Err(StlFault::Ended),
         };
-        // A subtitle that is refused is a fault as any other here: reading stops.
+        // This reader treats a rejected subtitle like any other fault: it stops.
         let mut refused = None;
         match read_blocks(Scope::whole(), &mut block, source, subtitle, &mut refused) {
             Ok(true) => {
@@ -244,7 +244,7 @@ impl StlReader {
     }
 }
 
-// Reads a file's GSI block and takes nothing after it.
+// Reads the GSI block of a file, and nothing after it.
 pub(crate) fn read_gsi<S: Source>(source: &mut S, scope: Scope) -> Result<Gsi, StlFault>
     requires { CanFail (S.failure_count source.old) }
     ensures exact { IfKnown (S.remaining source.old) (λ bytes.
@@ -268,10 +268,9 @@ pub(crate) fn read_gsi<S: Source>(source: &mut S, scope: Scope) -> Result<Gsi, S
     Gsi::read(&bytes).checked(scope.takes_open)
 }
 
-// Reads blocks after `block` of a file, up to the last of a subtitle that is not passed over, the
-// end or a fault. `refused` is the first block of the subtitle that these go on with, where that
-// was refused; after a fault of a subtitle's first block it is that one, unless it is the last
-// block too.
+// Reads blocks after `block`, up to the last one of a subtitle that is not skipped, the end or a
+// fault. On entry, `refused` is the first block of a rejected subtitle that continues here. After a
+// fault in a subtitle's first block it is that block, unless the block is also its last.
 pub(crate) fn read_blocks<S: Source>(
     scope: Scope,
     block: &mut u32,
@@ -326,8 +325,8 @@ pub(crate) fn read_blocks<S: Source>(
     }
 }
 
-// Makes the subtitle the one that goes on after a first block that was refused, where there is one;
-// answers what was read of its blocks.
+// Continues a subtitle after its rejected first block, if there is one. Returns how many of its
+// blocks were read.
 fn resume(subtitle: &mut Subtitle, refused: &Option<Tti>) -> BlocksRead
     ensures { begun_in subtitle.new result ≡ option_map passed_by refused.now }
 {
@@ -344,7 +343,7 @@ fn resume(subtitle: &mut Subtitle, refused: &Option<Tti>) -> BlocksRead
     }
 }
 
-// The block that a fault names where `block` blocks were read.
+// Returns the block to report for a fault after `block` blocks.
 pub(crate) fn block_of(block: u32, fault: &StlFault) -> u32
     requires { block ≤ most_blocks }
     ensures { block_after block fault.now ≡ result }

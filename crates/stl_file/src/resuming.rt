@@ -1,4 +1,4 @@
-//! Reading a subtitle file past subtitles that are refused.
+//! Reads a subtitle file, and continues after rejected subtitles.
 
 ghost use Rattle.std.specs.Prelude.{◌≡◌, ◌≢◌, ◌<◌, false, true, IfErr, IfOk, List, None, Some};
 ghost use Rattle.std.specs.Prelude.{drop, length, option_map, ℕ};
@@ -22,29 +22,29 @@ use crate::tti::Tti;
 use std::marker::Model;
 use sub_io::Source;
 
-/// What is found next in a subtitle file where reading goes on after subtitles that are refused.
+/// The next item of a subtitle file if reading continues after rejected subtitles.
 #[derive(Clone, Copy, Debug, PartialEq, Eq)]
 pub enum Found {
-    /// A subtitle: all its blocks were read.
+    /// A subtitle. All its blocks were read.
     Subtitle,
-    /// The first block of a subtitle that is refused: `Cumulative`, `Justify`, `Row`, `Time` or
-    /// `EmptyTime`. It is no record.
+    /// The first block of a rejected subtitle: `Cumulative`, `Justify`, `Row`, `Time` or
+    /// `EmptyTime`.
     Refused(StlFault),
     /// The end of the file.
     End,
 }
 
-/// A reader of what is taken of a subtitle file that goes on after a subtitle whose first block is
-/// refused: where the next one begins is known. It keeps no source.
+/// A reader of the subtitles in a scope that continues after a subtitle whose first block is
+/// rejected: it is known where the next one begins. It does not own the source.
 ///
-/// Contracts see it as its scope, the last TTI block that was read or begun, how far it has come,
-/// and the subtitle that was refused, where more of its blocks may follow.
+/// Its model has the scope, the number of the last TTI block that was read or begun, the progress,
+/// and the rejected subtitle, if more of its blocks may follow.
 #[derive(Drop)]
 pub struct ResumingReader {
     scope: Scope,
     block: u32,
     progress: Progress,
-    // The first block of a subtitle that was refused and goes on.
+    // The first block of a rejected subtitle that continues.
     refused: Option<Tti>,
 }
 
@@ -67,27 +67,27 @@ impl Model for ResumingReader {
 }
 
 impl ResumingReader {
-    /// Reads a file's GSI block and takes nothing after it, to read on what the scope takes.
+    /// Reads the GSI block of a file, and nothing after it, to read the subtitles in `scope`.
     ///
     /// # Errors
     ///
-    /// Those of `StlReader::open`; `Display` by what the scope takes.
+    /// Returns the errors of `StlReader::open`; `Display` depends on the scope.
     pub fn open<S: Source>(source: &mut S, scope: Scope) -> Result<ResumingReader, StlFault>
         requires { CanFail (S.failure_count source.old) }
-        // Where the source tells its bytes and does not fail, they decide the answer.
+        // If the source's bytes are known and it does not fail, they determine the result.
         ensures exact { IfKnown (S.remaining source.old) (λ bytes.
             failed is_file_read result ≡ false → begun_at scope bytes ≡ result) }
-        // The GSI block alone is taken.
+        // Only the GSI block is consumed.
         ensures taken { IfOk result (λ reader. (gsi : List ℕ) × IsGsiFor scope.takes_open gsi
             × Consumes (S.remaining source.old) (S.remaining source.new) gsi) }
         ensures left { IfKnown (S.remaining source.old) (λ bytes.
             IfOk result (λ reader. S.remaining source.new ≡ Some (drop 1024 bytes))) }
         ensures start { IfOk result (λ reader. reader
             ≡ record { scope = scope; block = 0; progress = Reading; refused = None }) }
-        // No file begins with the bytes that were refused.
+        // No file begins with the rejected bytes.
         ensures refused { IfErr result (λ fault. is_format fault ≡ true →
             RefusesOpeningFor scope (S.remaining source.old) (S.remaining source.new) fault) }
-        // A source that failed failed within the GSI block.
+        // A failing source failed within the GSI block.
         ensures failed { failed is_file_read result ≡ true →
             (bytes : List ℕ) × (length bytes < 1024)
             × Consumes (S.remaining source.old) (S.remaining source.new) bytes }
@@ -106,10 +106,11 @@ impl ResumingReader {
         }
     }
 
-    /// The last TTI block that was read or begun, counted from 1; 0 before the first.
+    /// Returns the number of the last TTI block that was read or begun, counted from 1; 0 before
+    /// the first.
     ///
-    /// After `Unfinished` it is the last whole block, after `Read` the block of the byte that was
-    /// asked for.
+    /// After `Unfinished` it is the last complete block, after `Read` the block of the byte that
+    /// could not be read.
     pub fn block(&self) -> u32
         ensures value { result ≡ self.now.block }
         ensures place { HasPlace self.now.progress self.now.block }
@@ -117,17 +118,17 @@ impl ResumingReader {
         self.block
     }
 
-    /// Finds what is next, and reads a subtitle into one that the caller keeps. It is called until
-    /// it answers `End` or a fault.
+    /// Finds the next item, and reads a subtitle into `subtitle`. It may be called until it returns
+    /// `End` or an error.
     ///
-    /// A subtitle is what `StlReader::next` would give. Where none is found, nothing is said of
-    /// what it holds. Comments, user data and subtitles that are outside are passed over, and so
-    /// are the other blocks of a subtitle that was refused.
+    /// A subtitle is the one that `StlReader::next` would return. If there is none, the contents of
+    /// `subtitle` are unspecified. Comments, user data and subtitles outside the scope are skipped,
+    /// and so are the other blocks of a rejected subtitle.
     ///
     /// # Errors
     ///
-    /// The first fault by block that ends reading: those of `StlReader::next` but for the five of
-    /// `Found::Refused`.
+    /// Returns the first fault by block that ends reading: those of `StlReader::next` except the
+    /// five of `Found::Refused`.
     pub fn next_into<S: Source>(
         &mut self,
         source: &mut S,
@@ -135,11 +136,11 @@ impl ResumingReader {
     ) -> Result<Found, StlFault>
         requires count { CanFail (S.failure_count source.old) }
         requires reading { self.old.progress ≡ Reading }
-        // The bytes that are taken decide the answer, its block and what is left.
+        // The bytes consumed determine the result, its block and the bytes left.
         ensures leads { failed is_file_read result ≡ false →
             LeadsOn self.old.scope self.old.block self.new.block self.old.refused self.new.refused
             (S.remaining source.old) (S.remaining source.new) subtitle.new result }
-        // A source that failed failed at this block.
+        // A failing source failed at this block.
         ensures failed { failed is_file_read result ≡ true →
             FailsReading self.old.scope self.old.block self.new.block self.old.refused
             (S.remaining source.old) (S.remaining source.new) }

@@ -1,4 +1,4 @@
-//! What of a subtitle file is taken.
+//! The scope: which files and subtitles are read.
 
 ghost use Rattle.std.specs.Prelude.{◌≡◌};
 ghost use Rattle.stl_file.specs.Scope.{begins_outside, whole};
@@ -6,25 +6,25 @@ ghost use Rattle.stl_file.specs.Scope.{begins_outside, whole};
 use crate::time_code::TimeCode;
 use crate::tti::Tti;
 
-/// What of a subtitle file is taken (own): for which displays it may be, and which of its subtitles
-/// are read.
+/// The accepted files, by their display, and the subtitles to read (own).
 ///
-/// A subtitle whose TCI is a time code outside the frames is passed over as a comment is: it is no
-/// record, and what its first block says is not looked at. Its blocks are counted, and have to be
-/// those of one subtitle as ever.
+/// A subtitle whose TCI is a time code outside the range is skipped like a comment, and the other
+/// fields of its first block are not checked. Its blocks are counted, and must still be those of
+/// one subtitle.
 #[derive(Clone, Copy, Debug, PartialEq, Eq)]
 pub struct Scope {
-    /// Open subtitles are taken too, and files that do not say for which display they are: DSC `0`
-    /// or a space, beside `1` and `2` for Teletext.
+    /// Also accepts open subtitles and files of an unspecified display: DSC `0` or a space, besides
+    /// `1` and `2` for Teletext.
     pub takes_open: bool,
     /// The first frame of the day at which a subtitle may start.
     pub from: u32,
-    /// The first frame after it at which none may start; 2,160,000 for the end of the day.
+    /// The end of the range: the first frame after `from` at which no subtitle may start; 2,160,000
+    /// for the end of the day.
     pub to: u32,
 }
 
 impl Scope {
-    /// All subtitles of a file for Teletext.
+    /// Returns the scope of all subtitles of a file for Teletext.
     pub fn whole() -> Scope
         ensures { result ≡ whole }
     {
@@ -35,7 +35,7 @@ impl Scope {
         }
     }
 
-    // Whether a subtitle with this first block is outside.
+    // Returns whether a subtitle with this first block is outside the range.
     #[tactic(auto, unfolding(crate::specs::Scope::begins_outside))]
     pub(crate) fn is_outside(self, first: &Tti) -> bool
         ensures { result ≡ begins_outside self first.now }

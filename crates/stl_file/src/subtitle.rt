@@ -17,7 +17,7 @@ use crate::tti::Tti;
 use arrayvec::ArrayVec;
 use std::marker::Model;
 
-/// A subtitle: what one record of a file says, and never more than that.
+/// A subtitle with the fields of its blocks.
 ///
 /// Its time code in is before its time code out, its row is 1 to 23, its justification code 0 to 3,
 /// and its text has at most 1008 bytes and no unused space (8F).
@@ -60,10 +60,11 @@ impl Model for Subtitle {
 }
 
 impl Subtitle {
-    /// The subtitle of these fields.
+    /// Creates a subtitle from its fields.
     ///
-    /// `None` where the time code in is not before the time code out, the row is not 1 to 23, the
-    /// justification code is over 3, or the text has an unused space (8F) or more than 1008 bytes.
+    /// Returns `None` if the time code in is not before the time code out, the row is not 1 to 23,
+    /// the justification code is greater than 3, or the text has an unused space (8F) or more than
+    /// 1008 bytes.
     pub fn new(
         sgn: u8,
         sn: u16,
@@ -102,21 +103,21 @@ impl Subtitle {
         })
     }
 
-    /// SGN, the subtitle group number.
+    /// Returns SGN, the subtitle group number.
     pub fn sgn(&self) -> u8
         ensures { result ≡ self.now.sgn }
     {
         self.sgn
     }
 
-    /// SN, the subtitle number.
+    /// Returns SN, the subtitle number.
     pub fn sn(&self) -> u16
         ensures { result ≡ self.now.sn }
     {
         self.sn
     }
 
-    /// TCI, the time code of the first frame at which the subtitle is due.
+    /// Returns TCI, the time code of the first frame at which the subtitle is shown.
     pub fn tci(&self) -> TimeCode
         ensures value { result ≡ self.now.tci }
         ensures is { IsSubtitle self.now }
@@ -124,7 +125,8 @@ impl Subtitle {
         self.tci
     }
 
-    /// TCO, the time code of the first frame after it at which the subtitle is no longer due.
+    /// Returns TCO, the time code of the first frame after it at which the subtitle is no longer
+    /// shown.
     pub fn tco(&self) -> TimeCode
         ensures value { result ≡ self.now.tco }
         ensures is { IsSubtitle self.now }
@@ -132,7 +134,7 @@ impl Subtitle {
         self.tco
     }
 
-    /// VP, the vertical position: the row of the first line, 1 to 23.
+    /// Returns VP, the vertical position: the row of the first line, 1 to 23.
     pub fn vp(&self) -> u8
         ensures value { result ≡ self.now.vp }
         ensures is { IsSubtitle self.now }
@@ -140,7 +142,7 @@ impl Subtitle {
         self.vp
     }
 
-    /// JC, the justification code: 0 unchanged, 1 left, 2 centred, 3 right.
+    /// Returns JC, the justification code: 0 unchanged, 1 left, 2 centred, 3 right.
     pub fn jc(&self) -> u8
         ensures value { result ≡ self.now.jc }
         ensures is { IsSubtitle self.now }
@@ -148,7 +150,7 @@ impl Subtitle {
         self.jc
     }
 
-    /// The text of all its blocks, in the file's code: at most 1008 bytes.
+    /// Returns the text of all blocks in the file's code, at most 1008 bytes.
     pub fn text(&self) -> &[u8]
         ensures value { result.now ≡ self.now.text }
         ensures is { IsSubtitle self.now }
@@ -156,7 +158,8 @@ impl Subtitle {
         self.text.as_slice()
     }
 
-    /// A subtitle without text, in row 1 of the day's first frame: one to read others into (own).
+    /// Creates a subtitle without text, in row 1 of the day's first frame, to read others into
+    /// (own).
     pub fn empty() -> Subtitle
         ensures { result ≡ empty_subtitle }
     {
@@ -171,7 +174,7 @@ impl Subtitle {
         }
     }
 
-    // Becomes the subtitle that a first block begins, with the text of that block.
+    // Becomes the subtitle that starts with this block, with the block's text.
     #[tactic(auto, unfolding(crate::specs::Reading::first_at))]
     pub(crate) fn begin(&mut self, block: &Tti) -> Result<(), StlFault>
         ensures ok { OnOk result (first_at block.now ≡ Ok self.new) }
@@ -206,7 +209,7 @@ impl Subtitle {
         Ok(())
     }
 
-    // Becomes the subtitle that a first block begins which is passed over.
+    // Becomes the skipped subtitle that starts with this block.
     pub(crate) fn pass(&mut self, block: &Tti)
         ensures { self.new ≡ record empty_subtitle { sgn = sgn block.now; sn = sn block.now } }
     {
@@ -215,7 +218,7 @@ impl Subtitle {
         self.sn = block.sn();
     }
 
-    // Adds the text of a further block.
+    // Appends the text of a further block.
     pub(crate) fn extend(&mut self, block: &Tti)
         requires { length self.old.text + 112 ≤ 1008 }
         ensures text { self.new ≡ record self.old { text = self.old.text ++ text_of block.now } }
@@ -224,7 +227,7 @@ impl Subtitle {
         push_text(&mut self.text, block.tf());
     }
 
-    // Whether a block has the SGN and SN of the subtitle.
+    // Returns whether a block has the subtitle's SGN and SN.
     pub(crate) fn is_of(&self, block: &Tti) -> bool
         ensures { result ≡ ((sgn block.now == self.now.sgn) && (sn block.now == self.now.sn)) }
     {
@@ -232,7 +235,7 @@ impl Subtitle {
     }
 }
 
-// The time code of the four bytes of TCI or TCO.
+// Returns the time code of the four bytes of TCI or TCO.
 fn time_of(bytes: [u8; 4]) -> Result<TimeCode, StlFault>
     ensures is_one { is_time bytes ≡ is_ok result }
     ensures value { IfOk result (λ time. frame_in bytes ≡ time) }
@@ -241,7 +244,7 @@ fn time_of(bytes: [u8; 4]) -> Result<TimeCode, StlFault>
     TimeCode::of_bytes(bytes).ok_or(StlFault::Time)
 }
 
-// Whether a text has no unused space.
+// Returns whether a text has no unused space.
 fn is_text(text: &[u8]) -> bool
     ensures { result ≡ has_no_unused text.now }
 {
@@ -253,7 +256,7 @@ fn is_text(text: &[u8]) -> bool
     true
 }
 
-// Adds the bytes of a text field before the first unused space.
+// Appends the bytes of a text field before the first unused space.
 #[tactic(auto, using(crate::proofs::SubtitleLemmas::cleaned))]
 fn push_text(text: &mut ArrayVec<u8, 1008>, field: &[u8])
     requires { length text.old.items + length field.now ≤ 1008 }
@@ -265,7 +268,7 @@ fn push_text(text: &mut ArrayVec<u8, 1008>, field: &[u8])
     push_all(text, used);
 }
 
-// How many bytes of a text field stand before the first unused space.
+// Returns how many bytes of a text field precede the first unused space.
 #[tactic(auto, using(crate::proofs::SubtitleLemmas::used))]
 fn used_of(field: &[u8]) -> usize
     ensures within { result ≤ length field.now }
@@ -279,7 +282,7 @@ fn used_of(field: &[u8]) -> usize
     field.len()
 }
 
-// Adds bytes to a text.
+// Appends bytes to a text.
 fn push_all(text: &mut ArrayVec<u8, 1008>, bytes: &[u8])
     requires { length text.old.items + length bytes.now ≤ 1008 }
     ensures { text.new.items ≡ text.old.items ++ bytes.now }

@@ -1,4 +1,4 @@
-//! The blocks of one subtitle: what each next block of a file brings.
+//! The blocks of one subtitle: the effect of each block of a file.
 
 ghost use Rattle.std.specs.Prelude.{◌≡◌, IfErr, OnOk, None, Some, true};
 ghost use Rattle.stl_file.specs.Fault.{is_of_block};
@@ -9,24 +9,24 @@ use crate::scope::Scope;
 use crate::subtitle::Subtitle;
 use crate::tti::Tti;
 
-/// What was read of the blocks of a subtitle.
+/// The state of reading the blocks of a subtitle.
 #[derive(Clone, Copy)]
 pub(crate) struct BlocksRead {
-    // How many; before the first block 0, and what the subtitle holds counts for nothing.
+    // The number of blocks. If it is 0, the contents of the subtitle are meaningless.
     pub(crate) count: u8,
-    // The subtitle is passed over, since it is outside or was refused.
+    // The subtitle is skipped, since it is outside the scope or was rejected.
     pub(crate) is_passed: bool,
 }
 
-/// What the next block of a file brings: `true` where it is the last of a subtitle that is not
-/// passed over.
+/// Takes the next block of a file. Returns `true` if it is the last one of a subtitle that is not
+/// skipped.
 ///
-/// The subtitle is read in place, since one is a kilobyte to be moved.
+/// The subtitle is modified in place, to avoid moving a kilobyte.
 ///
 /// # Errors
 ///
-/// `Extension`, `CommentFlag`; then of a block that is not passed over, within a subtitle
-/// `Sequence`, `TooLong`, else, where it is not outside, `Cumulative`, `Justify`, `Row`, `Time`,
+/// Returns `Extension`, `CommentFlag`. Unless the block is skipped: within a subtitle `Sequence`,
+/// `TooLong`; otherwise, if it is not outside the scope, `Cumulative`, `Justify`, `Row`, `Time`,
 /// `EmptyTime`.
 #[tactic(auto, unfolding(crate::specs::Reading::step_at))]
 pub(crate) fn take_block(
@@ -58,7 +58,7 @@ pub(crate) fn take_block(
     take_kept(scope, subtitle, read, block)
 }
 
-// A block that is not passed over.
+// Takes a block that is not skipped.
 fn take_kept(
     scope: Scope,
     subtitle: &mut Subtitle,
@@ -78,7 +78,7 @@ fn take_kept(
     }
 }
 
-// The first block of a subtitle.
+// Takes the first block of a subtitle.
 #[tactic(auto, unfolding(crate::specs::Reading::kept_at))]
 fn take_first(
     scope: Scope,
@@ -103,7 +103,7 @@ fn take_first(
     Ok(is_last)
 }
 
-// A further block of a subtitle.
+// Takes a further block of a subtitle.
 #[tactic(auto, unfolding(crate::specs::Reading::kept_at))]
 fn take_further(
     scope: Scope,

@@ -1,4 +1,4 @@
-//! Time codes of a day at 25 frames a second (EBU Tech 3264, TTI block, fields TCI and TCO).
+//! Time codes of a day at 25 frames per second (EBU Tech 3264, TTI block, fields TCI and TCO).
 
 ghost use Rattle.std.specs.Prelude.{◌≡◌, ◌<◌, None, Some, if◌then◌else◌};
 ghost use Rattle.stl_file.specs.TimeCode.{day, frame_in, frame_of, is_time, is_time_code};
@@ -6,7 +6,7 @@ ghost use Rattle.stl_file.specs.TimeCode.{time_bytes};
 
 use std::marker::Model;
 
-/// A time code of a day at 25 frames a second. Contracts see it as the frame of the day.
+/// A time code of a day at 25 frames per second. Its model is the frame of the day.
 #[derive(Clone, Copy, Debug, PartialEq, Eq, PartialOrd, Ord)]
 pub struct TimeCode {
     frame: u32,
@@ -26,9 +26,9 @@ impl Model for TimeCode {
 }
 
 impl TimeCode {
-    /// The time code of these hours, minutes, seconds and frames.
+    /// Creates a time code from hours, minutes, seconds and frames.
     ///
-    /// `None` where the hours are over 23, the minutes or seconds over 59 or the frames over 24.
+    /// Returns `None` if the hours exceed 23, the minutes or seconds 59, or the frames 24.
     pub fn new(hours: u8, minutes: u8, seconds: u8, frames: u8) -> Option<TimeCode>
         ensures { (if is_time_code hours minutes seconds frames
             then Some (frame_of hours minutes seconds frames) else None) ≡ result }
@@ -42,7 +42,7 @@ impl TimeCode {
         }
     }
 
-    // The time code of the four bytes of TCI or TCO, if they are one.
+    // Returns the time code of the four bytes of TCI or TCO, if they are valid.
     #[tactic(auto, unfolding(crate::specs::TimeCode::is_time, crate::specs::TimeCode::frame_in))]
     pub(crate) fn of_bytes(bytes: [u8; 4]) -> Option<TimeCode>
         ensures { (if is_time bytes then Some (frame_in bytes) else None) ≡ result }
@@ -51,7 +51,7 @@ impl TimeCode {
         TimeCode::new(hours, minutes, seconds, frames)
     }
 
-    /// The frame of the day, 0 to 2,159,999.
+    /// Returns the frame of the day, 0 to 2,159,999.
     pub fn frame(self) -> u32
         ensures value { result ≡ self }
         ensures range { result < day }
@@ -59,7 +59,7 @@ impl TimeCode {
         self.frame
     }
 
-    /// The time code of a frame of the day.
+    /// Creates a time code from the frame of the day.
     pub fn of_frame(frame: u32) -> TimeCode
         requires { frame < day }
         ensures { result ≡ frame }
@@ -67,7 +67,7 @@ impl TimeCode {
         TimeCode { frame }
     }
 
-    /// Hours, minutes, seconds and frames, in binary as in a TTI block.
+    /// Returns hours, minutes, seconds and frames, in binary as in a TTI block.
     pub fn to_bytes(self) -> [u8; 4]
         ensures { result ≡ time_bytes self }
     {

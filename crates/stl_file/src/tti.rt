@@ -1,4 +1,4 @@
-//! TTI blocks (EBU Tech 3264), kept as the bytes that were read.
+//! TTI blocks (EBU Tech 3264), stored as the bytes that were read.
 
 ghost use Rattle.std.specs.Prelude.{◌≡◌, ◌+◌, ◌≤◌, length};
 ghost use Rattle.stl_file.specs.Gsi.{field};
@@ -7,7 +7,7 @@ ghost use Rattle.stl_file.specs.Tti.{cf, cs, ebn, jc, sgn, sn, tci, tco, tf, vp}
 use byteorder::{ByteOrder, LittleEndian};
 use std::marker::Model;
 
-/// A TTI block of any bytes. Contracts see it as the list of its 128 bytes.
+/// A TTI block with arbitrary bytes. Its model is the list of its 128 bytes.
 #[derive(Clone, Copy)]
 pub struct Tti {
     bytes: [u8; 128],
@@ -26,28 +26,28 @@ impl Model for Tti {
 }
 
 impl Tti {
-    /// The block of these bytes, whatever they are.
+    /// Creates a block of any 128 bytes.
     pub fn read(bytes: &[u8; 128]) -> Tti
         ensures { result ≡ bytes.now }
     {
         Tti { bytes: *bytes }
     }
 
-    /// The block's bytes.
+    /// Returns the block's bytes.
     pub fn write(&self) -> [u8; 128]
         ensures { result ≡ self.now }
     {
         self.bytes
     }
 
-    /// SGN, the subtitle group number.
+    /// Returns SGN, the subtitle group number.
     pub fn sgn(&self) -> u8
         ensures { result ≡ sgn self.now }
     {
         self.bytes[0]
     }
 
-    /// SN, the subtitle number, read low byte first (own).
+    /// Returns SN, the subtitle number, low byte first (own).
     pub fn sn(&self) -> u16
         ensures { result ≡ sn self.now }
     {
@@ -55,28 +55,29 @@ impl Tti {
         LittleEndian::read_u16(number)
     }
 
-    /// EBN, the extension block number: FF for the last block of a subtitle, FE for user data.
+    /// Returns EBN, the extension block number: FF for the last block of a subtitle, FE for user
+    /// data.
     pub fn ebn(&self) -> u8
         ensures { result ≡ ebn self.now }
     {
         self.bytes[3]
     }
 
-    /// CS, the cumulative status: 0 for a subtitle that stands alone.
+    /// Returns CS, the cumulative status: 0 for a subtitle that is not part of a cumulative set.
     pub fn cs(&self) -> u8
         ensures { result ≡ cs self.now }
     {
         self.bytes[4]
     }
 
-    /// TCI, the time code in: hours, minutes, seconds and frames.
+    /// Returns TCI, the time code in: hours, minutes, seconds and frames.
     pub fn tci(&self) -> [u8; 4]
         ensures { result ≡ tci self.now }
     {
         self.time_at(5)
     }
 
-    /// TCO, the time code out: hours, minutes, seconds and frames.
+    /// Returns TCO, the time code out: hours, minutes, seconds and frames.
     pub fn tco(&self) -> [u8; 4]
         ensures { result ≡ tco self.now }
     {
@@ -92,28 +93,28 @@ impl Tti {
         time
     }
 
-    /// VP, the vertical position: the row of the first line.
+    /// Returns VP, the vertical position: the row of the first line.
     pub fn vp(&self) -> u8
         ensures { result ≡ vp self.now }
     {
         self.bytes[13]
     }
 
-    /// JC, the justification code: 0 unchanged, 1 left, 2 centred, 3 right.
+    /// Returns JC, the justification code: 0 unchanged, 1 left, 2 centred, 3 right.
     pub fn jc(&self) -> u8
         ensures { result ≡ jc self.now }
     {
         self.bytes[14]
     }
 
-    /// CF, the comment flag: 0 subtitle, 1 comment.
+    /// Returns CF, the comment flag: 0 subtitle, 1 comment.
     pub fn cf(&self) -> u8
         ensures { result ≡ cf self.now }
     {
         self.bytes[15]
     }
 
-    /// TF, the text field: 112 bytes.
+    /// Returns TF, the text field: 112 bytes.
     pub fn tf(&self) -> &[u8]
         ensures value { result.now ≡ tf self.now }
         ensures size { length result.now ≡ 112 }

@@ -1,4 +1,4 @@
-//! Writing a subtitle's blocks (EBU Tech 3264, TTI block).
+//! Writes the blocks of a subtitle (EBU Tech 3264, TTI block).
 
 ghost use Rattle.std.specs.Prelude.{◌≡◌, ◌+◌, ◌/◌, ◌%◌, ◌<◌, ◌≤◌, [], ◌∷◌, ◌++◌, length, IfOk};
 ghost use Rattle.std.specs.List.{concat};
@@ -13,14 +13,15 @@ use sub_io::{Failed, Sink, put_all};
 /// A text field of unused space.
 const UNUSED: [u8; 112] = [0x8f; 112];
 
-/// Writes a subtitle in the fewest blocks that hold its text, at least one, and answers how many.
+/// Writes a subtitle in the fewest blocks that hold its text, at least one, and returns their
+/// number.
 ///
-/// EBN counts from 00 and is FF in the last block; CS and CF are 0 in each; text fields are filled
-/// up with unused space (8F).
+/// EBN counts from 00 and is FF in the last block; CS and CF are 0 in each; text fields are padded
+/// with unused space (8F).
 ///
 /// # Errors
 ///
-/// `Failed` where the sink failed: a prefix of the blocks was written.
+/// Returns `Failed` if the sink fails. A prefix of the blocks was written.
 pub fn write_subtitle<K: Sink>(subtitle: &Subtitle, sink: &mut K) -> Result<u8, Failed>
     requires { CanFail (K.failure_count sink.old) }
     ensures bytes { Writes (K.contents sink.old) (K.contents sink.new)
@@ -33,7 +34,7 @@ pub fn write_subtitle<K: Sink>(subtitle: &Subtitle, sink: &mut K) -> Result<u8, 
     Ok(count)
 }
 
-// The blocks of a subtitle, with how many they are.
+// Returns the blocks of a subtitle, and their number.
 #[tactic(auto, using(crate::proofs::BlocksOfLemmas::spelled))]
 fn spell(subtitle: &Subtitle) -> (ArrayVec<u8, 1152>, u8)
     ensures bytes { result.0.items ≡ concat (blocks_of subtitle.now) }
@@ -52,7 +53,7 @@ fn spell(subtitle: &Subtitle) -> (ArrayVec<u8, 1152>, u8)
     (out, ebn + 1)
 }
 
-// Adds one block of a subtitle.
+// Appends one block of a subtitle.
 #[tactic(auto, using(crate::proofs::BlocksOfLemmas::pushed))]
 fn push_block(out: &mut ArrayVec<u8, 1152>, subtitle: &Subtitle, ebn: u8, piece: &[u8])
     requires room { length out.old.items + 128 ≤ 1152 }
@@ -67,7 +68,7 @@ fn push_block(out: &mut ArrayVec<u8, 1152>, subtitle: &Subtitle, ebn: u8, piece:
     push_all(out, pad);
 }
 
-// The fields of a block in front of its text field.
+// Returns the fields of a block before its text field.
 fn head_of(subtitle: &Subtitle, ebn: u8) -> [u8; 16]
     ensures { result ≡ block_head subtitle.now ebn }
 {
@@ -94,7 +95,7 @@ fn head_of(subtitle: &Subtitle, ebn: u8) -> [u8; 16]
     ]
 }
 
-// SN, low byte first.
+// Returns SN, low byte first.
 fn sn_bytes(sn: u16) -> [u8; 2]
     ensures { result ≡ (sn % 256) ∷ (sn / 256) ∷ [] }
 {
@@ -103,7 +104,7 @@ fn sn_bytes(sn: u16) -> [u8; 2]
     bytes
 }
 
-// Adds bytes.
+// Appends bytes.
 fn push_all(out: &mut ArrayVec<u8, 1152>, bytes: &[u8])
     requires { length out.old.items + length bytes.now ≤ 1152 }
     ensures items { out.new.items ≡ out.old.items ++ bytes.now }
