@@ -1,4 +1,4 @@
--- The drawn page of a subtitle by a national option and a layout, or its first fault.
+-- The drawn page of a subtitle with a national option and a layout, or its first fault.
 use Rattle.std.specs.Prelude.{◌≡◌, ◌≤◌, ℕ, ◌+◌, Bool, false, not, ◌&&◌, List, [], ◌∷◌, ◌++◌, Result}
 use Rattle.std.specs.Prelude.{◌==◌}
 use Rattle.std.specs.Prelude.{nat_lt, nat_le, if◌then◌else◌, map, length}
@@ -22,7 +22,7 @@ use Rattle.stl_rows.specs.TextCode.{fault_of, lines_of_codes, refused_codes, tex
 
 -- ---- the lines of a text
 
--- A text in which each byte that `strip` names is read as 80, which gives no cell.
+-- A text in which each byte that `strip` names is replaced by 80, which has no cell.
 abbrev pub unstripped : LayoutItems → List ℕ → List ℕ
 unstripped items text = map (λ byte. if strips items byte then 0x80 else byte) text
 
@@ -37,15 +37,15 @@ lines_by national items text =
 
 -- ---- the rows of lines
 
--- A prepared line that takes rows: its number among all, how many rows it is below row 0 if none
--- were taken off, whether the line before it has double height and may hide it, and its cells.
+-- A prepared line that takes rows: its number among all lines; its row before the subtraction;
+-- whether the line before it has double height and may hide it; and its cells.
 pub record PlacedLine : Type 0 where
   pub number : ℕ
   pub depth : ℕ
   pub is_under_double : Bool
   pub cells : List ℕ
 
--- `double`: the rows from one line to the next.
+-- `double`: the distance of lines in rows.
 abbrev pub pitch : LayoutItems → ℕ
 pitch items = if items.double then 2 else 1
 
@@ -53,7 +53,7 @@ pitch items = if items.double then 2 else 1
 abbrev pub takes_none : LayoutItems → List ℕ → Bool
 takes_none items line = items.pack && not (has_cells line)
 
--- The lines that take rows, of those from a number on; the first that does has this depth.
+-- The lines that take rows, numbered from `number` on; the first of them has this depth.
 abbrev pub placed_from : LayoutItems → ℕ → ℕ → Bool → List (List ℕ) → List PlacedLine
 placed_from items number depth is_under_double [] = []
 placed_from items number depth is_under_double (line ∷ lines) =
@@ -66,7 +66,8 @@ placed_from items number depth is_under_double (line ∷ lines) =
       cells = line;
     } ∷ placed_from items (number + 1) (depth + pitch items) (is_double line) lines
 
--- The depth of the last line that is not empty, of those from a depth on; else another.
+-- The depth of the last line that is not empty, with the first line at this depth; `other` if all
+-- are empty.
 abbrev pub last_depth : LayoutItems → ℕ → ℕ → List (List ℕ) → ℕ
 last_depth items depth other [] = other
 last_depth items depth other (line ∷ lines) =
@@ -74,12 +75,12 @@ last_depth items depth other (line ∷ lines) =
     then last_depth items (depth + pitch items) depth lines
     else last_depth items (if items.pack then depth else depth + pitch items) other lines
 
--- `row`: the depth of line 0. A row is a depth less the rows that are taken off.
+-- `row`: the depth of line 0. The row of a line is its depth minus the rows that are subtracted.
 abbrev pub first_depth : LayoutItems → ℕ → ℕ
 first_depth items vp = vp + items.lower
 
--- `row` and `last`: the rows that are taken off. With `last` the last line that is not empty goes
--- to the row of line 0.
+-- `row` and `last`: the number of rows that are subtracted. With `last`, the last line that is not
+-- empty gets the row of line 0.
 abbrev pub rows_off : LayoutItems → List (List ℕ) → ℕ
 rows_off items lines = items.higher + (if items.last then last_depth items 0 0 lines else 0)
 
@@ -87,13 +88,13 @@ rows_off items lines = items.higher + (if items.last then last_depth items 0 0 l
 abbrev pub placed_lines : LayoutItems → ℕ → List (List ℕ) → List PlacedLine
 placed_lines items vp lines = placed_from items 0 (first_depth items vp) false lines
 
--- ---- what is refused
+-- ---- faults
 
--- The line is on a row of a page that a subtitle may use.
+-- The line is in a row that a subtitle may use.
 abbrev pub is_on_page : ℕ → PlacedLine → Bool
 is_on_page off line = nat_lt off line.depth && nat_le line.depth (off + last_row)
 
--- What is wrong with a line, in order.
+-- The faults of a line, in order.
 unfoldable pub placed_fault_kinds : LayoutItems → ℕ → PlacedLine → List RowFaultKind
 placed_fault_kinds items off line =
     when (nat_lt columns (length line.cells)) RowTooLong
@@ -101,19 +102,19 @@ placed_fault_kinds items off line =
     ++ when (is_double line.cells && (line.depth == off + last_row)) DoubleRow
     ++ when (has_cells line.cells && line.is_under_double && not items.double) Hidden
 
--- What is wrong with lines.
+-- The faults of lines.
 abbrev pub placed_faults : LayoutItems → ℕ → List PlacedLine → List RowFault
 placed_faults items off [] = []
 placed_faults items off (line ∷ lines) =
     map (fault_of line.number) (placed_fault_kinds items off line) ++ placed_faults items off lines
 
--- ---- what is shown
+-- ---- the page
 
--- A line that is not empty goes to a row.
+-- A line that is not empty is in this row.
 abbrev pub is_on_row : ℕ → ℕ → PlacedLine → Bool
 is_on_row off row line = has_cells line.cells && (line.depth == off + row)
 
--- The codes of a row: those of the line that goes to it, else spaces.
+-- The codes of a row: those of its line, or spaces.
 abbrev pub shown_row : LayoutItems → ℕ → ℕ → List PlacedLine → ℕ → List ℕ
 shown_row items jc off lines row =
     option_map_or (λ (line : PlacedLine). row_from (start_by items jc line.cells) line.cells)
@@ -123,7 +124,7 @@ shown_row items jc off lines row =
 unfoldable pub page_of_placed : LayoutItems → ℕ → ℕ → List PlacedLine → Rows
 page_of_placed items jc off lines = map (shown_row items jc off lines) (range_with_len 1 24)
 
--- The drawn page of a subtitle, or its first fault: of the text by byte, then line by line.
+-- The drawn page of a subtitle, or its first fault: first of the text by byte, then line by line.
 unfoldable pub drawn_by : National → LayoutItems → SubtitleValue → Result Rows RowFault
 drawn_by national items t =
     let codes : List (ℕ × TextCode) = codes_by national items t.text in
@@ -137,8 +138,8 @@ drawn_by national items t =
 unfoldable pub drawn : Drawing → SubtitleValue → Result Rows RowFault
 drawn drawing t = drawn_by drawing.national (items_of_layout drawing.layout) t
 
--- By the default layout a subtitle is drawn plainly: a layout with each item at its default changes
--- nothing.
+-- With the default layout a subtitle is drawn plainly: a layout with each item at its default
+-- changes nothing.
 abbrev pub LawOfDefaultLayout : Type 0
 LawOfDefaultLayout =
     (national : National) (t : SubtitleValue)

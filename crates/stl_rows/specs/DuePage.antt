@@ -1,4 +1,4 @@
--- The page that is due at a frame, and the edges at which it can change.
+-- The expected page at a frame, and the cues at which it can change.
 use Rattle.std.specs.Prelude.{◌≡◌, ℕ, ◌-◌, ◌<◌, ◌≤◌, ◌==◌, ◌⊎◌, Bool, ◌&&◌, List, Option, Some}
 use Rattle.std.specs.Prelude.{None, nat_lt, nat_le, option_map, All, Any, Contains}
 use Rattle.std.specs.List.{find}
@@ -9,57 +9,57 @@ use Rattle.stl_rows.specs.declared.layout.Drawing.{Drawing}
 use Rattle.stl_rows.specs.DrawnPage.{drawn}
 use Rattle.stl_rows.specs.Programme.{AreInOrder}
 
--- A subtitle is due from its TCI up to the frame before its TCO.
+-- A subtitle is shown from its TCI to the frame before its TCO.
 abbrev pub is_due : ℕ → SubtitleValue → Bool
 is_due frame t = nat_le t.tci frame && nat_lt frame t.tco
 
--- The drawn page of a subtitle; blank for none, or for one that draws none.
+-- The drawn page of a subtitle; blank if there is none, or if it cannot be drawn.
 abbrev pub drawn_or_blank : Drawing → Option SubtitleValue → Rows
 drawn_or_blank drawing None = blank
 drawn_or_blank drawing (Some t) = result_unwrap_or (drawn drawing t) blank
 
--- The page that is due at a frame: the drawn page of the subtitle that is due, blank where none is.
--- Of subtitles in order no two are due at one frame.
+-- The expected page at a frame: that of the subtitle shown there, or blank. No two subtitles in
+-- order are shown at the same frame.
 unfoldable pub due : Drawing → List SubtitleValue → ℕ → Rows
 due drawing records frame = drawn_or_blank drawing (find (is_due frame) records)
 
--- The subtitle ends at a frame: the frame is its TCO.
+-- The subtitle ends at a frame, its TCO.
 abbrev pub ends_at : ℕ → SubtitleValue → Bool
 ends_at frame t = t.tco == frame
 
--- The TCI of the subtitle that ends at a frame; None where none does.
--- Of subtitles in order no two end at one frame.
+-- The TCI of the subtitle that ends at a frame; `None` if none does. No two subtitles in order end
+-- at the same frame.
 unfoldable pub tci_of_ending : List SubtitleValue → ℕ → Option ℕ
 tci_of_ending records frame = option_map (λ t. t.tci) (find (ends_at frame) records)
 
--- The frame is a TCI or a TCO.
+-- The frame is a cue: a TCI or a TCO.
 abbrev pub IsEdge : List SubtitleValue → ℕ → Type 0
 IsEdge records frame = Any (λ t. (frame ≡ t.tci) ⊎ (frame ≡ t.tco)) records
 
--- The least edge after a frame.
+-- The first cue after a frame.
 pub record IsNextEdge (records : List SubtitleValue) (frame edge : ℕ) : Type 0 where
   pub is_edge : IsEdge records edge
   pub after : frame < edge
   pub least : (e : ℕ) → IsEdge records e → frame < e → edge ≤ e
 
--- The answer is the least edge after a frame; None where no edge is after it.
+-- The answer is the first cue after a frame; `None` if there is none.
 abbrev pub TellsNextEdge : List SubtitleValue → ℕ → Option ℕ → Type 0
 TellsNextEdge records frame None = (e : ℕ) → IsEdge records e → e ≤ frame
 TellsNextEdge records frame (Some edge) = IsNextEdge records frame edge
 
--- The greatest edge up to a frame.
+-- The last cue up to a frame.
 pub record IsLastEdge (records : List SubtitleValue) (frame edge : ℕ) : Type 0 where
   pub is_edge : IsEdge records edge
   pub until : edge ≤ frame
   pub greatest : (e : ℕ) → IsEdge records e → e ≤ frame → e ≤ edge
 
--- The answer is the greatest edge up to a frame; None where each edge is after it.
+-- The answer is the last cue up to a frame; `None` if there is none.
 abbrev pub TellsLastEdge : List SubtitleValue → ℕ → Option ℕ → Type 0
 TellsLastEdge records frame None = (e : ℕ) → IsEdge records e → frame < e
 TellsLastEdge records frame (Some edge) = IsLastEdge records frame edge
 
--- Of subtitles in order, one that is due at a frame is shown there. So it does not matter in which
--- order they are tried.
+-- Among subtitles in order, one whose time includes a frame is shown there. So the order in which
+-- they are searched does not matter.
 abbrev pub LawOfDueSubtitles : Type 0
 LawOfDueSubtitles =
     (drawing : Drawing) (records : List SubtitleValue) (frame : ℕ) (t : SubtitleValue)
@@ -69,15 +69,15 @@ LawOfDueSubtitles =
     → frame < t.tco
     → due drawing records frame ≡ drawn_or_blank drawing (Some t)
 
--- Where each subtitle starts later or has ended, the due page is blank.
+-- If each subtitle starts later or has ended, the expected page is blank.
 abbrev pub LawOfBlankPages : Type 0
 LawOfBlankPages =
     (drawing : Drawing) (records : List SubtitleValue) (frame : ℕ)
     → All (λ t. (frame < t.tci) ⊎ (t.tco ≤ frame)) records
     → due drawing records frame ≡ blank
 
--- The due page changes only at a TCI or a TCO. So a checker that draws it at edges alone misses no
--- change.
+-- The expected page changes only at a TCI or a TCO. So a checker that draws it only at cues misses
+-- no change.
 abbrev pub LawOfEdges : Type 0
 LawOfEdges =
     (drawing : Drawing) (records : List SubtitleValue) (frame : ℕ)
@@ -85,14 +85,14 @@ LawOfEdges =
     → (IsEdge records frame → ⊥)
     → due drawing records frame ≡ due drawing records (frame - 1)
 
--- Row 24 of each due page is blank: no subtitle may use it (own).
--- So a sending of a due page has a row fewer than a page has.
+-- Row 24 of each expected page is blank, since no subtitle may use it (own). So a transmission of
+-- an expected page needs one row fewer than a page has.
 abbrev pub LawOfLastRow : Type 0
 LawOfLastRow =
     (drawing : Drawing) (records : List SubtitleValue) (frame : ℕ)
     → row_at (due drawing records frame) 24 ≡ blank_row
 
--- Each due page is a page: 24 rows of 40 codes below 128. So it can be sent with odd parity.
+-- Each expected page is a page: 24 rows of 40 codes below 128. So it can be sent with odd parity.
 abbrev pub LawOfDuePages : Type 0
 LawOfDuePages =
     (drawing : Drawing) (records : List SubtitleValue) (frame : ℕ)

@@ -1,5 +1,4 @@
--- The number and the name by which a fault of a text or of a programme is told (own), and which
--- faults are that the source failed.
+-- The number and the name of a fault in reports (own), and which faults are failures of the source.
 use Rattle.std.specs.Prelude.{Bool, false, codes}
 use Rattle.sub_io.specs.FaultCode.{FaultCodeValue, fault_code}
 use Rattle.stl_file.specs.Fault as stl
@@ -10,7 +9,7 @@ use Rattle.stl_rows.specs.declared.fault.LoadFaultKind.TheVariants as load
 use Rattle.stl_rows.specs.declared.fault.RowFaultKind.{RowFaultKind}
 use Rattle.stl_rows.specs.declared.fault.RowFaultKind.TheVariants as row
 
--- A fault of the text of a subtitle.
+-- The fault of a subtitle's text.
 abbrev pub row_code : RowFaultKind → FaultCodeValue
 row_code row.Character = fault_code 50 (codes "Character")
 row_code row.Control = fault_code 51 (codes "Control")
@@ -19,7 +18,7 @@ row_code row.PastBottom = fault_code 53 (codes "PastBottom")
 row_code row.DoubleRow = fault_code 54 (codes "DoubleRow")
 row_code row.Hidden = fault_code 55 (codes "Hidden")
 
--- A fault of a programme.
+-- The fault of a file.
 abbrev pub load_code : LoadFaultKind → FaultCodeValue
 load_code (load.File fault) = stl_code fault
 load_code load.OutOfOrder = fault_code 56 (codes "OutOfOrder")
@@ -32,6 +31,6 @@ abbrev pub is_read_kind : LoadFaultKind → Bool
 is_read_kind (load.File fault) = stl.is_file_read fault
 is_read_kind _ = false
 
--- The source failed, of a fault with its block.
+-- A fault with its block is a failure of the source.
 abbrev pub is_load_read : LoadFault → Bool
 is_load_read fault = is_read_kind fault.kind

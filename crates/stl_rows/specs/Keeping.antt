@@ -1,5 +1,4 @@
--- What is kept of the subtitles of a file while it is read: those that can be relied on, by all
--- that was read up to there.
+-- The subtitles kept while a file is read: the reliable ones among those read so far.
 use Rattle.std.specs.Prelude.{ℕ, ◌-◌, Bool, true, false, not, ◌&&◌, ◌||◌, if◌then◌else◌, List, []}
 use Rattle.std.specs.Prelude.{◌∷◌, ◌++◌, length, take, replicate, ◌≡◌, ◌⊎◌, Option, Some, None}
 use Rattle.std.specs.Prelude.{Result, Ok, Err}
@@ -12,25 +11,25 @@ use Rattle.stl_rows.specs.EveryFault.{TellsFaults, WantsMemory, faults}
 use Rattle.stl_rows.specs.Judged.{JudgedSubtitle, JudgedValue, JudgesBy, are_in_order, are_some}
 use Rattle.stl_rows.specs.Judged.{judges, with_bits}
 
--- The subtitles that are kept; behind which of them another one of the file stands, false where
--- bits are missing; whether another one stands behind the last; and whether the last is the one
--- with whose times the next ones are compared.
+-- The subtitles kept; for each, whether another one of the file precedes it (missing bits are
+-- false); whether another one follows the last; and whether the last is the one with whose times
+-- the next are compared.
 pub record KeptRecords : Type 0 where
   pub records : List SubtitleValue
   pub behind_other : List Bool
   pub is_before_other : Bool
   pub is_latest : Bool
 
--- Nothing was read yet.
+-- The state before any subtitle.
 abbrev pub nothing_kept : KeptRecords
 nothing_kept =
     record { records = []; behind_other = []; is_before_other = false; is_latest = false }
 
--- Each with its bit.
+-- The subtitles with their bits.
 abbrev pub all_kept : KeptRecords → List JudgedSubtitle
 all_kept k = with_bits k.records k.behind_other
 
--- What it gives to judge by.
+-- The programme against which a transmission is checked.
 abbrev pub judged_with : Drawing → KeptRecords → JudgedValue
 judged_with drawing k = record {
   programme = record { drawing = drawing; records = k.records };
@@ -38,14 +37,14 @@ judged_with drawing k = record {
   is_before_other = k.is_before_other;
 }
 
--- ---- one more
+-- ---- the next subtitle
 
--- The bits of so many with that of one more.
+-- The bits after adding one for subtitle number n.
 abbrev pub bits_after : ℕ → Bool → List Bool → List Bool
 bits_after n other bits =
     if other then take n bits ++ (replicate (n - length bits) false ++ true ∷ []) else bits
 
--- With one more that is kept.
+-- After a subtitle that is kept.
 abbrev pub with_one : SubtitleValue → KeptRecords → KeptRecords
 with_one t k = record {
   records = k.records ++ t ∷ [];
@@ -54,23 +53,23 @@ with_one t k = record {
   is_latest = true;
 }
 
--- With one more that is refused: times are not compared with it.
+-- After a rejected subtitle: times are not compared with it.
 abbrev pub refused_one : KeptRecords → KeptRecords
 refused_one k = record k { is_before_other = true }
 
--- With one more of which something is told.
+-- After a subtitle with a fault.
 abbrev pub broken_one : KeptRecords → KeptRecords
 broken_one k = record k { is_before_other = true; is_latest = false }
 
--- The last one is not relied on.
+-- Without the last subtitle, which is not reliable.
 abbrev pub without_last : KeptRecords → KeptRecords
 without_last k = record k {
   records = take (length k.records - 1) k.records;
   behind_other = take (length k.records - 1) k.behind_other;
 }
 
--- With one more, of which nothing is told, or something; where its times are not in order with
--- those of the one before it, that one is not relied on either.
+-- After the next subtitle, with or without a fault. If its times are not in order with those of the
+-- one before, that one is not reliable either.
 abbrev pub kept_after : Bool → Bool → SubtitleValue → KeptRecords → KeptRecords
 kept_after in_order clean t k =
     if clean then with_one t k
@@ -79,24 +78,25 @@ kept_after in_order clean t k =
 
 -- ---- at the end
 
--- No bit is there.
+-- There are no bits.
 abbrev pub are_none : List Bool → Bool
 are_none [] = true
 are_none (bit ∷ bits) = false
 
--- No other one stands anywhere: nothing was told.
+-- No other subtitle exists, so no fault was reported.
 abbrev pub is_whole : KeptRecords → Bool
 is_whole k = are_none k.behind_other && not k.is_before_other
 
--- A transmission is judged by it.
+-- A transmission can be checked against these subtitles.
 abbrev pub is_enough : KeptRecords → Bool
 is_enough k = is_whole k || (are_some (all_kept k) && are_in_order (all_kept k))
 
--- ---- what loading all of a file answers
+-- ---- results of loading a whole file
 
--- What is kept of a file, and what a device was told of it, by the answer: all its faults, and what
--- a transmission is judged by; its faults, or those up to where the device said stop, where none is
--- judged by what can be relied on; the faults before the subtitle for which memory was refused.
+-- The subtitles kept of a file, and the reports, for each result: all its faults, with subtitles
+-- against which a transmission can be checked; its faults, or those up to where the audience
+-- stopped, without such subtitles; or the faults before the subtitle for which memory could not be
+-- allocated.
 abbrev pub LoadsAll : {D : Type 0}
     → Drawing → List ℕ → (D → LoadFault → D → Type 0) → D → D → Bool
     → Result (Option KeptRecords) LoadFault → Type 0

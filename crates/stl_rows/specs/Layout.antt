@@ -1,4 +1,4 @@
--- Layouts: what a house may say of how its inserter draws (own). EBU Tech 3264 leaves that to it.
+-- Layouts: how a broadcaster's inserter draws texts (own). EBU Tech 3264 leaves this open.
 use Rattle.std.specs.Prelude.{ℕ, Bool, false, List, [], ◌∷◌, Option, Some, None, ◌==◌, unwrap_or}
 use Rattle.std.specs.Prelude.{replicate, slice_index_or, nat_lt, ◌&&◌}
 use Rattle.std.specs.List.{find}
@@ -33,17 +33,17 @@ attribute_code StartBox = 0x0B
 attribute_code NormalHeight = 0x0C
 attribute_code DoubleHeight = 0x0D
 
--- The attributes that a layout may put beside a line.
+-- The attributes that a layout may add to a line.
 abbrev pub attributes : List Attribute
 attributes =
     AlphaRed ∷ AlphaGreen ∷ AlphaYellow ∷ AlphaBlue ∷ AlphaMagenta ∷ AlphaCyan ∷ AlphaWhite
     ∷ Flash ∷ Steady ∷ EndBox ∷ StartBox ∷ NormalHeight ∷ DoubleHeight ∷ []
 
--- The one with this code.
+-- The attribute with this code.
 unfoldable pub attribute_of : ℕ → Option Attribute
 attribute_of code = find (λ a. attribute_code a == code) attributes
 
--- The codes of a list's places, each of which has one or none.
+-- The codes of a list whose places each have a code or none.
 abbrev pub codes_of_places : List (Option Attribute) → List ℕ
 codes_of_places [] = []
 codes_of_places (None ∷ places) = codes_of_places places
@@ -55,8 +55,8 @@ codes_of_places (Some a ∷ places) = attribute_code a ∷ codes_of_places place
 abbrev pub no_codes : ℕ → List (Option Attribute)
 no_codes n = replicate n None
 
--- The items where they are left out: two start boxes before a line's own leading codes, two end
--- boxes at its end, and nothing else.
+-- The default items: two start boxes before a line's own leading codes, two end boxes at its end,
+-- and nothing else.
 unfoldable pub default_items : LayoutItems
 default_items = record {
   strip = replicate 32 false;
@@ -78,7 +78,7 @@ default_items = record {
   higher = 0;
 }
 
--- The layout that is taken where none is given.
+-- The layout to use if none is given.
 abbrev pub default_layout : Layout
 default_layout = record { items = None }
 
@@ -86,15 +86,15 @@ default_layout = record { items = None }
 abbrev pub items_of_layout : Layout → LayoutItems
 items_of_layout layout = unwrap_or layout.items default_items
 
--- `strip`: a byte of a text, 00 to 1F, gives no cell.
+-- `strip`: a byte of a text, 00 to 1F, has no cell.
 abbrev pub strips : LayoutItems → ℕ → Bool
 strips items byte = nat_lt byte 0x20 && slice_index_or items.strip byte false
 
--- How a file becomes pages, where it is drawn by an option and a layout and this is taken of it.
+-- A drawing with a national option, a layout and a scope.
 abbrev pub drawing_within : National → Layout → Scope → Drawing
 drawing_within national layout scope =
     record { national = national; layout = layout; scope = scope }
 
--- Where all of it is.
+-- A drawing with the whole scope.
 abbrev pub drawing_by : National → Layout → Drawing
 drawing_by national layout = drawing_within national layout whole

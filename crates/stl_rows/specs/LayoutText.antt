@@ -1,4 +1,4 @@
--- Layouts as people write them (own): items joined by commas, none of them twice, in any order.
+-- Layouts as users type them (own): items joined by commas, without duplicates, in any order.
 use Rattle.std.specs.Prelude.{ℕ, ◌+◌, ◌-◌, ◌*◌, Bool, true, false, ◌&&◌, List, [], ◌∷◌, Option}
 use Rattle.std.specs.Prelude.{Some, None, codes, drop, length, nat_lt, nat_le, option_map}
 use Rattle.std.specs.Prelude.{replicate}
@@ -14,19 +14,19 @@ use Rattle.stl_rows.specs.TextCode.{is_within}
 
 -- ---- characters
 
--- It parts items.
+-- The separator of items.
 abbrev pub between_items : ℕ
 between_items = 0x2C
 
--- It parts the name of an item from its value.
+-- The separator of an item's name and value.
 abbrev pub equals_sign : ℕ
 equals_sign = 0x3D
 
--- In `before` it stands for a line's own leading codes.
+-- In `before`, the place of a line's own leading codes.
 abbrev pub asterisk : ℕ
 asterisk = 0x2A
 
--- A text up to the first of a character, and what is behind that, if there is one.
+-- The text before the first of a character, and the text after it, if there is one.
 unfoldable pub cut_at : ℕ → List ℕ → List ℕ × Option (List ℕ)
 cut_at mark text =
     if nat_lt (position_or_len (λ c. c == mark) text) (length text)
@@ -48,13 +48,13 @@ number_of_digits (tens ∷ units ∷ []) = do
   Some (10 * tens + units)
 number_of_digits _ = None
 
--- N, from a least to a most.
+-- N within a range.
 unfoldable pub number_within : ℕ → ℕ → List ℕ → Option ℕ
 number_within least most text = do
   n ← number_of_digits text
   if nat_le least n && nat_le n most then Some n else None
 
--- N with or without `-` before it: the rows down and the rows up.
+-- N with or without `-` before it: how many rows down and how many up.
 unfoldable pub rows_of_text : List ℕ → Option (ℕ × ℕ)
 rows_of_text text =
     if slice_index_or text 0 0 == 0x2D
@@ -70,14 +70,14 @@ hex_digit_value c =
     else (if is_within 0x41 0x46 c then Some (c - 0x37)
     else (if is_within 0x61 0x66 c then Some (c - 0x57) else None))
 
--- The number that two of them are.
+-- The value of two hexadecimal digits.
 abbrev pub byte_of_digits : ℕ → ℕ → Option ℕ
 byte_of_digits high low = do
   high ← hex_digit_value high
   low ← hex_digit_value low
   Some (16 * high + low)
 
--- HEX: the codes that pairs of digits give, at the front of these places; some have been filled.
+-- HEX: codes from pairs of digits, stored in these places, of which the first are already filled.
 unfoldable pub codes_filled :
     List (Option Attribute) → ℕ → List ℕ → Option (List (Option Attribute))
 codes_filled places filled [] = Some places
@@ -89,11 +89,11 @@ codes_filled places filled (high ∷ low ∷ digits) = do
       then codes_filled (slice_set places filled (Some attribute)) (filled + 1) digits
       else None
 
--- HEX: so many codes of 01 to 0D at most.
+-- HEX: at most this many codes of 01 to 0D.
 abbrev pub codes_of_text : ℕ → List ℕ → Option (List (Option Attribute))
 codes_of_text most text = codes_filled (no_codes most) 0 text
 
--- HEX: codes of 00 to 1F that pairs of digits give, none of which is among those before it.
+-- HEX: codes of 00 to 1F from pairs of digits, without duplicates.
 unfoldable pub stripped_with : List Bool → List ℕ → Option (List Bool)
 stripped_with strip [] = Some strip
 stripped_with strip (high ∷ []) = None
@@ -102,7 +102,7 @@ stripped_with strip (high ∷ low ∷ digits) = do
   if slice_index_or strip code true then None
       else stripped_with (slice_set strip code true) digits
 
--- `before`: the codes ahead of the `*` and those behind it, 6 together at most.
+-- `before`: the codes before the `*` and those after it, at most 6 in total.
 abbrev pub before_of_parts :
     List ℕ → Option (List ℕ) → Option (List (Option Attribute) × List (Option Attribute))
 before_of_parts ahead None = option_map (λ codes. (codes, no_codes 6)) (codes_of_text 6 ahead)
@@ -111,8 +111,7 @@ before_of_parts ahead (Some behind) = do
   second ← codes_of_text 6 behind
   if nat_le (length ahead + length behind) 12 then Some (first, second) else None
 
--- What a text means: the attributes up to an asterisk and those behind it, of which the cells
--- before a text are taken.
+-- The value of `before`: the codes before the asterisk and those after it.
 unfoldable pub before_of_text :
     List ℕ → Option (List (Option Attribute) × List (Option Attribute))
 before_of_text text =
@@ -120,7 +119,7 @@ before_of_text text =
 
 -- ---- items
 
--- The number of the item that a text without a value names, and the items with it.
+-- The number of the item with this name, which has no value, and the items with it set.
 unfoldable pub flag_set : LayoutItems → List ℕ → Option (ℕ × LayoutItems)
 flag_set items name =
     if bytes_eq name (codes "fit") then Some (0, record items { fit = true })
@@ -133,7 +132,7 @@ flag_set items name =
     else (if bytes_eq name (codes "last") then Some (7, record items { last = true })
     else None)))))))
 
--- The number of the item that a name and a value of decimal digits give, and the items with it.
+-- The number of the item with this name and a decimal value, and the items with it set.
 unfoldable pub number_set : LayoutItems → List ℕ → List ℕ → Option (ℕ × LayoutItems)
 number_set items name value =
     if bytes_eq name (codes "left")
@@ -147,7 +146,7 @@ number_set items name value =
     (rows_of_text value)
     else None)))
 
--- The number of the item that a name and a value give, and the items with it.
+-- The number of the item with this name and value, and the items with it set.
 unfoldable pub value_set : LayoutItems → List ℕ → List ℕ → Option (ℕ × LayoutItems)
 value_set items name value =
     if bytes_eq name (codes "strip")
@@ -162,20 +161,18 @@ value_set items name value =
     then option_map (λ a. (10, record items { after = a })) (codes_of_text 4 value)
     else number_set items name value))
 
--- The number of the item that a text gives, and the items with it.
+-- The number of an item with or without a value, and the items with it set.
 abbrev pub item_set_of : LayoutItems → List ℕ → Option (List ℕ) → Option (ℕ × LayoutItems)
 item_set_of items name None = flag_set items name
 item_set_of items name (Some value) = value_set items name value
 
--- The number of the item that a text gives, its name before a sign of equality and its value behind
--- it, and the items with it.
+-- The number of the item of a text, with its value after an equals sign, and the items with it set.
 unfoldable pub item_set : LayoutItems → List ℕ → Option (ℕ × LayoutItems)
 item_set items text =
     let parts : List ℕ × Option (List ℕ) = cut_at equals_sign text in
     item_set_of items parts.0 parts.1
 
--- The items with those that more texts give, where some came before. None where a text gives none,
--- or one that came before.
+-- Sets the items of more texts. `None` if a text is no item, or one that was set before.
 unfoldable pub items_set : LayoutItems → List Bool → List (List ℕ) → Option LayoutItems
 items_set items came [] = Some items
 items_set items came (text ∷ texts) = do
@@ -184,7 +181,7 @@ items_set items came (text ∷ texts) = do
       then None
       else items_set next.1 (slice_set came next.0 true) texts
 
--- The layout that a text means.
+-- The layout of a text.
 unfoldable pub layout_of_text : List ℕ → Option Layout
 layout_of_text text =
     option_map (λ items. record { items = Some items })

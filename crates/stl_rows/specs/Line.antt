@@ -16,7 +16,7 @@ end_box = 0x0A
 abbrev pub double_height : ℕ
 double_height = 0x0D
 
--- A row has columns 0 to 39.
+-- The number of columns of a row, 0 to 39.
 abbrev pub columns : ℕ
 columns = 40
 
@@ -25,7 +25,7 @@ abbrev pub has_cells : List ℕ → Bool
 has_cells [] = false
 has_cells (c ∷ cells) = true
 
--- The line has a start box of its own.
+-- The line contains a start box.
 unfoldable pub is_boxed : List ℕ → Bool
 is_boxed line = list_any (λ c. c == start_box) line
 
@@ -33,8 +33,8 @@ is_boxed line = list_any (λ c. c == start_box) line
 unfoldable pub is_double : List ℕ → Bool
 is_double line = list_any (λ c. c == double_height) line
 
--- The prepared line: a line that is not empty and has no start box is put in a box, by two start
--- boxes before it and two end boxes after it (own; EN 300 706 has each box code sent twice).
+-- The prepared line. A line that is not empty and has no start box gets two start boxes before it
+-- and two end boxes after it (own; EN 300 706 has each box code sent twice).
 unfoldable pub prepared : List ℕ → List ℕ
 prepared cells =
     if has_cells cells && not (is_boxed cells)
@@ -42,13 +42,12 @@ prepared cells =
     else cells
 
 -- The column at which a line of n cells starts (EBU Tech 3264, TTI block, field JC): 0 for JC 0
--- (unchanged) and 1 (left), in the middle for 2 (centred; rounded down, own), at the end for 3
--- (right).
+-- (unchanged) and 1 (left); centred for 2 (rounded down, own); at the end for 3 (right).
 abbrev pub start_column : ℕ → ℕ → ℕ
 start_column jc n =
     if jc == 2 then (columns - n) / 2 else (if jc == 3 then columns - n else 0)
 
--- What a column shows of a line that starts at a column: its cell, a space where it covers none.
+-- The code in a column of the row that shows a line: the line's cell, or a space outside it.
 abbrev pub code_in_column : ℕ → List ℕ → ℕ → ℕ
 code_in_column start line column =
     if nat_le start column then slice_index_or line (column - start) space else space

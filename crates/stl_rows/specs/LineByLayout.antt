@@ -1,5 +1,4 @@
--- Lines put on a page one after another by a layout, as the code draws them. No public clause cites
--- this.
+-- Drawing lines on a page one at a time by a layout, as the code does. No public clause uses this.
 use Rattle.std.specs.Prelude.{ℕ, ◌+◌, ◌-◌, ◌<◌, List, [], ◌∷◌, Option, Some, None, Result}
 use Rattle.std.specs.Prelude.{Ok, Err, ◌==◌, if◌then◌else◌, map, slice_set}
 use Rattle.std.specs.List.{AllByRecursion, filter_map, slice_split}
@@ -27,11 +26,11 @@ flat_code _ = None
 abbrev pub flat_codes : List (ℕ × TextCode) → List ℕ
 flat_codes codes = filter_map (λ (c : ℕ × TextCode). flat_code c.1) codes
 
--- The lines that are cut at new lines.
+-- The lines between new lines.
 abbrev pub cut_lines : List ℕ → List (List ℕ)
 cut_lines cells = slice_split (λ c. c == new_line) cells
 
--- Lines of codes.
+-- All cells of the lines are codes.
 abbrev pub HoldCodes : List (List ℕ) → Type 0
 HoldCodes lines =
     AllByRecursion (λ (line : List ℕ). AllByRecursion (λ (c : ℕ). c < 128) line) lines
@@ -40,9 +39,9 @@ HoldCodes lines =
 abbrev pub prepared_cut : LayoutItems → List ℕ → List (List ℕ)
 prepared_cut items cells = map (prepared_by items) (cut_lines cells)
 
--- ---- lines put on a page
+-- ---- drawing lines on a page
 
--- A line at a place.
+-- A line at a position.
 abbrev pub line_at : Place → List ℕ → PlacedLine
 line_at place line = record {
   number = place.number;
@@ -51,13 +50,13 @@ line_at place line = record {
   cells = line;
 }
 
--- What is wrong with it first.
+-- The first fault of a line at a position.
 unfoldable pub fault_at : LayoutItems → ℕ → Place → List ℕ → Option RowFault
 fault_at items off place line =
     if takes_none items line then None
     else first_of (map (fault_of place.number) (placed_fault_kinds items off (line_at place line)))
 
--- The place of the line behind it.
+-- The position of the next line.
 unfoldable pub place_behind : LayoutItems → Place → List ℕ → Place
 place_behind items place line =
     if takes_none items line then record place { number = place.number + 1 }
@@ -67,14 +66,14 @@ place_behind items place line =
       is_under_double = is_double line;
     }
 
--- The page with it.
+-- The page with the line.
 unfoldable pub page_with : LayoutItems → ℕ → ℕ → Place → List ℕ → Rows → Rows
 page_with items jc off place line page =
     if has_cells line
     then slice_set page (place.depth - off - 1) (row_from (start_by items jc line) line)
     else page
 
--- The page with lines from a place on, or the first fault of these.
+-- The page with lines from a position on, or the first fault of these.
 unfoldable pub drawn_from :
     LayoutItems → ℕ → ℕ → Place → Rows → List (List ℕ) → Result Rows RowFault
 drawn_from items jc off place page [] = Ok page

@@ -1,5 +1,5 @@
--- Lines put on a page one after another, as the code draws them, and what of a line its faults
--- depend on. No public clause cites this.
+-- Drawing lines on a page one at a time, as the code does, and the properties of a line on which
+-- its faults depend. No public clause uses this.
 use Rattle.std.specs.Prelude.{ℕ, ◌+◌, ◌-◌, ◌<◌, ◌≤◌, Bool, false, ◌&&◌, ◌||◌, List, [], ◌∷◌}
 use Rattle.std.specs.Prelude.{◌++◌, Option, Some, ◌==◌, nat_lt, if◌then◌else◌, length, map}
 use Rattle.std.specs.Prelude.{slice_set}
@@ -20,21 +20,22 @@ use Rattle.stl_rows.specs.PlainPage.{last_row, when}
 
 -- ---- lines
 
--- Lines with some cells before the first.
+-- Puts cells in front of the first line.
 abbrev pub onto : List ℕ → List (List ℕ) → List (List ℕ)
 onto [] lines = lines
 onto (c ∷ cells) lines = onto_first c (onto cells lines)
 
--- The prepared lines of text codes, with some cells before the first.
+-- The prepared lines of text codes, with some cells in front of the first.
 abbrev pub prepared_lines : List ℕ → List (ℕ × TextCode) → List (List ℕ)
 prepared_lines cells codes = map prepared (onto cells (lines_of_codes codes))
 
--- A page with a line, which is prepared, on a row; an empty line leaves it.
+-- The page with a line, prepared, in a row; an empty line changes nothing.
 abbrev pub put_line : ℕ → ℕ → List ℕ → Rows → Rows
 put_line jc row cells page =
     if nat_lt 0 (length cells) then slice_set page (row - 1) (row_of jc (prepared cells)) else page
 
--- A line fits a row: prepared it has at most 40 cells, and it has none under the last row.
+-- A line fits in a row: it has at most 40 prepared cells, and is not below the last row unless it
+-- is empty.
 pub record FitsRow (row : ℕ) (cells : List ℕ) : Type 0 where
   pub first : 1 ≤ row
   pub last : 0 < length cells → row ≤ last_row
@@ -42,7 +43,7 @@ pub record FitsRow (row : ℕ) (cells : List ℕ) : Type 0 where
 
 -- ---- faults
 
--- The line with a cell more.
+-- Adds a cell to a line.
 abbrev pub with_cell : OpenLine → ℕ → OpenLine
 with_cell line code =
     record line {
@@ -63,12 +64,11 @@ empty_line number row is_under_double =
       is_double = false;
     }
 
--- The line under it.
+-- The next line.
 abbrev pub line_under : OpenLine → OpenLine
 line_under line = empty_line (line.number + 1) (line.row + 1) line.is_double
 
--- What is wrong with a line, in order: it gets two codes on each side where it has no start box of
--- its own.
+-- The faults of a line, in order. It gets two codes on each side if it has no start box of its own.
 unfoldable pub shape_fault_kinds : OpenLine → List RowFaultKind
 shape_fault_kinds line =
     when (nat_lt columns (if line.is_boxed then line.len else line.len + 4)) RowTooLong
@@ -76,12 +76,12 @@ shape_fault_kinds line =
     ++ when (line.is_double && (line.row == last_row)) DoubleRow
     ++ when (nat_lt 0 line.len && line.is_under_double) Hidden
 
--- A fault that was found before, or else the first of the line.
+-- A fault found before, or else the first fault of the line.
 abbrev pub told_first : Option RowFault → OpenLine → Option RowFault
 told_first before line =
     option_or before (first_of (map (fault_of line.number) (shape_fault_kinds line)))
 
--- What is told of a text code, and of those after it.
+-- The first fault of a text code and those after it.
 abbrev pub told_of_code : ℕ → TextCode → Option RowFault → OpenLine
     → (Option RowFault → OpenLine → Option RowFault) → Option RowFault
 told_of_code at (Cell code) before line next = next before (with_cell line code)
@@ -89,7 +89,7 @@ told_of_code at NoCell before line next = next before line
 told_of_code at NewLine before line next = next (told_first before line) (line_under line)
 told_of_code at (Refused kind) before line next = Some (fault_of at kind)
 
--- What is told of text codes, where a fault was found before or not and a line is open.
+-- The first fault of text codes, given a fault found before, if any, and the current line.
 abbrev pub told : Option RowFault → OpenLine → List (ℕ × TextCode) → Option RowFault
 told before line [] = told_first before line
 told before line (c ∷ codes) = told_of_code c.0 c.1 before line (λ f l. told f l codes)

@@ -1,4 +1,4 @@
--- What loading a subtitle file gives: the programme of its subtitles, or the first of its faults.
+-- The result of loading a subtitle file: the programme of its subtitles, or its first fault.
 use Rattle.std.specs.Prelude.{◌≡◌, ℕ, ◌⊎◌, List, [], ◌∷◌, Result, Ok, Err, ⊤, ◌↔◌, ◌≤◌, All, IsOk}
 use Rattle.std.specs.Prelude.{Option, Some, None, length, map, true, ◌++◌}
 use Rattle.std.specs.List.{AllByRecursion, concat}
@@ -21,25 +21,25 @@ use Rattle.stl_rows.specs.DrawnPage.{drawn}
 use Rattle.stl_rows.specs.EveryFault.{faults, load_fault}
 use Rattle.stl_rows.specs.Programme.{AreInOrder, ProgrammeValue, follow_faults, times_of}
 
--- The subtitles that a file gives.
+-- The subtitles of a file.
 abbrev pub records_of : Findings → List SubtitleValue
 records_of no_more = []
 records_of (breaks fault block) = []
 records_of (refuses fault block more) = records_of more
 records_of (finds t block more) = t ∷ records_of more
 
--- The programme of a file with which nothing is wrong; else the first of what is.
+-- The programme if there is no fault; otherwise the first fault.
 abbrev pub unless_told : List LoadFault → ProgrammeValue → Result ProgrammeValue LoadFault
 unless_told [] programme = Ok programme
 unless_told (fault ∷ more) programme = Err fault
 
--- What loading a file gives: the programme of its subtitles, or the first of its faults.
+-- The result of loading a file: the programme of its subtitles, or its first fault.
 unfoldable pub loaded : Drawing → List ℕ → Result ProgrammeValue LoadFault
 loaded drawing file =
     unless_told (faults drawing file)
     (record { drawing = drawing; records = records_of (findings_for drawing.scope file) })
 
--- A subtitle that follows one of these times ends at this block, and up to it nothing is wrong.
+-- A subtitle ends at this block, after one with the times `before`, and there is no fault up to it.
 abbrev pub EndsBehind : Drawing → Option Times → ℕ → Findings → Type 0
 EndsBehind drawing before at no_more = ⊥
 EndsBehind drawing before at (breaks fault block) = ⊥
@@ -48,36 +48,36 @@ EndsBehind drawing before at (finds t block more) =
     (follow_faults drawing before t ≡ [])
     × ((at ≡ block) ⊎ EndsBehind drawing (Some (times_of t)) at more)
 
--- A subtitle of the file ends at this block, and up to it nothing is wrong.
+-- A subtitle of the file ends at this block, and there is no fault up to it.
 abbrev pub EndsRecord : Drawing → List ℕ → ℕ → Type 0
 EndsRecord drawing file at = EndsBehind drawing None at (findings_for drawing.scope file)
 
--- A fault of loading. Want of memory is told at the last block of a subtitle alone, where no fault
--- comes before. That the source failed says nothing of the file.
+-- An error of loading. `Memory` occurs only at the last block of a subtitle with no fault before. A
+-- failure of the source says nothing about the file.
 abbrev pub TellsFault : Drawing → List ℕ → ℕ → LoadFaultKind → Type 0
 TellsFault drawing file block (File Read) = ⊤
 TellsFault drawing file block Memory = EndsRecord drawing file block
 TellsFault drawing file block kind = loaded drawing file ≡ Err (load_fault block kind)
 
--- No fault comes before this block; but the end of the file inside a subtitle, which names the last
--- whole block, is found only where the block after it is asked for.
+-- No fault comes before this block. Except that a file that ends within a subtitle, with the last
+-- complete block as its place, is found only when the next block is read.
 abbrev pub NoneBefore : Drawing → List ℕ → ℕ → Type 0
 NoneBefore drawing file block =
     (fault : LoadFault)
     → loaded drawing file ≡ Err fault
     → (fault.kind ≡ File Unfinished) ⊎ (block ≤ fault.block)
 
--- The source failed: the block is that of the byte that was asked for, the first one after those
--- that were taken. A fault that these hold would have been told instead.
+-- The source failed: the block is that of the first byte after those consumed. A fault in these
+-- bytes would have been returned instead.
 pub record FailsLoading (drawing : Drawing) (old new : Option (List ℕ)) (block : ℕ) : Type 0 where
   pub bytes : List ℕ
   pub consumed : Consumes old new bytes
   pub block_is : block ≡ block_of_byte (length bytes)
   pub none : IfKnown old (λ all. NoneBefore drawing all block)
 
--- Bytes are loaded as a programme exactly where they are a subtitle file whose subtitles are in
--- order, disjoint and drawable; the programme holds these. So `load` refuses no such file but for
--- want of memory or a source that failed.
+-- Bytes are loaded as a programme exactly if they are a subtitle file whose subtitles are in order,
+-- disjoint and drawable; the programme consists of these. So `load` rejects no such file, unless
+-- memory cannot be allocated or the source fails.
 abbrev pub LawOfLoading : Type 0
 LawOfLoading =
     (drawing : Drawing) (s : List ℕ) (ts : List SubtitleValue)
@@ -87,16 +87,16 @@ LawOfLoading =
     × AreInOrder ts
     × All (λ t. IsOk (drawn drawing t)) ts)
 
--- How the whole day of a file becomes pages.
+-- The drawing for the whole day of a file.
 abbrev pub of_day : Drawing → Drawing
 of_day drawing = record drawing { scope = all_day drawing.scope }
 
--- Faults, block numbers aside.
+-- The faults without block numbers.
 abbrev pub kinds_of : List LoadFault → List LoadFaultKind
 kinds_of faults = map (λ (fault : LoadFault). fault.kind) faults
 
--- What is told of a part of a file, and what it gives, is that of the file from which the blocks of
--- all other subtitles were taken out, block numbers aside; where nothing ends reading.
+-- The faults and subtitles of a part of a file are those of the file without the blocks of all
+-- other subtitles, apart from block numbers, if no fault ends reading.
 abbrev pub LawOfParts : Type 0
 LawOfParts =
     (drawing : Drawing) (gsi : List ℕ) (blocks : List (List ℕ))

@@ -1,5 +1,5 @@
--- The drawn page of a subtitle by the default layout, or its first fault: a line in a box of its
--- own, one row below the line before it.
+-- The drawn page of a subtitle with the default layout, or its first fault: each line is in a box
+-- of its own, one row below the line before.
 use Rattle.std.specs.Prelude.{ℕ, ◌+◌, ◌-◌, Bool, false, ◌&&◌, List, [], ◌∷◌, ◌++◌, Result, Ok, Err}
 use Rattle.std.specs.Prelude.{◌==◌, nat_lt, if◌then◌else◌, map, length, slice_index_or}
 use Rattle.std.specs.List.{range_with_len}
@@ -21,13 +21,13 @@ last_row = 23
 abbrev pub lines : National → SubtitleValue → List (List ℕ)
 lines national t = map prepared (lines_of_codes (text_codes national 0 t.text))
 
--- ---- what is refused
+-- ---- faults
 
--- The fault where the test holds.
+-- The fault if the test holds.
 abbrev pub when : Bool → RowFaultKind → List RowFaultKind
 when b kind = if b then kind ∷ [] else []
 
--- What is wrong with a prepared line on a row, under a line of double height or not, in order.
+-- The faults of a prepared line in a row, below a line of double height or not, in order.
 unfoldable pub line_fault_kinds : ℕ → Bool → List ℕ → List RowFaultKind
 line_fault_kinds row is_under_double line =
     when (nat_lt columns (length line)) RowTooLong
@@ -35,21 +35,21 @@ line_fault_kinds row is_under_double line =
     ++ when (is_double line && (row == last_row)) DoubleRow
     ++ when (has_cells line && is_under_double) Hidden
 
--- What is wrong with lines from a number on, the first of which goes to a row.
+-- The faults of lines, numbered from `number` on, the first of them in this row.
 abbrev pub line_faults : ℕ → ℕ → Bool → List (List ℕ) → List RowFault
 line_faults number row is_under_double [] = []
 line_faults number row is_under_double (line ∷ lines) =
     map (fault_of number) (line_fault_kinds row is_under_double line)
     ++ line_faults (number + 1) (row + 1) (is_double line) lines
 
--- All that is wrong, in the order in which it is told: the text by byte, then line by line.
+-- All faults in the order of reports: the text by byte, then line by line.
 abbrev pub subtitle_faults : National → SubtitleValue → List RowFault
 subtitle_faults national t =
     refused_codes (text_codes national 0 t.text) ++ line_faults 0 t.vp false (lines national t)
 
--- ---- what is shown
+-- ---- the page
 
--- The line of a row, where line 0 goes to row VP; an empty line for a row that none goes to.
+-- The line in a row, with line 0 in row VP; an empty line if there is none.
 abbrev pub line_on : ℕ → List (List ℕ) → ℕ → List ℕ
 line_on vp lines row = if nat_lt row vp then [] else slice_index_or lines (row - vp) []
 
@@ -57,7 +57,7 @@ line_on vp lines row = if nat_lt row vp then [] else slice_index_or lines (row -
 unfoldable pub page_of_lines : ℕ → ℕ → List (List ℕ) → Rows
 page_of_lines jc vp lines = map (λ row. row_of jc (line_on vp lines row)) (range_with_len 1 24)
 
--- A value where nothing is wrong, else the first fault.
+-- The value if there is no fault, otherwise the first fault.
 abbrev pub unless : {A E : Type 0} → List E → A → Result A E
 unless [] value = Ok value
 unless (e ∷ es) value = Err e

@@ -1,4 +1,4 @@
--- A line of cells as a layout has it: prepared, and the column at which it starts.
+-- A line of cells prepared by a layout, and the column at which it starts.
 use Rattle.std.specs.Prelude.{ℕ, suc, ◌+◌, ◌-◌, ◌/◌, not, ◌&&◌, List, [], ◌∷◌, ◌++◌, ◌==◌}
 use Rattle.std.specs.Prelude.{if◌then◌else◌, length, take, drop, map, min}
 use Rattle.std.specs.List.{list_all, list_any, range_with_len}
@@ -9,13 +9,13 @@ use Rattle.stl_rows.specs.TextCode.{is_within}
 
 -- ---- the ends of a line
 
--- How many cells at the front of a line are from a first to a last code.
+-- How many cells at the front of a line are in a range of codes.
 abbrev pub leading : ℕ → ℕ → List ℕ → ℕ
 leading first last [] = 0
 leading first last (c ∷ cells) =
     if is_within first last c then suc (leading first last cells) else 0
 
--- How many cells at its end are.
+-- How many cells at the end of a line are in a range of codes.
 abbrev pub trailing : ℕ → ℕ → List ℕ → ℕ
 trailing first last [] = 0
 trailing first last (c ∷ cells) =
@@ -23,34 +23,34 @@ trailing first last (c ∷ cells) =
     then length (c ∷ cells)
     else trailing first last cells
 
--- How many codes below 20, spacing attributes, stand at the front of a line, and at its end.
+-- How many spacing attributes, codes below 20, are at the front of a line.
 abbrev pub leading_codes : List ℕ → ℕ
 leading_codes cells = leading 0 0x1F cells
 
--- How many codes 00 to 1F stand at its end.
+-- How many spacing attributes are at the end of a line.
 abbrev pub trailing_codes : List ℕ → ℕ
 trailing_codes cells = trailing 0 0x1F cells
 
--- A line without the spaces at its front.
+-- A line without leading spaces.
 abbrev pub without_leading_spaces : List ℕ → List ℕ
 without_leading_spaces cells = drop (leading 0x20 0x20 cells) cells
 
--- A line without those at its end.
+-- A line without trailing spaces.
 abbrev pub without_trailing_spaces : List ℕ → List ℕ
 without_trailing_spaces cells = take (length cells - trailing 0x20 0x20 cells) cells
 
--- `trim`: without both.
+-- `trim`: a line without spaces at both ends.
 unfoldable pub trimmed : List ℕ → List ℕ
 trimmed cells = without_trailing_spaces (without_leading_spaces cells)
 
 -- ---- prepared lines
 
--- `white`: the leading codes of a line, with 07, alpha white, behind them where none is a colour.
+-- `white`: the leading codes of a line, followed by 07, alpha white, if none is a colour.
 abbrev pub whitened : LayoutItems → List ℕ → List ℕ
 whitened items codes =
     if items.white && not (list_any (is_within 0x01 0x07) codes) then codes ++ 0x07 ∷ [] else codes
 
--- `before`: the codes ahead of a line's leading codes, these, the codes behind them, and the rest.
+-- `before`: the codes before a line's leading codes, these, the codes after them, and the rest.
 unfoldable pub headed : LayoutItems → List ℕ → List ℕ
 headed items cells =
     codes_of_places items.ahead
@@ -58,20 +58,20 @@ headed items cells =
     ++ codes_of_places items.behind
     ++ drop (leading_codes cells) cells
 
--- `after`: the codes at the end of a line. With `fit` as many as there is room for.
+-- `after`: the codes at the end of a line. With `fit`, only as many as there is room for.
 abbrev pub ending : LayoutItems → ℕ → List ℕ
 ending items n =
     if items.fit
     then take (columns - n) (codes_of_places items.after)
     else codes_of_places items.after
 
--- A line with the codes that a layout puts beside it. An empty one gets none.
+-- A line with the codes that a layout adds. An empty line gets none.
 unfoldable pub framed : LayoutItems → List ℕ → List ℕ
 framed items [] = []
 framed items (c ∷ cells) =
     headed items (c ∷ cells) ++ ending items (length (headed items (c ∷ cells)))
 
--- The prepared line. One with a start box of its own stays as it is.
+-- The prepared line. A line with a start box of its own does not change.
 unfoldable pub prepared_by : LayoutItems → List ℕ → List ℕ
 prepared_by items cells =
     if is_boxed cells then cells
@@ -79,8 +79,8 @@ prepared_by items cells =
 
 -- ---- columns
 
--- `text`: how many cells of a prepared line don't count for its column, at its front and its end.
--- Of a line of codes alone all stand at its front.
+-- `text`: how many cells at the front and the end of a prepared line do not count for its column.
+-- If the line has only codes, all count as its front.
 abbrev pub uncounted : LayoutItems → List ℕ → ℕ × ℕ
 uncounted items line =
     if items.text
@@ -90,19 +90,19 @@ uncounted items line =
     )
     else (0, 0)
 
--- `free`: the JC that is taken for that of a subtitle (EBU Tech 3264, TTI block, field JC).
+-- `free`: the JC to use for that of a subtitle (EBU Tech 3264, TTI block, field JC).
 abbrev pub jc_read : LayoutItems → ℕ → ℕ
 jc_read items jc = if jc == 0 then items.free else jc
 
--- `left`, `right`, `up`: the column at which a line should start, of which `width` cells count and
--- `ahead` stand before these; 0 where that is left of the row.
+-- `left`, `right`, `up`: the column at which a line should start, with `width` cells that count
+-- after `ahead` others; at least 0.
 abbrev pub wanted_column : LayoutItems → ℕ → ℕ → ℕ → ℕ
 wanted_column items jc ahead width =
     if jc == 2 then (columns - width + (if items.up then 1 else 0)) / 2 - ahead
     else (if jc == 3 then columns - (items.right + width + ahead)
     else items.left - ahead)
 
--- The column at which a prepared line starts, so that all of it is on its row.
+-- The column at which a prepared line starts, so that it fits in its row.
 unfoldable pub start_by : LayoutItems → ℕ → List ℕ → ℕ
 start_by items jc line =
     let free : ℕ × ℕ = uncounted items line in

@@ -1,4 +1,4 @@
--- A programme: subtitles in order and disjoint, each of which draws a page.
+-- A programme: subtitles in order and disjoint, all of which can be drawn.
 use Rattle.std.specs.Prelude.{ℕ, ◌-◌, ◌<◌, ◌≤◌, List, [], ◌∷◌, ◌++◌, Option, Some, None, option_map}
 use Rattle.std.specs.Prelude.{Result, Ok, Err, nat_lt, if◌then◌else◌, length, slice_get}
 use Rattle.std.specs.Prelude.{slice_index_or, All, IsOk}
@@ -11,8 +11,7 @@ use Rattle.stl_rows.specs.declared.layout.Drawing.{Drawing}
 use Rattle.stl_rows.specs.declared.times.Times.{Times}
 use Rattle.stl_rows.specs.DrawnPage.{drawn}
 
--- What a programme is to its callers: how its texts are drawn, and the records of
--- its subtitles.
+-- The model of a programme: the drawing, and its subtitles.
 pub record ProgrammeValue : Type 0 where
   pub drawing : Drawing
   pub records : List SubtitleValue
@@ -25,7 +24,7 @@ AreInOrder records =
     → j < length records
     → (slice_index_or records i d).tco ≤ (slice_index_or records j d).tci
 
--- Subtitles in order, each of which draws a page.
+-- Subtitles in order, all of which can be drawn.
 pub record IsProgramme (drawing : Drawing) (records : List SubtitleValue) : Type 0 where
   pub each : All IsSubtitle records
   pub in_order : AreInOrder records
@@ -39,19 +38,19 @@ first_in records = option_map (λ t. t.tci) (slice_get records 0)
 abbrev pub last_out : List SubtitleValue → Option ℕ
 last_out records = option_map (λ t. t.tco) (slice_get records (length records - 1))
 
--- The last of a list.
+-- The last element of a list.
 abbrev pub last_of : {A : Type 0} → List A → Option A
 last_of xs = slice_get xs (length xs - 1)
 
--- When a subtitle starts and ends.
+-- The start and the end of a subtitle.
 abbrev pub times_of : SubtitleValue → Times
 times_of t = record { tci = t.tci; tco = t.tco }
 
--- The times of the last of these subtitles.
+-- The times of the last subtitle.
 abbrev pub times_before : List SubtitleValue → Option Times
 times_before records = option_map times_of (last_of records)
 
--- The times of a subtitle against those of the one before it.
+-- The faults of a subtitle's times, compared with those of the one before.
 abbrev pub order_faults : Option Times → Times → List LoadFaultKind
 order_faults None t = []
 order_faults (Some before) t =
@@ -59,13 +58,12 @@ order_faults (Some before) t =
     else if nat_lt t.tci before.tco then Overlap ∷ []
     else []
 
--- A drawn page is no fault.
+-- The fault of drawing a page, if there is one.
 abbrev pub row_faults : Result Rows RowFault → List LoadFaultKind
 row_faults (Ok page) = []
 row_faults (Err fault) = Row fault ∷ []
 
--- All that is wrong with a subtitle that follows one of these times, in the order in which it is
--- told.
+-- All faults of a subtitle that follows one with these times, in the order of reports.
 abbrev pub follow_faults : Drawing → Option Times → SubtitleValue → List LoadFaultKind
 follow_faults drawing before t =
     order_faults before (times_of t) ++ row_faults (drawn drawing t)

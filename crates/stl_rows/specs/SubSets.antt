@@ -1,9 +1,9 @@
--- The national option character sub-sets (EN 300 706), a row for each: the word for it, its three
--- bits, and the bytes of a subtitle's text that give its characters (EBU Tech 3264, code table 00,
+-- The national option character sub-sets (EN 300 706), one row each: the option's name, its three
+-- bits, and its characters with their bytes in a subtitle's text (EBU Tech 3264, code table 00,
 -- which is Latin and has the bytes of ISO 6937).
 --
--- Level 1 has 13 places in its code table that a sub-set fills. These are the sub-sets of the
--- default region, 0000, where C12 to C14 name one each; 1 1 1 is reserved.
+-- The code table of level 1 has 13 places for a sub-set. These are the sub-sets of the default
+-- region, 0000, with one for each value of C12 to C14; 1 1 1 is reserved.
 use Rattle.std.specs.Prelude.{ℕ, Bool, ◌&&◌, ◌==◌, nat_eq, List, [], ◌∷◌, Option, Some, None}
 use Rattle.std.specs.Prelude.{codes, if◌then◌else◌}
 use Rattle.std.specs.List.{find}
@@ -15,31 +15,32 @@ use Rattle.stl_rows.specs.declared.national.National.TheVariants.{French, Spanis
 use Rattle.stl_rows.specs.declared.national.NationalBits.{NationalBits}
 use Rattle.stl_rows.specs.declared.sub_sets.NationalCharacter.{NationalCharacter}
 
--- What a row says.
+-- A row of the table.
 pub record SubSetValue : Type 0 where
-  -- The word for it (own).
+  -- The name of the option (own).
   pub word : List ℕ
-  -- C12, C13 and C14 of the headers of a page.
+  -- C12, C13 and C14 of page headers.
   pub bits : NationalBits
-  -- Its characters by place. A place that is left out is reached by no text.
+  -- The characters by place. A missing place cannot be reached by any text.
   pub characters : List NationalCharacter
 
 -- C12, C13 and C14.
 abbrev pub three_bits : ℕ → ℕ → ℕ → NationalBits
 three_bits c12 c13 c14 = record { c12 = c12 == 1; c13 = c13 == 1; c14 = c14 == 1 }
 
--- The character at a place, which a byte gives by itself.
+-- The character at a place with a byte of its own.
 abbrev pub plain : ℕ → ℕ → NationalCharacter
 plain cell byte = record { cell = cell; mark = None; byte = byte }
 
--- The character at a place, which a diacritical mark and the letter after it give.
+-- The character at a place with a diacritical mark and the letter after it.
 abbrev pub with_mark : ℕ → ℕ → ℕ → NationalCharacter
 with_mark cell mark letter = record { cell = cell; mark = Some mark; byte = letter }
 
 -- The rows.
 --
--- (own) lenient: 24 is read as dollar beside A4, whatever an edition of the code table names it,
--- since files from the field have it so; where a sub-set has no dollar, neither byte is read.
+-- (own) lenient: both 24 and A4 are read as the dollar sign, whatever an edition of the code table
+-- says, since files in the field use both. In a sub-set without a dollar sign, neither byte is
+-- accepted.
 unfoldable pub sub_set : National → SubSetValue
 sub_set English = record {
   word = codes "english";
@@ -172,15 +173,15 @@ sub_set Czech = record {
 abbrev pub options : List National
 options = English ∷ German ∷ Swedish ∷ Italian ∷ French ∷ Spanish ∷ Czech ∷ []
 
--- The option that has this text for its word: exactly that, in small letters.
+-- The option with this name, in lower case.
 unfoldable pub option_named : List ℕ → Option National
 option_named text = find (λ n. bytes_eq (sub_set n).word text) options
 
--- The bytes of the character are this mark, or none, and this byte.
+-- The character has this byte, and this diacritical mark or none.
 unfoldable pub has_bytes : Option ℕ → ℕ → NationalCharacter → Bool
 has_bytes mark byte c = c.byte == byte && option_eq nat_eq c.mark mark
 
--- The cell of the first of these characters that a byte gives, after a mark or by itself.
+-- The cell of the first of these characters for a byte, after a diacritical mark or alone.
 abbrev pub cell_in : List NationalCharacter → Option ℕ → ℕ → Option ℕ
 cell_in [] mark byte = None
 cell_in (c ∷ characters) mark byte =

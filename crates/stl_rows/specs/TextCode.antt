@@ -1,5 +1,5 @@
--- The text of a subtitle (EBU Tech 3264, TTI block, field TF) read as text codes: what its bytes
--- give on a Teletext page of level 1 (EN 300 706, Latin G0 set with a national option sub-set).
+-- The text of a subtitle (EBU Tech 3264, TTI block, field TF) as text codes: the cells of its bytes
+-- on a Teletext page of level 1 (EN 300 706, Latin G0 set with a national option sub-set).
 use Rattle.std.specs.Prelude.{ℕ, zero, suc, ◌+◌, Bool, ◌&&◌, ◌||◌, List, [], ◌∷◌, Option}
 use Rattle.std.specs.Prelude.{Some, None, option_and_then, option_map, unwrap_or, ◌==◌, nat_lt}
 use Rattle.std.specs.Prelude.{nat_le, if◌then◌else◌, ⊤}
@@ -19,11 +19,11 @@ use Rattle.stl_rows.specs.SubSets.{cell_in, sub_set}
 abbrev pub new_line : ℕ
 new_line = 0x8A
 
--- The byte is one of these, both ends among them.
+-- The byte is in this range, bounds included.
 abbrev pub is_within : ℕ → ℕ → ℕ → Bool
 is_within first last byte = nat_le first byte && nat_le byte last
 
--- Italics, underline and boxing, on and off: they give no cell.
+-- Italics, underline and boxing, on and off: they have no cell.
 abbrev pub is_no_cell : ℕ → Bool
 is_no_cell byte = is_within 0x80 0x85 byte
 
@@ -31,12 +31,12 @@ is_no_cell byte = is_within 0x80 0x85 byte
 abbrev pub is_control : ℕ → Bool
 is_control byte = nat_lt byte 0x20 || is_within 0x80 0x9F byte
 
--- Column C of code table 00: diacritical marks, each of which stands before its letter.
+-- Column C of code table 00: diacritical marks, each of which precedes its letter.
 abbrev pub is_diacritical : ℕ → Bool
 is_diacritical byte = is_within 0xC0 0xCF byte
 
--- The bytes that give the cells of their own numbers under each option: code table 00 of EBU Tech
--- 3264 on the left, EN 300 706 on the right.
+-- The bytes whose cells have the bytes' own numbers in every option: code table 00 of EBU Tech 3264
+-- on the left, EN 300 706 on the right.
 unfoldable pub is_common : ℕ → Bool
 is_common byte =
     -- Alpha colours, flash, steady, end box, start box, normal height, double height.
@@ -52,27 +52,27 @@ is_common byte =
     -- Small letters.
     || is_within 0x61 0x7A byte
 
--- ---- what a byte says
+-- ---- meanings of bytes
 
--- The cell of a byte by itself: its own number, or the place of a character of the option.
+-- The cell of a single byte: its own number, or the place of a character of the option.
 unfoldable pub cell_of : National → ℕ → Option ℕ
 cell_of national byte =
     if is_common byte then Some byte else cell_in (sub_set national).characters None byte
 
--- What a byte says that gives no cell.
+-- The meaning of a byte without a cell.
 unfoldable pub code_of_other : ℕ → TextCode
 code_of_other byte =
     if is_no_cell byte then NoCell
     else (if byte == new_line then NewLine
     else (if is_control byte then Refused Control else Refused Character))
 
--- What a byte says by itself: its cell, if it has one.
+-- The meaning of a single byte: its cell, if it has one.
 abbrev pub text_code : National → ℕ → TextCode
 text_code national byte = unwrap_or (option_map Cell (cell_of national byte)) (code_of_other byte)
 
--- The cell of a byte together with the next: of a diacritical mark and its letter, where the option
--- has the character of the two. Where it lacks that, the mark is refused: without its accent the
--- letter would show a word that nobody wrote.
+-- The cell of a byte together with the next: of a diacritical mark and its letter, if the option
+-- has this character. If it has not, the mark is rejected: without its accent the letter would show
+-- a different word.
 unfoldable pub cell_of_pair : National → ℕ → Option ℕ → Option ℕ
 cell_of_pair national byte next =
     if is_diacritical byte
@@ -86,16 +86,16 @@ abbrev pub first_of : {A : Type 0} → List A → Option A
 first_of [] = None
 first_of (x ∷ xs) = Some x
 
--- The text code that begins with a byte, and how many of the bytes after it belong to it: a pair
--- of bytes gives its cell and takes one byte more; else a byte speaks by itself.
+-- The text code that begins with a byte, and how many of the following bytes belong to it: a pair
+-- of bytes has one cell and takes one more byte; otherwise the byte has a meaning of its own.
 abbrev pub code_before : National → ℕ → List ℕ → TextCode × ℕ
 code_before national byte bytes =
     unwrap_or
     (option_map (λ code. (Cell code, 1)) (cell_of_pair national byte (first_of bytes)))
     (text_code national byte, 0)
 
--- The text codes of bytes that begin at a place, each with its place. The first `taken` bytes
--- belong to the text code before them.
+-- The text codes of bytes from a place on, each with its place. The first `taken` bytes belong to
+-- the text code before them.
 abbrev pub codes_after : National → ℕ → ℕ → List ℕ → List (ℕ × TextCode)
 codes_after national place taken [] = []
 codes_after national place (suc taken) (byte ∷ bytes) = codes_after national (place + 1) taken bytes
@@ -103,7 +103,7 @@ codes_after national place zero (byte ∷ bytes) =
     (place, (code_before national byte bytes).0)
     ∷ codes_after national (place + 1) (code_before national byte bytes).1 bytes
 
--- The text codes of bytes that begin at a place.
+-- The text codes of bytes from a place on.
 abbrev pub text_codes : National → ℕ → List ℕ → List (ℕ × TextCode)
 text_codes national place bytes = codes_after national place 0 bytes
 
@@ -111,12 +111,12 @@ text_codes national place bytes = codes_after national place 0 bytes
 abbrev pub fault_of : ℕ → RowFaultKind → RowFault
 fault_of place kind = record { kind = kind; at = place }
 
--- A text code that is refused is a fault at the place of its byte.
+-- A rejected text code is a fault at the place of its byte.
 abbrev pub refused_code : ℕ → TextCode → Option RowFault
 refused_code place (Refused kind) = Some (fault_of place kind)
 refused_code place _ = None
 
--- The refused text codes, by byte.
+-- The rejected text codes, by byte.
 abbrev pub refused_codes : List (ℕ × TextCode) → List RowFault
 refused_codes codes = filter_map (λ (c : ℕ × TextCode). refused_code c.0 c.1) codes
 
@@ -125,13 +125,14 @@ abbrev pub HasSevenBits : TextCode → Type 0
 HasSevenBits (Cell code) = IsCode code
 HasSevenBits _ = ⊤
 
--- A text code put before lines of cells.
+-- Puts a text code in front of lines of cells.
 abbrev pub with_code : TextCode → List (List ℕ) → List (List ℕ)
 with_code (Cell code) lines = onto_first code lines
 with_code NewLine lines = [] ∷ lines
 with_code _ lines = lines
 
--- The lines of cells that text codes give: cut at each new line, so one line more than these.
+-- The lines of cells of text codes, separated by new lines, so there is one line more than new
+-- lines.
 abbrev pub lines_of_codes : List (ℕ × TextCode) → List (List ℕ)
 lines_of_codes [] = [] ∷ []
 lines_of_codes (c ∷ codes) = with_code c.1 (lines_of_codes codes)

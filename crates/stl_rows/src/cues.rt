@@ -1,8 +1,8 @@
-//! Subtitles in the order of a file: their times and places, and their texts one behind the other.
+//! Subtitles in the order of a file: their times and positions, with all texts in one buffer.
 //!
-//! A `Subtitle` has room for 1,008 bytes of text: 100,000 of them took 103 MB, and page faults half
-//! of a check's time. So a programme keeps cues of 24 bytes with all texts in one list, and lends a
-//! `Record` of the same value.
+//! A `Subtitle` has a buffer of 1,008 bytes for its text: 100,000 of them took 103 MB, and page
+//! faults took half the time of a check. So a programme stores cues of 24 bytes with all texts in
+//! one list, and lends a `Record` with the same value.
 
 ghost use Rattle.std.specs.Prelude.{◌≡◌, ℕ, ◌-◌, ◌<◌, ◌≤◌, ◌==◌, ◌++◌, [], ◌∷◌};
 ghost use Rattle.std.specs.Prelude.{Some, length, take};
@@ -16,7 +16,7 @@ use std::alloc::{AllocError, Allocator};
 use std::marker::Model;
 use stl_file::{Subtitle, TimeCode};
 
-/// A subtitle but for its text, and where that stands among all texts.
+/// A subtitle without its text, and the position of the text among all texts.
 #[derive(Clone, Copy)]
 pub(crate) struct Cue {
     start: usize,
@@ -29,13 +29,13 @@ pub(crate) struct Cue {
     jc: u8,
 }
 
-/// Subtitles in the order of a file. Contracts see the list of them.
+/// Subtitles in the order of a file. The model is the list of subtitles.
 ///
-/// A subtitle takes 24 bytes and those of its text, in place of the 1 KB of a `Subtitle`.
+/// A subtitle takes 24 bytes plus its text, instead of the 1 KB of a `Subtitle`.
 #[derive(Drop)]
 pub struct Cues<A: Allocator + Copy> {
     cues: Vec<Cue, A>,
-    // The texts of all of them, and of those that were taken away.
+    // The texts of all subtitles, also of removed ones.
     texts: Vec<u8, A>,
 }
 
@@ -52,7 +52,7 @@ impl<A: Allocator + Copy> Model for Cues<A> {
     ghost invariant = { λ c. All (IsCueAmong c.texts.items) c.cues.items };
 }
 
-// The cue of a subtitle whose text begins at a place among all texts.
+// Returns the cue of a subtitle whose text begins at `start`.
 fn cue_at(start: usize, subtitle: &Subtitle) -> Cue
     ensures { result ≡ cue_at start subtitle.now }
 {
@@ -69,7 +69,7 @@ fn cue_at(start: usize, subtitle: &Subtitle) -> Cue
 }
 
 impl<A: Allocator + Copy> Cues<A> {
-    /// None.
+    /// Creates an empty list.
     pub(crate) fn new(alloc: A) -> Cues<A>
         ensures { result ≡ [] }
     {
@@ -79,21 +79,21 @@ impl<A: Allocator + Copy> Cues<A> {
         }
     }
 
-    /// How many there are.
+    /// Returns the number of subtitles.
     pub fn len(&self) -> usize
         ensures { result ≡ length self.now }
     {
         self.cues.len()
     }
 
-    /// Whether there is none.
+    /// Returns whether there is none.
     pub fn is_empty(&self) -> bool
         ensures { result ≡ (length self.now == 0) }
     {
         self.cues.is_empty()
     }
 
-    /// One of them by its index, from 0 and below `len`, lent.
+    /// Borrows a subtitle by its index, from 0 and below `len`.
     pub(crate) fn at(&self, i: usize) -> Record<'_>
         requires { i < length self.now }
         ensures value { slice_get self.now i ≡ Some result }
@@ -113,7 +113,7 @@ impl<A: Allocator + Copy> Cues<A> {
         }
     }
 
-    /// The first one, lent. `None` where there is none.
+    /// Borrows the first subtitle, or returns `None` if there is none.
     pub(crate) fn first(&self) -> Option<Record<'_>>
         ensures { result ≡ slice_get self.now 0 }
     {
@@ -123,7 +123,7 @@ impl<A: Allocator + Copy> Cues<A> {
         Some(self.at(0))
     }
 
-    /// The last one, lent. `None` where there is none.
+    /// Borrows the last subtitle, or returns `None` if there is none.
     pub(crate) fn last(&self) -> Option<Record<'_>>
         ensures { result ≡ slice_get self.now (length self.now - 1) }
     {
@@ -133,7 +133,7 @@ impl<A: Allocator + Copy> Cues<A> {
         Some(self.at(self.len() - 1))
     }
 
-    /// One of them by its index, from 0 and below `len`.
+    /// Returns a subtitle by its index, from 0 and below `len`.
     pub fn subtitle(&self, i: usize) -> Subtitle
         requires { i < length self.now }
         ensures { slice_get self.now i ≡ Some result }
@@ -141,11 +141,11 @@ impl<A: Allocator + Copy> Cues<A> {
         self.at(i).to_subtitle()
     }
 
-    /// Adds one behind the last.
+    /// Appends a subtitle.
     ///
     /// # Errors
     ///
-    /// `AllocError` where memory is refused; they are then as they were.
+    /// Returns `AllocError` if memory cannot be allocated. The list does not change.
     pub(crate) fn push(&mut self, subtitle: &Subtitle) -> Result<(), AllocError>
         ensures ok { OnOk result (self.new ≡ self.old ++ subtitle.now ∷ []) }
         ensures err { OnErr result (self.new ≡ self.old) }
@@ -156,14 +156,14 @@ impl<A: Allocator + Copy> Cues<A> {
         Ok(())
     }
 
-    /// Keeps so many from the first on.
+    /// Keeps the first `n` subtitles.
     pub(crate) fn truncate(&mut self, n: usize)
         ensures { self.new ≡ take n self.old }
     {
         self.cues.truncate(n);
     }
 
-    /// How many have ended by a frame, where their TCOs rise: a binary search.
+    /// Returns how many have ended by a frame, by binary search. The TCOs must not decrease.
     pub(crate) fn ended_by(&self, frame: u32) -> usize
         requires { IsNonDecreasingBy (λ (t : SubtitleValue). t.tco) self.now }
         ensures bound { result ≤ length self.now }

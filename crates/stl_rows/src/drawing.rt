@@ -1,4 +1,4 @@
-//! The drawn page of a subtitle.
+//! Draws the page of a subtitle.
 
 ghost use Rattle.std.specs.Prelude.{◌≡◌, ◌<◌, ◌≤◌, ◌++◌, [], ◌∷◌, false, Ok, IsOk, length};
 ghost use Rattle.ttx_page.specs.Page.{AreCodes};
@@ -21,7 +21,7 @@ use arrayvec::ArrayVec;
 use stl_file::{Scope, Subtitle};
 use ttx_page::Page;
 
-// Adds a cell to a line that has room for it.
+// Appends a cell to a line that has room for it.
 #[inline(always)]
 fn push_cell(cells: &mut ArrayVec<u8, 40>, cell: u8)
     requires { length cells.old.items < 40 }
@@ -30,7 +30,7 @@ fn push_cell(cells: &mut ArrayVec<u8, 40>, cell: u8)
     cells.push(cell);
 }
 
-// Puts a line of cells on a row of the page.
+// Draws a line of cells in a row of the page.
 #[tactic(auto, using(std::proofs::lemmas::Bool::Decides::nat_tests))]
 fn put_line(jc: u8, row: u16, cells: &[u8], page: &mut Page)
     requires fits { FitsRow row cells.now }
@@ -44,7 +44,7 @@ fn put_line(jc: u8, row: u16, cells: &[u8], page: &mut Page)
     page.set_row(row as u8, &row_codes(jc, line.as_slice()));
 }
 
-// Draws the lines of a text without faults on a blank page, the first on row VP.
+// Draws the lines of a text without faults on a blank page, the first one in row VP.
 fn draw_text(national: National, jc: u8, vp: u8, text: &[u8], page: &mut Page)
     requires first { 1 ≤ vp }
     requires last { vp ≤ 23 }
@@ -73,7 +73,7 @@ fn draw_text(national: National, jc: u8, vp: u8, text: &[u8], page: &mut Page)
     put_line(jc, row, cells.as_slice(), page);
 }
 
-/// Draws the page of a subtitle which has no fault, in place of another: a page is long to copy.
+/// Draws the page of a subtitle without faults over another page, since copying a page takes long.
 pub(crate) fn draw_on(subtitle: &Record<'_>, drawing: &Drawing, page: &mut Page)
     requires { IsOk (drawn drawing.now subtitle.now) }
     ensures { drawn drawing.now subtitle.now ≡ Ok page.new }
@@ -93,17 +93,17 @@ pub(crate) fn draw_on(subtitle: &Record<'_>, drawing: &Drawing, page: &mut Page)
     }
 }
 
-/// Draws a subtitle's text on a page by the table of a national option, as a layout says (EBU Tech
-/// 3264, TTI block, fields TF, VP and JC; EN 300 706, packets X/1 to X/24).
+/// Draws a subtitle's text on a page with the character set of a national option, according to a
+/// layout (EBU Tech 3264, TTI block, fields TF, VP and JC; EN 300 706, packets X/1 to X/24).
 ///
-/// Each line that 8A ends goes to a row of its own, by default the first to row VP, placed by JC. A
-/// line that isn't empty and has no start box gets what the layout puts beside it, by default a
-/// box. All other cells of rows 1 to 24 are spaces.
+/// Each line that ends with 8A takes a row of its own, by default the first one row VP, with its
+/// column given by JC. A line that isn't empty and has no start box gets the codes of the layout,
+/// by default a box. All other cells of rows 1 to 24 are spaces.
 ///
 /// # Errors
 ///
-/// The first fault: `Character` and `Control` by byte over the whole text, then line by line
-/// `RowTooLong`, `PastBottom`, `DoubleRow`, `Hidden`.
+/// Returns the first fault: `Character` and `Control` by byte over the whole text, then for each
+/// line `RowTooLong`, `PastBottom`, `DoubleRow`, `Hidden`.
 pub fn draw(subtitle: &Subtitle, national: National, layout: Layout) -> Result<Page, RowFault>
     ensures { result ≡ drawn (drawing_by national layout) subtitle.now }
 {
@@ -119,14 +119,13 @@ pub fn draw(subtitle: &Subtitle, national: National, layout: Layout) -> Result<P
     }
 }
 
-/// By the default layout a subtitle is drawn plainly: each line in a box of its own, one row below
-/// the line before it.
+/// With the default layout each line is drawn in a box of its own, one row below the line before.
 #[tactic(auto, using(crate::proofs::DefaultLayoutLemmas::default_is_plain))]
 pub fn law_of_default_layout()
     ensures { LawOfDefaultLayout }
 {}
 
-/// No layout adds, changes, loses or moves past another any letter of a text.
+/// No layout adds, changes, loses or reorders printable characters of a text.
 pub fn law_of_letters()
     ensures { LawOfLetters }
 {}

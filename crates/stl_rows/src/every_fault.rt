@@ -1,4 +1,4 @@
-//! Loading what can be relied on of a subtitle file, and telling every fault of it.
+//! Loads the reliable subtitles of a file, and reports every fault of it.
 
 ghost use Rattle.std.specs.Prelude.{◌≡◌, ◌⊎◌, [], ◌∷◌, map, true, false, IfErr, IfOk};
 ghost use Rattle.std.specs.Prelude.{IfSome, None, Ok, OnErr, OnOk, is_err, is_none};
@@ -32,26 +32,25 @@ use std::alloc::{Allocator, Global};
 use stl_file::{Found, ResumingReader, Scope, StlFault, Subtitle};
 use sub_io::{Audience, Source, Stopped};
 
-/// Loads what can be relied on of the subtitles of an STL file, and tells a device every fault of
-/// the file.
+/// Loads the reliable subtitles of an STL file, and reports every fault of the file to `audience`.
 ///
-/// The faults are told by block, all of them or those up to the one at which the device said stop.
-/// At a subtitle's first block that is what it is refused for, `File`: it is no record, is not
-/// drawn, and times are compared as if it were not there. At the last block of each other subtitle
-/// they are `OutOfOrder` or `Overlap`, by the times of the one before it, whatever was told of that
-/// one, and then the first fault of `draw`, as `Row`. Last comes the fault that ends reading,
-/// `File`.
+/// The faults are reported by block, up to the one at which the audience stops. At the first block
+/// of a rejected subtitle it is the reason, `File`; such a subtitle is not drawn, and times are
+/// compared as if it did not exist. At the last block of each other subtitle it is `OutOfOrder` or
+/// `Overlap`, compared with the times of the one before, even if that has faults, and then the
+/// first fault of `draw`, as `Row`. The fault that ends reading, `File`, comes last.
 ///
-/// Where none is told the answer is what `load` gives, and nothing is undecided. Where some are, it
-/// is the subtitles of which nothing is told and after which the next one's times are in order.
-/// `None` where these are not enough to judge a transmission by: the file was not read to its end,
-/// there are none, or one starts before one before it has ended; and where the device said stop.
+/// If there is no fault, returns what `load` returns, and no frame is undecided. Otherwise returns
+/// the subtitles without faults whose successor has times in order. Returns `None` if a
+/// transmission cannot be checked against these: the file was not read to its end, there are none,
+/// or one of them starts before an earlier one has ended. Also returns `None` if the audience
+/// stops.
 ///
 /// # Errors
 ///
-/// `File` with `Read` where the source failed, at the block of the byte that was asked for: the
-/// faults before it were told. `Memory` where the memory for a subtitle was refused that is kept,
-/// at its last block: the faults before it were told.
+/// Returns `File` with `Read` if the source fails, at the block of the byte that could not be read,
+/// and `Memory` if the memory for a subtitle cannot be allocated, at its last block. The faults
+/// before that have been reported.
 pub fn load_all<S: Source, D: Audience<LoadFault>>(
     alloc: Global,
     source: &mut S,
@@ -62,7 +61,7 @@ pub fn load_all<S: Source, D: Audience<LoadFault>>(
 ) -> Result<Option<JudgedProgramme>, LoadFault>
     requires count { CanFail (S.failure_count source.old) }
     requires listens { D.has_stopped audience.old ≡ false }
-    // Where the source tells its bytes, they decide what is judged by and what was told.
+    // If the source's bytes are known, they determine the result and the reports.
     ensures exact { IfKnown (S.remaining source.old) (λ bytes. IfOk result (λ found.
         IfSome found (JudgesBy (drawing_within national layout scope) bytes))) }
     ensures told_all { IfKnown (S.remaining source.old) (λ bytes. IfOk result (λ found.
@@ -82,15 +81,15 @@ pub fn load_all<S: Source, D: Audience<LoadFault>>(
         IsProgramme judged.programme.drawing judged.programme.records)) }
     ensures drawing { IfOk result (λ found. IfSome found (λ judged.
         judged.programme.drawing ≡ drawing_within national layout scope)) }
-    // `None` comes where faults were told.
+    // `None` means that faults were reported.
     ensures some { result ≡ Ok None →
         TellsOfFile D.is_told audience.old audience.new }
     ensures any { IfOk result (λ found. IfSome found (λ _.
         TellsAnyOfFile D.is_told audience.old audience.new)) }
     ensures stopped { D.has_stopped audience.new ≡ true → result ≡ Ok None }
-    // Whatever the source tells, the device was told some faults where it failed.
+    // Whether or not the source's bytes are known, faults may have been reported before it failed.
     ensures some_before { IfErr result (λ _. TellsSome D.is_told audience.old audience.new) }
-    // A failed read names the block of the byte that was asked for.
+    // A failed read has the block of the byte that could not be read.
     ensures read { IfErr result (λ f. is_load_read f ≡ true →
         FailsTelling (drawing_within national layout scope)
         (S.remaining source.old) (S.remaining source.new)
@@ -106,12 +105,12 @@ pub fn load_all<S: Source, D: Audience<LoadFault>>(
     }
 }
 
-/// Loads what can be relied on of the subtitles of an STL file into any memory, and tells every
-/// fault: `load_all` is this in the program's own.
+/// Loads the reliable subtitles of an STL file into any memory, and reports every fault. `load_all`
+/// does this with the program's own memory.
 ///
 /// # Errors
 ///
-/// Those of `load_all`.
+/// Returns the errors of `load_all`.
 pub fn load_all_in<A: Allocator + Copy, S: Source, D: Audience<LoadFault>>(
     alloc: A,
     source: &mut S,
@@ -120,7 +119,7 @@ pub fn load_all_in<A: Allocator + Copy, S: Source, D: Audience<LoadFault>>(
 ) -> Result<Option<Kept<A>>, LoadFault>
     requires count { CanFail (S.failure_count source.old) }
     requires listens { D.has_stopped audience.old ≡ false }
-    // Where the source tells its bytes, they decide what is judged by and what was told.
+    // If the source's bytes are known, they determine the result and the reports.
     ensures exact { IfKnown (S.remaining source.old) (λ bytes. LoadsAll drawing bytes
         D.is_told audience.old audience.new (D.has_stopped audience.new) result) }
     ensures programme { IfOk result (λ found.
@@ -173,7 +172,7 @@ pub fn load_all_in<A: Allocator + Copy, S: Source, D: Audience<LoadFault>>(
     }
 }
 
-// Tells the fault that ends reading. Where that is that the source failed, it answers it instead.
+// Reports the fault that ends reading. If the source failed, returns that as an error instead.
 fn tell_end<D: Audience<LoadFault>>(
     fault: StlFault,
     block: u32,
@@ -191,13 +190,13 @@ fn tell_end<D: Audience<LoadFault>>(
     if let LoadFaultKind::File(StlFault::Read) = kind {
         return Err(fault);
     }
-    // Nothing is told after it, whether the device wants more or not.
+    // Nothing is reported after it, so it doesn't matter whether the audience stops.
     let _ = audience.tell(fault);
     Ok(())
 }
 
-// Tells what is wrong with a subtitle that follows one of these times and ends at this block;
-// answers whether nothing is.
+// Reports the faults of a subtitle that follows one with the times `before` and ends at `block`.
+// Returns whether there is none.
 fn tell_faults<D: Audience<LoadFault>>(
     drawing: &Drawing,
     before: Option<Times>,
@@ -223,7 +222,7 @@ fn tell_faults<D: Audience<LoadFault>>(
     Ok(in_order && drawn)
 }
 
-// Tells a fault, where there is one; answers whether there is none.
+// Reports a fault, if there is one. Returns whether there is none.
 fn tell_fault<D: Audience<LoadFault>>(
     kind: Option<LoadFaultKind>,
     block: u32,
@@ -245,7 +244,7 @@ fn tell_fault<D: Audience<LoadFault>>(
     }
 }
 
-// The first fault of a subtitle's rows.
+// Returns the first fault of drawing a subtitle.
 fn row_fault(subtitle: &Subtitle, drawing: &Drawing) -> Option<LoadFaultKind>
     ensures { first_alone result ≡ row_faults (drawn drawing.now subtitle.now) }
 {

@@ -1,22 +1,22 @@
-//! Why a subtitle draws no page, and why a file is no programme.
+//! Faults of drawing a subtitle and of loading a file.
 
 ghost use Rattle.std.specs.Prelude.{◌≡◌};
 
 use stl_file::StlFault;
 use sub_io::FaultCode;
 
-/// What is wrong with the text of a subtitle, in the order in which it is told.
+/// A fault in the text of a subtitle, in the order in which they are reported.
 #[derive(Clone, Copy, Debug, PartialEq, Eq)]
 pub enum RowFaultKind {
-    /// 50: a byte that the table of the national option gives no cell for.
+    /// 50: a byte without a cell in the national option's character set.
     Character,
-    /// 51: a control code, 00 to 1F or 80 to 9F, that the table doesn't have.
+    /// 51: an unsupported control code, 00 to 1F or 80 to 9F.
     Control,
     /// 52: a prepared line of more than 40 cells.
     RowTooLong,
-    /// 53: a line that isn't empty, past row 23.
+    /// 53: a line that isn't empty, below row 23.
     PastBottom,
-    /// 54: a line with double height on row 23.
+    /// 54: a line with double height in row 23.
     DoubleRow,
     /// 55: a line that isn't empty, directly under a line with double height.
     Hidden,
@@ -25,7 +25,7 @@ pub enum RowFaultKind {
 impl RowFaultKind {
     ghost use Rattle.stl_rows.specs.Fault.{row_code};
 
-    /// The number and the name by which the fault is told (own).
+    /// Returns the number and the name of the fault in reports (own).
     pub fn code(self) -> FaultCode
         ensures { result ≡ row_code self }
     {
@@ -40,35 +40,35 @@ impl RowFaultKind {
     }
 }
 
-/// Why a subtitle draws no page.
+/// Why a subtitle cannot be drawn.
 #[derive(Clone, Copy, Debug, PartialEq, Eq)]
 pub struct RowFault {
-    /// What is wrong.
+    /// The fault.
     pub kind: RowFaultKind,
-    /// Where: for `Character` and `Control` the byte's place in the joined text, else the line's
-    /// number; both from 0.
+    /// Its position: for `Character` and `Control` the index of the byte in the joined text,
+    /// otherwise the number of the line; both from 0.
     pub at: u16,
 }
 
-/// What is wrong with a subtitle file, in the order in which it is told at one block.
+/// A fault of a subtitle file, in the order in which they are reported for one block.
 #[derive(Clone, Copy, Debug, PartialEq, Eq)]
 pub enum LoadFaultKind {
-    /// 10 to 26: the file is no STL file of the profile, or could not be read.
+    /// 10 to 26: the file is invalid or not supported, or could not be read.
     File(StlFault),
-    /// 56: a TCI before the TCI of the subtitle before.
+    /// 56: a TCI before the TCI of the previous subtitle.
     OutOfOrder,
-    /// 57: a TCI before the TCO of the subtitle before.
+    /// 57: a TCI before the TCO of the previous subtitle.
     Overlap,
-    /// 50 to 55: the subtitle draws no page.
+    /// 50 to 55: the subtitle cannot be drawn.
     Row(RowFault),
-    /// 58: the memory for the subtitle was refused.
+    /// 58: the memory for the subtitle could not be allocated.
     Memory,
 }
 
 impl LoadFaultKind {
     ghost use Rattle.stl_rows.specs.Fault.{load_code};
 
-    /// The number and the name by which the fault is told (own).
+    /// Returns the number and the name of the fault in reports (own).
     pub fn code(self) -> FaultCode
         ensures { result ≡ load_code self }
     {
@@ -85,9 +85,9 @@ impl LoadFaultKind {
 /// Why a file was not loaded.
 #[derive(Clone, Copy, Debug, PartialEq, Eq)]
 pub struct LoadFault {
-    /// The TTI block, counted from 1; 0 for the GSI block. A subtitle's own faults name its last
+    /// The TTI block, counted from 1; 0 for the GSI block. For a subtitle's own faults, its last
     /// block.
     pub block: u32,
-    /// What is wrong.
+    /// The fault.
     pub kind: LoadFaultKind,
 }

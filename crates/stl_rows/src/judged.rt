@@ -1,4 +1,4 @@
-//! Programmes of what can be relied on in a subtitle file beside what is refused.
+//! Programmes of the reliable subtitles of a file that has rejected ones.
 
 ghost use Rattle.std.specs.Prelude.{◌≡◌};
 ghost use Rattle.std.specs.List.{list_any};
@@ -12,14 +12,15 @@ use crate::programme::Programme;
 use std::alloc::Global;
 use std::marker::Model;
 
-/// The subtitles of a file that can be relied on, and between which of them others stand.
+/// The reliable subtitles of a file, and the gaps between them that contain other subtitles.
 ///
-/// It is made by `load_all`. Contracts see the programme, for its subtitles in order a bit each,
-/// whether another one stands before it, and whether one stands behind the last.
+/// Created by `load_all`. The model has the programme, a bit for each of its subtitles in order
+/// that says whether another one precedes it, and whether one follows the last.
 #[derive(Drop)]
 pub struct JudgedProgramme {
     programme: Programme,
-    // Those from the first on; where bits are missing no other stands before a subtitle.
+    // The bits from the first subtitle on. If bits are missing, no other subtitle precedes the
+    // rest.
     behind_other: Vec<bool>,
     is_before_other: bool,
 }
@@ -36,10 +37,10 @@ impl Model for JudgedProgramme {
     } };
 }
 
-/// A programme by which a transmission is judged, and between which of its subtitles others stand:
-/// lent of a programme of which all is known, or of one beside which some are refused.
+/// A programme against which a transmission is checked, with the gaps that contain other subtitles:
+/// borrowed from a complete programme, or from one with rejected subtitles.
 ///
-/// Contracts see it as they see a judged programme.
+/// Its model is that of a `JudgedProgramme`.
 #[derive(Drop)]
 pub struct Judging<'a> {
     programme: &'a Programme,
@@ -60,7 +61,7 @@ impl<'a> Model for Judging<'a> {
 }
 
 impl JudgedProgramme {
-    // The programme of what was kept of a file, with its bits.
+    // Creates a programme of the subtitles kept of a file, with their bits.
     pub(crate) fn of(drawing: Drawing, kept: Kept<Global>) -> JudgedProgramme
         requires { IsProgramme drawing kept.records }
         ensures { result ≡ judged_with drawing kept }
@@ -78,14 +79,14 @@ impl JudgedProgramme {
         }
     }
 
-    /// The programme of the subtitles that can be relied on.
+    /// Returns the programme of the reliable subtitles.
     pub fn programme(&self) -> &Programme
         ensures { result.now ≡ self.now.programme }
     {
         &self.programme
     }
 
-    /// What a transmission is judged by.
+    /// Borrows it to check a transmission.
     pub fn judging(&self) -> Judging<'_>
         ensures { result ≡ self.now }
     {
@@ -98,7 +99,7 @@ impl JudgedProgramme {
 }
 
 impl<'a> Judging<'a> {
-    /// What a transmission is judged by where nothing of the subtitle file is refused.
+    /// Checks a transmission against a programme without rejected subtitles.
     pub fn known(programme: &'a Programme) -> Judging<'a>
         ensures { result ≡ known programme.now }
     {
@@ -109,24 +110,24 @@ impl<'a> Judging<'a> {
         }
     }
 
-    /// The programme of the subtitles that can be relied on.
+    /// Returns the programme of the reliable subtitles.
     pub fn programme(&self) -> &'a Programme
         ensures { result.now ≡ self.now.programme }
     {
         self.programme
     }
 
-    /// Whether another subtitle stands somewhere: something of the file is refused.
+    /// Returns whether there is another subtitle anywhere, so some of the file was rejected.
     pub fn has_refused(&self) -> bool
         ensures { result ≡ has_refused self.now }
     {
         self.is_before_other || is_one_set(self.behind_other)
     }
 
-    /// Whether it is not known what is due at a frame: another subtitle stands between those that
-    /// can be relied on before it and after it.
+    /// Returns whether the expected page is unknown at a frame: another subtitle lies between the
+    /// reliable ones before and after it.
     ///
-    /// It is found by binary search.
+    /// Uses binary search.
     pub fn is_undecided(&self, frame: u32) -> bool
         ensures { result ≡ is_undecided_in self.now frame }
     {
@@ -135,14 +136,14 @@ impl<'a> Judging<'a> {
     }
 }
 
-// Whether one of these is set.
+// Returns whether a bit is set.
 fn is_one_set(bits: &[bool]) -> bool
     ensures { result ≡ list_any (λ bit. bit) bits.now }
 {
     bits.iter().any(|bit| *bit)
 }
 
-/// In a programme of a file in which nothing is refused it is known at each frame what is due.
+/// In a programme of a file without rejected subtitles, the expected page is known at every frame.
 #[tactic(auto, using(crate::proofs::JudgedLemmas::all_known))]
 pub fn law_of_known()
     ensures { LawOfKnown }

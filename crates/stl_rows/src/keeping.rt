@@ -1,4 +1,4 @@
-//! What is kept of the subtitles of a file while it is read.
+//! The subtitles kept while a file is read.
 
 ghost use Rattle.std.specs.Prelude.{◌≡◌, [], true, if◌then◌else◌, IfErr, IfSome, None, OnOk, Some};
 ghost use Rattle.stl_rows.specs.Judged.{are_in_order, with_bits};
@@ -12,18 +12,18 @@ use std::alloc::Allocator;
 use std::marker::Model;
 use stl_file::Subtitle;
 
-/// The subtitles of a file that can be relied on, by what was read of it.
+/// The reliable subtitles among those read so far.
 ///
-/// Contracts see these, a bit for each, whether another subtitle of the file stands before it, and
-/// whether one stands behind the last.
+/// The model has these subtitles, a bit for each that says whether another subtitle of the file
+/// precedes it, and whether one follows the last.
 #[derive(Drop)]
 pub struct Kept<A: Allocator + Copy> {
     pub(crate) subtitles: Cues<A>,
-    // Those from the first on, up to the last that is set.
+    // The bits from the first subtitle on, up to the last one that is set.
     pub(crate) behind_other: Vec<bool, A>,
-    // Whether another one stands behind the last.
+    // Another subtitle follows the last.
     pub(crate) is_before_other: bool,
-    // Whether the last is the one with whose times the next ones are compared.
+    // The last one is the subtitle with whose times the next are compared.
     pub(crate) is_latest: bool,
 }
 
@@ -40,7 +40,7 @@ impl<A: Allocator + Copy> Model for Kept<A> {
     } };
 }
 
-// Sets the bit of one more, behind this many.
+// Sets the bit number `at`, and fills missing bits before it.
 fn push_bit<A: Allocator + Copy>(bits: &mut Vec<bool, A>, at: usize) -> Result<(), LoadFaultKind>
     ensures bits { OnOk result (bits.new.items ≡ bits_after at true bits.old.items) }
     ensures memory { IfErr result (λ kind. kind ≡ Memory) }
@@ -54,7 +54,7 @@ fn push_bit<A: Allocator + Copy>(bits: &mut Vec<bool, A>, at: usize) -> Result<(
     }
 }
 
-// Whether none of these starts before one before it has ended.
+// Returns whether no subtitle starts before an earlier one has ended.
 fn are_in_order<A: Allocator + Copy>(subtitles: &Cues<A>) -> bool
     ensures { result ≡ are_in_order (with_bits subtitles.now []) }
 {
@@ -72,7 +72,7 @@ fn are_in_order<A: Allocator + Copy>(subtitles: &Cues<A>) -> bool
 }
 
 impl<A: Allocator + Copy> Kept<A> {
-    // Nothing was read yet.
+    // Creates the state before any subtitle.
     pub(crate) fn new(alloc: A) -> Kept<A>
         ensures { result ≡ nothing_kept }
     {
@@ -84,14 +84,14 @@ impl<A: Allocator + Copy> Kept<A> {
         }
     }
 
-    // One more is refused.
+    // Counts a rejected subtitle.
     pub(crate) fn refuse(&mut self)
         ensures { self.new ≡ refused_one self.old }
     {
         self.is_before_other = true;
     }
 
-    // One more is kept.
+    // Appends a subtitle.
     fn push(&mut self, subtitle: &Subtitle) -> Result<(), LoadFaultKind>
         ensures kept { OnOk result (self.new ≡ with_one subtitle.now self.old) }
         ensures memory { IfErr result (λ kind. kind ≡ Memory) }
@@ -107,7 +107,7 @@ impl<A: Allocator + Copy> Kept<A> {
         Ok(())
     }
 
-    // The last one is not relied on.
+    // Removes the last subtitle, which is not reliable.
     fn pop(&mut self)
         ensures { self.new ≡ without_last self.old }
     {
@@ -116,8 +116,8 @@ impl<A: Allocator + Copy> Kept<A> {
         self.behind_other.truncate(left);
     }
 
-    // One more of the file: whether its times are in order with those of the one before it, and
-    // whether nothing is told of it. Where they are not in order neither of the two is kept.
+    // Takes the next subtitle of the file. `in_order`: its times are in order with those of the one
+    // before; `clean`: it has no fault. If the times are not in order, neither of the two is kept.
     pub(crate) fn put(
         &mut self,
         in_order: bool,
@@ -138,15 +138,15 @@ impl<A: Allocator + Copy> Kept<A> {
         Ok(())
     }
 
-    // Whether they are all of the file.
+    // Returns whether these are all subtitles of the file.
     fn is_whole(&self) -> bool
         ensures { result ≡ is_whole self.now }
     {
         self.behind_other.is_empty() && !self.is_before_other
     }
 
-    // Whether a transmission is judged by these: they are all of the file, or some of it and in
-    // order.
+    // Returns whether a transmission can be checked against these subtitles: they are all of the
+    // file, or at least one and in order.
     fn is_enough(&self) -> bool
         ensures { result ≡ is_enough self.now }
     {
@@ -159,14 +159,14 @@ impl<A: Allocator + Copy> Kept<A> {
         are_in_order(&self.subtitles)
     }
 
-    // What is kept, where a transmission is judged by it.
+    // Returns the subtitles if a transmission can be checked against them.
     pub(crate) fn if_enough(self) -> Option<Self>
         ensures { result ≡ (if is_enough self then Some self else None) }
     {
         if self.is_enough() { Some(self) } else { None }
     }
 
-    // The subtitles alone.
+    // Returns only the subtitles.
     pub(crate) fn into_subtitles(self) -> Cues<A>
         ensures { result ≡ self.records }
     {

@@ -1,4 +1,4 @@
-//! The drawn page of a subtitle by a layout whose items are given.
+//! Draws the page of a subtitle by a layout with explicit items.
 
 ghost use Rattle.std.specs.Prelude.{◌≡◌, ◌+◌, ◌*◌, ◌-◌, ◌<◌, ◌≤◌, ◌++◌, ◌∷◌, [], length, map, Some};
 ghost use Rattle.std.specs.Prelude.{IfErr, IfSome, OnOk, None};
@@ -25,7 +25,7 @@ use ttx_page::Page;
 // The bytes of a text, or its cells and the new lines between them.
 type TextCells = ArrayVec<u8, 1008>;
 
-// A text in which each byte that `strip` names is read as 80, which gives no cell.
+// Replaces the bytes of a text that `strip` names by 80, which has no cell.
 fn unstripped(items: &LayoutItems, text: &[u8]) -> TextCells
     requires { length text.now ≤ 1008 }
     ensures value { result.items ≡ unstripped items.now text.now }
@@ -38,7 +38,7 @@ fn unstripped(items: &LayoutItems, text: &[u8]) -> TextCells
     bytes
 }
 
-// Reads the cells of a text and the new lines between them.
+// Decodes the cells of a text and the new lines between them.
 fn read_cells(national: National, text: &[u8], cells: &mut TextCells) -> Result<(), RowFault>
     requires none { cells.old.items ≡ [] }
     requires short { length text.now ≤ 1008 }
@@ -66,7 +66,7 @@ fn read_cells(national: National, text: &[u8], cells: &mut TextCells) -> Result<
     Ok(())
 }
 
-// The first line of these cells, and what is behind the new line that ends it.
+// Returns the first line of these cells, and the cells after the new line that ends it.
 fn first_line(cells: &[u8]) -> (&[u8], Option<&[u8]>)
     ensures lines { cut_lines cells.now
         ≡ result.0.now ∷ option_map_or (λ more. cut_lines more.now) result.1 [] }
@@ -85,7 +85,7 @@ fn first_line(cells: &[u8]) -> (&[u8], Option<&[u8]>)
     (cells, None)
 }
 
-// The depth of the last line that is not empty, where line 0 has none.
+// Returns the depth of the last line that is not empty, with line 0 at depth 0.
 fn last_depth(items: &LayoutItems, cells: &[u8]) -> u16
     requires { length cells.now ≤ 1008 }
     ensures value { result ≡ last_depth items.now 0 0 (prepared_cut items.now cells.now) }
@@ -112,7 +112,7 @@ fn last_depth(items: &LayoutItems, cells: &[u8]) -> u16
     }
 }
 
-// The rows that are taken off the depth of each line.
+// Returns the number of rows that are subtracted from the depth of each line.
 fn rows_off(items: &LayoutItems, cells: &[u8]) -> u16
     requires { length cells.now ≤ 1008 }
     ensures value { result ≡ rows_off items.now (prepared_cut items.now cells.now) }
@@ -126,19 +126,19 @@ fn rows_off(items: &LayoutItems, cells: &[u8]) -> u16
     }
 }
 
-// Where a line goes.
+// The position of a line.
 #[derive(Clone, Copy)]
 struct Place {
-    // Its number among all.
+    // Its number among all lines.
     number: u16,
-    // Its row before any is taken off.
+    // Its row before the subtraction.
     depth: u16,
-    // Whether the line before it has double height.
+    // The line before it has double height.
     is_under_double: bool,
 }
 
 impl Place {
-    // What is wrong with a line at this place first.
+    // Returns the first fault of a line at this position.
     #[tactic(auto, unfolding(crate::specs::LineByLayout::fault_at))]
     fn fault(&self, items: &LayoutItems, off: u16, line: &[u8]) -> Option<RowFault>
         requires { off ≤ 2271 }
@@ -154,7 +154,7 @@ impl Place {
         })
     }
 
-    // The kind of it.
+    // Returns the kind of that fault.
     #[tactic(auto, unfolding(crate::specs::DrawnPage::placed_fault_kinds))]
     fn fault_kind(&self, items: &LayoutItems, off: u16, line: &[u8]) -> Option<RowFaultKind>
         requires { off ≤ 2271 }
@@ -175,7 +175,7 @@ impl Place {
         None
     }
 
-    // Goes to the place of the line behind one.
+    // Moves to the position of the next line.
     #[tactic(auto, unfolding(crate::specs::LineByLayout::place_behind))]
     fn pass(&mut self, items: &LayoutItems, line: &[u8])
         requires number { self.old.number ≤ 1008 }
@@ -191,7 +191,7 @@ impl Place {
     }
 }
 
-// Puts a line without a fault on its row.
+// Draws a line without a fault in its row.
 #[tactic(auto, unfolding(crate::specs::LineByLayout::page_with))]
 fn put_line(items: &LayoutItems, jc: u8, off: u16, place: &Place, line: &[u8], page: &mut Page)
     requires sound { fault_at items.now off place.now line.now ≡ None }
@@ -239,11 +239,11 @@ fn draw_lines(
     }
 }
 
-/// Draws a subtitle's text on a page by a national option and the items of a layout.
+/// Draws a subtitle's text on a page with a national option and the items of a layout.
 ///
 /// # Errors
 ///
-/// Those of `draw`.
+/// Returns the errors of `draw`.
 pub(crate) fn draw_by(
     national: National,
     items: &LayoutItems,

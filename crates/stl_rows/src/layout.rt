@@ -1,4 +1,4 @@
-//! Layouts: how a house draws its texts.
+//! Layouts: how a broadcaster draws its texts.
 
 ghost use Rattle.std.specs.Prelude.{◌≡◌};
 ghost use Rattle.stl_rows.specs.Layout.{attribute_code, attribute_of, default_items};
@@ -8,8 +8,7 @@ ghost use Rattle.stl_rows.specs.Layout.{default_layout, drawing_within, strips};
 use crate::national::National;
 use stl_file::Scope;
 
-/// A spacing attribute that a layout may put beside the cells of a line (EN 300 706, spacing
-/// attributes).
+/// A spacing attribute that a layout may add to a line (EN 300 706, spacing attributes).
 #[derive(Clone, Copy, Debug, PartialEq, Eq)]
 pub(crate) enum Attribute {
     /// 01: alpha red.
@@ -42,7 +41,7 @@ pub(crate) enum Attribute {
 
 #[tactic(auto, unfolding(crate::specs::Layout::attribute_of, crate::specs::Layout::attribute_code))]
 impl Attribute {
-    // The attribute with a code.
+    // Returns the attribute with this code.
     pub(crate) fn of(code: u8) -> Option<Attribute>
         ensures { result ≡ attribute_of code }
     {
@@ -64,7 +63,7 @@ impl Attribute {
         }
     }
 
-    // Its code.
+    // Returns its code.
     pub(crate) fn code(self) -> u8
         ensures { result ≡ attribute_code self }
     {
@@ -72,48 +71,47 @@ impl Attribute {
     }
 }
 
-/// The values of a layout's items (own). The codes of a list stand at its front, and `None` is no
-/// code.
+/// The values of a layout's items (own). Codes in a list come first; `None` is no code.
 #[derive(Clone, Copy, Debug)]
 pub(crate) struct LayoutItems {
-    /// `strip`: whether a byte, 00 to 1F, gives no cell.
+    /// `strip`: the bytes, 00 to 1F, that have no cell.
     pub(crate) strip: [bool; 32],
-    /// `before`, up to its `*`: what a line gets before its own leading codes.
+    /// `before`, up to its `*`: codes before a line's own leading codes.
     pub(crate) ahead: [Option<Attribute>; 6],
-    /// `before`, behind its `*`: what it gets behind its own leading codes.
+    /// `before`, after its `*`: codes after a line's own leading codes.
     pub(crate) behind: [Option<Attribute>; 6],
-    /// `after`: what it gets at its end.
+    /// `after`: codes at the end of a line.
     pub(crate) after: [Option<Attribute>; 4],
-    /// `fit`: whether of that it gets as much as there is room for.
+    /// `fit`: only as many of those at the end as there is room for.
     pub(crate) fit: bool,
-    /// `white`: whether a line without a colour at its front gets 07 there.
+    /// `white`: a line without a colour among its leading codes gets 07 there.
     pub(crate) white: bool,
-    /// `trim`: whether it loses the spaces at both ends.
+    /// `trim`: spaces at both ends of a line are removed.
     pub(crate) trim: bool,
-    /// `text`: whether codes at both ends don't count for its column.
+    /// `text`: codes at both ends of a line do not count for its column.
     pub(crate) text: bool,
-    /// `up`: whether half a column is rounded up.
+    /// `up`: half a column is rounded up.
     pub(crate) up: bool,
-    /// `left`: the columns that a line to the left leaves free.
+    /// `left`: free columns to the left of a left-aligned line.
     pub(crate) left: u8,
-    /// `right`: those that a line to the right leaves free.
+    /// `right`: free columns to the right of a right-aligned line.
     pub(crate) right: u8,
-    /// `free`: the JC that JC 0 is read as.
+    /// `free`: the JC used for JC 0.
     pub(crate) free: u8,
-    /// `double`: whether from one line to the next there are two rows.
+    /// `double`: lines are two rows apart.
     pub(crate) double: bool,
-    /// `pack`: whether empty lines take no row.
+    /// `pack`: empty lines take no row.
     pub(crate) pack: bool,
-    /// `last`: whether VP is the row of the last line.
+    /// `last`: VP is the row of the last line.
     pub(crate) last: bool,
-    /// `row`: so many rows further down; 0 where it goes up.
+    /// `row`: how many rows the lines are moved down; 0 if they are moved up.
     pub(crate) lower: u8,
-    /// `row`: so many rows further up; 0 where it goes down.
+    /// `row`: how many rows the lines are moved up; 0 if they are moved down.
     pub(crate) higher: u8,
 }
 
 impl LayoutItems {
-    // What they are where they are left out.
+    // Returns the default items.
     #[tactic(auto, unfolding(crate::specs::Layout::default_items))]
     pub(crate) fn new() -> LayoutItems
         ensures { result ≡ default_items }
@@ -141,7 +139,7 @@ impl LayoutItems {
         }
     }
 
-    // Whether a byte of a text gives no cell.
+    // Returns whether a byte of a text is stripped, so has no cell.
     pub(crate) fn strips(&self, byte: u8) -> bool
         ensures { result ≡ strips self.now byte }
     {
@@ -149,13 +147,14 @@ impl LayoutItems {
     }
 }
 
-/// How a house draws its texts: what its inserter puts beside a line, and at which row and column.
+/// How a broadcaster draws its texts: the codes that its inserter adds to a line, and the line's
+/// row and column.
 ///
-/// It is made of a text by `parse`; by default a line stands in a box of its own, one row below the
-/// line before it, and all its cells count for its column (own). It takes no memory.
+/// Created from a text by `parse`. By default a line has a box of its own, is one row below the
+/// line before, and all its cells count for its column (own). It allocates no memory.
 #[derive(Clone, Copy, Debug)]
 pub struct Layout {
-    // `None` where no item was given.
+    // `None` if no item was given.
     pub(crate) items: Option<LayoutItems>,
 }
 
@@ -167,20 +166,20 @@ impl Default for Layout {
     }
 }
 
-/// How a subtitle file becomes pages: what of it is taken, and how its texts are drawn, by the
-/// table of a national option and by a layout.
+/// How a subtitle file becomes pages: the scope of its subtitles, and how their texts are drawn, by
+/// a national option and a layout.
 #[derive(Clone, Copy, Debug)]
 pub struct Drawing {
     /// The national option.
     pub national: National,
     /// The layout.
     pub layout: Layout,
-    /// What of a file is taken. A page that is drawn does not depend on it.
+    /// The scope of the file. A drawn page does not depend on it.
     pub scope: Scope,
 }
 
 impl Drawing {
-    /// How the texts of what is taken of a file are drawn.
+    /// Creates a drawing from its parts.
     pub fn new(national: National, layout: Layout, scope: Scope) -> Drawing
         ensures { result ≡ drawing_within national layout scope }
     {

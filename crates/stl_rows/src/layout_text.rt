@@ -1,4 +1,4 @@
-//! Layouts as people write them.
+//! Layouts as users type them.
 
 ghost use Rattle.std.specs.Prelude.{◌≡◌, ◌+◌, ◌<◌, ◌≤◌, ◌∷◌, [], ◌==◌, IfSome, length, option_map};
 ghost use Rattle.std.specs.Prelude.{replicate};
@@ -16,7 +16,7 @@ ghost use Rattle.stl_rows.specs.Layout.{default_items, no_codes};
 
 use crate::layout::{Attribute, Layout, LayoutItems};
 
-// A text up to the first of a character, and what is behind that, if there is one.
+// Returns the text before the first `mark`, and the text after it, if there is one.
 #[tactic(auto, unfolding(crate::specs::LayoutText::cut_at))]
 fn cut_at(text: &str, mark: char) -> (&str, Option<&str>)
     requires { mark < 128 }
@@ -28,7 +28,7 @@ fn cut_at(text: &str, mark: char) -> (&str, Option<&str>)
     }
 }
 
-// A decimal digit.
+// Returns the value of a decimal digit.
 fn decimal_digit(byte: u8) -> Option<u8>
     ensures value { result ≡ decimal_digit byte }
     ensures small { IfSome result (λ n. n < 10) }
@@ -39,7 +39,7 @@ fn decimal_digit(byte: u8) -> Option<u8>
     }
 }
 
-// One or two decimal digits, a number from a least to a most.
+// Parses one or two decimal digits, a number from `least` to `most`.
 #[tactic(auto, unfolding(crate::specs::LayoutText::number_within))]
 fn number_within(least: u8, most: u8, text: &[u8]) -> Option<u8>
     ensures { result ≡ number_within least most text.now }
@@ -60,7 +60,7 @@ fn number_within(least: u8, most: u8, text: &[u8]) -> Option<u8>
     }
 }
 
-// The rows down and the rows up.
+// Parses a number of rows: how many down and how many up.
 #[tactic(auto, unfolding(crate::specs::LayoutText::rows_of_text))]
 fn rows_of_text(text: &[u8]) -> Option<(u8, u8)>
     ensures { result ≡ rows_of_text text.now }
@@ -74,7 +74,7 @@ fn rows_of_text(text: &[u8]) -> Option<(u8, u8)>
     Some((lower, 0))
 }
 
-// A hexadecimal digit of either case.
+// Returns the value of a hexadecimal digit of either case.
 #[tactic(auto, unfolding(crate::specs::LayoutText::hex_digit_value))]
 fn hex_digit_value(byte: u8) -> Option<u8>
     ensures value { result ≡ hex_digit_value byte }
@@ -88,7 +88,7 @@ fn hex_digit_value(byte: u8) -> Option<u8>
     }
 }
 
-// The number that two of them are.
+// Returns the value of two hexadecimal digits.
 fn byte_of_digits(high: u8, low: u8) -> Option<u8>
     ensures { result ≡ byte_of_digits high low }
 {
@@ -97,7 +97,7 @@ fn byte_of_digits(high: u8, low: u8) -> Option<u8>
     Some(16 * high + low)
 }
 
-// The codes that pairs of digits give.
+// Parses pairs of hexadecimal digits as codes.
 fn codes_of_text<const N: usize>(text: &[u8]) -> Option<[Option<Attribute>; N]>
     ensures { result ≡ codes_of_text N text.now }
 {
@@ -120,7 +120,7 @@ fn codes_of_text<const N: usize>(text: &[u8]) -> Option<[Option<Attribute>; N]>
     Some(places)
 }
 
-// The bytes, 00 to 1F, that pairs of digits give, none of them twice.
+// Parses pairs of hexadecimal digits as bytes, 00 to 1F, without duplicates.
 fn stripped_of_text(text: &[u8]) -> Option<[bool; 32]>
     ensures { result ≡ stripped_with (replicate 32 false) text.now }
 {
@@ -140,7 +140,7 @@ fn stripped_of_text(text: &[u8]) -> Option<[bool; 32]>
     Some(strip)
 }
 
-// What a line gets before its own leading codes, and behind them.
+// Parses `before`: the codes before and after a line's own leading codes.
 #[tactic(auto, unfolding(crate::specs::LayoutText::before_of_text))]
 fn before_of_text(text: &str) -> Option<([Option<Attribute>; 6], [Option<Attribute>; 6])>
     ensures { result ≡ before_of_text text.now }
@@ -158,7 +158,7 @@ fn before_of_text(text: &str) -> Option<([Option<Attribute>; 6], [Option<Attribu
     }
 }
 
-// Sets the item that a text without a value names, and gives its number.
+// Sets the item with this name, which has no value, and returns its number.
 #[tactic(auto, unfolding(crate::specs::LayoutText::flag_set))]
 fn set_flag(items: &mut LayoutItems, name: &str) -> Option<usize>
     ensures value { option_map (λ n. (n, items.new)) result ≡ flag_set items.old name.now }
@@ -201,7 +201,7 @@ fn set_flag(items: &mut LayoutItems, name: &str) -> Option<usize>
     }
 }
 
-// Sets the item that a name and a value of decimal digits give, and gives its number.
+// Sets the item with this name to a decimal value, and returns its number.
 #[tactic(auto, unfolding(crate::specs::LayoutText::number_set))]
 fn set_number(items: &mut LayoutItems, name: &str, value: &[u8]) -> Option<usize>
     ensures value { option_map (λ n. (n, items.new)) result
@@ -231,7 +231,7 @@ fn set_number(items: &mut LayoutItems, name: &str, value: &[u8]) -> Option<usize
     }
 }
 
-// Sets the item that a name and a value give, and gives its number.
+// Sets the item with this name to this value, and returns its number.
 #[tactic(auto, unfolding(crate::specs::LayoutText::value_set))]
 fn set_value(items: &mut LayoutItems, name: &str, value: &str) -> Option<usize>
     ensures value { option_map (λ n. (n, items.new)) result
@@ -257,7 +257,7 @@ fn set_value(items: &mut LayoutItems, name: &str, value: &str) -> Option<usize>
     }
 }
 
-// Sets the item that a text gives, and gives its number.
+// Sets the item of a text, and returns its number.
 #[tactic(auto, unfolding(crate::specs::LayoutText::item_set))]
 fn set_item(items: &mut LayoutItems, text: &str) -> Option<usize>
     ensures value { option_map (λ n. (n, items.new)) result ≡ item_set items.old text.now }
@@ -270,7 +270,7 @@ fn set_item(items: &mut LayoutItems, text: &str) -> Option<usize>
     }
 }
 
-// The first of the texts that commas part, and what is behind its comma.
+// Returns the text before the first comma, and the text after it, if there is one.
 fn first_text(text: &str) -> (&str, Option<&str>)
     ensures texts { slice_split (λ c. c == 0x2C) text.now ≡ result.0.now
         ∷ option_map_or (λ more. slice_split (λ c. c == 0x2C) more.now) result.1 [] }
@@ -280,7 +280,7 @@ fn first_text(text: &str) -> (&str, Option<&str>)
     cut_at(text, ',')
 }
 
-// The items that a text gives, none of them twice.
+// Parses the items of a text, without duplicates.
 fn items_of_text(text: &str) -> Option<LayoutItems>
     ensures { items_set default_items (replicate 15 false) (slice_split (λ c. c == 0x2C) text.now)
         ≡ result }
@@ -303,8 +303,8 @@ fn items_of_text(text: &str) -> Option<LayoutItems>
 }
 
 impl Layout {
-    /// Reads the text of a layout: one or more items, with a comma between two of them and none
-    /// twice. `None` for any other text.
+    /// Parses a layout: one or more items, separated by commas, without duplicates. Returns `None`
+    /// for any other text.
     ///
     /// The items are `strip=HEX`, `before=HEX` or `before=HEX*HEX`, `after=HEX`, `fit`, `white`,
     /// `trim`, `text`, `up`, `left=N`, `right=N`, `free=N`, `double`, `pack`, `last` and `row=N`.

@@ -1,7 +1,7 @@
-//! From the text of subtitles to Teletext rows: drawn pages, and programmes of them.
+//! Turns subtitle texts into Teletext rows: drawn pages, and programmes of them.
 //!
-//! A subtitle file (EBU Tech 3264) is loaded as a programme, which tells what page is due at each
-//! frame of the day and where the next change can come:
+//! A subtitle file (EBU Tech 3264) is loaded as a programme, which returns the expected page at
+//! each frame and the next frame at which it can change:
 //!
 //! ```text
 //! let programme = load(alloc, &mut source, National::English, Layout::default())?;
@@ -9,8 +9,8 @@
 //! let edge = programme.next_edge(900_000);
 //! ```
 //!
-//! The crate stands on `stl_file`, which reads the subtitles, and on `ttx_page`, whose pages it
-//! draws. `sub_plan` makes schedules of programmes, `sub_check` checks what was sent against them.
+//! The crate builds on `stl_file`, which reads the subtitles, and on `ttx_page`, whose pages it
+//! draws. `sub_plan` makes schedules of programmes, `sub_check` checks transmissions against them.
 #![tactic(auto)]
 
 mod cues;

@@ -1,4 +1,4 @@
-//! Lines of cells: preparing one, and the row that shows it.
+//! Lines of cells: preparing a line, and the row that shows it.
 
 ghost use Rattle.std.specs.Prelude.{◌≡◌, ◌+◌, ◌≤◌, ◌++◌, length};
 ghost use Rattle.ttx_page.specs.Page.{AreCodes};
@@ -7,7 +7,7 @@ ghost use Rattle.stl_rows.specs.PreparedLine.{row_from};
 
 use arrayvec::ArrayVec;
 
-// Puts cells after those of a line.
+// Appends cells to a line.
 fn append(line: &mut ArrayVec<u8, 40>, cells: &[u8])
     requires { length line.old.items + length cells.now ≤ 40 }
     ensures { line.new.items ≡ line.old.items ++ cells.now }
@@ -16,7 +16,7 @@ fn append(line: &mut ArrayVec<u8, 40>, cells: &[u8])
     prove!(added.is_ok());
 }
 
-// Whether the line has a start box of its own.
+// Returns whether the line contains a start box.
 #[tactic(auto, unfolding(crate::specs::Line::is_boxed))]
 fn has_start_box(line: &[u8]) -> bool
     ensures { result ≡ is_boxed line.now }
@@ -24,7 +24,7 @@ fn has_start_box(line: &[u8]) -> bool
     line.iter().any(|c| *c == 0x0B)
 }
 
-/// Prepares a line of cells: in a box, which it gets where it isn't empty and has none.
+/// Prepares a line of cells: puts it in a box if it isn't empty and has none.
 #[tactic(auto, unfolding(crate::specs::Line::prepared))]
 pub(crate) fn prepare(cells: &[u8]) -> ArrayVec<u8, 40>
     requires few { length (prepared cells.now) ≤ 40 }
@@ -43,7 +43,7 @@ pub(crate) fn prepare(cells: &[u8]) -> ArrayVec<u8, 40>
     line
 }
 
-// The column at which a line starts.
+// Returns the column at which a line starts.
 fn start_of(jc: u8, len: usize) -> usize
     requires { len ≤ 40 }
     ensures value { result ≡ start_column jc len }
@@ -56,7 +56,7 @@ fn start_of(jc: u8, len: usize) -> usize
     }
 }
 
-/// The 40 codes of the row that shows a line from a column on.
+/// Returns the 40 codes of the row that shows a line from a column on.
 pub(crate) fn codes_from(start: usize, line: &[u8]) -> [u8; 40]
     requires room { start + length line.now ≤ 40 }
     requires codes { AreCodes line.now }
@@ -68,7 +68,7 @@ pub(crate) fn codes_from(start: usize, line: &[u8]) -> [u8; 40]
     codes
 }
 
-/// The 40 codes of the row that shows a line, placed by JC.
+/// Returns the 40 codes of the row that shows a line at the column given by JC.
 #[tactic(auto, unfolding(crate::specs::Line::row_of, crate::specs::PreparedLine::row_from))]
 pub(crate) fn row_codes(jc: u8, line: &[u8]) -> [u8; 40]
     requires room { length line.now ≤ 40 }

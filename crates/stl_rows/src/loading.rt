@@ -1,4 +1,4 @@
-//! Loading a subtitle file as a programme.
+//! Loads a subtitle file as a programme.
 
 ghost use Rattle.std.specs.Prelude.{◌≡◌, ◌≢◌, Err, IfErr, IfOk, Ok, true};
 ghost use Rattle.sub_io.specs.Device.{CanFail, CountsIf, failed};
@@ -22,19 +22,18 @@ use std::alloc::{Allocator, Global};
 use stl_file::{Scope, law_of_files, law_of_scope};
 use sub_io::{FirstTold, Source};
 
-/// Loads the subtitles of an STL file, to be drawn by the table of a national option as a layout
-/// says.
+/// Loads the subtitles of an STL file, to be drawn with a national option and a layout.
 ///
-/// What is outside the scope is passed over. It takes about a kilobyte of memory a subtitle, and
-/// reads to the end of the source.
+/// Subtitles outside the scope are skipped. Takes 24 bytes plus its text in memory for each
+/// subtitle, and reads to the end of the source.
 ///
 /// # Errors
 ///
-/// The first fault by block. At block 0 the faults of the GSI block; at each TTI block the file's
-/// own, `File`; at a subtitle's last block `OutOfOrder`, `Overlap`, the fault of `draw` as `Row`,
-/// and then `Memory` where the memory for it was refused. `File` with `Read` where the source
-/// failed, at the block of the byte that was asked for: a fault that was found before is told
-/// instead.
+/// Returns the first fault by block. For block 0 it is a fault of the GSI block. For each TTI block
+/// it is a fault of the file, `File`; for a subtitle's last block then `OutOfOrder`, `Overlap`, the
+/// fault of `draw` as `Row`, and `Memory` if the memory for it cannot be allocated. Returns `File`
+/// with `Read` if the source fails before any other fault is found, at the block of the byte that
+/// could not be read.
 pub fn load<S: Source>(
     alloc: Global,
     source: &mut S,
@@ -43,7 +42,7 @@ pub fn load<S: Source>(
     scope: Scope,
 ) -> Result<Programme, LoadFault>
     requires { CanFail (S.failure_count source.old) }
-    // Where the source tells its bytes, they decide the programme and the fault.
+    // If the source's bytes are known, they determine the programme and the fault.
     ensures exact { IfKnown (S.remaining source.old) (λ bytes.
         IfOk result (λ programme.
         loaded (drawing_within national layout scope) bytes ≡ Ok programme)) }
@@ -56,7 +55,7 @@ pub fn load<S: Source>(
         IsProgramme programme.drawing programme.records) }
     ensures drawing { IfOk result (λ programme.
         programme.drawing ≡ drawing_within national layout scope) }
-    // A failed read names the block of the byte that was asked for, and no fault comes before it.
+    // A failed read has the block of the byte that could not be read, and no fault comes before it.
     ensures read { IfErr result (λ f. is_load_read f ≡ true →
         FailsLoading (drawing_within national layout scope)
         (S.remaining source.old) (S.remaining source.new) f.block) }
@@ -69,11 +68,12 @@ pub fn load<S: Source>(
     }
 }
 
-/// Loads the subtitles of an STL file into any memory: `load` is this in the program's own.
+/// Loads the subtitles of an STL file into any memory. `load` does this with the program's own
+/// memory.
 ///
 /// # Errors
 ///
-/// Those of `load`.
+/// Returns the errors of `load`.
 pub fn load_in<A: Allocator + Copy, S: Source>(
     alloc: A,
     source: &mut S,
@@ -101,24 +101,24 @@ pub fn load_in<A: Allocator + Copy, S: Source>(
     }
 }
 
-/// Bytes are loaded exactly where they are a subtitle file whose subtitles are in order, disjoint
-/// and drawable, and the programme holds these.
+/// Bytes are loaded exactly if they are a subtitle file whose subtitles are in order, disjoint and
+/// drawable, and the programme consists of these.
 pub fn law_of_loading()
     ensures { LawOfLoading }
 {
     law_of_files();
 }
 
-/// What is told of a part of a file, and what it gives, is that of the file from which the blocks
-/// of all other subtitles were taken out, block numbers aside.
+/// The faults and subtitles of a part of a file are those of the file without the blocks of all
+/// other subtitles, apart from block numbers.
 pub fn law_of_parts()
     ensures { LawOfParts }
 {
     law_of_scope();
 }
 
-/// Each subtitle that can be relied on beside what is refused draws a page; and where nothing is
-/// refused all can be, and at each frame it is known what is due.
+/// Each reliable subtitle can be drawn, even if others were rejected. If none was rejected, all are
+/// reliable, and the expected page is known at every frame.
 pub fn law_of_judged()
     ensures drawn { LawOfJudged }
     ensures decided { LawOfDecided }

@@ -9,7 +9,7 @@ ghost use Rattle.stl_rows.specs.SubSets.{cell_in, has_bytes, option_named, sub_s
 use crate::sub_sets::{NationalCharacter, SUB_SETS, SubSet};
 
 /// A national option character sub-set of EN 300 706 (header bits C12 to C14), and with it the
-/// table by which a text is read. It has the name of one of the languages that it serves.
+/// character set for reading texts. It is named after one of its languages.
 #[derive(Clone, Copy, Debug, PartialEq, Eq)]
 pub enum National {
     /// English.
@@ -28,20 +28,20 @@ pub enum National {
     Czech,
 }
 
-/// The control bits of a page header that name its national option character sub-set.
+/// The control bits of a page header that select its national option character sub-set.
 #[derive(Clone, Copy, Debug, PartialEq, Eq)]
 pub struct NationalBits {
-    /// The first of the three.
+    /// The first bit.
     pub c12: bool,
-    /// The second.
+    /// The second bit.
     pub c13: bool,
-    /// The third.
+    /// The third bit.
     pub c14: bool,
 }
 
 impl National {
-    /// Reads an option's word, in small letters: `english`, `german`, `swedish`, `italian`,
-    /// `french`, `spanish` or `czech`. `None` for any other text.
+    /// Parses the name of an option in lower case: `english`, `german`, `swedish`, `italian`,
+    /// `french`, `spanish` or `czech`. Returns `None` for any other text.
     #[tactic(auto, unfolding(crate::specs::SubSets::option_named, crate::specs::SubSets::sub_set))]
     pub fn parse(text: &str) -> Option<National>
         ensures value { result ≡ option_named text.now }
@@ -50,7 +50,7 @@ impl National {
         option_in(&SUB_SETS, text)
     }
 
-    /// C12, C13 and C14 of the headers of a page in this option.
+    /// Returns C12, C13 and C14 for the page headers of this option.
     #[tactic(auto, unfolding(crate::specs::SubSets::sub_set))]
     pub fn bits(self) -> NationalBits
         ensures { result ≡ (sub_set self).bits }
@@ -58,7 +58,7 @@ impl National {
         SUB_SETS[self as usize].bits
     }
 
-    /// The characters of the option, by their places in the code table.
+    /// Returns the characters of the option, by their places in the code table.
     #[tactic(auto, unfolding(crate::specs::SubSets::sub_set))]
     pub(crate) fn characters(self) -> &'static [NationalCharacter]
         ensures { result.now ≡ (sub_set self).characters }
@@ -68,7 +68,7 @@ impl National {
 }
 
 impl NationalCharacter {
-    // Whether its bytes are this mark, or none, and this byte.
+    // Returns whether the character has this byte, and this diacritical mark or none.
     #[tactic(auto, unfolding(crate::specs::SubSets::has_bytes))]
     fn has_bytes(&self, mark: Option<u8>, byte: u8) -> bool
         ensures { result ≡ has_bytes mark byte self.now }
@@ -77,7 +77,7 @@ impl NationalCharacter {
     }
 }
 
-// The option of the first of these rows that has a text for its word.
+// Returns the option of the first of these rows whose name is `text`.
 fn option_in(rows: &[SubSet], text: &str) -> Option<National>
     ensures { result ≡ option_map (λ (r : SubSet). r.national)
         (find (λ (r : SubSet). bytes_eq r.word.now text.now) rows.now) }
@@ -90,8 +90,8 @@ fn option_in(rows: &[SubSet], text: &str) -> Option<National>
     None
 }
 
-/// The cell of the character that a byte gives, after a mark or by itself. `None` where there is no
-/// such character among these.
+/// Returns the cell of the character for a byte, after a diacritical mark or alone. Returns `None`
+/// if these characters do not contain it.
 pub(crate) fn cell_in(characters: &[NationalCharacter], mark: Option<u8>, byte: u8) -> Option<u8>
     ensures { result ≡ cell_in characters.now mark byte }
 {

@@ -1,4 +1,4 @@
-//! Lines of cells as a layout has them: prepared, and the row that shows one.
+//! Lines of cells prepared by a layout, and the row that shows a line.
 
 ghost use Rattle.std.specs.Prelude.{◌≡◌, ◌+◌, ◌-◌, ◌<◌, ◌≤◌, ◌++◌, ◌∷◌, [], length};
 ghost use Rattle.std.specs.Prelude.{◌==◌};
@@ -13,17 +13,17 @@ ghost use Rattle.stl_rows.specs.TextCode.{is_within};
 use crate::layout::{Attribute, LayoutItems};
 use arrayvec::ArrayVec;
 
-/// The cells of a prepared line: those of a text, at most 1008, and what a layout puts beside them.
+/// The cells of a prepared line: those of a text, at most 1008, and those that a layout adds.
 pub(crate) type LineCells = ArrayVec<u8, 1025>;
 
-// Whether a code is from a first to a last.
+// Returns whether a code is in the range from `first` to `last`.
 fn is_within(first: u8, last: u8, code: u8) -> bool
     ensures { result ≡ is_within first last code }
 {
     first <= code && code <= last
 }
 
-// How many cells at the front of a line are from a first to a last code.
+// Returns how many cells at the front of a line are in a range of codes.
 fn leading(first: u8, last: u8, cells: &[u8]) -> usize
     ensures value { result ≡ leading first last cells.now }
     ensures within { result ≤ length cells.now }
@@ -38,7 +38,7 @@ fn leading(first: u8, last: u8, cells: &[u8]) -> usize
     count
 }
 
-// How many cells at its end are.
+// Returns how many cells at the end of a line are in a range of codes.
 fn trailing(first: u8, last: u8, cells: &[u8]) -> usize
     ensures value { result ≡ trailing first last cells.now }
     ensures within { result ≤ length cells.now }
@@ -53,7 +53,7 @@ fn trailing(first: u8, last: u8, cells: &[u8]) -> usize
     cells.len()
 }
 
-// A line without the spaces at both ends.
+// Returns a line without the spaces at both ends.
 #[tactic(auto, unfolding(crate::specs::PreparedLine::trimmed))]
 fn trimmed(cells: &[u8]) -> &[u8]
     ensures value { result.now ≡ trimmed cells.now }
@@ -64,21 +64,21 @@ fn trimmed(cells: &[u8]) -> &[u8]
     kept
 }
 
-// Whether the line has a code.
+// Returns whether the line contains a code.
 fn has(cells: &[u8], code: u8) -> bool
     ensures { result ≡ list_any (λ c. c == code) cells.now }
 {
     cells.iter().any(|c| *c == code)
 }
 
-// Whether one of the cells is a colour, 01 to 07.
+// Returns whether one of the cells is a colour, 01 to 07.
 fn has_colour(cells: &[u8]) -> bool
     ensures { result ≡ list_any (is_within 0x01 0x07) cells.now }
 {
     cells.iter().any(|c| is_within(0x01, 0x07, *c))
 }
 
-// Puts cells after those of a line.
+// Appends cells to a line.
 fn push_cells(line: &mut LineCells, cells: &[u8])
     requires { length line.old.items + length cells.now ≤ 1025 }
     ensures value { line.new.items ≡ line.old.items ++ cells.now }
@@ -88,7 +88,7 @@ fn push_cells(line: &mut LineCells, cells: &[u8])
     prove!(added.is_ok());
 }
 
-// Puts codes after the cells of a line.
+// Appends codes to a line.
 fn push_codes(line: &mut LineCells, codes: &[Option<Attribute>])
     requires { length line.old.items + length codes.now ≤ 1025 }
     ensures value { line.new.items ≡ line.old.items ++ codes_of_places codes.now }
@@ -101,7 +101,7 @@ fn push_codes(line: &mut LineCells, codes: &[Option<Attribute>])
     }
 }
 
-// Makes a line of cells and of the codes that a layout puts at their front.
+// Builds a line from cells and the codes that a layout adds at the front.
 #[tactic(auto, unfolding(crate::specs::PreparedLine::headed))]
 fn push_headed(line: &mut LineCells, items: &LayoutItems, cells: &[u8])
     requires none { line.old.items ≡ [] }
@@ -119,8 +119,7 @@ fn push_headed(line: &mut LineCells, items: &LayoutItems, cells: &[u8])
     push_cells(line, rest);
 }
 
-// Makes a line of cells and of all the codes that a layout puts beside them. An empty one gets
-// none.
+// Builds a line from cells and all codes that a layout adds. An empty line gets none.
 #[tactic(auto, unfolding(crate::specs::PreparedLine::framed))]
 fn push_framed(line: &mut LineCells, items: &LayoutItems, cells: &[u8])
     requires none { line.old.items ≡ [] }
@@ -138,7 +137,7 @@ fn push_framed(line: &mut LineCells, items: &LayoutItems, cells: &[u8])
     }
 }
 
-/// Prepares a line of cells as a layout has it.
+/// Prepares a line of cells by a layout.
 #[tactic(auto, unfolding(crate::specs::PreparedLine::prepared_by, crate::specs::Line::is_boxed))]
 pub(crate) fn prepare_by(line: &mut LineCells, items: &LayoutItems, cells: &[u8])
     requires { length cells.now ≤ 1008 }
@@ -153,7 +152,7 @@ pub(crate) fn prepare_by(line: &mut LineCells, items: &LayoutItems, cells: &[u8]
     push_framed(line, items, kept);
 }
 
-/// Whether a prepared line has double height.
+/// Returns whether a prepared line has double height.
 #[tactic(auto, unfolding(crate::specs::Line::is_double))]
 pub(crate) fn is_double(line: &[u8]) -> bool
     ensures { result ≡ is_double line.now }
@@ -161,7 +160,7 @@ pub(crate) fn is_double(line: &[u8]) -> bool
     has(line, 0x0D)
 }
 
-// How many of its cells don't count for its column, at its front and its end.
+// Returns how many cells at the front and the end do not count for the line's column.
 fn uncounted(items: &LayoutItems, line: &[u8]) -> (usize, usize)
     ensures value { result ≡ uncounted items.now line.now }
     ensures ahead { result.0 ≤ length line.now }
@@ -177,14 +176,15 @@ fn uncounted(items: &LayoutItems, line: &[u8]) -> (usize, usize)
     (ahead, trailing(0, 0x1F, line))
 }
 
-// The JC that is taken for that of a subtitle.
+// Returns the JC to use for that of a subtitle.
 fn jc_read(items: &LayoutItems, jc: u8) -> u8
     ensures { result ≡ jc_read items.now jc }
 {
     if jc == 0 { items.free } else { jc }
 }
 
-// The column at which a line should start, of which so many cells count.
+// Returns the column at which a line should start; `width` of its cells count, after `ahead`
+// others.
 fn wanted_column(items: &LayoutItems, jc: u8, ahead: usize, width: usize) -> usize
     requires ahead { ahead ≤ 40 }
     requires width { width ≤ 40 }
@@ -198,7 +198,7 @@ fn wanted_column(items: &LayoutItems, jc: u8, ahead: usize, width: usize) -> usi
     }
 }
 
-/// The column at which a prepared line starts, so that all of it is on its row.
+/// Returns the column at which a prepared line starts, so that it fits in its row.
 #[tactic(auto, unfolding(crate::specs::PreparedLine::start_by))]
 pub(crate) fn start_by(items: &LayoutItems, jc: u8, line: &[u8]) -> usize
     requires { length line.now ≤ 40 }

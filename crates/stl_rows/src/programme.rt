@@ -1,4 +1,4 @@
-//! Programmes: subtitles in order, the page that is due at a frame, and the edges between pages.
+//! Programmes: subtitles in order, the expected page at a frame, and the cues at which it changes.
 
 ghost use Rattle.std.specs.Prelude.{◌≡◌, ℕ, ◌-◌, ◌<◌, ◌≤◌, ◌↔◌, [], IsTrue, MatchOption, false};
 ghost use Rattle.std.specs.Prelude.{length};
@@ -19,9 +19,9 @@ use std::marker::Model;
 use stl_file::Subtitle;
 use ttx_page::Page;
 
-/// Subtitles in order and disjoint, each of which draws a page.
+/// Subtitles in order and disjoint, all of which can be drawn.
 ///
-/// It is made by `load`. Contracts see how it is drawn and the list of its records.
+/// Created by `load`. The model has the drawing and the list of subtitles.
 #[derive(Drop)]
 pub struct Programme {
     drawing: Drawing,
@@ -38,7 +38,7 @@ impl Model for Programme {
     ghost invariant = { λ p. IsProgramme p.drawing p.subtitles };
 }
 
-// The first subtitle whose TCO is after a frame: a binary search.
+// Returns the first subtitle whose TCO is after a frame, by binary search.
 fn first_after(drawing: &Drawing, subtitles: &Cues<Global>, frame: u32) -> usize
     requires { IsProgramme drawing.now subtitles.now }
     ensures bound { result ≤ length subtitles.now }
@@ -50,7 +50,7 @@ fn first_after(drawing: &Drawing, subtitles: &Cues<Global>, frame: u32) -> usize
     subtitles.ended_by(frame)
 }
 
-// Whether a subtitle is the first whose TCO is after a frame.
+// Returns whether a subtitle is the first whose TCO is after a frame.
 fn is_first_after(drawing: &Drawing, subtitles: &Cues<Global>, frame: u32, at: usize) -> bool
     requires { IsProgramme drawing.now subtitles.now }
     ensures bound { IsTrue result → at < length subtitles.now }
@@ -73,7 +73,7 @@ fn is_first_after(drawing: &Drawing, subtitles: &Cues<Global>, frame: u32, at: u
     }
 }
 
-// The first subtitle whose TCO is after a frame: the one that is guessed or the next, else by a
+// Returns the first subtitle whose TCO is after a frame. Tries `guess` and the next one before a
 // binary search.
 fn first_after_near(drawing: &Drawing, subtitles: &Cues<Global>, frame: u32, guess: usize) -> usize
     requires { IsProgramme drawing.now subtitles.now }
@@ -95,8 +95,8 @@ fn first_after_near(drawing: &Drawing, subtitles: &Cues<Global>, frame: u32, gue
     first_after(drawing, subtitles, frame)
 }
 
-// Draws the page that is due at a frame, and gives the least edge after it and the number of the
-// subtitle that was found.
+// Draws the expected page at a frame, and returns the next cue after it and the index of the
+// subtitle found.
 fn draw_near(
     drawing: &Drawing,
     subtitles: &Cues<Global>,
@@ -124,7 +124,7 @@ fn draw_near(
     (Some(tco), at)
 }
 
-// The least edge after a frame.
+// Returns the next cue after a frame.
 fn edge_after(drawing: &Drawing, subtitles: &Cues<Global>, frame: u32) -> Option<u32>
     requires { IsProgramme drawing.now subtitles.now }
     ensures { TellsNextEdge subtitles.now frame result }
@@ -142,7 +142,7 @@ fn edge_after(drawing: &Drawing, subtitles: &Cues<Global>, frame: u32) -> Option
     Some(tco)
 }
 
-// The TCO of the subtitle before a number; `None` where that is the first.
+// Returns the TCO of the subtitle before index `at`, or `None` if `at` is the first.
 fn tco_before(subtitles: &Cues<Global>, at: usize) -> Option<u32>
     requires { at ≤ length subtitles.now }
     ensures { MatchOption result (at ≡ 0) (λ tco. (1 ≤ at) × ((d : SubtitleValue)
@@ -156,7 +156,7 @@ fn tco_before(subtitles: &Cues<Global>, at: usize) -> Option<u32>
     Some(tco)
 }
 
-// The greatest edge up to a frame.
+// Returns the last cue up to a frame.
 fn edge_until(drawing: &Drawing, subtitles: &Cues<Global>, frame: u32) -> Option<u32>
     requires { IsProgramme drawing.now subtitles.now }
     ensures { TellsLastEdge subtitles.now frame result }
@@ -173,7 +173,7 @@ fn edge_until(drawing: &Drawing, subtitles: &Cues<Global>, frame: u32) -> Option
     tco_before(subtitles, at)
 }
 
-// The TCI of the subtitle that ends at a frame.
+// Returns the TCI of the subtitle that ends at a frame.
 fn tci_ending_at(drawing: &Drawing, subtitles: &Cues<Global>, frame: u32) -> Option<u32>
     requires { IsProgramme drawing.now subtitles.now }
     ensures { result ≡ tci_of_ending subtitles.now frame }
@@ -193,7 +193,7 @@ fn tci_ending_at(drawing: &Drawing, subtitles: &Cues<Global>, frame: u32) -> Opt
     Some(subtitle.tci().frame())
 }
 
-// The bit of a subtitle by its index; false where it is missing.
+// Returns the bit of a subtitle by its index; `false` if it is missing.
 fn bit_at(bits: &[bool], at: usize) -> bool
     ensures { result ≡ slice_index_or bits.now at false }
 {
@@ -203,7 +203,7 @@ fn bit_at(bits: &[bool], at: usize) -> bool
     }
 }
 
-// Whether it is not known what is due at a frame.
+// Returns whether the expected page is unknown at a frame.
 fn is_undecided_at(
     drawing: &Drawing,
     subtitles: &Cues<Global>,
@@ -231,7 +231,7 @@ fn is_undecided_at(
 }
 
 impl Programme {
-    // The programme of these subtitles.
+    // Creates a programme of these subtitles.
     pub(crate) fn of(drawing: Drawing, subtitles: Cues<Global>) -> Programme
         requires { IsProgramme drawing subtitles }
         ensures { result ≡ record { drawing = drawing; records = subtitles } }
@@ -239,7 +239,7 @@ impl Programme {
         Programme { drawing, subtitles }
     }
 
-    /// How many subtitles there are.
+    /// Returns the number of subtitles.
     pub fn len(&self) -> usize
         ensures value { result ≡ length self.now.records }
         ensures programme { IsProgramme self.now.drawing self.now.records }
@@ -247,14 +247,14 @@ impl Programme {
         self.subtitles.len()
     }
 
-    /// Whether there is no subtitle.
+    /// Returns whether there is no subtitle.
     pub fn is_empty(&self) -> bool
         ensures { IsTrue result ↔ (self.now.records ≡ []) }
     {
         self.subtitles.is_empty()
     }
 
-    /// A subtitle by its index, from 0 and below `len`.
+    /// Returns a subtitle by its index, from 0 and below `len`.
     pub fn subtitle(&self, i: usize) -> Subtitle
         requires { i < length self.now.records }
         ensures { slice_get self.now.records i ≡ Some result }
@@ -262,7 +262,7 @@ impl Programme {
         self.subtitles.subtitle(i)
     }
 
-    /// The first TCI, as a frame of the day. `None` where there is no subtitle.
+    /// Returns the first TCI as a frame of the day, or `None` if there is no subtitle.
     pub fn first_in(&self) -> Option<u32>
         ensures value { result ≡ first_in self.now.records }
         ensures programme { IsProgramme self.now.drawing self.now.records }
@@ -270,7 +270,7 @@ impl Programme {
         Some(self.subtitles.first()?.tci().frame())
     }
 
-    /// The last TCO, as a frame of the day. `None` where there is no subtitle.
+    /// Returns the last TCO as a frame of the day, or `None` if there is no subtitle.
     pub fn last_out(&self) -> Option<u32>
         ensures value { result ≡ last_out self.now.records }
         ensures programme { IsProgramme self.now.drawing self.now.records }
@@ -278,7 +278,7 @@ impl Programme {
         Some(self.subtitles.last()?.tco().frame())
     }
 
-    /// The national option that it was loaded with.
+    /// Returns the national option with which it was loaded.
     pub fn national(&self) -> National
         ensures value { result ≡ self.now.drawing.national }
         ensures programme { IsProgramme self.now.drawing self.now.records }
@@ -286,7 +286,7 @@ impl Programme {
         self.drawing.national
     }
 
-    /// The layout that it was loaded with.
+    /// Returns the layout with which it was loaded.
     pub fn layout(&self) -> Layout
         ensures value { result ≡ self.now.drawing.layout }
         ensures programme { IsProgramme self.now.drawing self.now.records }
@@ -294,11 +294,11 @@ impl Programme {
         self.drawing.layout
     }
 
-    /// Draws the page that is due at a frame: that of the subtitle whose TCI is at or before the
-    /// frame and whose TCO is after it, blank where there is none.
+    /// Draws the expected page at a frame: that of the subtitle whose TCI is at or before the frame
+    /// and whose TCO is after it; blank if there is none.
     ///
-    /// The subtitle is found by binary search. The page is drawn at each call, so call it at edges
-    /// (`next_edge`) and keep the page between them.
+    /// Finds the subtitle by binary search. Each call draws the page, so call it at cues
+    /// (`next_edge`) and keep the page in between.
     pub fn due_page(&self, frame: u32) -> Page
         ensures value { result ≡ due self.now.drawing self.now.records frame }
         ensures programme { IsProgramme self.now.drawing self.now.records }
@@ -308,11 +308,11 @@ impl Programme {
         page
     }
 
-    /// Draws the page that is due at a frame, in place of another, and gives the next edge
-    /// (`next_edge`) and a number to pass as `guess` at the next call.
+    /// Draws the expected page at a frame over another page, and returns the next cue (`next_edge`)
+    /// and the `guess` for the next call.
     ///
-    /// Any number will do, 0 at first. With that of a call at a frame shortly before, the subtitle
-    /// is found without a search.
+    /// Any `guess` is valid; start with 0. With the one from a call for a frame shortly before, no
+    /// search is needed.
     pub fn draw_due(&self, frame: u32, guess: usize, page: &mut Page) -> (Option<u32>, usize)
         ensures page { page.new ≡ due self.now.drawing self.now.records frame }
         ensures edge { TellsNextEdge self.now.records frame result.0 }
@@ -321,9 +321,9 @@ impl Programme {
         draw_near(&self.drawing, &self.subtitles, frame, guess, page)
     }
 
-    /// Finds the least TCI or TCO that is after a frame, by binary search.
+    /// Returns the first TCI or TCO after a frame, by binary search.
     ///
-    /// `None` where there is none.
+    /// Returns `None` if there is none.
     pub fn next_edge(&self, frame: u32) -> Option<u32>
         ensures value { TellsNextEdge self.now.records frame result }
         ensures programme { IsProgramme self.now.drawing self.now.records }
@@ -331,9 +331,9 @@ impl Programme {
         edge_after(&self.drawing, &self.subtitles, frame)
     }
 
-    /// Finds the greatest TCI or TCO that is at or before a frame, by binary search.
+    /// Returns the last TCI or TCO at or before a frame, by binary search.
     ///
-    /// `None` where there is none. From it to the frame the same page is due.
+    /// Returns `None` if there is none. The expected page is the same from there to the frame.
     pub fn last_edge(&self, frame: u32) -> Option<u32>
         ensures value { TellsLastEdge self.now.records frame result }
         ensures programme { IsProgramme self.now.drawing self.now.records }
@@ -341,9 +341,9 @@ impl Programme {
         edge_until(&self.drawing, &self.subtitles, frame)
     }
 
-    /// Finds the subtitle whose TCO is a frame, by binary search, and gives its TCI.
+    /// Finds the subtitle whose TCO is this frame, by binary search, and returns its TCI.
     ///
-    /// `None` where no subtitle ends there. No two do.
+    /// Returns `None` if no subtitle ends there. At most one does.
     pub fn tci_of_ending(&self, frame: u32) -> Option<u32>
         ensures value { result ≡ tci_of_ending self.now.records frame }
         ensures programme { IsProgramme self.now.drawing self.now.records }
@@ -351,8 +351,8 @@ impl Programme {
         tci_ending_at(&self.drawing, &self.subtitles, frame)
     }
 
-    // Whether it is not known what is due at a frame, where other subtitles stand before these and
-    // behind the last.
+    // Returns whether the expected page is unknown at a frame, given the positions of other
+    // subtitles.
     #[tactic(auto, unfolding(crate::specs::Judged::is_undecided_in))]
     pub(crate) fn is_undecided(
         &self,
@@ -377,31 +377,31 @@ impl Programme {
     }
 }
 
-/// Of subtitles in order, one that is due at a frame is shown there.
+/// Among subtitles in order, one whose time includes a frame is shown there.
 #[tactic(auto, using(crate::proofs::DuePageLemmas::due_is_shown))]
 pub fn law_of_due_subtitles()
     ensures { LawOfDueSubtitles }
 {}
 
-/// Where each subtitle starts later or has ended, the due page is blank.
+/// If each subtitle starts later or has ended, the expected page is blank.
 #[tactic(auto, using(crate::proofs::DuePageLemmas::none_is_blank))]
 pub fn law_of_blank_pages()
     ensures { LawOfBlankPages }
 {}
 
-/// The due page changes only at a TCI or a TCO.
+/// The expected page changes only at a TCI or a TCO.
 #[tactic(auto, using(crate::proofs::DuePageLemmas::edges_alone))]
 pub fn law_of_edges()
     ensures { LawOfEdges }
 {}
 
-/// Row 24 of each due page is blank.
+/// Row 24 of each expected page is blank.
 #[tactic(auto, using(crate::proofs::LastRowLemmas::last_row_blank))]
 pub fn law_of_last_row()
     ensures { LawOfLastRow }
 {}
 
-/// Each due page is a page: 24 rows of 40 codes below 128.
+/// Each expected page is a page: 24 rows of 40 codes below 128.
 pub fn law_of_due_pages()
     ensures { LawOfDuePages }
 {}

@@ -1,4 +1,4 @@
-//! A subtitle that is lent: by itself or among others.
+//! A borrowed subtitle, either a `Subtitle` or one of a `Cues`.
 
 ghost use Rattle.std.specs.Prelude.{◌≡◌};
 ghost use Rattle.stl_file.specs.Subtitle.{IsSubtitle};
@@ -6,7 +6,7 @@ ghost use Rattle.stl_file.specs.Subtitle.{IsSubtitle};
 use std::marker::Model;
 use stl_file::{Subtitle, TimeCode};
 
-/// What one record of a file says, as `Subtitle` does, with its text lent.
+/// The fields of a `Subtitle`, with its text borrowed.
 #[derive(Drop)]
 pub(crate) struct Record<'a> {
     pub(crate) sgn: u8,
@@ -45,7 +45,7 @@ impl<'a> Model for Record<'a> {
 }
 
 impl<'a> Record<'a> {
-    /// A subtitle, lent.
+    /// Borrows a subtitle.
     pub(crate) fn of(subtitle: &'a Subtitle) -> Record<'a>
         ensures { result ≡ subtitle.now }
     {
@@ -60,7 +60,7 @@ impl<'a> Record<'a> {
         }
     }
 
-    /// The subtitle, with a text of its own.
+    /// Copies it to a `Subtitle`.
     pub(crate) fn to_subtitle(&self) -> Subtitle
         ensures { result ≡ self.now }
     {
@@ -73,7 +73,7 @@ impl<'a> Record<'a> {
         }
     }
 
-    /// TCI, the time code of the first frame at which the subtitle is due.
+    /// Returns TCI, the time code of the first frame at which the subtitle is shown.
     pub(crate) fn tci(&self) -> TimeCode
         ensures value { result ≡ self.now.tci }
         ensures is { IsSubtitle self.now }
@@ -81,7 +81,8 @@ impl<'a> Record<'a> {
         self.tci
     }
 
-    /// TCO, the time code of the first frame after it at which the subtitle is no longer due.
+    /// Returns TCO, the time code of the first frame after it at which the subtitle is no longer
+    /// shown.
     pub(crate) fn tco(&self) -> TimeCode
         ensures value { result ≡ self.now.tco }
         ensures is { IsSubtitle self.now }
@@ -89,7 +90,7 @@ impl<'a> Record<'a> {
         self.tco
     }
 
-    /// VP, the vertical position: the row of the first line, 1 to 23.
+    /// Returns VP, the vertical position: the row of the first line, 1 to 23.
     pub(crate) fn vp(&self) -> u8
         ensures value { result ≡ self.now.vp }
         ensures is { IsSubtitle self.now }
@@ -97,7 +98,7 @@ impl<'a> Record<'a> {
         self.vp
     }
 
-    /// JC, the justification code: 0 unchanged, 1 left, 2 centred, 3 right.
+    /// Returns JC, the justification code: 0 unchanged, 1 left, 2 centred, 3 right.
     pub(crate) fn jc(&self) -> u8
         ensures value { result ≡ self.now.jc }
         ensures is { IsSubtitle self.now }
@@ -105,7 +106,7 @@ impl<'a> Record<'a> {
         self.jc
     }
 
-    /// The text of all its blocks, in the file's code: at most 1008 bytes.
+    /// Returns the text of all blocks in the file's code, at most 1008 bytes.
     pub(crate) fn text(&self) -> &'a [u8]
         ensures value { result.now ≡ self.now.text }
         ensures is { IsSubtitle self.now }

@@ -1,19 +1,19 @@
-//! The table of the national options: a row for each.
+//! The table of the national options, one row each.
 //!
-//! Level 1 of EN 300 706 has 13 places in its code table that a national option fills. These are
-//! the sub-sets of its default region, 0000, where C12 to C14 name one each; 1 1 1 is reserved.
+//! The code table of level 1 (EN 300 706) has 13 places for a national option. These are the
+//! sub-sets of its default region, 0000, with one for each value of C12 to C14; 1 1 1 is reserved.
 
 use crate::national::{National, NationalBits};
 
-/// A character of a sub-set: its place in the code table, and the bytes that give it in a text (EBU
-/// Tech 3264, code table 00, which is Latin and has the bytes of ISO 6937).
+/// A character of a sub-set: its place in the code table, and its bytes in a text (EBU Tech 3264,
+/// code table 00, which is Latin and has the bytes of ISO 6937).
 #[derive(Clone, Copy, Debug)]
 pub(crate) struct NationalCharacter {
     /// The code of its cell.
     pub(crate) cell: u8,
-    /// The diacritical mark that stands before the byte, if there is one.
+    /// The diacritical mark before the byte, if there is one.
     pub(crate) mark: Option<u8>,
-    /// The byte, after a mark that of a letter.
+    /// The byte; after a mark, that of the letter.
     pub(crate) byte: u8,
 }
 
@@ -22,19 +22,20 @@ pub(crate) struct NationalCharacter {
 pub(crate) struct SubSet {
     /// The option.
     pub(crate) national: National,
-    /// The word for it (own).
+    /// The name of the option (own).
     pub(crate) word: &'static str,
-    /// C12, C13 and C14 of its headers.
+    /// C12, C13 and C14 of page headers.
     pub(crate) bits: NationalBits,
-    /// Its characters by place. A place that is left out is reached by no text.
+    /// The characters by place. A missing place cannot be reached by any text.
     pub(crate) characters: &'static [NationalCharacter],
 }
 
 /// The rows, in the order of the options. The check computes them and compares them with those of
 /// the definition.
 ///
-/// (own) lenient: 24 is read as dollar beside A4, whatever an edition of the code table names it,
-/// since files from the field have it so; where a sub-set has no dollar, neither byte is read.
+/// (own) lenient: both 24 and A4 are read as the dollar sign, whatever an edition of the code table
+/// says, since files in the field use both. In a sub-set without a dollar sign, neither byte is
+/// accepted.
 #[rattlefmt::skip]
 pub(crate) const SUB_SETS: [SubSet; 7] = [
     SubSet {

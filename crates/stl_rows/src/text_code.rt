@@ -1,4 +1,4 @@
-//! The bytes of a subtitle's text, read by the table of a national option.
+//! Decodes the bytes of a subtitle's text with the character set of a national option.
 
 ghost use Rattle.std.specs.Prelude.{◌≡◌, ◌+◌, ◌<◌, ◌≤◌, ◌∷◌, length, drop, slice_index};
 ghost use Rattle.std.specs.Prelude.{IsSome};
@@ -8,21 +8,21 @@ ghost use Rattle.stl_rows.specs.TextCode.{HasSevenBits, is_common, text_codes};
 use crate::fault::RowFaultKind;
 use crate::national::{National, cell_in};
 
-/// What a byte of a text says, or a pair of them.
+/// The meaning of a byte of a text, or of a pair of bytes.
 #[derive(Clone, Copy, Debug, PartialEq, Eq)]
 pub(crate) enum TextCode {
     /// A cell with this code.
     Cell(u8),
-    /// A byte that gives no cell.
+    /// A byte without a cell.
     NoCell,
     /// The end of a line.
     NewLine,
-    /// A byte that has no place in a text.
+    /// A byte that is not allowed in a text.
     Refused(RowFaultKind),
 }
 
-// Whether each byte gives the cell of its own number under each option. The check computes the
-// definition over all 256 bytes and compares.
+// For each byte, whether its cell has its own number in every option. The check computes the
+// definition for all 256 bytes and compares.
 #[rattlefmt::skip]
 const COMMON: [u8; 256] = [
     0, 1, 1, 1, 1, 1, 1, 1, 1, 1, 1, 1, 1, 1, 0, 0,
@@ -43,7 +43,7 @@ const COMMON: [u8; 256] = [
     0, 0, 0, 0, 0, 0, 0, 0, 0, 0, 0, 0, 0, 0, 0, 0,
 ];
 
-// Whether a byte gives the cell of its own number under each option.
+// Returns whether the cell of a byte has the byte's own number in every option.
 #[inline(always)]
 #[tactic(auto, using(crate::proofs::TextCodeLemmas::common_by_table))]
 fn is_common(byte: u8) -> bool
@@ -52,7 +52,7 @@ fn is_common(byte: u8) -> bool
     COMMON[byte as usize] == 1
 }
 
-// The cell of a byte by itself.
+// Returns the cell of a single byte.
 #[inline(always)]
 #[tactic(auto, unfolding(crate::specs::TextCode::cell_of))]
 fn cell_of(national: National, byte: u8) -> Option<u8>
@@ -64,7 +64,7 @@ fn cell_of(national: National, byte: u8) -> Option<u8>
     cell_in(national.characters(), None, byte)
 }
 
-// What a byte says that gives no cell.
+// Returns the meaning of a byte without a cell.
 #[tactic(auto, unfolding(crate::specs::TextCode::code_of_other))]
 fn code_of_other(byte: u8) -> TextCode
     ensures { result ≡ code_of_other byte }
@@ -77,7 +77,7 @@ fn code_of_other(byte: u8) -> TextCode
     }
 }
 
-// The cell of the two bytes at a place: a diacritical mark and its letter.
+// Returns the cell of the two bytes at `at`, a diacritical mark and its letter.
 #[inline(always)]
 #[tactic(auto, unfolding(crate::specs::TextCode::cell_of_pair))]
 fn cell_of_pair_at(national: National, text: &[u8], at: usize) -> Option<u8>
@@ -93,7 +93,7 @@ fn cell_of_pair_at(national: National, text: &[u8], at: usize) -> Option<u8>
     cell_in(national.characters(), Some(mark), text[at + 1])
 }
 
-/// The text code at a place of a text, and the place after it.
+/// Returns the text code at `at`, and the position after it.
 #[inline(always)]
 #[tactic(auto, unfolding(crate::specs::TextCode::is_common))]
 pub(crate) fn text_code_at(national: National, text: &[u8], at: usize) -> (TextCode, usize)
@@ -106,7 +106,7 @@ pub(crate) fn text_code_at(national: National, text: &[u8], at: usize) -> (TextC
 {
     let byte = text[at];
 
-    // Asked first, since most bytes are common: none of them is a mark.
+    // Tested first, since most bytes are common; none of them is a diacritical mark.
     if is_common(byte) {
         return (TextCode::Cell(byte), at + 1);
     }

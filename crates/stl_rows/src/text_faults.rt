@@ -1,8 +1,8 @@
-//! What keeps a subtitle from being drawn, found in one reading of its text.
+//! Finds the first fault of a subtitle's text in one pass.
 //!
-//! A text is read by this walk to be judged, and by another to be drawn; both mean one definition.
-//! One walk for both would draw a page for each subtitle that is loaded: 570 instructions beside
-//! the 390 of looking for faults.
+//! One function reads a text to check it, another to draw it; both follow the same definition. A
+//! single function would draw a page for each subtitle that is loaded: 570 instructions in addition
+//! to the 390 for finding faults.
 
 ghost use Rattle.std.specs.Prelude.{◌≡◌, ◌<◌, ◌≤◌, length, IsOk, MatchOption, Err, None, false};
 ghost use Rattle.stl_rows.specs.DrawnPage.{drawn};
@@ -17,12 +17,12 @@ use crate::national::National;
 use crate::record::Record;
 use crate::text_code::{TextCode, text_code_at};
 
-// The line that is being read: its number and row, and of its cells what its faults depend on.
+// The current line: its number and row, and the properties of its cells on which faults depend.
 #[derive(Clone, Copy)]
 struct OpenLine {
     number: u16,
     row: u16,
-    // Whether the line before it has double height.
+    // The line before it has double height.
     is_under_double: bool,
     len: u16,
     is_boxed: bool,
@@ -30,7 +30,7 @@ struct OpenLine {
 }
 
 impl OpenLine {
-    // The first line, which goes to row VP.
+    // Creates the first line, in row VP.
     fn first(vp: u8) -> OpenLine
         ensures { result ≡ empty_line 0 vp false }
     {
@@ -54,7 +54,7 @@ impl OpenLine {
         self.is_double = self.is_double || cell == 0x0D;
     }
 
-    // The line under it, without cells yet.
+    // Moves to the next line, which has no cells yet.
     fn end(&mut self)
         requires number { self.old.number ≤ 1008 }
         requires row { self.old.row ≤ 1031 }
@@ -70,7 +70,7 @@ impl OpenLine {
         };
     }
 
-    // What is wrong with the line.
+    // Returns the first fault of the line.
     #[tactic(auto, unfolding(crate::specs::LineByLine::shape_fault_kinds))]
     fn fault_kind(&self) -> Option<RowFaultKind>
         requires { self.now.len ≤ 1008 }
@@ -92,7 +92,7 @@ impl OpenLine {
         None
     }
 
-    // The fault that was found before the line, or else the first of the line.
+    // Returns the fault found before the line, or else the first fault of the line.
     fn first_fault(&self, before: Option<RowFault>) -> Option<RowFault>
         requires { self.now.len ≤ 1008 }
         ensures { result ≡ told_first before self.now }
@@ -110,8 +110,8 @@ impl OpenLine {
     }
 }
 
-// The first fault of a text whose first line goes to row VP. A byte that is refused is told before
-// any line.
+// Returns the first fault of a text whose first line is in row VP. A rejected byte is reported
+// before any fault of a line.
 fn fault_of_text(national: National, vp: u8, text: &[u8]) -> Option<RowFault>
     requires last { vp ≤ 23 }
     requires short { length text.now ≤ 1008 }
@@ -141,13 +141,13 @@ fn fault_of_text(national: National, vp: u8, text: &[u8]) -> Option<RowFault>
     line.first_fault(fault)
 }
 
-/// What keeps a subtitle from being drawn. `None` where it draws a page.
+/// Returns the fault that prevents a subtitle from being drawn, or `None` if it can be drawn.
 pub(crate) fn first_fault(subtitle: &Record<'_>, drawing: &Drawing) -> Option<RowFault>
     ensures { MatchOption result (IsOk (drawn drawing.now subtitle.now))
         (λ fault. drawn drawing.now subtitle.now ≡ Err fault) }
 {
     match &drawing.layout.items {
-        // The text is read once and no cell is kept.
+        // One pass over the text, without storing cells.
         None => fault_of_text(drawing.national, subtitle.vp(), subtitle.text()),
         Some(items) => match draw_by(drawing.national, items, subtitle) {
             Ok(_) => None,

@@ -1,4 +1,4 @@
-//! When subtitles start and end.
+//! The start and the end of a subtitle.
 
 ghost use Rattle.std.specs.Prelude.{◌≡◌};
 ghost use Rattle.stl_file.specs.Subtitle.{IsSubtitle};
@@ -8,7 +8,7 @@ ghost use Rattle.stl_rows.specs.TextCode.{first_of};
 use crate::fault::LoadFaultKind;
 use stl_file::Subtitle;
 
-/// When a subtitle starts and ends, as frames of the day.
+/// The start and the end of a subtitle, as frames of the day.
 #[derive(Clone, Copy)]
 pub(crate) struct Times {
     // TCI.
@@ -18,7 +18,7 @@ pub(crate) struct Times {
 }
 
 impl Times {
-    // The times of a subtitle.
+    // Returns the times of a subtitle.
     pub(crate) fn of(subtitle: &Subtitle) -> Times
         ensures value { result ≡ times_of subtitle.now }
         ensures subtitle { IsSubtitle subtitle.now }
@@ -29,7 +29,7 @@ impl Times {
         }
     }
 
-    // What is wrong with these times after those of the subtitle before.
+    // Returns the fault of these times after those of the previous subtitle.
     pub(crate) fn fault_after(self, before: Option<Times>) -> Option<LoadFaultKind>
         ensures { result ≡ first_of (order_faults before self) }
     {
