@@ -1,4 +1,4 @@
--- A transmission of which nothing is told is good: `good_by_events`.
+-- A transmission without events is good: `good_by_events`.
 use Rattle.std.proofs.lemmas.Bool.Decides.{Decides-and, Decides-like, Decides-eqb, Decides-ltb}
 use Rattle.std.proofs.Common.{arith, ◌≡◌, ℕ, ◌<◌, inl, inr, ◌==◌, ◌&&◌, Bool, true, false}
 use Rattle.std.proofs.Common.{List, [], length, nat_lt, slice_index, None}
@@ -35,11 +35,10 @@ packet_decided packet =
     (below _ (λ place. slice_index packet place < 0x100)
     (λ place. Decides-ltb (slice_index packet place) 0x100) 42))
 
--- Each packet is one.
 abbrev pub are_packets : Transmission → Bool
 are_packets frames = each_packet is_packet frames
 
--- A transmission of packets of which nothing is told is good, where no repeat may keep.
+-- A transmission of 42-byte packets without events is good, if no repeat may keep the page.
 pub good_by_events :
     (programme : ProgrammeValue) (frames : Transmission) (o : OptionsValue)
     → o.keeps ≡ false

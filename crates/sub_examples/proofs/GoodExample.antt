@@ -1,4 +1,4 @@
--- A good transmission: nothing is told of it.
+-- A good transmission: it has no events.
 use Rattle.std.proofs.Common.{arith, refl}
 use Rattle.std.specs.Int.RustNames.{count_ones}
 use lib.Count.{ones_in}

@@ -1,5 +1,5 @@
--- Of each number on which a receiver depends a transmission of which it is told alone, and which is
--- not robust: for each a start, what is got, and the tests.
+-- For each fault that a receiver depends on, a transmission that has only that fault and is not
+-- robust: a start, what is received, and the tests.
 use Rattle.std.proofs.Common.{List, [], ◌∷◌, refl, ℕ}
 use Rattle.std.specs.Int.RustNames.{count_ones}
 use lib.Count.{ones_in}
@@ -25,12 +25,13 @@ use Rattle.sub_examples.proofs.RobustTests.{needed}
 abbrev mark : List (List ℕ)
 mark = english_header ∷ row_1 0xA1 ∷ closing ∷ []
 
--- The header of page 888, with one wrong bit in its page units.
+-- The header of page 888 with one wrong bit in its page units.
 abbrev header_with_wrong_units : List ℕ
 header_with_wrong_units =
     x0 (0x15 ∷ 0x15 ∷ 0xD1 ∷ 0xD0 ∷ 0x15 ∷ 0xD0 ∷ 0x15 ∷ 0xD0 ∷ 0x02 ∷ 0x15 ∷ [])
 
--- The header of page 888, with two wrong bits in its first address byte, which decodes to nothing.
+-- The header of page 888 with two wrong bits in its first address byte, which can't be decoded
+-- then.
 abbrev header_with_two_wrong_bits : List ℕ
 header_with_two_wrong_bits =
     x0 (0x16 ∷ 0x15 ∷ 0xD0 ∷ 0xD0 ∷ 0x15 ∷ 0xD0 ∷ 0x15 ∷ 0xD0 ∷ 0x02 ∷ 0x15 ∷ [])
@@ -42,21 +43,21 @@ unfolding are_code_words is_word_below first_even_byte breaks columns_differing 
     kind address header coded_header decoded is_near is_odd count_ones ones_in due blank
     blank_row sub_set
 examples_of_needed_parts = record {
-  -- Frames 900000 and 900001 are got as they were sent.
+  -- Frames 900000 and 900001 are received as they were sent.
   frames_rise = needed 62 _ _ 900000 0 900001 (english_header ∷ row_1 0xA1 ∷ []) refl;
   -- Another bit of the address is wrong.
   exact_addresses = needed 64 _ _ 900000 0 900000 (header_with_two_wrong_bits ∷ closing ∷ []) refl;
-  -- One bit of the last packet is wrong, and it is all that is heard.
+  -- One bit of the last packet is wrong, and it is all that is received.
   exact_headers = needed 65 _ _ 900000 2 900000 (header_with_wrong_units ∷ []) refl;
   -- The question marks stay.
   subtitle_headers = needed 67 _ _ 900000 0 900000 (header_without_c4 ∷ closing ∷ []) refl;
-  -- A0 is got as A1.
+  -- A0 is received as A1.
   odd_rows = needed 68 _ _ 900000 0 900000 mark refl;
-  -- Both rows are got as they were sent.
+  -- Both rows are received as they were sent.
   same_rows =
       needed 69 _ _ 900000 0 900000 (english_header ∷ row_1 0x20 ∷ row_1 0xA1 ∷ closing ∷ []) refl;
-  -- All is got as it was sent.
+  -- Everything is received as it was sent.
   due_content = needed 72 _ _ 900000 0 900000 mark refl;
-  -- From the end of the first frame on.
+  -- The receiver starts at the end of the first frame.
   headers_in_time = needed 73 _ _ 900000 2 900001 (closing ∷ []) refl;
 }

@@ -1,5 +1,5 @@
--- A transmission is not robust, by a receiver that computes: `refuted`. Where one number alone is
--- told of it on which a receiver depends, that is needed: `needed`.
+-- A transmission is not robust, shown with a receiver that computes: `refuted`. If it has only one
+-- fault that a receiver depends on, that rule is needed: `needed`.
 use Rattle.std.proofs.lemmas.Bool.Decides.{nat_tests, Decides-and, Decides-like, Decides-ltb}
 use Rattle.std.proofs.lemmas.List.Elements.{recursion_from_All}
 use Rattle.std.proofs.lemmas.List.Kept.{AllPairs-cons}
@@ -34,7 +34,7 @@ use Rattle.sub_laws.proofs.FirstFoundLemmas.{each_rule}
 use Rattle.sub_laws.proofs.StandingLemmas.{all_known}
 use Rattle.sub_laws.proofs.StretchLemmas.{robust_of_recovers}
 
--- It has heard nothing, and holds a page of question marks.
+-- A receiver without a header, with a page of question marks.
 abbrev before : State
 before = record {
   heard = false;
@@ -44,7 +44,8 @@ before = record {
 
 -- ---- not robust
 
--- One may listen from packet j of frame g to the end of frame f, within the frames from a to b.
+-- A receiver may listen from packet j of frame g to the end of frame f, within the frames from a to
+-- b.
 abbrev may_listen : Transmission → ℕ → ℕ → ℕ → ℕ → ℕ → Bool
 may_listen frames a b g j f =
     nat_le a g && (nat_le g f && (nat_le f b && nat_le j (length (packets_of frames g))))
@@ -55,12 +56,12 @@ pub listening :
     → IsListening frames a b g j f
 listening frames a b g j f e = grind (arith, nat_tests, and_parts, nat_le, leb-true, length)
 
--- The code in a cell is none that a receiver may hold.
+-- The code of a cell is none that a receiver may have.
 abbrev is_wrong : ℕ → ℕ → Bool
 is_wrong code due = not (code == due) && not (code == space)
 
--- No header came within the bound; or it heard otherwise than was sent; or after a header a cell,
--- row 1 and column 0, is neither what is due nor a space.
+-- No header came within the bound; or the receiver has one although none was sent, or none although
+-- one was; or after a header the cell in row 1 and column 0 has neither the due code nor a space.
 abbrev is_unserved : ProgrammeValue → OptionsValue → ℕ → ℕ → List (List ℕ) → State → Bool
 is_unserved programme o g f sent new =
     (nat_le (g + o.every) f && not (holds_header (kind o.page) sent))
@@ -68,7 +69,7 @@ is_unserved programme o g f sent new =
     || (holds_header (kind o.page) sent
     && is_wrong (cell new.page 1 0) (cell (due_in programme f) 1 0)))
 
--- The receiver listens so, gets these packets, and is not served.
+-- A receiver that listens there and gets these packets is not served.
 abbrev pub is_refuted :
     ProgrammeValue → Transmission → OptionsValue → ℕ → ℕ → ℕ → List (List ℕ) → Bool
 is_refuted programme frames o g j f got =
@@ -76,7 +77,7 @@ is_refuted programme frames o g j f got =
     && (near_packets (on_air frames g j f) got
     && is_unserved programme o g f (on_air frames g j f) (state_after o.page before got))
 
--- Who is not served so is not served.
+-- The test shows that the receiver is not served.
 not_served :
     (late has heard : Bool) (code due : ℕ)
     → (late && not has || (not (is_same_bit heard has) || (has && is_wrong code due))) ≡ true
@@ -110,16 +111,15 @@ refuted programme frames o g j f got e robust =
       | inr hit ↦ inr hit.0
     ])
 
--- ---- nothing is told but one number
+-- ---- only one fault
 
--- A frame is in the stretch.
 abbrev in_stretch : ℕ → ℕ → ℕ → Bool
 in_stretch a b f = nat_le a f && nat_le f b
 
 in_stretch_decided : (a b f : ℕ) → Decides (in_stretch a b f) ((a ≤ f) × (f ≤ b))
 in_stretch_decided a b f = Decides-and _ _ (at_most a f) (at_most f b)
 
--- A test of each packet at a frame of the stretch, and of those before it.
+-- A test of each packet in a frame of the stretch, given those before it.
 abbrev packets_pass : (List (List ℕ) → List ℕ → Bool) → Transmission → ℕ → ℕ → Bool
 packets_pass test frames a b =
     all_below
@@ -139,7 +139,7 @@ at_packets test frames a b e i k l m low high =
     each_below _ (length (packets_of_frame frames i))
     ((implied _ _ (in_stretch_decided a b (frame_at frames i)) (holds _)).0 frame (low, high)) k m
 
--- A test of each end at a frame of the stretch, and of some frames more.
+-- A test of each end of a frame of the stretch, given the number of frames so far.
 abbrev ends_pass : (ℕ → ℕ → Bool) → Transmission → ℕ → ℕ → Bool
 ends_pass test frames a b =
     all_below
@@ -178,7 +178,7 @@ at_ends test frames a b e (suc m) f end low high =
     within f passes low high =
         (implied _ _ (in_stretch_decided a b f) (holds (test (suc m) f))).0 passes (low, high)
 
--- No packet at a frame of the stretch breaks the rule.
+-- No packet in a frame of the stretch breaks the rule.
 abbrev unbroken : PacketRule → Criteria → Transmission → ℕ → ℕ → Bool
 unbroken r g frames a b = packets_pass (λ before p. not (breaks r g.watched before p)) frames a b
 
@@ -190,7 +190,6 @@ none_breaks r g frames a b e i k l m low high =
     (fails _).0
     (at_packets (λ before p. not (breaks r g.watched before p)) frames a b e i k l m low high)
 
--- The numbers of the frames rise.
 abbrev rises : Transmission → Bool
 rises [] = true
 rises (s ∷ frames) =
@@ -210,7 +209,7 @@ rising_decided (s ∷ frames) =
     (each_of (λ (later : SentFrame). nat_lt s.frame later.frame) (R s)
     (λ t. Decides-ltb s.frame t.frame) frames) (rising_decided frames))
 
--- Nothing is told of a stretch that a receiver depends on but this number.
+-- The stretch has no fault that a receiver depends on except this one.
 abbrev told_alone : ℕ → Criteria → Transmission → ℕ → ℕ → Bool
 told_alone number g frames a b =
     (number == 62 || rises frames)
@@ -228,7 +227,6 @@ unless n m b e other = elim (or_cases (n == m) b e) [
   | inr passes ↦ passes
 ]
 
--- There is none.
 none_by_test : {A : Type 0} (o : Option A) → is_none o ≡ true → o ≡ None
 none_by_test o e = grind arith
 
@@ -266,7 +264,7 @@ untold_but number g frames a b e =
           (unless number 73 _ ends.1 other) n f end low high);
     }
 
--- Nothing else is told of the transmission, and it is refuted. So the number is needed.
+-- The transmission has no other fault, and it is refuted. So the rule is needed.
 pub needed :
     (number : ℕ) (frames : Transmission) (every g j f : ℕ) (got : List (List ℕ))
     → told_alone number (criteria_of no_subtitles (each every) None) frames (first_frame frames)
@@ -288,13 +286,13 @@ needed number frames every g j f got e =
 
 -- ---- a clean stretch
 
--- Where it is known at each frame what is due nothing of that stands at an end.
+-- If the due page is known at each frame, no end has an unknown one.
 none_undecided : (g : Criteria) (frames : Transmission) → ((f : ℕ) → g.undecided f ≡ false)
     → (n f : ℕ) → IsFalse (standing_at g frames n f).undecided
 unfolding standing_at
 none_undecided g frames known n f = all_known g.undecided known (frame_at frames 0) f g.within
 
--- Nothing at all is told of it, and the frames are some of the transmission.
+-- It has no events, and the frames are some of the transmission.
 pub untold_by_test :
     (g : Criteria) (frames : Transmission) (a b : ℕ)
     → ((f : ℕ) → g.undecided f ≡ false)

@@ -1,4 +1,4 @@
--- The examples of what comes onto a screen.
+-- The examples of screens.
 use Rattle.std.proofs.lemmas.Bool.Decides.{nat_tests}
 use Rattle.std.proofs.Common.{◌≡◌, true, false, List, [], ◌∷◌, Option, Some, None, refl, sym, ap}
 use Rattle.std.proofs.Common.{◌∙◌, subst, le_refl, true≢false, not, ℕ, ◌≤◌, arith, length, ◌++◌}
@@ -41,39 +41,36 @@ use Rattle.sub_rules.proofs.FrameEvents.{events, events_of_first, frame_events, 
 
 -- ---- packets
 
--- What the header of page 888 says.
+-- The contents of the header of page 888.
 abbrev says_888 : Header
 says_888 = record { page = 0x88; subcode = 0; control = record { 0 = 0x0D } }
 
--- The header of page 888 is one of the page.
 kind_888 : kind page_888 english_header ≡ ThisPage says_888
 unfolding kind address header coded_header decoded is_near
 kind_888 = refl
 
--- The closing header ends the page.
 kind_closing : kind page_888 closing ≡ EndsPage
 unfolding kind address header coded_header decoded is_near
 kind_closing = refl
 
--- The row is row 22.
 kind_22 : kind page_888 row_22 ≡ Row 22
 unfolding kind address header coded_header decoded is_near
 kind_22 = refl
 
--- A receiver whose page is open, and blank.
+-- A receiver with an open blank page.
 abbrev on_blank : State
 on_blank = record { heard = true; is_open = true; page = blank }
 
--- The header may make each receiver such a one.
+-- The header may put each receiver into this state.
 opens : (old : State) → Step page_888 old english_header on_blank
 opens old = subst (λ k. StepAt k english_header old on_blank) (sym kind_888) refl
 
--- The header makes no receiver any other.
+-- It puts receivers into no other state.
 opened :
     (old new : State) → Step page_888 old english_header new → new ≡ on_blank
 opened old new step = subst (λ k. StepAt k english_header old new) kind_888 step
 
--- The closing header closes it.
+-- The closing header closes the page.
 closed :
     (old new : State) → Step page_888 old closing new → new.is_open ≡ false
 closed old new step =
@@ -84,9 +81,9 @@ left_open :
     (old new : State) → old ≡ on_blank → Step page_888 old row_22 new → new.is_open ≡ true
 left_open old new is step = grind (arith, nat_tests, on_blank, kind_22)
 
--- ---- what comes onto the screen
+-- ---- screens
 
--- The closing header brings the page onto the screen.
+-- The closing header puts the page on the screen.
 pub example_of_ended_page : ExampleOfEndedPage
 example_of_ended_page old new run = grind (arith, nat_tests, opened, closed, not, Some)
 
@@ -106,11 +103,11 @@ first_header = grind (arith, nat_tests, true≢false)
 shows_again : ShowsAt page_888 (open_with None) english_header (open_with (Some blank))
 shows_again = grind (arith, nat_tests, true≢false, kind_888)
 
--- At the next one a receiver may show no page.
+-- It may also show no page.
 waits_again : ShowsAt page_888 (open_with None) english_header (open_with None)
 waits_again = grind (arith, nat_tests, true≢false)
 
--- A page that begins again may be shown, and may not.
+-- A page that begins again may be shown or not.
 pub example_of_page_begun_again : ExampleOfPageBegunAgain
 example_of_page_begun_again = record {
   shown = open_with (Some blank);
@@ -131,11 +128,11 @@ example_of_page_begun_again = record {
 
 -- ---- a good transmission that is not shown
 
--- A header and nothing after it.
+-- A header followed by nothing.
 abbrev no_end : Transmission
 no_end = one_frame (english_header ∷ [])
 
--- Nothing is told of it.
+-- It has no events.
 no_end_is_good : Good no_subtitles no_end (each 1)
 unfolding events events_of_first frame_events order_events gap_events gap_length
     packets_told rules_told broken_rules packet_rules breaks first_header_events standing_at
@@ -147,12 +144,12 @@ unfolding events events_of_first frame_events order_events gap_events gap_length
     due blank blank_row sub_set
 no_end_is_good = good_by_events _ _ _ refl refl (omega arith) refl refl
 
--- It holds a header of the page, which none ends.
+-- It has a header of the page.
 holds : holds_header (kind page_888) (english_header ∷ []) ≡ true
 unfolding kind address header coded_header decoded is_near
 holds = refl
 
--- None ends it.
+-- No header ends the page.
 no_end_of_page : is_unended (kind page_888) (english_header ∷ []) ≡ true
 unfolding kind address header coded_header decoded is_near
 no_end_of_page = refl

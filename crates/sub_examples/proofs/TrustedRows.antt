@@ -1,4 +1,4 @@
--- Which frames are told as trusted, by the definition: examples_of_trusted.
+-- Trusted frames, computed from the definition: examples_of_trusted.
 use Rattle.std.proofs.Common.{refl}
 use Rattle.sub_rules.specs.Trusted.{at_pes, back_of, doubted_by, last_begun, late_of, pes_told}
 use Rattle.sub_rules.specs.Trusted.{run_of}

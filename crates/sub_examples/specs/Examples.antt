@@ -1,4 +1,4 @@
--- Transmissions of page 888 in full, byte by byte: a good one, and for each part of what the
+-- Complete transmissions of page 888, byte by byte: a good one, and for each part of what the
 -- headline needs one that is not robust.
 use Rattle.std.specs.Prelude.{◌≡◌, ◌≢◌, ◌⊎◌, ℕ, false, List, [], ◌∷◌, ◌++◌, None, replicate}
 use Rattle.std.specs.Prelude.{IsFalse, IsTrue}
@@ -30,7 +30,7 @@ abbrev pub x0 : List ℕ → List ℕ
 x0 coded = coded ++ replicate 32 0x20
 
 -- A header of page 888 with these four bytes of control bits: S2 and C4, S4 with C5 and C6, C7 to
--- C10, C11 to C14. Between them stand: address, address, page units, page tens, S1; S3.
+-- C10, C11 to C14. The other bytes are: address, address, page units, page tens, S1; S3.
 abbrev pub header_with : ℕ → ℕ → ℕ → ℕ → List ℕ
 header_with c4 c5_c6 c7_c10 c11_c14 =
     x0 (0x15 ∷ 0x15 ∷ 0xD0 ∷ 0xD0 ∷ 0x15 ∷ c4 ∷ 0x15 ∷ c5_c6 ∷ c7_c10 ∷ c11_c14 ∷ [])
@@ -43,12 +43,12 @@ english_header = header_with 0xD0 0xD0 0x02 0x15
 abbrev pub header_without_c4 : List ℕ
 header_without_c4 = header_with 0x15 0xD0 0x02 0x15
 
--- The header of page 888, with one wrong bit in its first address byte.
+-- The header of page 888 with one wrong bit in its first address byte.
 abbrev pub header_with_wrong_bit : List ℕ
 header_with_wrong_bit =
     x0 (0x14 ∷ 0x15 ∷ 0xD0 ∷ 0xD0 ∷ 0x15 ∷ 0xD0 ∷ 0x15 ∷ 0xD0 ∷ 0x02 ∷ 0x15 ∷ [])
 
--- A packet X/0 whose page units decode to nothing: no header, but one wrong bit away from one.
+-- A packet X/0 whose page units can't be decoded: it is no header, but one bit away from one.
 abbrev pub no_header : List ℕ
 no_header = x0 (0x15 ∷ 0x15 ∷ 0xD3 ∷ 0xD0 ∷ 0x15 ∷ 0xD0 ∷ 0x15 ∷ 0xD0 ∷ 0x02 ∷ 0x15 ∷ [])
 
@@ -60,7 +60,7 @@ closing = x0 (0x15 ∷ 0x15 ∷ 0xEA ∷ 0xEA ∷ 0xEA ∷ 0x2F ∷ 0xEA ∷ 0x5
 abbrev pub row_1 : ℕ → List ℕ
 row_1 byte = 0xD0 ∷ 0x15 ∷ byte ∷ replicate 39 0x20
 
--- Packet 8/22, row 22: `Hi` in a box, each box code sent twice, in the middle.
+-- Packet 8/22, row 22: `Hi` in a box in the middle, each box code sent twice.
 abbrev pub row_22 : List ℕ
 row_22 =
     (0x15 ∷ 0x9B ∷ [])
@@ -79,7 +79,7 @@ abbrev pub two_frames : List (List ℕ) → List (List ℕ) → Transmission
 two_frames first second =
     record { frame = 900000; packets = first } ∷ record { frame = 900001; packets = second } ∷ []
 
--- Page 888, a repeat bound, and PTS 0 at frame 0.
+-- Page 888 with a repeat bound, and PTS 0 at frame 0.
 abbrev pub each : ℕ → OptionsValue
 each every =
     record {
@@ -100,7 +100,7 @@ one_header sent = one_frame (sent ∷ closing ∷ [])
 abbrev pub no_subtitles : ProgrammeValue
 no_subtitles = record { drawing = drawing_by English default_layout; records = [] }
 
--- A programme of one subtitle at frame 900000 alone: on row 22, centred, with this text.
+-- A programme with one subtitle, at frame 900000 alone: on row 22, centred, with this text.
 abbrev pub one_subtitle : List ℕ → ProgrammeValue
 one_subtitle text =
     record {
@@ -118,7 +118,7 @@ one_subtitle text =
           ∷ [];
     }
 
--- ---- a good one
+-- ---- a good transmission
 
 -- `Hi` in one frame, and in the next one the page without it.
 abbrev pub ExampleOfGood : Type 0
@@ -127,14 +127,14 @@ ExampleOfGood =
     (two_frames (english_header ∷ row_22 ∷ closing ∷ []) (english_header ∷ closing ∷ []))
     (each 1)
 
--- ---- for each thing that is told of which a receiver depends one that is not robust
+-- ---- for each fault that a receiver depends on, a transmission that is not robust
 
--- The number of the refusal that tells that a packet breaks the rule.
+-- The number of the fault for a packet that breaks the rule.
 abbrev pub number_of : PacketRule → ℕ
 number_of r = (check_code (packet_fault r 0 0)).number
 
--- Of the frames from a to b nothing is told that a receiver depends on, as in `IsUntold`, but this
--- number perhaps.
+-- In the frames from a to b there is no report that a receiver depends on, as in `IsUntold`, except
+-- perhaps this number.
 pub record IsUntoldBut (number : ℕ) (g : Criteria) (frames : Transmission) (a b : ℕ) : Type 0 where
   pub rising : number ≢ 62 → IsRising frames
   pub packets :
@@ -146,8 +146,8 @@ pub record IsUntoldBut (number : ℕ) (g : Criteria) (frames : Transmission) (a 
       number ≢ 72 → AtEnds (λ n f. (standing_at g frames n f).content ≡ None) frames a b
   pub gap : number ≢ 73 → AtEnds (λ n f. IsFalse (standing_at g frames n f).gap) frames a b
 
--- Of all frames of the transmission nothing else is told, where every due page is blank, and it is
--- not robust. So neither may its frames be trusted.
+-- The frames of the transmission have no other fault, if each due page is blank, and it is not
+-- robust. So its frames may not be trusted either.
 pub record IsNeeded (number : ℕ) (transmission : Transmission) (every : ℕ) : Type 0 where
   pub others :
       IsUntoldBut number (criteria_of no_subtitles (each every) None) transmission
@@ -162,7 +162,7 @@ pub record IsNeeded (number : ℕ) (transmission : Transmission) (every : ℕ) :
 abbrev pub changed_row : Transmission
 changed_row = one_frame (english_header ∷ row_1 0x20 ∷ row_1 0xA1 ∷ closing ∷ [])
 
--- Frame 900001 is listed after frame 900002, which ends the page, and so its row is passed over.
+-- Frame 900001 is listed after frame 900002, which ends the page, so its row is ignored.
 abbrev pub listed_late : Transmission
 listed_late =
     record { frame = 900000; packets = english_header ∷ [] }
@@ -171,23 +171,23 @@ listed_late =
     ∷ record { frame = 900003; packets = english_header ∷ closing ∷ [] }
     ∷ []
 
--- Each of the eight is needed: where it is told alone a stretch can't be trusted.
+-- Each of the eight rules is needed: a stretch with this fault alone can't be trusted.
 pub record ExamplesOfNeededParts : Type 0 where
-  -- Who hears the frames up to 900001 is shown an exclamation mark that is not due.
+  -- A receiver of the frames up to 900001 shows an exclamation mark that is not due.
   pub frames_rise : IsNeeded 62 listed_late 3
-  -- One bit more, and the address byte decodes to nothing: the header is not heard.
+  -- With one more wrong bit the address byte can't be decoded, and the header is missed.
   pub exact_addresses : IsNeeded 64 (one_header header_with_wrong_bit) 1
-  -- One wrong bit, and a packet X/0 is a header that nobody sent.
+  -- With one wrong bit a packet X/0 is a header that nobody sent.
   pub exact_headers : IsNeeded 65 (one_frame (english_header ∷ closing ∷ no_header ∷ [])) 1
   -- Without C4 a receiver keeps its old page.
   pub subtitle_headers : IsNeeded 67 (one_header header_without_c4) 1
-  -- A0 may be got as A1, which has odd parity: an exclamation mark that nobody sent.
+  -- A0 may be received as A1, which has odd parity: an exclamation mark that nobody sent.
   pub odd_rows : IsNeeded 68 (one_frame (english_header ∷ row_1 0xA0 ∷ closing ∷ [])) 1
-  -- Of two packets of row 1 the first one counts as what is shown, and a receiver holds the second.
+  -- Of two packets of row 1 the first counts as shown, but a receiver has the second.
   pub same_rows : IsNeeded 69 changed_row 1
   -- Every receiver shows what is not due.
   pub due_content : IsNeeded 72 (one_frame (english_header ∷ row_1 0xA1 ∷ closing ∷ [])) 1
-  -- Who starts after the first frame hears no header within the bound.
+  -- A receiver that starts after the first frame gets no header within the bound.
   pub headers_in_time : IsNeeded 73 (two_frames (english_header ∷ closing ∷ []) (closing ∷ [])) 1
 
 -- ---- a clean stretch of a refused transmission
@@ -217,9 +217,9 @@ damaged_first =
     ∷ record { frame = 900002; packets = english_header ∷ closing ∷ [] }
     ∷ []
 
--- It is refused. Nothing is told of the frames after it; so who hears frame 900001, with any bit of
--- each byte wrong and whatever he held before, holds the `H` there or, where its byte was hit, a
--- space.
+-- It is refused. There is no report of the frames after the first; so a receiver of frame 900001,
+-- with any wrong bit in each byte and whatever it contained before, has the `H` there or, if its
+-- byte was hit, a space.
 pub record ExampleOfCleanStretch : Type 0 where
   pub refused : Good later_subtitle damaged_first (each 1) → ⊥
   pub clean : IsUntold (criteria_of later_subtitle (each 1) None) damaged_first 900001 900002

@@ -1,4 +1,4 @@
--- What comes onto a screen, packet by packet, and a good transmission that is not shown.
+-- When a page is put on a screen, packet by packet, and a good transmission that is not shown.
 use Rattle.std.specs.Prelude.{◌≡◌, [], ◌∷◌, false, Option, Some, None}
 use Rattle.ttx_page.specs.Page.{Rows, blank}
 use Rattle.ttx_page.specs.Receiver.ReceiverClass.{Storing}
@@ -12,19 +12,19 @@ use Rattle.sub_rules.specs.Good.{Good}
 use Rattle.sub_laws.specs.OnScreen.{Complete, ShownWithin}
 use Rattle.sub_rules.specs.Transmission.{Transmission, first_frame, last_frame}
 
--- A receiver that has heard nothing, with a blank page, and this on its screen.
+-- A receiver without a header, with a blank page, and this on its screen.
 abbrev pub unheard : Option Rows → Display
 unheard screen =
     record { held = record { heard = false; is_open = false; page = blank }; screen = screen }
 
--- A header that ends the page brings it onto the screen, whatever was held and shown before.
+-- A header that ends the page puts it on the screen, whatever the receiver had and showed before.
 abbrev pub ExampleOfEndedPage : Type 0
 ExampleOfEndedPage =
     (old new : Display)
     → Shows page_888 old (english_header ∷ closing ∷ []) new
     → new.screen ≡ Some blank
 
--- Until then the screen stays as it is: a row does not come onto it.
+-- Until then the screen stays as it is: a row is not put on it.
 abbrev pub ExampleOfPageNotEnded : Type 0
 ExampleOfPageNotEnded =
     (screen : Option Rows) (new : Display)
@@ -40,8 +40,8 @@ pub record ExampleOfPageBegunAgain : Type 0 where
   pub waits : Shows page_888 (unheard None) (english_header ∷ english_header ∷ []) other
   pub is_nothing : other.screen ≡ None
 
--- The transmission is good, so every receiver holds what is due; but its pages are not complete,
--- and some receiver shows nothing.
+-- The transmission is good, so every receiver has the due page; but its pages are not complete, and
+-- some receiver shows nothing.
 pub record IsHeldAndNotShown
     (programme : ProgrammeValue) (transmission : Transmission) (options : OptionsValue)
     : Type 0 where
@@ -52,6 +52,6 @@ pub record IsHeldAndNotShown
       (last_frame transmission)
       → ⊥
 
--- A header and nothing after it.
+-- A header followed by nothing.
 abbrev pub ExampleOfNoEnd : Type 0
 ExampleOfNoEnd = IsHeldAndNotShown no_subtitles (one_frame (english_header ∷ [])) (each 1)

@@ -1,7 +1,7 @@
-//! Transmissions in full, byte by byte: a good one, and for each part of what the headline needs
+//! Complete transmissions, byte by byte: a good one, and for each part of what the headline needs
 //! one that is not robust.
 //!
-//! They show that the definitions of `specs/` say what they are to say. The functions do nothing.
+//! They show that the definitions of `specs/` mean what they should. The functions do nothing.
 ghost use Rattle.sub_examples.specs.Examples.{ExampleOfCleanStretch, ExampleOfGood};
 ghost use Rattle.sub_examples.specs.Examples.{ExamplesOfNeededParts};
 ghost use Rattle.sub_examples.specs.TrustedExamples.{ExamplesOfTrusted};
@@ -12,20 +12,20 @@ pub fn example_of_good()
     ensures { ExampleOfGood }
 {}
 
-/// Each of the eight numbers of which none is told of a clean stretch is needed: for each there is
-/// a transmission of which it is told alone, and which is not robust.
+/// Each of the eight rules of a clean stretch is needed: for each there is a transmission with this
+/// fault alone that is not robust.
 #[tactic(auto, using(crate::proofs::NotRobust::examples_of_needed_parts))]
 pub fn examples_of_needed_parts()
     ensures { ExamplesOfNeededParts }
 {}
 
-/// A refused transmission with a stretch of frames that is clean, and what a receiver holds there.
+/// A refused transmission with a clean stretch of frames, and what a receiver has there.
 #[tactic(auto, using(crate::proofs::StretchExample::example_of_clean_stretch))]
 pub fn example_of_clean_stretch()
     ensures { ExampleOfCleanStretch }
 {}
 
-/// Which frames are told as trusted of what comes of a file, and before what.
+/// Which frames are reported as trusted for the steps of a file, and before which events.
 #[tactic(auto, using(crate::proofs::TrustedRows::examples_of_trusted))]
 pub fn examples_of_trusted()
     ensures { ExamplesOfTrusted }

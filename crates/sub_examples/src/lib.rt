@@ -1,8 +1,7 @@
 //! Examples of transmissions, byte by byte: a good one, for each part that the headline needs one
-//! that is not robust without it, and of screens.
+//! that is not robust without it, and examples of screens.
 //!
-//! Stands on `sub_rules` and `sub_laws`, and nothing stands on it: the definitions of those are
-//! held against cases here.
+//! They test the definitions of `sub_rules` and `sub_laws`. No other crate uses this one.
 //!
 //! ```text
 //! example_of_good: a transmission of one frame, its programme and its options are `Good`

@@ -1,10 +1,10 @@
-//! What comes onto a screen, packet by packet, and a good transmission that is not shown.
+//! When a page is put on a screen, packet by packet, and a good transmission that is not shown.
 //!
-//! They show that the definitions of `specs/` say what they are to say. The functions do nothing.
+//! They show that the definitions of `specs/` mean what they should. The functions do nothing.
 ghost use Rattle.sub_examples.specs.ScreenExamples.{ExampleOfEndedPage, ExampleOfNoEnd};
 ghost use Rattle.sub_examples.specs.ScreenExamples.{ExampleOfPageBegunAgain, ExampleOfPageNotEnded};
 
-/// A page comes onto the screen at the header that ends it, not at its rows, and at its own header
+/// A page is put on the screen at the header that ends it, not at its rows, and at its own header
 /// if the receiver chooses so.
 pub fn examples_of_screens()
     ensures ended { ExampleOfEndedPage }
@@ -12,7 +12,7 @@ pub fn examples_of_screens()
     ensures begun_again { ExampleOfPageBegunAgain }
 {}
 
-/// A good transmission whose page no header ends: it is held by every receiver, and not shown.
+/// A good transmission whose page no header ends: every receiver has it, and some do not show it.
 pub fn example_of_no_end()
     ensures { ExampleOfNoEnd }
 {}

@@ -1,7 +1,6 @@
--- For `law_of_trusted_alike`.
--- Two sets of criteria that ask alike wherever the one knows what is due: where that was so at the
--- last frames an end is late for both or for none, `late_same`, and where nothing stands broken for
--- the one nothing does for the other, `alike_quiet`.
+-- For `law_of_trusted_alike`. Two sets of criteria that agree whenever the first knows the due
+-- page: if it knew it at the last frames, an end is late for both or for neither, `late_same`, and
+-- if no fault is active for the first none is for the second, `alike_quiet`.
 use Rattle.std.proofs.lemmas.Bool.Decides.{nat_tests}
 use Rattle.std.proofs.Common.{◌≡◌, ℕ, ◌+◌, ◌-◌, ◌≤◌, inl, inr, Bool, true, false}
 use Rattle.std.proofs.Common.{◌&&◌, ◌||◌, ◌==◌, nat_le, Option, Some, None, length, refl, sym, ap}
@@ -25,8 +24,8 @@ use Rattle.sub_laws.proofs.UnfinishedLemmas.{none_since, since_at, since_end, si
 use Rattle.sub_laws.proofs.UnfinishedLemmas.{since_some}
 use Rattle.sub_laws.proofs.UnfinishedLemmas.{unfinished_at}
 
--- The criteria where at each frame it is known what is due: these pages; with the TCI of the
--- subtitle whose TCO a frame is, the first TCI and the last TCO.
+-- The criteria that know the due page at each frame: these pages, the TCI of the subtitle whose TCO
+-- is a frame, the first TCI and the last TCO.
 abbrev pub criteria_known : Criteria → (ℕ → Rows) → (ℕ → Option ℕ) → Option ℕ → Option ℕ → Criteria
 criteria_known g due ending first_in last_out =
     record g {
@@ -38,7 +37,7 @@ criteria_known g due ending first_in last_out =
       undecided = λ frame. false;
     }
 
--- It asks what the other one asks, wherever that one knows what is due.
+-- They agree with the other criteria whenever those know the due page.
 pub record AsksAlike (g : Criteria) (due : ℕ → Rows) (ending : ℕ → Option ℕ) : Type 0 where
   pub due_is : (f : ℕ) → g.undecided f ≡ false → due f ≡ g.due f
   pub ending_is : (f : ℕ) → g.undecided f ≡ false → ending (f + 1) ≡ g.ending (f + 1)
@@ -54,7 +53,7 @@ module _ (g : Criteria) (due : ℕ → Rows) (ending : ℕ → Option ℕ) (firs
   abbrev h : Criteria
   h = criteria_known g due ending first_in last_out
 
-  -- An end is unfinished for both or for none where it is known what is due.
+  -- If the due page is known, an end is unfinished for both or for neither.
   pub same_unfinished : (t : Transmission) (n f : ℕ) → g.undecided f ≡ false
       → is_unfinished h t n f ≡ is_unfinished g t n f
   unfolding is_incomplete
@@ -73,11 +72,11 @@ module _ (g : Criteria) (due : ℕ → Rows) (ending : ℕ → Option ℕ) (firs
     same_un : (f : ℕ) → g.undecided f ≡ false → un_known f ≡ un f
     same_un f known = rw (known, alike.due_is f known) refl
 
-    -- What is unfinished for the one is for the other.
+    -- What is unfinished for the first is unfinished for the second.
     more_un : (f : ℕ) → un f ≡ true → un_known f ≡ true
     more_un f e = grind (arith, nat_tests, same_un, or_true)
 
-    -- At the frames up to f, as many as the page may be late by, it is known what is due.
+    -- The due page is known at the last frames up to f, as many as the page may be late by.
     abbrev pub IsKnownTo : ℕ → Type 0
     IsKnownTo f = (e : ℕ) → first ≤ e → e ≤ f → f ≤ e + g.within → g.undecided e ≡ false
 
@@ -135,7 +134,7 @@ module _ (g : Criteria) (due : ℕ → Rows) (ending : ℕ → Option ℕ) (firs
           ]
         ]
 
-    -- An end is late for both or for none.
+    -- An end is late for both or for neither.
     late_same : (n f : ℕ) → IsEnd t n f → IsKnownTo f → is_late h t n f ≡ is_late g t n f
     unfolding is_late
     late_same n f end known =
@@ -192,7 +191,7 @@ module _ (g : Criteria) (due : ℕ → Rows) (ending : ℕ → Option ℕ) (firs
       content_too true so is e = rw so (wrong_too (rw is at e))
       content_too false so is e = rw so (undue_too (rw is at e))
 
-      -- Where nothing stands broken for the one nothing does for the other.
+      -- If no fault is active for the first, none is for the second.
       pub alike_quiet : IsEnd t n f → IsQuiet g t n f → IsQuiet h t n f
       unfolding is_gap is_incomplete is_silent
       alike_quiet end quiet =

@@ -1,6 +1,6 @@
--- For `law_of_trusted_alike`.
--- A programme with others among its subtitles asks alike at the frames at which these are not due,
--- `alike_with`; so what is told as trusted without them is so with them: `law_of_trusted_alike`.
+-- For `law_of_trusted_alike`. A programme with other subtitles agrees at the frames at which these
+-- are not due, `alike_with`; so frames that are trusted without them are trusted with them:
+-- `law_of_trusted_alike`.
 use Rattle.std.proofs.lemmas.Bool.Decides.{nat_tests}
 use Rattle.std.proofs.Common.{◌≡◌, ℕ, ◌+◌, inl, inr, Bool, false}
 use Rattle.std.proofs.Common.{List, [], ◌∷◌, find, Option, option_map}
@@ -16,14 +16,14 @@ use Rattle.sub_trusted.proofs.AlikeLateLemmas.{AsksAlike}
 use Rattle.sub_trusted.proofs.TrustedAlikeLemmas.{told_too}
 
 module _ (undecided : ℕ → Bool) (f : ℕ) (known : undecided f ≡ false) where
-  -- One that is due at the other frames alone neither is due here nor ends after this frame.
+  -- A subtitle that is due only at other frames is not due here and does not end after this frame.
   not_due : (t : SubtitleValue) → IsDueAmong undecided t → is_due f t ≡ false
   not_due t is = grind (arith, nat_tests)
 
   not_ended : (t : SubtitleValue) → IsDueAmong undecided t → ends_at (f + 1) t ≡ false
   not_ended t is = grind (arith, nat_tests)
 
-  -- So what is found among all is found among those alone.
+  -- So a search among all subtitles finds the same as one among the others.
   same_found : (test : SubtitleValue → Bool)
       → ((t : SubtitleValue) → IsDueAmong undecided t → test t ≡ false)
       → (judged all : List SubtitleValue) → HasOthers undecided judged all

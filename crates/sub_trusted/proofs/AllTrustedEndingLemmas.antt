@@ -1,6 +1,5 @@
--- For `law_of_all_trusted`.
--- What comes at the end of a frame while the frames of a stretch that can stay go by:
--- `ending_leads`; and of the file, `closing_told`.
+-- For `law_of_all_trusted`. The steps at the end of a frame within a stretch that can stay,
+-- `ending_leads`, and at the end of the file, `closing_told`.
 use Rattle.std.proofs.lemmas.Bool.Decides.{nat_tests}
 use Rattle.std.proofs.Common.{◌≡◌, ℕ, suc, ◌+◌, ◌-◌, ◌<◌, ◌≤◌, inl, inr, Bool, true, false}
 use Rattle.std.proofs.Common.{◌||◌, List, [], ◌∷◌, ◌++◌, length, map, Option, Some, None, is_some}
@@ -50,7 +49,7 @@ use Rattle.std.specs.Option.{option_or}
 
 -- ---- tests
 
--- What is trusted of a run, told on a condition.
+-- The trusted frames of a run, reported if a condition holds.
 put_when : (c : Bool) (run whole : Option ℕ) (x from w : ℕ) → c ≡ true → run ≡ Some from
     → whole ≡ Some w
     → w < x
@@ -63,7 +62,7 @@ header_orders : (g : Criteria) (frames : Transmission) (n : ℕ)
 unfolding first_header_events is_order tells_fall
 header_orders g frames n = grind (arith, nat_tests)
 
--- What is not trusted at the end of a file is after the stretch.
+-- The first frame that is not trusted at the end of a file is after the stretch.
 closing_past : (since back : Option ℕ) (left : Bool) (last b : ℕ)
     → ((r : ℕ) → since ≡ Some r → b < r)
     → (b < last → (r : ℕ) → back ≡ Some r → b < r)
@@ -72,13 +71,13 @@ closing_past : (since back : Option ℕ) (left : Bool) (last b : ℕ)
     → b < unwrap_or since (if left then unwrap_or back last else suc last)
 closing_past since back left last b h k low unread = grind (arith, nat_tests)
 
--- The page was whole in a run that is there.
+-- The page was right within a run that exists.
 in_run : (run whole : Option ℕ) (w : ℕ) → (if is_none run then None else whole) ≡ Some w
     → (from : ℕ) × (run ≡ Some from) × (whole ≡ Some w)
 in_run None whole w e = absurd (none-some w e)
 in_run (Some from) whole w e = (from, refl, e)
 
--- A run that goes on at the end of a frame with a header, or begins there.
+-- A run continues at the end of a frame with a header, or begins there.
 run_there : (run : Option ℕ) (has : Bool) (f : ℕ) → has ≡ true
     → ((from : ℕ) → run ≡ Some from → from ≤ f)
     → (from : ℕ) × (from ≤ f) × (option_or run (if has then Some f else None) ≡ Some from)
@@ -96,7 +95,7 @@ module _ (g : Criteria) (frames : Transmission) (a b i : ℕ)
   abbrev OpenHere : ℕ → List CheckStep → Type 0
   OpenHere n t = Open g frames a b i fits n (packets_of_frame frames n) t
 
-  -- The end of frame n was looked at.
+  -- The end of frame n was checked.
   record Finishing (n : ℕ) (t : List CheckStep) : Type 0 where
     follows : Follow n (frame_at frames n + 1) t
     clean : i ≤ n → stays_quiet t ≡ true
@@ -115,7 +114,7 @@ module _ (g : Criteria) (frames : Transmission) (a b i : ℕ)
   here : (n : ℕ) → i ≡ n → frame_at frames i ≡ frame_at frames n
   here n same = ap (frame_at frames) same
 
-  -- Nothing stood before it where a run is there.
+  -- No fault was active before it if there is a run.
   stood_own : (n from : ℕ) (t : List CheckStep) → n < length frames
       → Opens g frames 0 n (packets_of_frame frames n) t
       → run_of t ≡ Some from
@@ -132,8 +131,8 @@ module _ (g : Criteria) (frames : Transmission) (a b i : ℕ)
       end_back frames n (frame_at frames n) h.some (in_part g frames a b i fits n there h)
       (omega arith) (omega arith)
 
-  -- What is kept after what is told there, where it doubts no frame; before the header's frame
-  -- whatever it does.
+  -- The state after its reports, if they do not cast doubt on a frame; before the header's frame,
+  -- in any case.
   finishing : (n : ℕ) (t u v : List CheckStep) → n < length frames → OpenHere n t
       → Looks g frames (suc n) (frame_at frames n) t u
       → Backs g frames n (frame_at frames n) u
@@ -236,7 +235,7 @@ module _ (g : Criteria) (frames : Transmission) (a b i : ℕ)
             (omega arith))))
       ]
 
-  -- ---- it ends
+  -- ---- the frame ends
 
   ended_now : (n : ℕ) (t : List CheckStep) → Finishing n t
       → Follow (suc n) (frame_at frames (suc n - 1) + 1)

@@ -1,7 +1,6 @@
--- For `law_of_all_trusted`.
--- What is kept while the frames of a stretch that can stay go by, `Follows`: from the end of one of
--- its frames with a header on a run, which is told once a frame is doubted, `follows_says`; and at
--- an end, `end_leads`.
+-- For `law_of_all_trusted`. The state within a stretch that can stay, `Follows`: after the end of a
+-- frame with a header there is a run, which is reported once a frame is in doubt, `follows_says`;
+-- and at an end, `end_leads`.
 use Rattle.std.proofs.lemmas.Bool.Decides.{nat_tests}
 use Rattle.std.proofs.Common.{◌≡◌, ℕ, ◌+◌, ◌-◌, ◌<◌, ◌≤◌, inl, inr, Bool, true, false, ◌==◌}
 use Rattle.std.proofs.Common.{List, map, Option, Some, None, is_some, refl, sym, ◌∙◌, arith}
@@ -34,7 +33,7 @@ use Rattle.std.specs.Option.{option_or}
 
 -- ---- tests
 
--- The page was whole in a run already.
+-- The page was already right within the run.
 pub whole_kept : (whole since : Option ℕ) (f w : ℕ) → whole ≡ Some w
     → option_or whole (whole_at f since) ≡ Some w
 whole_kept whole since f w e = grind (arith, nat_tests)
@@ -46,13 +45,13 @@ pub whole_now : (whole since : Option ℕ) (f : ℕ) → since ≡ None
 whole_now (Some w) since f none low = (w, low w refl, refl)
 whole_now None since f none low = (f, le_refl f, rw none refl)
 
--- Since a frame after b, at the end of one after it.
+-- It has been wrong since a frame after b, at the end of a later one.
 late_past : (late : Bool) (since : Option ℕ) (f b : ℕ) → b < f
     → ((r : ℕ) → since ≡ Some r → b < r)
     → b < unwrap_or (if late then since else None) f
 late_past late since f b past h = grind (arith, nat_tests)
 
--- Nothing of what is told at an end is told of the order.
+-- No report at an end is about the order of frames.
 pub end_orders : (old : Standing) (before : ℕ) (new : Standing) (f : ℕ)
     → list_any is_order (end_events old before new f) ≡ false
 unfolding is_order tells_fall
@@ -65,7 +64,7 @@ module _ (g : Criteria) (frames : Transmission) (a b i : ℕ)
   abbrev pub top : ℕ
   top = frame_at frames i
 
-  -- The first n frames have ended, and the ends before frame p have been.
+  -- The first n frames have ended, and so have the ends before frame p.
   pub record Follows (n p : ℕ) (t : List CheckStep) : Type 0 where
     pub rises : n ≤ i → rose t ≡ true
     pub run : i < n → (from : ℕ) × (from ≤ top) × (run_of t ≡ Some from)
@@ -79,7 +78,7 @@ module _ (g : Criteria) (frames : Transmission) (a b i : ℕ)
       → Follows n q t
   follows_to n p q t follows same = grind (arith, nat_tests)
 
-  -- After events that doubt no frame.
+  -- The same after events that cast doubt on no frame.
   pub follows_said : (n p : ℕ) (t u : List CheckStep) (es : List Event) → Follows n p t
       → IsSaid t u es
       → (n ≤ i → list_any is_order es ≡ false)
@@ -87,7 +86,7 @@ module _ (g : Criteria) (frames : Transmission) (a b i : ℕ)
       → Follows n p u
   follows_said n p t u es follows so orders none = grind (arith, nat_tests)
 
-  -- Where a frame after the stretch is doubted it is told.
+  -- If a frame after the stretch is in doubt, the stretch is reported.
   pub doubt_told : (n p : ℕ) (t : List CheckStep) (es : List Event) (x : ℕ) → Follows n p t → i < n
       → doubt_of t es ≡ Some x
       → (b < back_to t x) × (b < p)
@@ -115,8 +114,8 @@ module _ (g : Criteria) (frames : Transmission) (a b i : ℕ)
 
   -- ---- an end
 
-  -- Those before the end of a frame after the stretch at whose ends the page was not whole are
-  -- after it.
+  -- If the page has been wrong up to the end before one after the stretch, it has been so since a
+  -- frame after the stretch.
   pub back_after : (n f r : ℕ) (u : List CheckStep) → Backs g frames n f u → 0 < n
       → IsEnd (rising_part frames) n (f - 1)
       → b < f
@@ -125,7 +124,7 @@ module _ (g : Criteria) (frames : Transmission) (a b i : ℕ)
   back_after n f r u backs some end past is =
       fits.back n (f - 1) r end (omega arith) (sym (before_is g frames n f some) ∙ backs r is)
 
-  -- Once the end of frame f was looked at, up to which m frames count.
+  -- The state after the end of frame f was checked, with the packets of m frames.
   pub end_follows : (n m f q : ℕ) (t u : List CheckStep) → Looks g frames m f t u
       → Backs g frames n f u
       → f + 1 ≡ q
@@ -164,7 +163,7 @@ module _ (g : Criteria) (frames : Transmission) (a b i : ℕ)
             | inr (none, here) ↦ omega arith
           ]
 
-  -- What is told there doubts a frame after the stretch, if one.
+  -- Its reports cast doubt only on frames after the stretch.
   pub end_past : (n m f x : ℕ) (t u : List CheckStep) → Looks g frames m f t u
       → Backs g frames n f u
       → 0 < n

@@ -1,6 +1,5 @@
--- For `law_of_all_trusted`.
--- Steps one after another with which a stretch is told as trusted, or after which what is kept goes
--- on to that: `Leads`; and that a run is told where a frame is doubted, `said_told`.
+-- For `law_of_all_trusted`. Steps that report a stretch as trusted, or leave a state that will:
+-- `Leads`. A run is reported when a frame is in doubt, `said_told`.
 use Rattle.std.proofs.lemmas.Bool.Decides.{nat_tests}
 use Rattle.std.proofs.Common.{◌≡◌, ℕ, ◌-◌, ◌<◌, ◌≤◌, ◌⊎◌, inl, inr, List, [], ◌∷◌, ◌++◌, map}
 use Rattle.std.proofs.Common.{Contains, Option, Some, None, refl, sym, subst, arith, ◌∙◌}
@@ -16,9 +15,9 @@ use Rattle.sub_trusted.proofs.SaidStepLemmas.{back_to, doubt_after, doubt_of, ke
 use Rattle.sub_rules.specs.Trusted.{CheckStep, at_pes, back_of, doubted_by, pes_told, run_of}
 use Rattle.sub_rules.specs.Trusted.{told_after, told_at, trusted, trusted_up_to, whole_of}
 
--- ---- a run that is told
+-- ---- the report of a run
 
--- What is trusted of a run before frame x, where the page was whole in it.
+-- The trusted frames of a run before frame x, if the page was right in it.
 pub put_told : (run whole : Option ℕ) (x from w : ℕ) → run ≡ Some from → whole ≡ Some w → w < x
     → Contains (trusted run whole x) (Trusted from (x - 1))
 put_told run whole x from w run_is whole_is l =
@@ -40,7 +39,7 @@ or_some d rest x y some e = grind (arith, nat_tests)
 pub kept_on : (run d : Option ℕ) (from : ℕ) → d ≡ None → run ≡ Some from → kept run d ≡ Some from
 kept_on run d from none is = grind (arith, nat_tests)
 
--- It is told with the first event that doubts a frame.
+-- It is reported with the first event that casts doubt on a frame.
 pub said_told : (t : List CheckStep) (es : List Event) (x from w : ℕ) → doubt_of t es ≡ Some x
     → run_of t ≡ Some from
     → whole_of t ≡ Some w
@@ -75,11 +74,11 @@ said_told t (e ∷ es) x from w is run whole l =
 -- ---- steps
 
 module _ (top b : ℕ) where
-  -- Frames up to b, from one on that is not after this one, are told as trusted among these.
+  -- Frames up to b, from one that is not after this one, are reported as trusted.
   abbrev pub IsTold : List Event → Type 0
   IsTold es = (from : ℕ) × (to : ℕ) × (from ≤ top) × (b ≤ to) × Contains es (Trusted from to)
 
-  -- They are with these steps, or what is kept after them is so.
+  -- The steps report them, or the state afterwards has this property.
   abbrev pub Leads : (List CheckStep → Type 0) → List CheckStep → List CheckStep → Type 0
   Leads S t ms = IsTold (told_after t ms) ⊎ S (past_after t ms)
 
@@ -118,7 +117,7 @@ module _ (top b : ℕ) where
     | inr u ↦ inr (subst U (sym (past_after-append t xs ys)) u)
   ]
 
-  -- What else is so after these steps.
+  -- Another property after these steps.
   pub Leads-both : (A S : List CheckStep → Type 0) (t : List CheckStep) (ms : List CheckStep)
       → A (past_after t ms)
       → Leads S t ms

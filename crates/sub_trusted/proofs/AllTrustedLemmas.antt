@@ -1,6 +1,5 @@
--- For `law_of_all_trusted`.
--- Each stretch that can stay is told as trusted from a header of the page in it on:
--- `law_of_all_trusted`.
+-- For `law_of_all_trusted`. Each stretch that can stay is reported as trusted from a header of the
+-- page in it: `law_of_all_trusted`.
 use Rattle.std.proofs.lemmas.Bool.Decides.{nat_tests}
 use Rattle.std.proofs.Common.{◌≡◌, ◌≢◌, ℕ, ◌<◌, ◌≤◌, ◌⊎◌, inl, inr, Bool, true}
 use Rattle.std.proofs.Common.{false, ◌||◌, not, List, [], ◌∷◌, ◌++◌, Contains}
@@ -34,14 +33,14 @@ use Rattle.std.specs.List.{list_any}
 use Rattle.sub_rules.specs.Trusted.{CheckStep, back_of, is_said, last_begun, run_of, since_of}
 use Rattle.sub_rules.specs.Trusted.{tells_none, told_after, told_at, whole_of}
 
--- ---- anything is told
+-- ---- there is any report
 
 nothing_of : (told : List Event) → told ≡ []
     → all_announced no_run told ++ ended_run (passed_after_all no_run told) ≡ []
 unfolding all_announced passed_after_all
 nothing_of told none = grind (arith, nat_tests)
 
--- Of the closing nothing is told where nothing was told and nothing follows.
+-- The end of the file reports nothing if nothing was reported and nothing follows.
 closing_silent : (g : Criteria) (frames : Transmission) (pes n : ℕ) (t : List CheckStep)
     → (list_any is_said t
     || (g.any_refused || not (tells_none (closing_of_pieces g frames pes n)))) ≡ false
@@ -54,7 +53,7 @@ module _ (g : Criteria) (pieces : List Piece) (a b i : ℕ)
   abbrev frames : Transmission
   frames = sent_by_pieces g pieces
 
-  -- No piece is passed over that may have been sent in the stretch: said piece by piece.
+  -- No skipped PES packet may have been sent in the stretch, packet by packet.
   outside_of : (sent : Transmission) (ahead : List Piece)
       → ((earlier later : List Piece) (u : Unread)
       → ahead ≡ earlier ++ Passed u ∷ later
@@ -88,12 +87,12 @@ module _ (g : Criteria) (pieces : List Piece) (a b i : ℕ)
   abbrev close : List CheckStep
   close = steps_of_closing g frames (length pieces) (length frames)
 
-  -- What comes of the pieces.
+  -- The steps of the PES packets.
   goes : Leads (top g frames a b i fit) b (PastAt g frames a b i fit (length frames))
       [] steps
   goes = pieces_lead g frames a b i fit pieces refl outside
 
-  -- Something is told as the file ends, or was.
+  -- Something is reported at the end of the file, or was before.
   abbrev tells : List CheckStep → Bool
   tells t =
       list_any is_said t
@@ -129,7 +128,7 @@ module _ (g : Criteria) (pieces : List Piece) (a b i : ℕ)
           (told_after (past_after [] steps) close)
           (closing_told g frames a b i fit (length pieces) (past_after [] steps) past anything)
 
-  -- Something of the PES file is told, or of the subtitle file.
+  -- There is a report of the PES file, or of refused subtitles.
   anything_tells : IsAnythingTold g pieces → tells (past_after [] steps) ≡ true
   unfolding all_of_pieces told_of_pieces
   anything_tells (inl something) =

@@ -1,5 +1,4 @@
--- For `law_of_all_trusted`.
--- What comes of pieces while the frames of a stretch that can stay go by: `pieces_lead`.
+-- For `law_of_all_trusted`. The steps of PES packets within a stretch that can stay: `pieces_lead`.
 use Rattle.std.proofs.Common.{◌≡◌, ℕ, ◌+◌, ◌-◌, ◌<◌, ◌≤◌, ◌⊎◌, inl, inr, List, [], ◌∷◌, ◌++◌}
 use Rattle.std.proofs.Common.{length, refl, sym, subst, arith, append-nil}
 use Rattle.sub_rules.specs.FrameRules.{Criteria, end_frame, frame_at, packets_of_frame}
@@ -34,14 +33,14 @@ module _ (g : Criteria) (frames : Transmission) (a b i : ℕ)
   abbrev OpenAt : ℕ → List (List ℕ) → List CheckStep → Type 0
   OpenAt n packets t = Open g frames a b i fits n packets t
 
-  -- A piece that is passed over where these frames were sent may not have been sent in the stretch.
+  -- A skipped PES packet after these frames may not have been sent in the stretch.
   abbrev pub Outside : Transmission → Type 0
   Outside sent =
       0 < length sent
       → length sent ≤ risen frames
       → (end_frame sent < a) ⊎ (b < end_frame sent)
 
-  -- Of which PES packet is told changes nothing.
+  -- The number of the PES packet does not matter.
   follows_at : (n p pes : ℕ) (t : List CheckStep) → Follows g frames a b i fits n p t
       → Follows g frames a b i fits n p (AtPes pes ∷ t)
   unfolding run_of whole_of since_of back_of tells_fall
@@ -64,7 +63,7 @@ module _ (g : Criteria) (frames : Transmission) (a b i : ℕ)
     },
   )
 
-  -- What comes of a frame, or of a piece that is passed over.
+  -- The steps of a frame, or of a skipped PES packet.
   steps :
       Steps (List CheckStep) told_of g frames (Leads (top g frames a b i fits) b) PastAt OpenAt
       Outside
@@ -87,12 +86,12 @@ module _ (g : Criteria) (frames : Transmission) (a b i : ℕ)
         (outside (omega arith) (omega arith))) open_here;
   }
 
-  -- Before the first piece.
+  -- Before the first PES packet.
   starts : PastAt 0 []
   unfolding run_of whole_of last_begun since_of late_of back_of stays_quiet
   starts = grind (arith, nat_tests)
 
-  -- What comes of pieces.
+  -- The steps of PES packets.
   pub pieces_lead : (pieces : List Piece)
       → joined_after g.within [] (frames_of pieces) ≡ frames
       → EachPassed g.within Outside [] pieces

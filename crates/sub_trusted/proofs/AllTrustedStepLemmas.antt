@@ -1,6 +1,5 @@
--- For `law_of_all_trusted`.
--- What comes of a frame, step after step, while the frames of a stretch that can stay go by: before
--- its packets, `arrival_leads`, of its packets, `more_leads`, and of a piece that is passed over,
+-- For `law_of_all_trusted`. The steps of a frame within a stretch that can stay: before its
+-- packets, `arrival_leads`, for its packets, `more_leads`, and for a skipped PES packet,
 -- `passed_leads`.
 use Rattle.std.proofs.lemmas.Bool.Decides.{nat_tests}
 use Rattle.std.proofs.Common.{◌≡◌, ℕ, zero, suc, ◌+◌, ◌-◌, ◌<◌, ◌≤◌, ◌⊎◌, inl, inr, Bool, true}
@@ -44,7 +43,7 @@ use Rattle.sub_rules.proofs.TrustedLemmas.{past_after}
 use Rattle.sub_rules.specs.Trusted.{CheckStep, back_of, last_begun, late_of, run_of, since_of}
 use Rattle.sub_rules.specs.Trusted.{stays_quiet, tells_fall, whole_of}
 
--- ---- events that do not tell of the order
+-- ---- events that are not about the order
 
 rule_order : (frame k : ℕ) (r : PacketRule) → is_order (Told (packet_fault r frame k)) ≡ false
 unfolding is_order tells_fall
@@ -68,7 +67,7 @@ pub passed_orders : (pes : ℕ) (u : Unread)
 unfolding is_order tells_fall
 passed_orders pes u = grind (arith, nat_tests)
 
--- Of frames that rise nothing is told of the order, nor is one doubted.
+-- Rising frames have no report about their order, and none is in doubt for it.
 order_orders : (g : Criteria) (frames : Transmission) (n : ℕ)
     → (0 < n → frame_at frames (n - 1) < frame_at frames n)
     → list_any is_order (order_events g frames n) ≡ false
@@ -81,14 +80,14 @@ order_silent : (g : Criteria) (frames : Transmission) (n : ℕ) → 0 < n
 unfolding order_events
 order_silent g frames n some up = grind (arith, nat_tests)
 
--- A frame is clean while none is doubted.
+-- A frame is clean as long as none is in doubt.
 pub clean_still : (clean : Bool) (d : Option ℕ) → clean ≡ true → d ≡ None
     → (clean && is_none d) ≡ true
 clean_still clean d is none = rw (is, none) refl
 
 -- ---- packets of a frame
 
--- Some packets, sent after the first of a frame and before the rest of it.
+-- Some packets after the first of a frame and before the rest of it.
 keeps_part : (w : Watched) (before xs ys zs : List (List ℕ))
     → KeepsAll w before (xs ++ ys ++ zs)
     → KeepsAll w (before ++ xs) ys
@@ -119,7 +118,7 @@ module _ (g : Criteria) (frames : Transmission) (a b i : ℕ)
 
   -- ---- the ends of frames of the day before a frame
 
-  -- The run that is there is one of frames that rise up to frame n.
+  -- The run consists of frames that rise up to frame n.
   up_here : (n x p : ℕ) (t : List CheckStep) → Keeps g frames 0 n x t
       → (rose t ≡ true → RiseTo frames (suc n))
       → Follow n p t
@@ -172,7 +171,7 @@ module _ (g : Criteria) (frames : Transmission) (a b i : ℕ)
           up_here n (latest frames n + suc k) (latest frames n + suc k) t arrives.keeps
           arrives.rises follows below
 
-  -- The first k of them have been.
+  -- The first k of them have ended.
   abbrev Arriving : ℕ → ℕ → List CheckStep → Type 0
   Arriving n k u = Arrives g frames 0 n k u × Follow n (latest frames n + suc k) u
 
@@ -238,17 +237,17 @@ module _ (g : Criteria) (frames : Transmission) (a b i : ℕ)
                 )
           ]
 
-  -- Frame n is sent.
+  -- Frame n is being sent.
   pub record Sending (n : ℕ) (t : List CheckStep) : Type 0 where
     pub follows : Follow n (frame_at frames n) t
     pub clean : i ≤ n → stays_quiet t ≡ true
     pub back : i < n → b < frame_at frames n → (r : ℕ) → back_of t ≡ Some r → b < r
 
-  -- So are these packets in it so far.
+  -- So are these packets of it so far.
   abbrev pub Open : ℕ → List (List ℕ) → List CheckStep → Type 0
   Open n packets u = Opens g frames 0 n packets u × Sending n u
 
-  -- Since which frame the page was not whole before frame n.
+  -- Since which frame the page has been wrong before frame n.
   abbrev before_it : ℕ → Option ℕ
   before_it n = since_before g frames n (frame_at frames n)
 
@@ -334,7 +333,7 @@ module _ (g : Criteria) (frames : Transmission) (a b i : ℕ)
       Leads-cons (top g frames a b i fits) b (Open n []) v (Begins (frame_at frames n))
       (steps_before g (before_it n)) (begins_open n v there here))
 
-  -- ---- while it is sent
+  -- ---- while it is being sent
 
   pub sending_says : (n : ℕ) (t : List CheckStep) (es : List Event) → Sending n t
       → list_any is_order es ≡ false
@@ -378,7 +377,7 @@ module _ (g : Criteria) (frames : Transmission) (a b i : ℕ)
             })
       ]
 
-  -- What is so of a frame that is sent after the one with the header.
+  -- The state while a frame after that of the header is being sent.
   pub later_in : (n : ℕ) (packets : List (List ℕ)) (t : List CheckStep) → n < length frames
       → Open n packets t
       → i < n
@@ -433,7 +432,7 @@ module _ (g : Criteria) (frames : Transmission) (a b i : ℕ)
           (subst (λ (ps : List (List ℕ)). KeepsAll g.watched (packets_before frames n) ps) whole
           (fits.packets n in_it low high))
 
-  -- A piece is passed over before the next frame comes.
+  -- A PES packet is skipped before the next frame comes.
   pub passed_past : (n pes : ℕ) (u : Unread) (t : List CheckStep) → n ≤ length frames
       → (0 < n → n ≤ risen frames → (frame_at frames (n - 1) < a) ⊎ (b < frame_at frames (n - 1)))
       → Past n t
@@ -461,7 +460,7 @@ module _ (g : Criteria) (frames : Transmission) (a b i : ℕ)
         )
       ]))
 
-  -- Or while one is sent.
+  -- Or while one is being sent.
   pub passed_leads : (n pes : ℕ) (packets : List (List ℕ)) (u : Unread) (t : List CheckStep)
       → n < length frames
       → (n < risen frames → (frame_at frames n < a) ⊎ (b < frame_at frames n))

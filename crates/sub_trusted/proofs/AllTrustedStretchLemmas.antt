@@ -1,6 +1,5 @@
--- For `law_of_all_trusted`.
--- What is so of a stretch of the rising part that can stay, of the frames that are sent: `Fits`,
--- `fits`.
+-- For `law_of_all_trusted`. The properties of a stretch of the rising part that can stay, for the
+-- frames that are sent: `Fits`, `fits`.
 use Rattle.std.proofs.lemmas.Bool.Decides.{nat_tests}
 use Rattle.std.proofs.Common.{◌≡◌, ℕ, suc, ◌+◌, ◌-◌, ◌<◌, ◌≤◌, true, false, List, [], ◌++◌, drop}
 use Rattle.std.proofs.Common.{length, take, get_or, Some, None, sym, ap, ◌∙◌, subst, arith}
@@ -33,11 +32,11 @@ use Rattle.sub_rules.specs.Trusted.{stands_none}
 -- ---- ends of the rising part
 
 module _ (frames : Transmission) where
-  -- That of one of its frames.
+  -- The end of one of its frames.
   pub own_in : (k : ℕ) → k < risen frames → IsEnd (rising_part frames) (suc k) (frame_at frames k)
   own_in k l = grind (arith, nat_tests, part_length, frame_at-take, risen)
 
-  -- That of a frame of the day between two of them.
+  -- The end of a frame of the day between two of them.
   pub gap_in : (n f : ℕ) → 0 < n → n < risen frames → frame_at frames (n - 1) < f
       → f < frame_at frames n
       → IsEnd (rising_part frames) n f
@@ -71,9 +70,9 @@ module _ (frames : Transmission) where
         (subst (IsEnd (rising_part frames) (suc (n - 1))) at (own_in (n - 1) (omega arith)))
   ]
 
--- ---- what is so of the stretch
+-- ---- the properties of the stretch
 
--- Frame i of the list is one of a stretch that can stay.
+-- Frame i of the list is in a stretch that can stay.
 pub record Fits (g : Criteria) (frames : Transmission) (a b i : ℕ) : Type 0 where
   pub there : i < risen frames
   pub low : a ≤ frame_at frames i
@@ -150,7 +149,7 @@ module _ (g : Criteria) (pieces : List Piece) (a b : ℕ) (can : CanStay g piece
       sym (ap (λ (fs : Transmission). unfinished_since g fs n f) (take-append-drop m frames))
       ∙ unfinished_since-prefix g g.unread part (drop m frames) n f (omega arith)
 
-  -- Where each end is told at once the last frame is finished, since nothing stands at its end.
+  -- If `within` is 0, the last frame is finished, since no fault is active at its end.
   at_once_finished : (n f : ℕ) → (g.within == 0) ≡ true
       → standing_at g part n f ≡ nothing_stands
       → is_unfinished g part n f ≡ false

@@ -1,6 +1,6 @@
--- For `law_of_trusted` and `law_of_trusted_repeats`.
--- A fact of the frames that are told as trusted by events, `EachTrusted`: it is kept where up to
--- which piece is passed over is told among them, `each-announced`.
+-- For `law_of_trusted` and `law_of_trusted_repeats`. A property of the frames that events report as
+-- trusted, `EachTrusted`: it is kept when the ends of runs of skipped PES packets are added,
+-- `each-announced`.
 use Rattle.std.proofs.lemmas.Bool.Decides.{nat_tests}
 use Rattle.std.proofs.Common.{◌≡◌, ℕ, Bool, true, false, List, [], ◌∷◌, ◌++◌, All, Contains}
 use Rattle.std.proofs.Common.{zero, suc, arith, cond}
@@ -17,17 +17,17 @@ use Rattle.sub_rules.proofs.AnyToldLemmas.{is_foreign}
 use Rattle.sub_rules.proofs.PacketLists.{Each-map, Each-none}
 use Rattle.sub_rules.specs.PieceEvents.{PassedRun}
 
--- A fact of the frames from which and up to which is trusted, where the event tells that.
+-- A property of the first and last trusted frame, if the event reports some.
 abbrev pub OnTrusted : (ℕ → ℕ → Type 0) → Event → Type 0
 OnTrusted P (Trusted from to) = P from to
 OnTrusted P e = ⊤
 
 module _ (P : ℕ → ℕ → Type 0) where
-  -- It holds of each event.
+  -- It holds for each event.
   abbrev pub EachTrusted : List Event → Type 0
   EachTrusted es = All (OnTrusted P) es
 
-  -- So it does where none tells that.
+  -- So it does if none reports trusted frames.
   pub each-own : (pes : ℕ) (es : List Event) → list_any (is_foreign pes) es ≡ false
       → EachTrusted es
   each-own pes es own =
@@ -38,7 +38,7 @@ module _ (P : ℕ → ℕ → Type 0) where
       other : (e : Event) → is_foreign pes e ≡ false → OnTrusted P e
       other e own = grind (arith, nat_tests)
 
-  -- Up to which piece is passed over changes nothing.
+  -- The end of a run of skipped PES packets does not matter.
   pub each-ended : (run : PassedRun) → EachTrusted (ended_run run)
   each-ended run = grind (arith, nat_tests, All-nil, All-cons)
 
@@ -54,14 +54,14 @@ module _ (P : ℕ → ℕ → Type 0) where
       told true = All-nil (OnTrusted P)
       told false = grind (arith, nat_tests, All-push, each-ended, All-head)
 
--- What follows from the fact holds of each event too.
+-- Each weaker property holds for each event, too.
 pub each-weaker : (P Q : ℕ → ℕ → Type 0) (es : List Event)
     → ((from to : ℕ) → P from to → Q from to)
     → EachTrusted P es
     → EachTrusted Q es
 each-weaker P Q es so = grind (arith, nat_tests)
 
--- What is told as trusted is among them.
+-- The trusted frames are among them.
 pub contains-announced : (run : PassedRun) (es : List Event) (from to : ℕ)
     → Contains es (Trusted from to) → Contains (all_announced run es) (Trusted from to)
 unfolding all_announced announced joins

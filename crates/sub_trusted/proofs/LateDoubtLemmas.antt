@@ -1,7 +1,6 @@
--- For `law_of_trusted` and `law_of_trusted_repeats`.
--- Which frame is trusted no more by what is told of a frame's packets, `packets_doubt`, of its
--- number, `order_at`, and at an end, which may be late, `end_doubt`; and since which frame an end
--- is unfinished: none after it, `seen_low`.
+-- For `law_of_trusted` and `law_of_trusted_repeats`. Which frame is no longer trusted after the
+-- reports of a frame's packets, `packets_doubt`, of its number, `order_at`, and of an end, which
+-- may be late, `end_doubt`. The frame since which an end is unfinished is not after it, `seen_low`.
 use Rattle.std.proofs.lemmas.Bool.Decides.{nat_tests}
 use Rattle.std.proofs.Common.{◌≡◌, ℕ, zero, suc, ◌+◌, ◌-◌, ◌<◌, ◌≤◌, Bool, true, false, cond, List}
 use Rattle.std.proofs.Common.{[], ◌∷◌, ◌++◌, map, take, get_or, length, max, Option, Some, None}
@@ -38,7 +37,7 @@ use Rattle.sub_trusted.proofs.SaidStepLemmas.{is_order}
 
 -- ---- packets
 
--- Packets, sent after these, break no rule on which a receiver depends.
+-- Packets after these break no rule that a receiver depends on.
 abbrev pub KeepsEach : Watched → List (List ℕ) → List (List ℕ) → ℕ → Type 0
 KeepsEach w before packets k =
     (r : PacketRule)
@@ -48,7 +47,7 @@ KeepsEach w before packets k =
 abbrev pub KeepsAll : Watched → List (List ℕ) → List (List ℕ) → Type 0
 KeepsAll w before packets = (k : ℕ) → k < length packets → KeepsEach w before packets k
 
--- Some packets, and then others.
+-- Some packets followed by others.
 pub keeps_joined : (w : Watched) (before xs ys : List (List ℕ))
     → KeepsAll w before xs
     → KeepsAll w (before ++ xs) ys
@@ -72,7 +71,8 @@ keeps_joined w before xs ys one two k l r needed = elim (cases_lt k (length xs))
 module _ (t : List CheckStep) (w : Watched) (frame from : ℕ)
     (before packets : List (List ℕ))
   where
-    -- The frame of a packet is trusted no more exactly by the rules on which a receiver depends.
+    -- The frame of a packet is no longer trusted exactly if it breaks a rule that a receiver
+    -- depends on.
     rule_doubt : (k : ℕ) (r : PacketRule)
         → doubted_by t (Told (packet_fault r frame k)) ≡ cond (is_needed r) (Some frame) None
     unfolding doubted_by
@@ -91,7 +91,7 @@ module _ (t : List CheckStep) (w : Watched) (frame from : ℕ)
         (packet_found (doubted_by t) (λ x. x ≡ frame) frame (from + k)
         (λ r x e. let is = rule_doubt (from + k) r in grind (arith, nat_tests)) w _ _)
 
-    -- What is told of packets doubts their frame, exactly where they break one.
+    -- The reports of packets cast doubt on their frame exactly if they break such a rule.
     pub packets_doubt :
         Finds (doubted_by t) (λ x. x ≡ frame) (KeepsAll w before packets)
         (KeepsAll w before packets)
@@ -104,7 +104,7 @@ module _ (t : List CheckStep) (w : Watched) (frame from : ℕ)
         (λ k l past. packet_doubt k)
 
 module _ (P : ℕ → ℕ → Type 0) where
-  -- None of it tells what is trusted.
+  -- None of these reports is one of trusted frames.
   rules_own : (frame k : ℕ) (rs : List PacketRule)
       → EachTrusted P (map (λ (r : PacketRule). Told (packet_fault r frame k)) rs)
   rules_own frame k [] = All-nil (OnTrusted P)
@@ -147,7 +147,7 @@ module _ (t : List CheckStep) (g : Criteria) (frames : Transmission) where
   unfolding first_header_events doubted_by
   header_none i = grind (arith, nat_tests)
 
--- Where nothing is told of the order a frame is after the one before.
+-- Without a report about its order a frame is after the one before.
 pub order_rises : (g : Criteria) (frames : Transmission) (i : ℕ)
     → list_any is_order (order_events g frames i) ≡ false
     → 0 < i
@@ -155,7 +155,7 @@ pub order_rises : (g : Criteria) (frames : Transmission) (i : ℕ)
 unfolding order_events is_order tells_fall
 order_rises g frames i none some = grind (arith, nat_tests)
 
--- A piece that is passed over doubts the frame before it.
+-- A skipped PES packet casts doubt on the frame before it.
 pub passed_at : (t : List CheckStep) (pes : ℕ) (u : Unread)
     → first_found (doubted_by t) (Told (unread_fault pes (Some u)) ∷ []) ≡ Some (last_begun t)
 unfolding doubted_by
@@ -163,8 +163,8 @@ passed_at t pes u = grind (arith, nat_tests)
 
 -- ---- an end
 
--- What is told of a rule doubts the frame of its end, or at a late end the one since which the page
--- is not whole.
+-- The report of a rule casts doubt on the frame of its end or, if that is late, on the one since
+-- which the page has been wrong.
 end_rule_doubts : (t : List CheckStep) (rule : EndRule) (f : ℕ) (cell : ℕ × ℕ)
     → doubted_by t (Told (end_fault rule f cell)) ≡ Some (unwrap_or (late_of t) f)
 unfolding doubted_by
@@ -176,7 +176,7 @@ end_rule_doubt : (t : List CheckStep) (rule : EndRule) (before f : ℕ) (old new
 unfolding doubted_by
 end_rule_doubt t rule before f old new = grind (arith, nat_tests, end_rule_doubts)
 
--- So does what is told at an end; where it does not, nothing stands that did not stand before.
+-- So do the reports at an end; if they do not, every active fault was active before.
 pub end_doubt : (t : List CheckStep) (before f : ℕ) (old new : Standing)
     → Finds (doubted_by t) (λ x. x ≡ unwrap_or (late_of t) f) (stands_none new ≡ true)
     (stands_none old ≡ true → stands_none new ≡ true) (end_events old before new f)
@@ -185,7 +185,7 @@ end_doubt t before f old new =
     (end_found old before new f
     (λ rule. end_rule_doubt t rule before f (broken_at rule old) (broken_at rule new)))
 
--- That is not after it.
+-- That frame is not after the end.
 pub late_low : (late : Bool) (since : Option ℕ) (f : ℕ)
     → ((r : ℕ) → since ≡ Some r → r ≤ f)
     → unwrap_or (if late then since else None) f ≤ f
@@ -219,12 +219,12 @@ module _ (g : Criteria) (frames : Transmission) where
   in_frames zero r e = grind (arith, nat_tests, none-some)
   in_frames (suc i) r e = grind (arith, nat_tests, bound, in_gap, gap_bound, (in_frames i))
 
-  -- The first of the unfinished ends up to one is not after it.
+  -- The first frame of the unfinished run at an end is not after it.
   since_low : (n f r : ℕ) → unfinished_since g frames n f ≡ Some r → latest frames n ≤ f → r ≤ f
   unfolding unfinished_since
   since_low n f r e l = grind (arith, nat_tests, in_gap, in_frames)
 
-  -- The first of those up to the end before one is before it.
+  -- The first frame of the unfinished run at the end before is before it.
   pub before_low : (n f r : ℕ) → since_before g frames n f ≡ Some r
       → (0 < n → latest frames n < f)
       → (0 < n) × (r ≤ f)
@@ -237,7 +237,7 @@ module _ (g : Criteria) (frames : Transmission) where
   before_is zero f some = absurd (omega arith)
   before_is (suc n) f some = refl
 
-  -- It, where ends are looked at: within some frames.
+  -- That frame, if `within` is not 0, when ends are checked.
   abbrev pub seen_since : ℕ → ℕ → Option ℕ
   seen_since n f = if g.within == 0 then None else unfinished_since g frames n f
 

@@ -1,6 +1,5 @@
--- For `law_of_trusted` and `law_of_trusted_repeats`.
--- Steps one after another, and what is trusted of them, `Goes`: of steps that say events alone,
--- `Goes-says`; what is kept after these, `said`.
+-- For `law_of_trusted` and `law_of_trusted_repeats`. A list of steps and their trusted frames,
+-- `Goes`; steps with events only, `Goes-says`; the state after these, `said`.
 use Rattle.std.proofs.lemmas.Bool.Decides.{nat_tests}
 use Rattle.std.proofs.Common.{◌≡◌, ℕ, ◌-◌, ◌<◌, ◌&&◌, Bool, false, not, List, [], ◌∷◌, ◌++◌}
 use Rattle.std.proofs.Common.{if◌then◌else◌, map, Option, Some, None, is_none, refl, sym}
@@ -18,39 +17,39 @@ use Rattle.sub_rules.specs.Trusted.{CheckStep, at_pes, back_of, doubted_by, last
 use Rattle.sub_rules.specs.Trusted.{pes_told, run_of, since_of, stays_quiet, tells_fall, told_after}
 use Rattle.sub_rules.specs.Trusted.{told_at, trusted, trusted_up_to, whole_of}
 
--- Frames rose up to here.
+-- The frames have risen so far.
 abbrev pub rose : List CheckStep → Bool
 rose t = not (list_any tells_fall t)
 
--- The frame that is trusted no more by the first of these events that says so.
+-- The frame that is no longer trusted after the first of these events that casts doubt on one.
 abbrev pub doubt_of : List CheckStep → List Event → Option ℕ
 doubt_of t es = first_found (doubted_by t) es
 
--- The first frame that is not told as trusted where this one is trusted no more.
+-- The first frame that is not reported as trusted when this one is no longer trusted.
 abbrev pub back_to : List CheckStep → ℕ → ℕ
 back_to t x = unwrap_or (back_of t) x
 
--- It is not after a frame where that one and those at whose ends the page was not whole are not.
+-- It is not after a frame if neither that one nor those with a wrong page are.
 pub back_low : (t : List CheckStep) (x b : ℕ) → x ≤ b
     → ((r : ℕ) → back_of t ≡ Some r → r ≤ b)
     → back_to t x ≤ b
 back_low t x b low h = grind (arith, nat_tests)
 
--- It is after one where they are.
+-- It is after a frame if they are.
 pub back_past : (t : List CheckStep) (x b : ℕ) → b < x
     → ((r : ℕ) → back_of t ≡ Some r → b < r)
     → b < back_to t x
 back_past t x b past h = grind (arith, nat_tests)
 
--- What is left of a run where a frame is doubted.
+-- The run after a frame is in doubt.
 abbrev pub kept : Option ℕ → Option ℕ → Option ℕ
 kept run d = if is_none d then run else None
 
--- It is told of the order.
+-- The event is about the order.
 unfoldable pub is_order : Event → Bool
 is_order e = tells_fall (Says e)
 
--- What the steps say with which events are told, after others.
+-- The steps after others, when these events are told.
 pub record IsSaid (t u : List CheckStep) (es : List Event) : Type 0 where
   pub run_is : run_of u ≡ kept (run_of t) (doubt_of t es)
   pub whole_is : whole_of u ≡ whole_of t
@@ -61,7 +60,7 @@ pub record IsSaid (t u : List CheckStep) (es : List Event) : Type 0 where
   pub rises_is : rose u ≡ (rose t && not (list_any is_order es))
   pub clean_is : stays_quiet u ≡ (stays_quiet t && is_none (doubt_of t es))
 
--- What an event doubts does not hang on those before it.
+-- What an event casts doubt on does not depend on the events before it.
 doubted_same : (t : List CheckStep) (e x : Event) → doubted_by (Says e ∷ t) x ≡ doubted_by t x
 unfolding doubted_by last_begun late_of
 doubted_same t e (Told f) = refl
@@ -77,12 +76,12 @@ unfolding past_after run_of whole_of last_begun since_of late_of back_of stays_q
 said t [] = grind (arith, nat_tests)
 said t (e ∷ es) = grind (arith, nat_tests, doubt_after, (said (Says e ∷ t) es))
 
--- A run that is left was there, and no frame is doubted.
+-- If a run is left, it was there before, and no frame is in doubt.
 pub kept_some : (run d : Option ℕ) (from : ℕ) → kept run d ≡ Some from
     → (run ≡ Some from) × (d ≡ None)
 kept_some run d from e = grind (arith, nat_tests)
 
--- An event that tells of the order ends a run.
+-- An event about the order ends a run.
 order_doubted : (t : List CheckStep) (e : Event) → doubted_by t e ≡ None → is_order e ≡ false
 unfolding is_order tells_fall doubted_by
 order_doubted t e is = grind (arith, nat_tests)
@@ -92,27 +91,27 @@ pub orders_doubted : (t : List CheckStep) (es : List Event) → doubt_of t es �
 orders_doubted t [] none = refl
 orders_doubted t (e ∷ es) none = grind (arith, nat_tests, order_doubted, (orders_doubted t es))
 
--- ---- what is told as trusted with steps
+-- ---- the trusted frames of steps
 
--- What is kept once what follows is told of this PES packet.
+-- The state after the next PES packet was named.
 abbrev pub told_of : ℕ → List CheckStep → List CheckStep
 told_of pes t = AtPes pes ∷ t
 
 module _ (P : ℕ → ℕ → Type 0) where
-  -- Which PES packet is told changes nothing.
+  -- The number of the PES packet does not matter.
   on_at : (pes : ℕ) (e : Event) → OnTrusted P e → OnTrusted P (at_pes pes e)
   unfolding at_pes
   on_at pes (Trusted from to) p = p
   on_at pes e p = tt
 
-  -- What is trusted of a run before frame x.
+  -- The trusted frames of a run before frame x.
   pub each_put : (run whole : Option ℕ) (x : ℕ)
       → ((from w : ℕ) → run ≡ Some from → whole ≡ Some w → w < x → P from (x - 1))
       → EachTrusted P (trusted run whole x)
   each_put run whole x h1 = grind (arith, nat_tests, ltb-true)
 
-  -- Of steps that say events it is so where it is of these, and of the run up to the frame that is
-  -- doubted.
+  -- The property holds for steps with events if it holds for the events, and for the run up to the
+  -- frame in doubt.
   each_said : (t : List CheckStep) (es : List Event) → EachTrusted P es
       → ((x from w : ℕ)
       → doubt_of t es ≡ Some x
@@ -144,7 +143,7 @@ module _ (P : ℕ → ℕ → Type 0) where
           each_put (run_of t) (whole_of t) (back_to t x)
           (λ from w run whole l. let all = h x from w in grind arith)
 
-  -- What is told as trusted with steps is so, and what is kept after them.
+  -- The trusted frames that steps report have the property, and so has the state after them.
   pub record Goes (S : List CheckStep → Type 0) (t : List CheckStep) (ms : List CheckStep) : Type
       0 where
     pub each : EachTrusted P (told_after t ms)
@@ -154,7 +153,7 @@ module _ (P : ℕ → ℕ → Type 0) where
   unfolding told_after past_after
   Goes-nil S t s = record { each = All-nil (OnTrusted P); after = s }
 
-  -- A step with which nothing is told.
+  -- A step without events.
   pub Goes-cons : (S : List CheckStep → Type 0) (t : List CheckStep) (m : CheckStep)
       (ms : List CheckStep)
       → told_at t m ≡ []
@@ -163,7 +162,7 @@ module _ (P : ℕ → ℕ → Type 0) where
   unfolding told_after past_after
   Goes-cons S t m ms none rest = record { each = rw none rest.each; after = rest.after }
 
-  -- Of which PES packet is told.
+  -- A step that names a PES packet.
   pub Goes-pes : (S : List CheckStep → Type 0) (t : List CheckStep) (pes : ℕ) (ms : List CheckStep)
       → Goes S (told_of pes t) ms
       → Goes S t (AtPes pes ∷ ms)
@@ -183,7 +182,7 @@ module _ (P : ℕ → ℕ → Type 0) where
         after = subst U (sym (past_after-append t xs ys)) next.after;
       }
 
-  -- Steps that say events.
+  -- Steps with events.
   pub Goes-says : (S : List CheckStep → Type 0) (t : List CheckStep) (es : List Event)
       → EachTrusted P es
       → ((x from w : ℕ)

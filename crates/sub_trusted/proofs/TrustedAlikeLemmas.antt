@@ -1,6 +1,5 @@
--- For `law_of_trusted_alike`.
--- Frames that are told as trusted beside what is refused of a subtitle file are so by each of the
--- criteria that ask alike wherever it is known what is due: `told_too`.
+-- For `law_of_trusted_alike`. Frames that are reported as trusted although subtitles were refused
+-- are reported by all criteria that agree whenever the due page is known: `told_too`.
 use Rattle.std.proofs.lemmas.Bool.Decides.{nat_tests}
 use Rattle.std.proofs.Common.{◌≡◌, ◌≢◌, ℕ, ◌-◌, ◌<◌, ◌≤◌, inl, inr, true}
 use Rattle.std.proofs.Common.{List, [], Contains, Option, Some, length, refl, ap, ◌∙◌}
@@ -66,7 +65,7 @@ module _ (g : Criteria) (due : ℕ → Rows) (ending : ℕ → Option ℕ) (firs
   some : 0 < risen frames
   some = let low = j_low g frames from to stays in omega arith
 
-  -- Nothing stands broken at an end of them.
+  -- No fault is active at any of their ends.
   still : (n f : ℕ) → IsEnd part n f → from ≤ f → f ≤ to → IsQuiet h part n f
   unfolding standing_at
   still n f end low high =
@@ -74,7 +73,7 @@ module _ (g : Criteria) (due : ℕ → Rows) (ending : ℕ → Option ℕ) (firs
       (quiet.undecided n f end low high) end
       (stands_nothing _ (stands_quiet g frames from to stays n f end low high))
 
-  -- They end before the last of the frames that rise, where another one follows.
+  -- They end before the last of the rising frames if another one follows.
   before_fall : risen frames < length frames → to < frame_at frames (risen frames - 1)
   before_fall more =
       let fits = count_most frames (length frames) stays.n stays.within stays.run.rises in
@@ -138,7 +137,7 @@ module _ (g : Criteria) (due : ℕ → Rows) (ending : ℕ → Option ℕ) (firs
           before_unread = λ u is. let past = before_unread u is in omega arith;
         }
 
-    -- So they are told as trusted there too.
+    -- So they are reported as trusted there, too.
     pub told_too : all_of_pieces h pieces ≢ [] → AreTrusted h pieces from b
     told_too something =
         let j : ℕ = stays.run.j in

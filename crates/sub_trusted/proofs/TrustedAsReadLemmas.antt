@@ -1,7 +1,7 @@
--- For `law_of_trusted` and `law_of_trusted_repeats`.
--- Where in a stretch of frames is on air what was read, and the first of them holds a header with
--- which the text begins, what suffices of the one there suffices of the other: `sufficient_too`,
--- and its frames are finished in time, `finishes_too`.
+-- For `law_of_trusted` and `law_of_trusted_repeats`. If what was read is on air in a stretch of
+-- frames, and the first of them has a header that begins the text of the page, the sufficient
+-- conditions hold for what is on air, too: `sufficient_too`; and its frames are finished in time,
+-- `finishes_too`.
 use Rattle.std.proofs.lemmas.Bool.Decides.{nat_tests}
 use Rattle.std.proofs.Common.{◌≡◌, ℕ, zero, suc, ◌+◌, ◌-◌, ◌≤◌, Bool, true, List, []}
 use Rattle.std.proofs.Common.{◌∷◌, ◌++◌, drop, find, option_map, unwrap_or, refl, sym, ap, ap₂, ◌∙◌}
@@ -34,10 +34,10 @@ use Rattle.sub_laws.specs.ToldRepeats.{IsSufficientRepeats}
 use Rattle.sub_trusted.specs.TrustedFrames.{IsAsRead}
 use Rattle.sub_laws.proofs.TransmissionLemmas.{packets_between-split, packets_between-void}
 
--- ---- who starts where the text begins
+-- ---- from the beginning of the text
 
 module _ (keeps : Bool) (kind_of : List ℕ → PacketKind) where
-  -- What stands before the last header with which the text begins is not looked at.
+  -- The packets before the last header that begins the text do not matter.
   from-later : (before later : List (List ℕ))
       → holds_beginning keeps kind_of later ≡ true
       → from_beginning keeps kind_of (before ++ later) ≡ from_beginning keeps kind_of later
@@ -45,7 +45,7 @@ module _ (keeps : Bool) (kind_of : List ℕ → PacketKind) where
   from-later (x ∷ before) later e =
       grind (arith, nat_tests, list_any-append, (from-later before later e))
 
--- What the first packet of a row among these has.
+-- The text of the first packet of a row among these.
 abbrev text_of : PageIdValue → List (List ℕ) → ℕ → ℕ → ℕ
 text_of page spanned row column =
     unwrap_or
@@ -78,21 +78,21 @@ module _ (keeps : Bool) (programme : ProgrammeValue) (options : OptionsValue) (t
     low_too : first_frame u ≤ a
     low_too = let first = is.first in omega arith
 
-    -- A header with which the text begins.
+    -- A header that begins the text.
     pub beginning_too : a ≤ b → holds_beginning keeps (kind options.page) (packets_of u a) ≡ true
     beginning_too order = grind (arith, nat_tests)
 
-    -- A frame that holds a header of the page.
+    -- A frame with a header of the page.
     pub header_too : (f : ℕ) → a ≤ f → f ≤ b → HoldsHeader options.page t f
         → HoldsHeader options.page u f
     header_too f low high holds = grind (arith, nat_tests)
 
-    -- The first one does.
+    -- The first one has a header.
     pub opens_too : a ≤ b → HoldsHeader options.page u a
     opens_too order =
         beginning_is_header (kind options.page) keeps (packets_of u a) (beginning_too order)
 
-    -- ---- what is kept of all, from the header on
+    -- ---- the kept text, from the header on
 
     module _ (f : ℕ) (low : a ≤ f) (high : f ≤ b) where
       -- What is on air from frame a on.
@@ -179,7 +179,7 @@ module _ (keeps : Bool) (programme : ProgrammeValue) (options : OptionsValue) (t
       open_too =
           rw (holds_t, holds_all u (packets_between u (first_frame u) a) all_u) unended_too
 
-    -- ---- what suffices
+    -- ---- sufficient conditions
 
     stretch_too : IsRepeatedStretch keeps t options a b → IsRepeatedStretch keeps u options a b
     stretch_too stretch = record {
@@ -214,7 +214,7 @@ module _ (keeps : Bool) (programme : ProgrammeValue) (options : OptionsValue) (t
       whole = λ at_once f low high. whole_too f low high (enough.whole at_once f low high);
     }
 
-    -- And pages stay complete.
+    -- Pages stay complete.
     pub complete_too : CompleteWithin t options a b → CompleteWithin u options a b
     complete_too complete f low high held =
         sym (unended_too f low high) ∙ complete f low high (holds_t f low high)

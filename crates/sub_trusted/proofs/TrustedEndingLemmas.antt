@@ -1,5 +1,5 @@
--- For `law_of_trusted` and `law_of_trusted_repeats`.
--- What comes at the end of a frame: `ending`. What is told as trusted with it is so.
+-- For `law_of_trusted` and `law_of_trusted_repeats`. The steps at the end of a frame, whose trusted
+-- frames have the property: `ending`.
 use Rattle.std.proofs.lemmas.Bool.Decides.{nat_tests}
 use Rattle.std.proofs.Common.{◌≡◌, ℕ, suc, ◌-◌, ◌<◌, ◌≤◌, ◌⊎◌, inl, inr, Bool, true, false, ◌&&◌}
 use Rattle.std.proofs.Common.{List, [], ◌∷◌, ◌++◌, length, map, Option, Some, None, is_some, refl}
@@ -32,20 +32,20 @@ use Rattle.sub_rules.specs.Trusted.{CheckStep, back_of, last_begun, late_of, run
 use Rattle.sub_rules.specs.Trusted.{stands_none, stays_quiet, tells_fall, told_at, whole_at}
 use Rattle.sub_rules.specs.Trusted.{whole_of}
 
--- Where the page was whole in the run that is left at the end of a frame.
+-- The page was right within the run that is left at the end of a frame.
 whole_ended : (run whole since : Option ℕ) (f w : ℕ)
     → option_or (if is_none run then None else whole) (whole_at f since) ≡ Some w
     → ((since ≡ None) × (f ≡ w)) ⊎ ((whole ≡ Some w) × (is_some run ≡ true))
 whole_ended run whole since f w e = grind (arith, nat_tests)
 
 module _ (g : Criteria) (frames : Transmission) (base : ℕ) where
-  -- All packets of frame n were sent, and its end was looked at.
+  -- All packets of frame n were sent, and its end was checked.
   record Ending (n : ℕ) (t : List CheckStep) : Type 0 where
     opens : Opens g frames base n (packets_of_frame frames n) t
     since_is : since_of t ≡ seen_since g frames (suc n) (frame_at frames n)
     since : rose t ≡ true → (r : ℕ) → since_of t ≡ Some r → r ≤ frame_at frames n
 
-  -- It has a header, and nothing stands at its end.
+  -- It has a header, and no fault is active at its end.
   abbrev has : ℕ → Bool
   has n = holds_beginning g.watched.keeps (kind g.watched.page) (packets_of_frame frames n)
 

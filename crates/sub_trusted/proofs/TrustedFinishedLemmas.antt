@@ -1,6 +1,5 @@
--- For `law_of_trusted_repeats`.
--- One of the frames at least that are told as trusted within some frames is finished:
--- `finished_there`.
+-- For `law_of_trusted_repeats`. If `within` is not 0, at least one of the trusted frames is
+-- finished: `finished_there`.
 use Rattle.std.proofs.Common.{◌≡◌, ℕ, ◌-◌, ◌<◌, ◌≤◌, ◌==◌, inl, inr, false, None, length, drop}
 use Rattle.std.proofs.Common.{Bool, Option, sym, ap, ◌∙◌, arith}
 use Rattle.std.proofs.lemmas.Bool.{cases_lt}
@@ -37,7 +36,7 @@ module _ (programme : ProgrammeValue) (options : OptionsValue) (unread : Option 
     up : RiseTo part (length part)
     up = take_rises frames (risen frames) (risen_low frames) (part_rises frames)
 
-    -- The frames that count at its end are some of those that rise.
+    -- The frames up to its end are some of those that rise.
     few : may.whole.n ≤ risen frames
     few =
         count_most frames (length frames) may.whole.n (may.whole.end).1 may.whole.rises
@@ -86,7 +85,7 @@ module _ (programme : ProgrammeValue) (options : OptionsValue) (unread : Option 
         (take-append-drop (risen frames) frames)
         ∙ rw some at seen
 
-    -- It is known what is due there.
+    -- The due page is known there.
     known : undecided_within g part may.w ≡ false
     unfolding standing_at
     known =

@@ -1,7 +1,6 @@
--- For `law_of_trusted` and `law_of_trusted_repeats`.
--- Of frames that are told as trusted nothing is told that a receiver depends on, in the part in
--- which frames rise: `untold`; nor is the page open at an end of them, `closed`, and the first one
--- has a header with which the text begins, `header_there`.
+-- For `law_of_trusted` and `law_of_trusted_repeats`. In the rising part there is no report of
+-- trusted frames that a receiver depends on, `untold`; the page is open at none of their ends,
+-- `closed`; and the first one has a header that begins the text, `header_there`.
 use Rattle.std.proofs.lemmas.Bool.Decides.{nat_tests}
 use Rattle.std.specs.Bool.{Decides}
 use Rattle.std.proofs.Common.{◌≡◌, ℕ, zero, suc, ◌+◌, ◌-◌, ◌<◌, ◌≤◌, inl, inr, true, false, length}
@@ -52,7 +51,7 @@ module _ (frames : Transmission) where
   count_rises zero i a l = grind (arith, nat_tests)
   count_rises (suc n) i a l = grind (arith, nat_tests, rises_is, (count_rises n i a))
 
-  -- And no more do.
+  -- No more do.
   pub count_most : (n k : ℕ) → k ≤ n → RiseTo frames k → k ≤ rising_count frames n
   unfolding rising_count
   count_most zero k l rises = omega arith
@@ -69,19 +68,16 @@ module _ (frames : Transmission) where
   abbrev pub risen : ℕ
   risen = rising_count frames (length frames)
 
-  -- No more than there are.
   pub risen_low : risen ≤ length frames
   risen_low = count_low (length frames)
 
-  -- So many are in the rising part.
   pub part_length : length (rising_part frames) ≡ risen
   part_length = length-take-le risen frames risen_low
 
-  -- And they do.
   pub part_rises : RiseTo frames risen
   part_rises = count_rises (length frames)
 
-  -- Where the next frame is after the first n, which rise, it does too.
+  -- If the next frame is after the first n, which rise, it rises, too.
   pub rises_more : (n : ℕ) → n < length frames → RiseTo frames n
       → frame_at frames (n - 1) < frame_at frames n
       → n < risen
@@ -92,7 +88,7 @@ pub part_last : (frames : Transmission) → 0 < risen frames
     → last_frame (rising_part frames) ≡ frame_at frames (risen frames - 1)
 part_last frames some = take_last frames (risen frames) (risen_low frames) some
 
--- What stands broken at an end depends on the frames that count alone.
+-- The active faults at an end depend only on the frames so far.
 pub standing-take : (g : Criteria) (frames : Transmission) (m n f : ℕ) → 0 < m → m ≤ length frames
     → n ≤ m
     → standing_at g (take m frames) n f ≡ standing_at g frames n f
@@ -124,7 +120,7 @@ module _ (g : Criteria) (frames : Transmission) (from to : ℕ)
   later : (i : ℕ) → stays.n ≤ i → i < m → to + 1 ≤ frame_at frames i
   later i l high = grind (arith, nat_tests, risen_low, order, part_rises, before)
 
-  -- An end in it is one of the whole list, up to which no more frames count than the run has.
+  -- An end in it is one of the whole list, with no more frames than the run has.
   end_whole : (n f : ℕ) → IsEnd part n f → IsEnd frames n f
   end_whole n f h1 = grind (arith, nat_tests, part_length, risen_low, frame_at-take)
 
@@ -173,7 +169,7 @@ module _ (g : Criteria) (frames : Transmission) (from to : ℕ)
   packets_quiet r i k needed l below low high =
       grind (arith, nat_tests, cases_lt, later, order, j_low, part_rises)
 
-  -- Nothing is told of what is trusted that a receiver depends on.
+  -- There is no report of trusted frames that a receiver depends on.
   pub untold : IsUntold g part from to
   untold = record {
     stretch = stretch;
@@ -189,7 +185,7 @@ module _ (g : Criteria) (frames : Transmission) (from to : ℕ)
         ap (λ (s : Standing). s.undecided) (stands_nothing _ (stands_quiet n f at low high));
   }
 
-  -- And the page stands open at no end of it.
+  -- The page is open at none of their ends.
   pub closed : AtEnds (λ n f. IsFalse (standing_at g part n f).incomplete) part from to
   closed n f at low high =
       ap (λ (s : Standing). s.incomplete) (stands_nothing _ (stands_quiet n f at low high))

@@ -1,8 +1,7 @@
--- For `law_of_trusted` and `law_of_trusted_repeats`.
--- What is kept of quiet frames, within however many frames the page has to be whole: of the frames
--- that have ended, `Keeps`, before the next one, `Arrives`, while it is sent, `Opens`, and at its
--- end, `Closed`. What is told as trusted then is those of a run, `passes_before`; and how a run
--- goes on with a frame, `run_more`, or begins, `run_new`.
+-- For `law_of_trusted` and `law_of_trusted_repeats`. The state for clean frames, whatever `within`
+-- is: after frames that have ended, `Keeps`, before the next one, `Arrives`, while it is sent,
+-- `Opens`, and at its end, `Closed`. The frames that are then reported as trusted are those of a
+-- run, `passes_before`; a run continues with a frame, `run_more`, or begins with it, `run_new`.
 use Rattle.std.proofs.lemmas.Bool.Decides.{nat_tests}
 use Rattle.std.proofs.Common.{◌≡◌, ℕ, suc, ◌+◌, ◌-◌, ◌<◌, ◌≤◌, ◌⊎◌, inl, inr, Bool, true, false}
 use Rattle.std.proofs.Common.{◌&&◌, ◌==◌, ◌∷◌, nat_lt, List, length, Option, Some, None, is_some}
@@ -32,34 +31,34 @@ use Rattle.sub_rules.specs.Trusted.{stands_none, stays_quiet, tells_fall, whole_
 
 -- ---- tests
 
--- Where the one excludes the run, and there is one, the other holds.
+-- If the first condition excludes the run, and there is one, the second holds.
 pub run_rises : (b : Bool) (run : Option ℕ) (from : ℕ) → (b ≡ false → run ≡ None) → run ≡ Some from
     → b ≡ true
 run_rises b run from h is = grind (arith, nat_tests)
 
--- The run that is left at the end of a frame: it was there, or it begins here.
+-- The run that is left at the end of a frame was there before, or begins here.
 pub run_found : (clean none : Bool) (run : Option ℕ) (has : Bool) (f from : ℕ)
     → (if clean && none then option_or run (if has then Some f else None) else None) ≡ Some from
     → (clean ≡ true) × (none ≡ true)
     × ((run ≡ Some from) ⊎ ((run ≡ None) × (has ≡ true) × (f ≡ from)))
 run_found clean none run has f from e = grind (arith, nat_tests)
 
--- The first frame of the run at whose end the page was whole: an earlier one, or this one.
+-- The first frame of the run at whose end the page was right is an earlier one, or this one.
 pub whole_found : (whole since : Option ℕ) (f w : ℕ)
     → option_or whole (whole_at f since) ≡ Some w
     → (whole ≡ Some w) ⊎ ((since ≡ None) × (f ≡ w))
 whole_found whole since f w e = grind (arith, nat_tests)
 
--- ---- where each end is told at once
+-- ---- if `within` is 0
 
--- No end is looked at: there is no frame since which the page is not whole, and it was whole in a
--- run that is there.
+-- No end is checked for lateness: the page is never wrong since a frame, and it was right in any
+-- run.
 pub record SeesNone (t : List CheckStep) : Type 0 where
   pub since : since_of t ≡ None
   pub late : late_of t ≡ None
   pub whole : is_some (run_of t) ≡ true → is_some (whole_of t) ≡ true
 
--- It was whole in one that goes on or begins.
+-- It was right in a run that continues or begins.
 pub whole_some : (whole since : Option ℕ) (f : ℕ) → since ≡ None
     → is_some (option_or whole (whole_at f since)) ≡ true
 whole_some whole since f none = grind (arith, nat_tests)
@@ -67,8 +66,8 @@ whole_some whole since f none = grind (arith, nat_tests)
 module _ (g : Criteria) (frames : Transmission) where
   -- ---- frames that may stay
 
-  -- The page was whole at the end of frame w, which is not before the first one of the run, where
-  -- that is looked at.
+  -- If `within` is not 0, the page was right at the end of frame w, which is not before the first
+  -- one of the run.
   pub record IsWhole (from w : ℕ) : Type 0 where
     pub low : from ≤ w
     pub n : ℕ
@@ -76,7 +75,7 @@ module _ (g : Criteria) (frames : Transmission) where
     pub rises : RiseTo frames n
     pub finished : seen_since g frames n w ≡ None
 
-  -- The frames from one to another may stay, and at the end of one of them the page was whole.
+  -- The frames from one to another may stay, and at the end of one of them the page was right.
   pub record MayStand (from to : ℕ) : Type 0 where
     pub stays : StaysTo g frames from to
     pub w : ℕ
@@ -88,13 +87,13 @@ module _ (g : Criteria) (frames : Transmission) where
   IsAbove base from = (i : ℕ) → i < base → frame_at frames i < from
 
   -- The frames from one to another may stay; they are after the first `base` frames of the list,
-  -- and where all frames rise they are before frame `late`.
+  -- and if all frames rise they are before frame `late`.
   pub record MayPass (base late from to : ℕ) : Type 0 where
     pub stands : MayStand from to
     pub above : IsAbove base from
     pub early : RiseTo frames (length frames) → to < late
 
-  -- These frames may be trusted up to the one before frame y: where they are all, up to the one
+  -- These frames may be trusted up to the one before frame y; if they are all frames, up to the one
   -- before frame `late`.
   pub record MayEnd (late n x y : ℕ) : Type 0 where
     pub within : n ≤ length frames
@@ -105,7 +104,7 @@ module _ (g : Criteria) (frames : Transmission) where
         ⊎ (y ≤ frame_at frames (n - 1))
     pub last : n ≡ length frames → y ≤ late
 
-  -- Where all frames rise such frames are before frame `late`.
+  -- If all frames rise, such frames are before frame `late`.
   early_of : (late n x y : ℕ) → MayEnd late n x y → 0 < n → end_frame frames ≤ late
       → RiseTo frames (length frames)
       → y ≤ late
@@ -125,13 +124,13 @@ module _ (g : Criteria) (frames : Transmission) where
 
   -- ---- frames that rise
 
-  -- No frame is doubted where the run is kept.
+  -- No frame is in doubt if the run is kept.
   pub calm : (t u : List CheckStep) (es : List Event) → IsSaid t u es → (from : ℕ) → run_of u
       ≡ Some from
       → doubt_of t es ≡ None
   calm t u es said from is = (kept_some (run_of t) (doubt_of t es) from (sym said.run_is ∙ is)).1
 
-  -- An end up to which no more than n frames count is before frame n.
+  -- An end up to which there are at most n frames is before frame n.
   pub end_under : (n : ℕ) → RiseTo frames (suc n) → (m f : ℕ) → IsEnd frames m f → m ≤ n
       → f < frame_at frames n
   end_under n rises m f (some, within, inl is) l =
@@ -141,7 +140,7 @@ module _ (g : Criteria) (frames : Transmission) where
   end_under n rises m f (some, within, inr (there, high, low)) l =
       let up = rises_to frames (suc n) rises m n (omega arith) (omega arith) in omega arith
 
-  -- And one up to which fewer count is not after frame n - 1.
+  -- One up to which there are fewer is not after frame n - 1.
   pub end_few : (n : ℕ) → RiseTo frames n → (m f : ℕ) → IsEnd frames m f → m < n
       → f ≤ frame_at frames (n - 1)
   end_few n rises m f (some, within, inl is) l =
@@ -149,7 +148,7 @@ module _ (g : Criteria) (frames : Transmission) where
   end_few n rises m f (some, within, inr (there, high, low)) l =
       let up = rises_to frames n rises m (n - 1) (omega arith) (omega arith) in omega arith
 
-  -- What is so where a run is kept.
+  -- The facts if a run is kept.
   pub record Up (n : ℕ) : Type 0 where
     pub some : 0 < n
     pub last : latest frames n ≡ frame_at frames (n - 1)
@@ -176,8 +175,8 @@ module _ (g : Criteria) (frames : Transmission) where
 
   -- ---- a frame of a run
 
-  -- What makes frame n one of a run: frames rise up to it, its packets keep the rules, and nothing
-  -- stands at its end.
+  -- Frame n can be one of a run: frames rise up to it, its packets keep the rules, and no fault is
+  -- active at its end.
   pub record Quiet (n : ℕ) : Type 0 where
     pub rises : RiseTo frames (suc n)
     pub kept : KeepsAll g.watched (packets_before frames n) (packets_of_frame frames n)
@@ -200,7 +199,7 @@ module _ (g : Criteria) (frames : Transmission) where
       let up = rises_to frames n run.rises run.j (n - 1) (omega arith) (omega arith) in
       omega arith
 
-  -- A run goes on with it.
+  -- A run continues with it.
   pub run_more : (n from : ℕ) → Quiet n → Run g frames n from
       → EndsQuiet g frames n from (frame_at frames n)
       → Run g frames (suc n) from
@@ -241,11 +240,11 @@ module _ (g : Criteria) (frames : Transmission) where
     ];
   }
 
--- ---- what is kept
+-- ---- the state
 
 module _ (g : Criteria) (frames : Transmission) (base : ℕ) where
-  -- The run that is kept is one of the first n frames, and comes after the first `base` of them;
-  -- none of the ends from it on that come before frame x finds anything broken.
+  -- The run is one of the first n frames, after the first `base` of them; no fault is active at any
+  -- of its ends before frame x.
   pub record Keeps (n x : ℕ) (t : List CheckStep) : Type 0 where
     pub run : (from : ℕ) → run_of t ≡ Some from → Run g frames n from
     pub ends : (from : ℕ) → run_of t ≡ Some from → EndsQuiet g frames n from x
@@ -255,7 +254,7 @@ module _ (g : Criteria) (frames : Transmission) (base : ℕ) where
     pub at_once : (g.within == 0) ≡ true → SeesNone t
     pub plain : goes_back g ≡ false → back_of t ≡ None
 
-  -- Up to another frame, where the ends before that find nothing broken.
+  -- The same up to another frame, if no fault is active at the ends before that.
   pub keeps_to : (n x y : ℕ) (t : List CheckStep) → Keeps n x t
       → ((from : ℕ) → run_of t ≡ Some from → EndsQuiet g frames n from y)
       → Keeps n y t
@@ -297,7 +296,7 @@ module _ (g : Criteria) (frames : Transmission) (base : ℕ) where
             omega arith;
       }
 
-  -- It is kept after events too.
+  -- It also holds after events.
   pub keeps_said : (n x : ℕ) (t u : List CheckStep) (es : List Event) → Keeps n x t → IsSaid t u es
       → Keeps n x u
   keeps_said n x t u es keeps said = record {
@@ -335,7 +334,7 @@ module _ (g : Criteria) (frames : Transmission) (base : ℕ) where
 
   -- ---- before a frame
 
-  -- The first k ends of frames of the day before frame n have been.
+  -- The first k frames of the day before frame n have ended.
   pub record Arrives (n k : ℕ) (t : List CheckStep) : Type 0 where
     pub keeps : Keeps n (latest frames n + suc k) t
     pub floor : base ≤ n
@@ -359,7 +358,7 @@ module _ (g : Criteria) (frames : Transmission) (base : ℕ) where
       let long = gap_length-is frames n some in
       record { some = some; last = last; rises = rises; up = up; long = omega arith }
 
-  -- Nothing stands at the end before one of these ends, or before the frame's own.
+  -- No fault is active at the end before one of these, or before the frame's own.
   pub stood : (n f from : ℕ) (t : List CheckStep) → n < length frames → Keeps n f t
       → run_of t ≡ Some from
       → Up g frames n
@@ -389,9 +388,9 @@ module _ (g : Criteria) (frames : Transmission) (base : ℕ) where
           (subst (IsEnd frames n) at (gap_end g frames n k there (omega arith) h)) (le_refl n)
           (omega arith) (omega arith)
 
-  -- ---- frames that have ended, and one that is sent
+  -- ---- frames that have ended, and one that is being sent
 
-  -- The first n frames have ended, and no end after that of the last of them has been.
+  -- The first n frames have ended, and no later end has passed.
   pub record Closed (n : ℕ) (t : List CheckStep) : Type 0 where
     pub keeps : Keeps n (frame_at frames (n - 1) + 1) t
     pub floor : base ≤ n
@@ -405,7 +404,7 @@ module _ (g : Criteria) (frames : Transmission) (base : ℕ) where
         → back_of t ≡ Some r
         → (0 < n) × (r ≤ frame_at frames (n - 1))
 
-  -- After these frame n is sent, and these packets in it so far.
+  -- After these frame n is being sent, with these packets so far.
   pub record Opens (n : ℕ) (packets : List (List ℕ)) (t : List CheckStep) : Type 0 where
     pub keeps : Keeps n (frame_at frames n) t
     pub floor : base ≤ suc n
@@ -417,12 +416,12 @@ module _ (g : Criteria) (frames : Transmission) (base : ℕ) where
     pub fresh : stays_quiet t ≡ true → base ≤ n
     pub back : rose t ≡ true → (r : ℕ) → back_of t ≡ Some r → r ≤ frame_at frames n
 
-  -- Of which PES packet is told changes nothing.
+  -- The number of the PES packet does not matter.
   pub closed_at : (n pes : ℕ) (t : List CheckStep) → Closed n t → Closed n (AtPes pes ∷ t)
   unfolding run_of whole_of last_begun since_of late_of back_of stays_quiet tells_fall
   closed_at n pes t closed = grind (arith, nat_tests)
 
-  -- Frames rose before these events where they rose up to here.
+  -- If the frames have risen so far, they had before these events.
   pub rose_before : (t u : List CheckStep) (es : List Event) → IsSaid t u es → rose u ≡ true
       → rose t ≡ true
   rose_before t u es said e = let rises_is = said.rises_is in grind (arith, nat_tests)
@@ -438,7 +437,7 @@ module _ (g : Criteria) (frames : Transmission) (base : ℕ) where
   unfolding run_of whole_of last_begun since_of late_of back_of stays_quiet tells_fall
   opens_at n pes packets t opens = grind (arith, nat_tests)
 
-  -- ---- while a frame is sent
+  -- ---- while a frame is being sent
 
   -- Frames before frame n may be trusted up to the one before it.
   pub may_before : (n : ℕ) (packets : List (List ℕ)) (t : List CheckStep) → n < length frames
@@ -448,7 +447,7 @@ module _ (g : Criteria) (frames : Transmission) (base : ℕ) where
       → MayEnd g frames late n (frame_at frames n) y
   may_before n packets t there opens from is late y high = grind (arith, nat_tests)
 
-  -- What is kept after events that doubt none but this frame.
+  -- The state after events that cast doubt only on this frame.
   pub opens_said : (n : ℕ) (packets more : List (List ℕ)) (t u : List CheckStep) (es : List Event)
       → Opens n packets t
       → IsSaid t u es

@@ -1,6 +1,5 @@
--- For `law_of_trusted` and `law_of_trusted_repeats`.
--- What is kept of the steps of an end, `Looks`, `Backs`, and that what comes there may be taken as
--- what is told once it was looked at: `with_end`.
+-- For `law_of_trusted` and `law_of_trusted_repeats`. The state for the steps of an end, `Looks`,
+-- `Backs`; its reports may be taken as those after it was checked: `with_end`.
 use Rattle.std.proofs.lemmas.Bool.Decides.{nat_tests}
 use Rattle.std.proofs.Common.{◌≡◌, ℕ, ◌≤◌, true, false, not}
 use Rattle.std.proofs.Common.{◌==◌, ◌&&◌, None, if◌then◌else◌, List, [], ◌∷◌}
@@ -25,7 +24,7 @@ use Rattle.sub_rules.specs.Trusted.{stays_quiet, tells_fall, told_at, whole_at, 
 -- ---- the step of an end
 
 module _ (g : Criteria) (frames : Transmission) where
-  -- The end of frame f was looked at, up to which n frames count.
+  -- The end of frame f was checked, with the packets of n frames.
   pub record Looks (n f : ℕ) (t u : List CheckStep) : Type 0 where
     pub run_is : run_of u ≡ run_of t
     pub whole_is :
@@ -40,13 +39,12 @@ module _ (g : Criteria) (frames : Transmission) where
         ≡ (if not (g.within == 0) && is_late g frames n f then seen_since g frames n f else None)
     pub plain : goes_back g ≡ false → back_of u ≡ back_of t
 
-  -- Up to the end before that of frame f, up to which i frames counted, the page was not whole
-  -- since this frame.
+  -- The page has been wrong since this frame up to the end before that of frame f, with i frames.
   abbrev pub Backs : ℕ → ℕ → List CheckStep → Type 0
   Backs i f u = (r : ℕ) → back_of u ≡ Some r → since_before g frames i f ≡ Some r
 
-  -- It has a step within some frames; where each end is told at once one would change nothing. So
-  -- what comes there may be taken as what is told once it was looked at.
+  -- If `within` is not 0 an end has a step of its own; otherwise one would change nothing. So the
+  -- reports may be taken as those after the end was checked.
   pub with_end : (T : List CheckStep → List CheckStep → Type 0) (i n f : ℕ) (t : List CheckStep)
       → ((g.within == 0) ≡ true → SeesNone t)
       → (goes_back g ≡ false → back_of t ≡ None)
@@ -62,6 +60,6 @@ module _ (g : Criteria) (frames : Transmission) where
   unfolding told_at run_of whole_of last_begun since_of late_of back_of stays_quiet tells_fall
   with_end T i n f t none plain cons so = grind (arith, nat_tests, none-some)
 
-  -- Frame f, which is not before this one, has an end, up to which m frames count, and these rise.
+  -- Frame f, not before this one, has an end with m frames, and these rise.
   abbrev pub HasEnd : ℕ → ℕ → ℕ → Type 0
   HasEnd m f from = (from ≤ f) × IsEnd frames m f × RiseTo frames m

@@ -1,7 +1,6 @@
--- For `law_of_trusted` and `law_of_trusted_repeats`.
--- Frames that are told as trusted may stay, whatever is on air elsewhere: `law_of_trusted_repeats`;
--- as its case where no repeat may keep and no frame may be late `law_of_trusted`. And it is known
--- what was due there: `law_of_trusted_known`.
+-- For `law_of_trusted` and `law_of_trusted_repeats`. Trusted frames may stay whatever is on air
+-- elsewhere: `law_of_trusted_repeats`, and its case without repeats that keep the page and without
+-- late frames, `law_of_trusted`. The due page was known there: `law_of_trusted_known`.
 use Rattle.std.proofs.lemmas.Bool.Decides.{nat_tests}
 use Rattle.std.proofs.Common.{◌≡◌, ◌==◌, ℕ, ◌+◌, ◌<◌, ◌≤◌, inl, inr, Bool, true, false, List}
 use Rattle.std.proofs.Common.{Contains, Option, refl, arith, le_refl}
@@ -71,14 +70,14 @@ module _ (programme : ProgrammeValue) (options : OptionsValue) (unread : Option 
     -- ---- whatever is on air elsewhere
 
     module _ (on_air : Transmission) (is : IsAsRead part on_air from to) where
-      -- What suffices is there.
+      -- The sufficient conditions hold there.
       enough_there : IsSufficientRepeats options.keeps programme on_air options from to
       enough_there =
           sufficient_too options.keeps programme options part on_air from to quiet.rising
           quiet.stretch.from is begins
           (enough_repeats programme options unread any_refused undecided part from to quiet)
 
-      -- The first frame holds a header with which the text begins.
+      -- The first frame has a header that begins the text.
       begins_there :
           holds_beginning options.keeps (kind options.page) (packets_of on_air from) ≡ true
       begins_there =
@@ -100,7 +99,7 @@ module _ (programme : ProgrammeValue) (options : OptionsValue) (unread : Option 
           closed_there
           holds)
 
-      -- One of them at least.
+      -- At least one of them is.
       some_there : 0 < options.within
           → SomeFinishedBy options.keeps programme on_air options from to
       some_there within =
@@ -120,7 +119,7 @@ module _ (programme : ProgrammeValue) (options : OptionsValue) (unread : Option 
         finished = some_there;
       }
 
-      -- Where no repeat may keep, and no frame may be late.
+      -- If no repeat may keep the page, and no frame may be late.
       may_stay_at_once : options.keeps ≡ false → options.within ≡ 0
           → MayStay programme on_air options from to
       may_stay_at_once none at_once = record {
@@ -160,7 +159,7 @@ law_of_trusted programme options unread any_refused undecided pieces from to non
           is none at_once;
     }
 
--- Of frames of which nothing is told it is known at the end of each what was due at the last ones.
+-- In frames without reports the due page is known at each end, and was at the last frames.
 known : (g : Criteria) (part : Transmission) (from to : ℕ) → IsUntold g part from to
     → (f x : ℕ) → first_frame part ≤ f → x ≤ f + g.within
     → from ≤ x

@@ -1,6 +1,5 @@
--- For `law_of_trusted` and `law_of_trusted_repeats`.
--- No piece that is passed over may have been sent in frames that are told as trusted: the frame
--- before it is none of them, where frames rise up to it. `passed_outside`.
+-- For `law_of_trusted` and `law_of_trusted_repeats`. No skipped PES packet may have been sent in
+-- trusted frames: the frame before it is none of them, if frames rise up to it. `passed_outside`.
 use Rattle.std.proofs.lemmas.Bool.Decides.{nat_tests}
 use Rattle.std.proofs.Common.{◌≡◌, ℕ, suc, ◌+◌, ◌-◌, ◌<◌, ◌≤◌, ◌⊎◌, inl, inr, Bool, true, false}
 use Rattle.std.proofs.Common.{◌==◌}
@@ -39,7 +38,7 @@ use Rattle.sub_trusted.proofs.TrustedFrameLemmas.{part_length, part_rises}
 use Rattle.sub_rules.specs.Trusted.{CheckStep, back_of, last_begun, late_of, run_of, since_of}
 use Rattle.sub_rules.specs.Trusted.{stays_quiet, tells_fall, told_after, told_at, whole_of}
 
--- With the frames that are read after it those before it are all.
+-- The frames before it and those after it are all frames.
 before_all : (g : Criteria) (earlier later : List Piece) (u : Unread)
     → joined_after g.within (sent_by_pieces g earlier) (frames_of later)
     ≡ sent_by_pieces g (earlier ++ Passed u ∷ later)
@@ -271,7 +270,7 @@ module _ (g : Criteria) (earlier : List Piece) (u : Unread) (later : List Piece)
             ap (λ (l : List CheckStep). l ++ ns) (append_assoc ks ls ms)
             ∙ append_assoc ks (ls ++ ms) ns
 
--- No piece is passed over that may have been sent in the frames that are told as trusted.
+-- No skipped PES packet may have been sent in trusted frames.
 pub passed_outside : (g : Criteria) (pieces : List Piece) (from to : ℕ)
     → Contains (all_of_pieces g pieces) (Trusted from to)
     → IsPassedOutside g pieces from to

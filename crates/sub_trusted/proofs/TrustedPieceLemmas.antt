@@ -1,6 +1,6 @@
--- For `law_of_trusted` and `law_of_trusted_repeats`.
--- What is told as trusted of pieces may stay, within however many frames the page has to be whole:
--- `all_stay_within`; and what is told from a piece on, `each_passes` and `all_pass`.
+-- For `law_of_trusted` and `law_of_trusted_repeats`. Trusted frames of PES packets may stay,
+-- whatever `within` is: `all_stay_within`; the reports from a PES packet on: `each_passes` and
+-- `all_pass`.
 use Rattle.std.proofs.lemmas.Bool.Decides.{nat_tests}
 use Rattle.std.proofs.Common.{◌≡◌, ℕ, suc, ◌+◌, ◌≤◌, Bool, true, false, not, ◌||◌}
 use Rattle.std.proofs.Common.{List, [], ◌∷◌, ◌++◌, length, map, Option, Some, is_some, refl, sym}
@@ -36,7 +36,7 @@ use Rattle.sub_rules.specs.Trusted.{run_of, since_of, stays_quiet, tells_fall, t
 use Rattle.sub_rules.specs.Trusted.{told_after, told_at, trusted, whole_of}
 use Rattle.std.specs.List.{list_any}
 
--- What is trusted at the end of a file is before this frame.
+-- The frames that are trusted at the end of a file are before this frame.
 abbrev pub last_late : Criteria → Transmission → ℕ
 last_late g frames =
     if is_some g.unread then end_frame frames else end_frame frames + 1
@@ -49,7 +49,7 @@ module _ (g : Criteria) (frames : Transmission) (base : ℕ) where
   abbrev P : ℕ → ℕ → Type 0
   P = Passes g frames base
 
-  -- What comes of a frame, or of a piece that is passed over.
+  -- The steps of a frame, or of a skipped PES packet.
   steps :
       Steps (List CheckStep) told_of g frames (Goes P) (Closed g frames base) (Opens g frames base)
       (λ sent. ⊤)
@@ -73,13 +73,13 @@ module _ (g : Criteria) (frames : Transmission) (base : ℕ) where
   none_asked sent (Sent s ∷ pieces) = none_asked (sent_after g.within sent s) pieces
   none_asked sent (Passed u ∷ pieces) = (tt, none_asked sent pieces)
 
-  -- What is kept where these frames were sent.
+  -- The state after these frames were sent.
   abbrev pub SendsOn : Transmission → List CheckStep → Type 0
   SendsOn sent t =
       Sends (List CheckStep) told_of g frames (Goes P) (Closed g frames base) (Opens g frames base)
       (λ l. ⊤) sent t
 
-  -- What comes of pieces.
+  -- The steps of PES packets.
   pub each_passes : (sent : Transmission) (pes : ℕ) (t : List CheckStep) (pieces : List Piece)
       → joined_after g.within sent (frames_of pieces) ≡ frames
       → SendsOn sent t
@@ -92,7 +92,7 @@ module _ (g : Criteria) (frames : Transmission) (base : ℕ) where
 
   -- ---- the end of the file
 
-  -- It may be trusted up to the last frame, or where bytes are left to the one before it.
+  -- It may be trusted up to the last frame or, if bytes are left, up to the one before it.
   abbrev pub Last : ℕ → ℕ → Type 0
   Last = MayPass g frames base (last_late g frames)
 
@@ -157,7 +157,7 @@ module _ (g : Criteria) (frames : Transmission) (base : ℕ) where
             last = λ all. high;
           }) few.0 few.1 from w run whole l)
 
-  -- What comes of pieces, and after the last one.
+  -- The steps of PES packets, and of the end of the file.
   pub all_pass : (sent : Transmission) (pes count : ℕ) (t : List CheckStep) (pieces : List Piece)
       → joined_after g.within sent (frames_of pieces) ≡ frames
       → SendsOn sent t
@@ -204,7 +204,7 @@ module _ (g : Criteria) (frames : Transmission) where
   unfolding told_of_pieces
   told_stays pieces all = grind (arith, nat_tests, all_pass, start)
 
-  -- What is told as trusted of pieces may pass, and stay.
+  -- Trusted frames of PES packets may stay.
   pub all_pass_within : (pieces : List Piece) → sent_by_pieces g pieces ≡ frames
       → EachTrusted (Last g frames 0) (all_of_pieces g pieces)
   unfolding all_of_pieces

@@ -1,5 +1,5 @@
--- For `law_of_trusted` and `law_of_trusted_repeats`.
--- What a run of quiet frames holds, `Run`; and the frames of one that may stay, `Stays`.
+-- For `law_of_trusted` and `law_of_trusted_repeats`. The properties of a run of clean frames,
+-- `Run`, and its frames that may stay, `Stays`.
 use Rattle.std.proofs.Common.{◌≡◌, ℕ, ◌+◌, ◌-◌, ◌<◌, ◌≤◌, ◌⊎◌, true, false, length}
 use Rattle.sub_rules.specs.Events.{standing_at}
 use Rattle.sub_rules.specs.FrameRules.{Criteria, end_frame, frame_at, packets_of_frame}
@@ -12,8 +12,8 @@ use Rattle.sub_rules.specs.Trusted.{stands_none}
 use Rattle.sub_trusted.specs.TrustedFrames.{BeginsText}
 
 module _ (g : Criteria) (frames : Transmission) where
-  -- No end of a frame from one up to another, that one left out, up to which n frames of the list
-  -- count at the most, finds anything broken.
+  -- No fault is active at any end from one frame up to another, that one excluded, with at most n
+  -- frames of the list.
   abbrev pub EndsQuiet : ℕ → ℕ → ℕ → Type 0
   EndsQuiet n from x =
       (m f : ℕ)
@@ -23,7 +23,7 @@ module _ (g : Criteria) (frames : Transmission) where
       → f < x
       → stands_none (standing_at g frames m f) ≡ true
 
-  -- The frames from j on, of the first n of the list, break no rule on which a receiver depends.
+  -- The frames from j on, of the first n of the list, break no rule that a receiver depends on.
   abbrev pub PacketsQuiet : ℕ → ℕ → Type 0
   PacketsQuiet n j =
       (r : PacketRule) (i k : ℕ)
@@ -33,8 +33,8 @@ module _ (g : Criteria) (frames : Transmission) where
       → k < length (packets_of_frame frames i)
       → breaks r g.watched (before frames i k) (packet_at frames i k) ≡ false
 
-  -- A run of quiet frames up to the last of the first n frames of the list, and the frame of its
-  -- first header with which the text begins.
+  -- A run of clean frames up to the last of the first n frames of the list, with the frame of its
+  -- first header that begins the text.
   pub record Run (n from : ℕ) : Type 0 where
     pub j : ℕ
     pub below : j < n
@@ -44,7 +44,7 @@ module _ (g : Criteria) (frames : Transmission) where
     pub packets : PacketsQuiet n j
     pub ends : EndsQuiet n from (frame_at frames (n - 1) + 1)
 
-  -- The frames from one up to another, that one left out, are those of a run.
+  -- The frames from one up to another, that one excluded, are those of a run.
   pub record Stays (from x : ℕ) : Type 0 where
     pub n : ℕ
     pub within : n ≤ length frames

@@ -1,7 +1,6 @@
--- For `law_of_trusted` and `law_of_trusted_repeats`.
--- What comes of a frame, step after step: before its packets, `arrival`, of its packets,
--- `more_sent`, of a piece that is passed over, `passed`, and at an end, `end_tells`. What is told
--- as trusted with them is so.
+-- For `law_of_trusted` and `law_of_trusted_repeats`. The steps of a frame, whose trusted frames
+-- have the property: before its packets, `arrival`, for its packets, `more_sent`, for a skipped PES
+-- packet, `passed`, and at an end, `end_tells`.
 use Rattle.std.proofs.lemmas.Bool.Decides.{nat_tests}
 use Rattle.std.proofs.Common.{◌≡◌, ℕ, zero, suc, ◌+◌, ◌-◌, ◌<◌, ◌≤◌, inl, inr, true, false, not}
 use Rattle.std.proofs.Common.{◌==◌, ◌&&◌, Bool, None, if◌then◌else◌, List, [], ◌∷◌, ◌++◌}
@@ -43,11 +42,11 @@ use Rattle.sub_rules.proofs.EndLemmas.{gap_length-is}
 use Rattle.sub_rules.specs.Trusted.{CheckStep, back_of, last_begun, late_of, run_of, since_of}
 use Rattle.sub_rules.specs.Trusted.{stands_none, stays_quiet, tells_fall, told_at, whole_of}
 
--- ---- what is told
+-- ---- reports
 
 module _ (g : Criteria) (frames : Transmission) (base : ℕ) where
-  -- What is told as trusted may stay: from frame `base` of the list on, and where all frames rise
-  -- before the last of them.
+  -- Trusted frames may stay: from frame `base` of the list on and, if all frames rise, before the
+  -- last of them.
   abbrev pub Passes : ℕ → ℕ → Type 0
   Passes = MayPass g frames base (end_frame frames)
 
@@ -67,7 +66,7 @@ module _ (g : Criteria) (frames : Transmission) (base : ℕ) where
 
   -- ---- an end
 
-  -- What is kept where an end was looked at.
+  -- The state after an end was checked.
   pub keeps_end : (n x m f : ℕ) (t u : List CheckStep) → Looks g frames m f t u
       → Keeps g frames base n x t
       → ((from : ℕ) → run_of t ≡ Some from → HasEnd g frames m f from)
@@ -102,8 +101,8 @@ module _ (g : Criteria) (frames : Transmission) (base : ℕ) where
       was : (from : ℕ) → run_of u ≡ Some from → run_of t ≡ Some from
       was from is = sym looks.run_is ∙ is
 
-  -- What is told at the end of frame f, up to which n frames counted before and now m, doubts no
-  -- later one.
+  -- The reports at the end of frame f, with n frames before and now m, cast doubt on no later
+  -- frame.
   pub end_tells : (n m f : ℕ) (t : List CheckStep) (S : List CheckStep → Type 0)
       → ((from : ℕ) → run_of t ≡ Some from → latest frames m ≤ f)
       → Keeps g frames base n f t
@@ -245,12 +244,12 @@ module _ (g : Criteria) (frames : Transmission) (base : ℕ) where
 
   -- ---- before the packets of a frame
 
-  -- What has ended may be trusted up to the frame before the last one.
+  -- The frames that have ended may be trusted up to the frame before the last one.
   may_ended : (n x : ℕ) → n ≤ length frames → x ≤ frame_at frames (n - 1)
       → MayEnd g frames (end_frame frames) n (frame_at frames (n - 1) + 1) x
   may_ended n x within low = grind (arith, nat_tests)
 
-  -- Nor is a frame told after that one where it is trusted no more.
+  -- Nor is a later frame reported as trusted when that one no longer is.
   closed_back : (n x from : ℕ) (t : List CheckStep) → Closed g frames base n t
       → run_of t ≡ Some from
       → x ≤ frame_at frames (n - 1)
@@ -353,7 +352,7 @@ module _ (g : Criteria) (frames : Transmission) (base : ℕ) where
             omega arith;
       }
 
-  -- Since which frame the page was not whole before it.
+  -- Since which frame the page was wrong before it.
   pub begins_back : (n : ℕ) (t : List CheckStep) → Opens g frames base n [] t → goes_back g ≡ true
       → Opens g frames base n [] (GoesBack (since_before g frames n (frame_at frames n)) ∷ t)
   unfolding run_of whole_of last_begun since_of late_of back_of stays_quiet tells_fall
@@ -390,7 +389,7 @@ module _ (g : Criteria) (frames : Transmission) (base : ℕ) where
       (goes_back_tells n (Begins (frame_at frames n) ∷ v) (goes_back g) refl
       (begins n v there here)))
 
-  -- ---- while it is sent
+  -- ---- while it is being sent
 
   pub more_sent : (n : ℕ) (packets more : List (List ℕ)) (t : List CheckStep) → n < length frames
       → Opens g frames base n packets t
@@ -418,7 +417,7 @@ module _ (g : Criteria) (frames : Transmission) (base : ℕ) where
       (λ none kept.
       keeps_joined g.watched (packets_before frames n) packets more kept (finds.quiet none)))
 
-  -- A piece that is passed over before the next frame comes.
+  -- A PES packet is skipped before the next frame comes.
   pub passed_ended : (n pes : ℕ) (u : Unread) (t : List CheckStep) → n ≤ length frames
       → Closed g frames base n t
       → Tells (Closed g frames base n) t (map Says (Told (unread_fault pes (Some u)) ∷ []))
@@ -437,7 +436,7 @@ module _ (g : Criteria) (frames : Transmission) (base : ℕ) where
       run whole l)
       (λ v said. closed_said g frames base n t v es closed said)
 
-  -- Or while it is sent.
+  -- Or while it is being sent.
   pub passed : (n pes : ℕ) (packets : List (List ℕ)) (u : Unread) (t : List CheckStep)
       → n < length frames
       → Opens g frames base n packets t

@@ -1,5 +1,4 @@
--- What is told as trusted beside what is refused of a subtitle file does not hang on what had stood
--- in place of that.
+-- Which frames are trusted does not depend on what the refused subtitles of a file contained.
 use Rattle.std.specs.Prelude.{◌≡◌, ◌≢◌, ℕ, ◌<◌, ◌≤◌, ◌⊎◌, Bool, List, [], ◌∷◌, Contains, Option}
 use Rattle.std.specs.Prelude.{IsFalse, IsTrue}
 use Rattle.stl_file.specs.Subtitle.{SubtitleValue}
@@ -13,24 +12,24 @@ use Rattle.sub_rules.specs.declared.event.Event.TheVariants.{Trusted}
 use Rattle.sub_laws.specs.CleanStretch.{AtEnds, criteria_unsure}
 use Rattle.sub_trusted.specs.TrustedFrames.{rising_of}
 
--- A subtitle that is due at some of these frames and at no other.
+-- The subtitle is due only at some of these frames.
 pub record IsDueAmong (undecided : ℕ → Bool) (t : SubtitleValue) : Type 0 where
   pub times : t.tci < t.tco
   pub within : (f : ℕ) → t.tci ≤ f → f < t.tco → IsTrue (undecided f)
 
--- Subtitles in their order, and among them others, each due at these frames alone.
+-- The subtitles `judged` in order, with others among them that are each due only at these frames.
 abbrev pub HasOthers : (ℕ → Bool) → List SubtitleValue → List SubtitleValue → Type 0
 HasOthers undecided judged [] = judged ≡ []
 HasOthers undecided judged (t ∷ all) =
     ((rest : List SubtitleValue) × (judged ≡ t ∷ rest) × HasOthers undecided rest all)
     ⊎ (IsDueAmong undecided t × HasOthers undecided judged all)
 
--- At the end of a frame the page is whole.
+-- The page is right at the end of a frame.
 abbrev pub IsWholeAt : Criteria → List Piece → ℕ → Type 0
 IsWholeAt g pieces b =
     AtEnds (λ n f. IsFalse (is_unfinished g (rising_of g pieces) n f)) (rising_of g pieces) b b
 
--- Frames are told as trusted, those from one up to another all in one.
+-- The frames from one to another are reported as trusted, in one event.
 abbrev pub AreTrusted : Criteria → List Piece → ℕ → ℕ → Type 0
 AreTrusted g pieces from to =
     (first : ℕ)
@@ -39,10 +38,10 @@ AreTrusted g pieces from to =
     × (to ≤ last)
     × Contains (all_of_pieces g pieces) (Trusted first last)
 
--- Frames that are told as trusted beside what is refused of a subtitle file are told so, all in
--- one, of a file that has other subtitles in place of that, where these are due at the frames alone
--- at which it was not known what is due; or nothing at all is told. Where the page may be late they
--- are so up to each at whose end it is whole.
+-- Frames that are reported as trusted although subtitles were refused are also reported, in one
+-- event, for a file with other subtitles in their place, if these are due only at frames whose due
+-- page was unknown; or nothing at all is reported. If the page may be late, this holds up to each
+-- frame at whose end it is right.
 abbrev pub LawOfTrustedAlike : Type 0
 LawOfTrustedAlike =
     (programme : ProgrammeValue) (options : OptionsValue) (unread : Option Unread)

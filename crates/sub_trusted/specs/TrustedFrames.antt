@@ -1,5 +1,5 @@
--- What is promised of the frames that are told as trusted, whatever is broken elsewhere; and that
--- no others may be.
+-- The promises for the frames that are reported as trusted, whatever is broken elsewhere; and that
+-- no others could be.
 use Rattle.std.specs.Prelude.{◌≡◌, ◌≢◌, ℕ, zero, suc, ◌+◌, ◌<◌, ◌≤◌, ◌==◌, ◌&&◌, nat_lt, Bool}
 use Rattle.std.specs.Prelude.{List, [], ◌∷◌, ◌++◌, ◌⊎◌, Contains, length, take, Option, Some}
 use Rattle.std.specs.Prelude.{IsFalse, IsTrue, if◌then◌else◌, true}
@@ -28,40 +28,40 @@ unfoldable pub rises_at : Transmission → ℕ → Bool
 rises_at frames zero = true
 rises_at frames (suc i) = nat_lt (frame_at frames i) (frame_at frames (suc i))
 
--- How many of the first n frames come before the first one of which that is not so.
+-- How many of the first n frames come before the first one that is not after its predecessor.
 unfoldable pub rising_count : Transmission → ℕ → ℕ
 rising_count frames zero = 0
 rising_count frames (suc n) =
     if (rising_count frames n == n) && rises_at frames n then suc n else rising_count frames n
 
--- The frames before the first one that is not after the one before; all, where they rise.
+-- The frames before the first one that is not after its predecessor; all of them if they rise.
 abbrev pub rising_part : Transmission → Transmission
 rising_part frames = take (rising_count frames (length frames)) frames
 
--- The rising part of what is read of pieces.
+-- The rising part of the frames of PES packets.
 abbrev pub rising_of : Criteria → List Piece → Transmission
 rising_of g pieces = rising_part (sent_by_pieces g pieces)
 
--- A header with which the text begins is among the packets of frame i of the list: any header of
--- the page; where repeats may keep it, one that erases it.
+-- A header with which the text of the page begins is among the packets of frame i of the list: any
+-- header of the page, or, if repeats may keep the page, one that erases it.
 abbrev pub BeginsText : Criteria → Transmission → ℕ → Type 0
 BeginsText g frames i =
     holds_beginning g.watched.keeps (kind g.watched.page) (packets_of_frame frames i) ≡ true
 
 -- ---- whatever is on air elsewhere
 
--- In the frames from one to another is on air what was read: frames rise, they begin with the first
--- one that was read or before it, and each of these has the packets that were read. Before them and
--- after them anything may be on air, read or not.
+-- In the frames from one to another exactly what was read is on air: the frames on air rise, they
+-- begin no later than the first one that was read, and each frame has the packets that were read.
+-- Before and after these frames anything may be on air, read or not.
 pub record IsAsRead (read on_air : Transmission) (from to : ℕ) : Type 0 where
   pub rising : IsRising on_air
   pub first : first_frame on_air ≤ first_frame read
   pub same : (f : ℕ) → from ≤ f → f ≤ to → packets_of on_air f ≡ packets_of read f
 
--- What a piece puts on air that is passed over is not known. It may have been sent in the frame of
--- the PES packet before it, be it between two PES packets of that frame or after its last one: so
--- where that frame is in the rising part it is none of those from one to another. What comes before
--- the next frame that is read is the past of whoever tunes in there.
+-- What a skipped PES packet puts on air is unknown. It may have been sent in the frame of the PES
+-- packet before it, between two PES packets of that frame or after its last one. So that frame, if
+-- it is in the rising part, is none of those from one to another. What comes before the next frame
+-- that is read is the past for a receiver that is tuned in there.
 abbrev pub IsPassedOutside : Criteria → List Piece → ℕ → ℕ → Type 0
 IsPassedOutside g pieces from to =
     (earlier later : List Piece) (u : Unread)
@@ -70,21 +70,21 @@ IsPassedOutside g pieces from to =
     → length (sent_by_pieces g earlier) ≤ length (rising_of g pieces)
     → (last_frame (sent_by_pieces g earlier) < from) ⊎ (to < last_frame (sent_by_pieces g earlier))
 
--- The frames from one to another, as they are read of these pieces, stay whatever is on air before
--- them and after them.
+-- The frames from one to another, as read from these PES packets, may stay whatever is on air
+-- before and after them.
 pub record StaysAsRead
     (g : Criteria) (pieces : List Piece) (from to : ℕ) (Stays : Transmission → Type 0)
     : Type 0 where
-  -- What the pieces put on air that are passed over is there, and not in these frames.
+  -- Whatever the skipped PES packets put on air is not in these frames.
   pub passed : IsPassedOutside g pieces from to
   pub stays : (on_air : Transmission) → IsAsRead (rising_of g pieces) on_air from to → Stays on_air
 
--- ---- what is promised
+-- ---- promises
 
--- The frames from one to another may stay on air as they are, by what is sent up to the last of
--- them: the first one holds a header of the page, so whoever tunes in at one of them recovers there
--- whatever he held before; and where complete pages are asked for, pages are complete there, so
--- that what is due is on the screens.
+-- The frames from one to another may stay on air as they are, given the packets up to the last of
+-- them. The first one has a header of the page, so a receiver that is tuned in at one of them
+-- recovers there whatever it contained before; and if complete pages are required, pages are
+-- complete there, so the due page is on screens.
 pub record MayStay
     (programme : ProgrammeValue) (transmission : Transmission) (options : OptionsValue)
     (from to : ℕ)
@@ -93,11 +93,10 @@ pub record MayStay
   pub trusted : MayBeTrusted programme transmission options from to
   pub complete : IsTrue options.asks_complete → CompleteWithin transmission options from to
 
--- Where no repeat may keep the page, frames that are told as trusted of a PES file may stay, as
--- they are read of its part in which frames rise: whatever is broken and whatever is on air
--- elsewhere. So who mends a transmission need not touch them. Beside what is refused of the
--- subtitle file they may stay by the programme of what can be relied on in it, whatever is due at
--- the frames at which that is not known.
+-- If no repeat may keep the page, frames of a PES file that are reported as trusted may stay, as
+-- read from the part in which frames rise, whatever is broken and whatever is on air elsewhere. So
+-- someone who repairs a transmission need not touch them. If subtitles were refused, this holds for
+-- the programme of the reliable ones, whatever is due at frames whose due page is unknown.
 abbrev pub LawOfTrusted : Type 0
 LawOfTrusted =
     (programme : ProgrammeValue) (options : OptionsValue) (unread : Option Unread)
@@ -110,8 +109,8 @@ LawOfTrusted =
     → StaysAsRead (criteria_unsure programme options unread any_refused undecided) pieces from to
     (λ on_air. MayStay programme on_air options from to)
 
--- At each of them it is known what is due; and within some frames at each of so many before one of
--- them that is not before the first frame that was read.
+-- At each of them the due page is known, and it was known at each of the `within` frames before,
+-- from the first frame that was read.
 abbrev pub LawOfTrustedKnown : Type 0
 LawOfTrustedKnown =
     (g : Criteria) (pieces : List Piece) (from to : ℕ)
@@ -124,11 +123,11 @@ LawOfTrustedKnown =
 
 -- ---- nothing is left out
 
--- A stretch of frames of the rising part may be trusted: nothing of which a receiver depends is
--- told of it, nothing stands broken at any end of it, and within some frames its last one is
--- finished; no piece is passed over that may have been sent in it; and it ends before the last of
--- these frames where that is doubted, since a frame that is not after it follows, or bytes that
--- can't be read on.
+-- A stretch of frames of the rising part may be trusted: there is no report of it that a receiver
+-- depends on, no fault is active at any end of it, and if `within` is not 0 its last frame is
+-- finished; no skipped PES packet may have been sent in it; and it ends before the last of the
+-- rising frames if that one is in doubt, since a frame that is not after it or unreadable bytes
+-- follow.
 pub record CanStay (g : Criteria) (pieces : List Piece) (a b : ℕ) : Type 0 where
   pub untold : IsUntold g (rising_of g pieces) a b
   pub quiet :
@@ -143,13 +142,13 @@ pub record CanStay (g : Criteria) (pieces : List Piece) (a b : ℕ) : Type 0 whe
       → b < last_frame (rising_of g pieces)
   pub before_unread : (u : Unread) → g.unread ≡ Some u → b < last_frame (rising_of g pieces)
 
--- Anything is told: of the PES file; or of the subtitle file, of which something is refused.
+-- There is any report: of the PES file, or of refused subtitles.
 abbrev pub IsAnythingTold : Criteria → List Piece → Type 0
 IsAnythingTold g pieces = (all_of_pieces g pieces ≢ []) ⊎ IsTrue g.any_refused
 
--- Where anything is told, the frames of such a stretch from one with a header on with which the
--- text begins are told as trusted, all in one. So no frame that may stay is left out, but within
--- some frames for those after the last one that is finished.
+-- If there is any report, the frames of such a stretch are reported as trusted, in one event, from
+-- one that begins the text of the page on. So no frame that may stay is left out, except, if
+-- `within` is not 0, those after the last finished one.
 abbrev pub LawOfAllTrusted : Type 0
 LawOfAllTrusted =
     (g : Criteria) (pieces : List Piece) (a b i : ℕ)

@@ -1,5 +1,5 @@
--- What is promised of the frames that are told as trusted of a transmission that may be late, and
--- whose repeats may keep the page or may not, whatever is broken elsewhere.
+-- The promises for the frames that are reported as trusted if the page may be late and repeats may
+-- keep it or may not, whatever is broken elsewhere.
 use Rattle.std.specs.Prelude.{ℕ, ◌<◌, Bool, Contains, IsTrue, List, Option}
 use Rattle.ttx_page.specs.PacketKind.{kind}
 use Rattle.ttx_page.specs.Span.{holds_beginning}
@@ -15,11 +15,11 @@ use Rattle.sub_laws.specs.CleanStretch.{criteria_unsure}
 use Rattle.sub_laws.specs.Repeats.{MayBeTrustedBy}
 use Rattle.sub_trusted.specs.TrustedFrames.{StaysAsRead}
 
--- The frames from one to another may stay on air as they are, by what is sent up to the last of
--- them, where repeats may keep the page or may not: the first one holds a header with which the
--- text begins, so whoever is tuned in at its beginning, with whatever he held before, recovers
--- there; and later in them those do whose page was blank, those that begin anew at each header, and
--- every other one from the next header on that erases the page.
+-- The frames from one to another may stay on air as they are, given the packets up to the last of
+-- them, whether repeats may keep the page or not. The first one has a header that begins the text
+-- of the page, so a receiver that is tuned in at its beginning recovers there whatever it contained
+-- before. Later in these frames a receiver recovers if its page was blank or if it starts again at
+-- each header, and any other one from the next header that erases the page.
 pub record MayStayBy
     (programme : ProgrammeValue) (transmission : Transmission) (options : OptionsValue)
     (from to : ℕ)
@@ -31,11 +31,10 @@ pub record MayStayBy
       0 < options.within
       → SomeFinishedBy options.keeps programme transmission options from to
 
--- Frames that are told as trusted of a PES file may stay, as they are read of its part in which
--- frames rise: whatever is broken and whatever is on air elsewhere. So who mends a transmission
--- need not touch them. Within frames PES packets of one frame that follow one another are one
--- there. Beside what is refused of the subtitle file they may by the programme of what can be
--- relied on in it.
+-- Frames of a PES file that are reported as trusted may stay, as read from the part in which frames
+-- rise, whatever is broken and whatever is on air elsewhere. So someone who repairs a transmission
+-- need not touch them. If `within` is not 0, consecutive PES packets of one frame are merged. If
+-- subtitles were refused, this holds for the programme of the reliable ones.
 abbrev pub LawOfTrustedRepeats : Type 0
 LawOfTrustedRepeats =
     (programme : ProgrammeValue) (options : OptionsValue) (unread : Option Unread)

@@ -1,7 +1,7 @@
-//! What may stay of a transmission beside what is broken: frames that are told as trusted.
+//! The frames of a faulty transmission that may stay on air: those that are reported as trusted.
 //!
-//! Stands on `sub_laws` for what is promised of a stretch of frames, and on `sub_rules` for what is
-//! told. There is no program in it: each function is a law.
+//! `sub_laws` defines the promises for a stretch of frames, and `sub_rules` the reports. This crate
+//! contains no program: each function is a law.
 //!
 //! ```text
 //! law_of_trusted_repeats: Contains (all_of_pieces g pieces) (Trusted from to) → MayStayBy ..
