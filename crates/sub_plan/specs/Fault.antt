@@ -1,11 +1,10 @@
--- The number and the name by which it is told that no schedule is written (own), and which fault is
--- that the sink failed.
+-- The number and the name of the error of writing a schedule (own), and which error is a failure of
+-- the sink.
 use Rattle.std.specs.Prelude.{Bool, true, false, codes}
 use Rattle.sub_io.specs.FaultCode.{FaultCodeValue, fault_code}
 use Rattle.sub_plan.specs.declared.fault.PlanFault.{PlanFault}
 use Rattle.sub_plan.specs.declared.fault.PlanFault.TheVariants as fault
 
--- The number and the name that a fault is told by.
 abbrev pub plan_code : PlanFault → FaultCodeValue
 plan_code fault.NoSubtitles = fault_code 82 (codes "NoSubtitles")
 plan_code fault.Write = fault_code 42 (codes "Write")

@@ -1,4 +1,4 @@
--- What a sending shows, and where the sendings of a schedule stand.
+-- What a page transmission shows, and the frames of a schedule with one.
 use Rattle.std.specs.Prelude.{◌≡◌, ◌≢◌, ◌↔◌, ℕ, ◌+◌, ◌-◌, ◌%◌, ◌^◌, ◌<◌, ◌≤◌, ◌⊎◌, Contains}
 use Rattle.std.specs.Prelude.{All, Bool, List, ◌++◌, Some, length, take, IsTrue}
 use Rattle.std.specs.Prelude.{IsFalse}
@@ -22,10 +22,10 @@ use Rattle.sub_plan.specs.Options.{IsOptions, IsWatchable, OptionsValue}
 use Rattle.sub_plan.specs.Schedule.{base, due_in, is_sending, sendings, pes_value, plan_frames}
 use Rattle.sub_plan.specs.Sending.{sending, watched_header}
 
--- ---- one sending
+-- ---- one page transmission
 
--- Whatever was sent before, a sending shows the page that it was made from.
--- So a receiver that heard it whole shows the page that was due.
+-- Whatever was sent before, a page transmission shows the page from which it was made. So a
+-- receiver that gets all of it shows the page that was expected.
 abbrev pub LawOfSending : Type 0
 LawOfSending =
     (w : PageIdValue) (national : National) (serial : Bool) (page : Rows) (before : List (List ℕ))
@@ -35,8 +35,8 @@ LawOfSending =
     → IsCell row column
     → shown w (before ++ sending w national serial page) row column ≡ cell page row column
 
--- A packet of a sending: 42 bytes; code words with no bit wrong; where it is a header, C11 by the
--- mode; and the only header of the page is that of the sending.
+-- A packet of a page transmission: 42 bytes; code words without a wrong bit; if it is a header, C11
+-- by the mode; and the only header of the page is that of the transmission.
 pub record IsSentPacket
     (w : PageIdValue) (national : National) (serial : Bool) (packet : List ℕ) : Type 0 where
   pub whole : IsPacket packet
@@ -46,8 +46,8 @@ pub record IsSentPacket
       → kind w packet ≡ ThisPage h
       → h ≡ watched_header w national serial
 
--- Each packet of a sending is such a packet.
--- So the rules of a good transmission on single packets hold of what is sent.
+-- Each packet of a page transmission is of this kind. So the rules of a good transmission on single
+-- packets hold for the packets of a schedule.
 abbrev pub LawOfSentPackets : Type 0
 LawOfSentPackets =
     (w : PageIdValue) (national : National) (serial : Bool) (page : Rows)
@@ -55,13 +55,13 @@ LawOfSentPackets =
     → IsPage page
     → All (IsSentPacket w national serial) (sending w national serial page)
 
--- A sending of a page that is due has at most 25 packets, since row 24 of it is blank.
+-- The transmission of an expected page has at most 25 packets, since its row 24 is blank.
 abbrev pub LawOfDueSize : Type 0
 LawOfDueSize =
     (w : PageIdValue) (serial : Bool) (programme : ProgrammeValue) (frame : ℕ)
     → length (sending w programme.drawing.national serial (due_in programme frame)) ≤ 25
 
--- A sending has at most 26 packets. So its packets have lines in one PES packet.
+-- A page transmission has at most 26 packets. So one PES packet has lines for all of them.
 abbrev pub LawOfSize : Type 0
 LawOfSize =
     (w : PageIdValue) (national : National) (serial : Bool) (page : Rows)
@@ -80,9 +80,8 @@ pub record AreRowsOfOnePage (w : PageIdValue) (packets : List (List ℕ)) : Type
   pub shape : IsPage page
   pub rows : All (IsRowOf w page) packets
 
--- Sendings of any pages one after another, cut anywhere: the span holds rows of one page alone.
--- So whoever stops to listen, in a frame or at its end, has rows that do not contradict one
--- another.
+-- After page transmissions of any pages, cut anywhere, the span has rows of only one page. So
+-- wherever a receiver stops, in a frame or at its end, its rows do not contradict each other.
 abbrev pub LawOfCutSendings : Type 0
 LawOfCutSendings =
     (w : PageIdValue) (national : National) (serial : Bool) (due : ℕ → Rows) (frames : List ℕ)
@@ -92,9 +91,9 @@ LawOfCutSendings =
     → AreRowsOfOnePage w
     (span (kind w) (take n (flat_map (λ f. sending w national serial (due f)) frames)))
 
--- ---- the frames with a sending
+-- ---- frames with a page transmission
 
--- The frame is the first, or has another due page than the frame before it.
+-- A base: the first frame, or one whose expected page differs from that of the frame before it.
 abbrev pub IsBase : (ℕ → Rows) → ℕ → ℕ → Type 0
 IsBase due first b = (b ≡ first) ⊎ (due b ≢ due (b - 1))
 
@@ -105,21 +104,20 @@ pub record IsLastBase (due : ℕ → Rows) (first f b : ℕ) : Type 0 where
   pub is_base : IsBase due first b
   pub none_after : (k : ℕ) → b < k → k ≤ f → IsBase due first k → ⊥
 
--- The frame is the last, or `every` divides its distance from the last base up to it.
+-- The frame is the last, or its distance from the last base is a multiple of `every`.
 abbrev pub IsSending : (ℕ → Rows) → ℕ → ℕ → ℕ → ℕ → Type 0
 IsSending due every first last f =
     (f ≡ last) ⊎ ((b : ℕ) × IsLastBase due first f b × ((f - b) % every ≡ 0))
 
--- The frames with a sending are these, whatever the way in which they are found.
+-- The frames with a page transmission are these, independent of how they are found.
 abbrev pub LawOfSendings : Type 0
 LawOfSendings =
     (due : ℕ → Rows) (every first last f : ℕ)
     → Contains (sendings due every first last) f
     ↔ ((first ≤ f) × (f ≤ last) × IsSending due every first last f)
 
--- In each `every` frames from the first to the last stands a sending: two never stand further
--- apart.
--- So a receiver that tunes in waits at most that long for the header of the page.
+-- Any `every` consecutive frames from the first to the last contain a page transmission. So a
+-- receiver that tunes in waits at most that long for the header of the page.
 abbrev pub LawOfGaps : Type 0
 LawOfGaps =
     (due : ℕ → Rows) (every first last g : ℕ)
@@ -128,8 +126,8 @@ LawOfGaps =
     → g + every ≤ last + 1
     → (f : ℕ) × (g ≤ f) × (f < g + every) × Contains (sendings due every first last) f
 
--- A frame with the same due page as the frame before it is no new base.
--- So two subtitles with the same text, one straight after the other, are repeated as one.
+-- A frame with the same expected page as the frame before it is no base. So two subtitles with the
+-- same text, directly after each other, are repeated as one.
 abbrev pub LawOfEqualPages : Type 0
 LawOfEqualPages =
     (due : ℕ → Rows) (first f : ℕ)
@@ -137,7 +135,7 @@ LawOfEqualPages =
     → due f ≡ due (f - 1)
     → base due first f ≡ base due first (f - 1)
 
--- The last sending up to a frame, made from the page that is still due there.
+-- The last page transmission up to a frame, made from the page that is still expected there.
 pub record IsLastSending (due : ℕ → Rows) (every first last f g : ℕ) : Type 0 where
   pub low : first ≤ g
   pub high : g ≤ f
@@ -145,8 +143,8 @@ pub record IsLastSending (due : ℕ → Rows) (every first last f g : ℕ) : Typ
   pub none_after : (k : ℕ) → g < k → k ≤ f → IsFalse (is_sending due every first last k)
   pub same : due g ≡ due f
 
--- From the first frame on there is a sending up to each frame, and the last one is made from the
--- page that is due at that frame. So what was sent last is never out of date.
+-- From the first frame on, each frame has a last page transmission up to it, and it shows the page
+-- expected at that frame. So the last transmission is never out of date.
 abbrev pub LawOfLastSending : Type 0
 LawOfLastSending =
     (due : ℕ → Rows) (every first last f : ℕ)
@@ -154,10 +152,10 @@ LawOfLastSending =
     → first ≤ f
     → (g : ℕ) × IsLastSending due every first last f g
 
--- ---- as PES packets
+-- ---- PES packets
 
--- What is sent at a frame can be carried by one PES packet.
--- So what a schedule writes is read back as its sendings.
+-- The packets of a page transmission fit in one PES packet. So a schedule can be read back as its
+-- page transmissions.
 abbrev pub LawOfPesValues : Type 0
 LawOfPesValues =
     (o : OptionsValue) (national : National) (serial : Bool) (page : Rows) (frame : ℕ)
@@ -165,7 +163,7 @@ LawOfPesValues =
     → IsPage page
     → IsPesValue (pes_value o.origin (sending o.page national serial page) frame)
 
--- Each frame of a programme's schedule is a frame of the day, so its PTS tells it.
+-- Each frame of a programme's schedule is a frame of the day, so its PTS determines it.
 abbrev pub LawOfDay : Type 0
 LawOfDay =
     (programme : ProgrammeValue) (every : ℕ)
@@ -174,8 +172,8 @@ LawOfDay =
 
 -- ---- the frame of a PTS
 
--- Each clock reads the PTS of a frame of the day as that frame.
--- So a schedule is read as it was planned, within however many frames.
+-- Each clock converts the PTS of a frame of the day to that frame. So a schedule is read as it was
+-- written, for every value of `within`.
 abbrev pub LawOfClock : Type 0
 LawOfClock =
     (within origin frame : ℕ)
@@ -183,15 +181,15 @@ LawOfClock =
     → frame < day
     → clock within origin (pts_of origin frame) ≡ Some frame
 
--- Where no frames are allowed, the frame of a PTS is the one of the day that has it.
+-- If `within` is 0, the frame of a PTS is the frame of the day with exactly this PTS.
 abbrev pub LawOfExactClock : Type 0
 LawOfExactClock =
     (origin pts frame : ℕ)
     → (clock 0 origin pts ≡ Some frame) ↔ ((frame < day) × (pts_of origin frame ≡ pts))
 
--- Where frames are allowed, a PTS of 33 bits is read as the frame of the day whose own PTS it is at
--- most 900 ticks before, or less than 2700 after.
--- So neither a PTS a quarter of a frame early nor that of the second field is of another frame.
+-- Otherwise, a PTS of 33 bits belongs to the frame of the day whose own PTS it precedes by at most
+-- 900 ticks, or follows by less than 2700. So neither a PTS a quarter of a frame early nor that of
+-- the second field belongs to another frame.
 abbrev pub LawOfNearClock : Type 0
 LawOfNearClock =
     (within origin frame ticks : ℕ)

@@ -1,13 +1,12 @@
--- The options of a schedule, and of what is asked of one.
+-- The options of a schedule, and of checking one.
 use Rattle.std.specs.Prelude.{ℕ, ◌<◌, ◌≤◌, ◌^◌, Bool, IfSome, Option}
 use Rattle.stl_file.specs.TimeCode.{day}
 use Rattle.ttx_packet.specs.PageId.{PageIdValue}
 
--- What options are to their callers: the page that is sent, the repeat bound in frames, the PTS of
--- frame 0, whether complete pages are asked for, each ended by a header after its own, within how
--- many frames the page that is due has to be whole: at the end of each one for 0; how many frames
--- apart PES packets are at most, where that is asked; and whether repeats may keep the page, with
--- C4, erase page, clear in their headers.
+-- The model of options: the page; the repeat bound in frames; the PTS of frame 0; whether complete
+-- pages are required, each ended by a later header; within how many frames the expected page must
+-- be right (0: at the end of each); the maximum distance of PES packets in frames, if it is
+-- limited; and whether repeats may keep the page, with C4, erase page, clear in their headers.
 pub record OptionsValue : Type 0 where
   pub page : PageIdValue
   pub every : ℕ
@@ -17,14 +16,14 @@ pub record OptionsValue : Type 0 where
   pub pace : Option ℕ
   pub keeps : Bool
 
--- A magazine 0 to 7, and a page number other than FF. So the closing header, page FF, is never one
--- of the page.
+-- A magazine 0 to 7, and a page number other than FF. So the closing header, page FF, is never a
+-- header of the page.
 pub record IsWatchable (page : PageIdValue) : Type 0 where
   pub magazine : page.magazine < 8
   pub page_number : page.page < 0xFF
 
--- What options can be: a page other than FF, a repeat bound of at most a day, a PTS of 33 bits, at
--- most two seconds within which the page has to be whole, and a pace of at most a day.
+-- The possible options: a page other than FF, a repeat bound of at most a day, a PTS of 33 bits, at
+-- most two seconds within which the page must be right, and a pace of at most a day.
 pub record IsOptions (o : OptionsValue) : Type 0 where
   pub page : IsWatchable o.page
   pub least : 1 ≤ o.every

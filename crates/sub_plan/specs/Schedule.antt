@@ -1,7 +1,7 @@
--- Which frames of a schedule carry a sending (own), and the schedule in bytes.
+-- The frames of a schedule with a page transmission (own), and the bytes of the schedule.
 --
--- The definitions go by the page that is due at each frame, `due`, and by the first and the last
--- frame: they know nothing of subtitles.
+-- The definitions depend only on the expected page at each frame, `due`, and on the first and the
+-- last frame, not on subtitles.
 use Rattle.std.specs.Prelude.{ℕ, suc, zero, ◌+◌, ◌-◌, ◌%◌, Bool, not, ◌||◌, List, []}
 use Rattle.std.specs.Prelude.{◌==◌, nat_eq, filter, if◌then◌else◌, Option, Some, None}
 use Rattle.std.specs.List.{flat_map, range_with_len}
@@ -15,70 +15,71 @@ use Rattle.sub_plan.specs.FrameTime.{pts_of}
 use Rattle.sub_plan.specs.Options.{OptionsValue}
 use Rattle.sub_plan.specs.Sending.{sending}
 
--- ---- the frames with a sending
+-- ---- frames with a page transmission
 
 -- The pages are equal, cell by cell.
 abbrev pub is_same_page : Rows → Rows → Bool
 is_same_page a b = pointwise (pointwise nat_eq) a b
 
--- A base: the first frame, or one with another due page than the frame before it.
+-- A base: the first frame, or one whose expected page differs from that of the frame before it.
 unfoldable pub is_base : (ℕ → Rows) → ℕ → ℕ → Bool
 is_base due first f = (f == first) || not (is_same_page (due f) (due (f - 1)))
 
--- The last base up to a frame, for a frame from the first on.
+-- The last base up to a frame, for frames from the first one on.
 unfoldable pub base : (ℕ → Rows) → ℕ → ℕ → ℕ
 base due first zero = 0
 base due first (suc f) = if is_base due first (suc f) then suc f else base due first f
 
--- A sending stands at the last frame, at each base, and each `every` frames after it, up to the
--- next.
+-- Pages are transmitted at the last frame, at each base, and at each `every` frames after it, up to
+-- the next.
 unfoldable pub is_sending : (ℕ → Rows) → ℕ → ℕ → ℕ → ℕ → Bool
 is_sending due every first last f = (f == last) || ((f - base due first f) % every == 0)
 
--- The frames with a sending, from a frame up to the last, rising.
+-- The frames with a page transmission, from a frame up to the last, rising.
 unfoldable pub sendings_from : (ℕ → Rows) → ℕ → ℕ → ℕ → ℕ → List ℕ
 sendings_from due every first last from =
     filter (is_sending due every first last) (range_with_len from (last + 1 - from))
 
--- The frames with a sending, from the first to the last, rising.
+-- The frames with a page transmission, from the first to the last, rising.
 abbrev pub sendings : (ℕ → Rows) → ℕ → ℕ → ℕ → List ℕ
 sendings due every first last = sendings_from due every first last first
 
--- ---- their bytes
+-- ---- bytes
 
--- What the PES packet of a frame carries, of packets that are sent there.
+-- The contents of the PES packet of a frame with these Teletext packets.
 abbrev pub pes_value : ℕ → List (List ℕ) → ℕ → PesValue
 pes_value origin packets frame = numbered_frame (pts_of origin frame) packets
 
--- The sending at a frame, of the page that is due there, as a PES packet.
+-- The PES packet of the page transmission at a frame, with the page expected there.
 abbrev pub sending_at : (ℕ → Rows) → OptionsValue → National → Bool → ℕ → List ℕ
 sending_at due o national serial frame =
     canonical_packet (pes_value o.origin (sending o.page national serial (due frame)) frame)
 
--- The sendings at these frames, one PES packet each, joined.
+-- The PES packets of the page transmissions at these frames, joined.
 abbrev pub sendings_at : (ℕ → Rows) → OptionsValue → National → Bool → List ℕ → List ℕ
 sendings_at due o national serial frames = flat_map (sending_at due o national serial) frames
 
--- ---- of a programme
+-- ---- the schedule of a programme
 
--- The page of a programme that is due at a frame.
+-- The expected page of a programme at a frame.
 abbrev pub due_in : ProgrammeValue → ℕ → Rows
 due_in programme = due programme.drawing programme.records
 
--- The frames with a sending from the first TCI to the last TCO; none where there is no subtitle.
+-- The frames with a page transmission from the first TCI to the last TCO; none if there is no
+-- subtitle.
 abbrev pub sendings_between : (ℕ → Rows) → ℕ → Option ℕ → Option ℕ → List ℕ
 sendings_between due every None last = []
 sendings_between due every (Some first) None = []
 sendings_between due every (Some first) (Some last) = sendings due every first last
 
--- The frames of a programme's schedule that carry a sending, rising.
+-- The frames of a programme's schedule with a page transmission, rising.
 abbrev pub plan_frames : ProgrammeValue → ℕ → List ℕ
 plan_frames programme every =
     sendings_between (due_in programme) every
     (first_in programme.records)
     (last_out programme.records)
 
--- The schedule of a programme in bytes: a PES packet for each of these frames.
+-- The schedule of a programme in bytes: one PES packet for each of these frames.
 abbrev pub plan : ProgrammeValue → OptionsValue → Bool → List ℕ
 plan programme o serial =
     sendings_at (due_in programme) o programme.drawing.national serial

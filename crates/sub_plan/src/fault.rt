@@ -1,10 +1,10 @@
-//! Why there are no options, and why a schedule is not written.
+//! Faults of options, and of writing a schedule.
 ghost use Rattle.std.specs.Prelude.{◌≡◌};
 
 use sub_io::FaultCode;
 use thiserror::Error;
 
-/// What is wrong with options, in the order in which it is told (own).
+/// A fault of options, in the order of reports (own).
 #[derive(Clone, Copy, Debug, PartialEq, Eq, Error)]
 pub enum OptionFault {
     /// The repeat bound is not 1 to 2,160,000 frames, a day.
@@ -13,7 +13,7 @@ pub enum OptionFault {
     /// The PTS of frame 0 does not fit in 33 bits.
     #[error("the PTS of frame 0 is 2^33 or more")]
     Origin,
-    /// More than 50 frames, two seconds, are allowed.
+    /// More than 50 frames, two seconds, are allowed until the page is right.
     #[error("the page is allowed more than 50 frames")]
     Within,
     /// The pace is not 1 to 2,160,000 frames, a day.
@@ -21,13 +21,13 @@ pub enum OptionFault {
     Pace,
 }
 
-/// Why a schedule is not written (own).
+/// The error of writing a schedule (own).
 #[derive(Clone, Copy, Debug, PartialEq, Eq, Error)]
 pub enum PlanFault {
     /// The programme has no subtitle.
     #[error("there is no subtitle")]
     NoSubtitles,
-    /// The sink failed: what it took is a prefix of the schedule.
+    /// The sink failed. It took a prefix of the schedule.
     #[error("the schedule could not be written")]
     Write,
 }
@@ -35,7 +35,7 @@ pub enum PlanFault {
 impl PlanFault {
     ghost use Rattle.sub_plan.specs.Fault.{plan_code};
 
-    /// The number and the name by which the fault is told (own).
+    /// Returns the number and the name of the fault in reports (own).
     pub fn code(self) -> FaultCode
         ensures { result ≡ plan_code self }
     {

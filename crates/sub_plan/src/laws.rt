@@ -1,4 +1,4 @@
-//! Laws of sendings and schedules, for callers and readers. None does anything.
+//! Laws of page transmissions and schedules, for callers and readers. The functions do nothing.
 #![tactic(auto, using(crate::proofs::LawLemmas::laws))]
 
 ghost use Rattle.sub_plan.specs.Examples.{ExampleOfClosingHeaders, ExampleOfWatchedHeaders};
@@ -8,52 +8,53 @@ ghost use Rattle.sub_plan.specs.Laws.{LawOfLastSending, LawOfPesValues, LawOfSen
 ghost use Rattle.sub_plan.specs.Laws.{LawOfClock, LawOfExactClock, LawOfNearClock};
 ghost use Rattle.sub_plan.specs.Laws.{LawOfSendings, LawOfSentPackets, LawOfSize};
 
-/// Whatever was sent before, a sending shows the page that it was made from.
+/// Whatever was sent before, a page transmission shows the page from which it was made.
 pub fn law_of_sending()
     ensures { LawOfSending }
 {}
 
-/// What each packet of a sending is: whole, exact, in the mode, and of the page's header alone.
+/// Each packet of a page transmission is complete, consists of code words, has the transmission
+/// mode, and is a header of the page only if it is the transmission's own.
 pub fn law_of_sent_packets()
     ensures { LawOfSentPackets }
 {}
 
-/// A sending of a page that is due has at most 25 packets.
+/// The transmission of an expected page has at most 25 packets.
 pub fn law_of_due_size()
     ensures { LawOfDueSize }
 {}
 
-/// A sending has at most 26 packets.
+/// A page transmission has at most 26 packets.
 pub fn law_of_size()
     ensures { LawOfSize }
 {}
 
-/// Sendings cut anywhere leave rows of one page in the span.
+/// Page transmissions cut anywhere leave rows of only one page in the span.
 pub fn law_of_cut_sendings()
     ensures { LawOfCutSendings }
 {}
 
-/// Which frames carry a sending, whatever the way in which they are found.
+/// The frames with a page transmission, independent of how they are found.
 pub fn law_of_sendings()
     ensures { LawOfSendings }
 {}
 
-/// In each `every` frames of a schedule stands a sending.
+/// Any `every` consecutive frames of a schedule contain a page transmission.
 pub fn law_of_gaps()
     ensures { LawOfGaps }
 {}
 
-/// An edge at which the pages of both sides are equal is no new base.
+/// A cue at which the page does not change starts no new repeat interval.
 pub fn law_of_equal_pages()
     ensures { LawOfEqualPages }
 {}
 
-/// The last sending up to a frame is made from the page that is due there.
+/// The last page transmission up to a frame shows the page expected at that frame.
 pub fn law_of_last_sending()
     ensures { LawOfLastSending }
 {}
 
-/// What is sent at a frame can be carried by one PES packet.
+/// The packets of a page transmission fit in one PES packet.
 pub fn law_of_pes_values()
     ensures { LawOfPesValues }
 {}
@@ -63,23 +64,22 @@ pub fn law_of_day()
     ensures { LawOfDay }
 {}
 
-/// Each clock reads the PTS of a frame of the day as that frame.
+/// Each clock converts the PTS of a frame of the day to that frame.
 pub fn law_of_clock()
     ensures { LawOfClock }
 {}
 
-/// Where no frames are allowed, the frame of a PTS is the one that has it.
+/// If `within` is 0, the frame of a PTS is the one with exactly this PTS.
 pub fn law_of_exact_clock()
     ensures { LawOfExactClock }
 {}
 
-/// Where frames are allowed, a PTS may be a quarter of a frame early or less than three quarters
-/// late.
+/// Otherwise, a PTS may be a quarter of a frame early or less than three quarters late.
 pub fn law_of_near_clock()
     ensures { LawOfNearClock }
 {}
 
-/// The header of page 888 byte by byte, for both national options and in both modes.
+/// The header of page 888 byte by byte, for all national options and in both modes.
 pub fn example_of_watched_headers()
     ensures { ExampleOfWatchedHeaders }
 {}

@@ -1,7 +1,7 @@
-//! Schedules: which frames carry a sending of a subtitle page, and the packets of each sending.
+//! Schedules: the frames with a transmission of a subtitle page, and the packets of each.
 //!
-//! Stands on `stl_rows` for the due page of each frame and on `ttx_pes` for the PES packets; the
-//! checker reads PTS by the same options.
+//! Builds on `stl_rows` for the expected page at each frame and on `ttx_pes` for PES packets. The
+//! checker converts PTS by the same options.
 //!
 //! ```text
 //! let options = Options::new(PageId::parse("888")?, 250, 0)?;

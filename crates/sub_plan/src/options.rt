@@ -1,5 +1,5 @@
-//! The options of a schedule and of what is asked of one: the page, the repeat bound, the PTS of
-//! frame 0, how late the page may be whole, and how far apart PES packets are.
+//! The options of a schedule and of checking one: the page, the repeat bound, the PTS of frame 0,
+//! how late the page may be right, and the maximum distance of PES packets.
 ghost use Rattle.std.specs.Prelude.{◌≡◌, ◌≢◌, ℕ, ◌^◌, ◌<◌, ◌≤◌, ◌↔◌, ◌⊎◌, None, Some, Err};
 ghost use Rattle.std.specs.Prelude.{IfErr, IfOk, false, true};
 ghost use Rattle.stl_file.specs.TimeCode.{day};
@@ -12,29 +12,30 @@ use std::marker::Model;
 use ttx_packet::PageId;
 use ttx_pes::MOST_PACKETS;
 
-/// Ticks of 90 kHz in a frame, a 25th of a second.
+/// Ticks of 90 kHz per frame, a 25th of a second.
 const TICKS_PER_FRAME: u64 = 3600;
 
-/// A PTS has 33 bits.
+/// One more than the greatest PTS, which has 33 bits.
 const PTS_END: u64 = 8_589_934_592;
 
-/// Frames of a day at 25 a second: a PES file has a packet for each at most.
+/// The number of frames of a day at 25 frames per second. A PES file has at most one packet for
+/// each.
 const FRAMES_OF_DAY: u64 = MOST_PACKETS as u64;
 
-/// The greatest repeat bound, and the greatest pace, in frames: a day (own).
+/// The greatest repeat bound and the greatest pace in frames: a day (own).
 const MOST_FRAMES: u64 = FRAMES_OF_DAY;
 
-/// The most frames within which the page may have to be whole: two seconds (own).
+/// The greatest number of frames within which the page must be right: two seconds (own).
 const MOST_WITHIN: u64 = 50;
 
-/// Ticks by which a PTS may be before its frame, a quarter of one (own).
+/// How many ticks a PTS may be before its frame, a quarter of a frame (own).
 const TICKS_EARLY: u64 = 900;
 
-/// The page on which subtitles are sent, how often they are repeated, the PTS of frame 0, whether
-/// complete pages are asked for, within how many frames the page that is due has to be whole, how
-/// many frames apart PES packets are at most, and whether repeats may keep the page.
+/// The page with the subtitles, its repeat bound, the PTS of frame 0, whether complete pages are
+/// required, within how many frames the expected page must be right, the maximum distance of PES
+/// packets in frames, and whether repeats may keep the page.
 ///
-/// Contracts see the seven as an `OptionsValue`.
+/// The model has all seven, as an `OptionsValue`.
 #[derive(Clone, Copy, Debug, PartialEq, Eq)]
 pub struct Options {
     page: PageId,
@@ -85,16 +86,16 @@ impl Model for Options {
 impl Options {
     ghost use Rattle.sub_plan.specs.Options.{IsOptions};
 
-    /// The options of a page, a repeat bound and the PTS of frame 0. They don't ask for complete
-    /// pages, the page that is due has to be whole at the end of each frame, PES packets may be as
-    /// far apart as they like, and each header of the page has to erase it.
+    /// Creates options for a page, a repeat bound and the PTS of frame 0. Complete pages are not
+    /// required, the expected page must be right at the end of each frame, the distance of PES
+    /// packets is not limited, and each header of the page must erase it.
     ///
-    /// `every` is in frames, 1 to 2,160,000, a day: in that many frames the page's header is sent
-    /// at least once (own). `origin` is in ticks of 90 kHz, below 2^33 (EN 300 472, PTS).
+    /// `every` is in frames, 1 to 2,160,000, a day: the page's header is sent at least once in that
+    /// many frames (own). `origin` is in ticks of 90 kHz, below 2^33 (EN 300 472, PTS).
     ///
     /// # Errors
     ///
-    /// `Every` for another repeat bound, then `Origin` for another origin.
+    /// Returns `Every` if the repeat bound is out of range, otherwise `Origin` if the origin is.
     pub fn new(page: PageId, every: u64, origin: u64) -> Result<Options, OptionFault>
         ensures value { IfOk result
             (λ o. o ≡ record {
@@ -131,8 +132,8 @@ impl Options {
         })
     }
 
-    /// The same options, which also ask for complete pages: at the end of each frame a header after
-    /// the last one of the page has ended it. Decoders show a page only then (own).
+    /// Also requires complete pages: at the end of each frame a later header has ended the page.
+    /// Decoders show a page only then (own).
     pub fn asking_complete(self) -> Options
         ensures { result ≡ record self { asks_complete = true } }
     {
@@ -142,19 +143,19 @@ impl Options {
         }
     }
 
-    /// Whether complete pages are asked for.
+    /// Returns whether complete pages are required.
     pub fn asks_complete(&self) -> bool
         ensures value { result ≡ self.now.asks_complete }
     {
         self.asks_complete
     }
 
-    /// The same options, which allow the page that is due to be whole within so many frames, 0 to
-    /// 50, and not at the end of each one (own).
+    /// Allows the expected page to become right within this many frames, 0 to 50, instead of at the
+    /// end of each (own).
     ///
     /// # Errors
     ///
-    /// `Within` for more frames than 50.
+    /// Returns `Within` for more than 50 frames.
     pub fn allowing(self, frames: u64) -> Result<Options, OptionFault>
         ensures value { IfOk result (λ o. o ≡ record self { within = frames }) }
         ensures options { IfOk result IsOptions }
@@ -170,7 +171,7 @@ impl Options {
         })
     }
 
-    /// Within how many frames the page that is due has to be whole, 0 to 50.
+    /// Returns within how many frames the expected page must be right, 0 to 50.
     pub fn within(&self) -> u64
         ensures value { result ≡ self.now.within }
         ensures options { IsOptions self.now }
@@ -178,12 +179,12 @@ impl Options {
         self.within
     }
 
-    /// The same options, which ask that PES packets are at most so many frames apart, 1 to
-    /// 2,160,000, a day (own). So no loss goes unseen, however long.
+    /// Also requires that PES packets are at most this many frames apart, 1 to 2,160,000, a day
+    /// (own). So no loss remains undetected, however long.
     ///
     /// # Errors
     ///
-    /// `Pace` for another number.
+    /// Returns `Pace` for any other number.
     pub fn pacing(self, frames: u64) -> Result<Options, OptionFault>
         ensures value { IfOk result (λ o. o ≡ record self { pace = Some frames }) }
         ensures options { IfOk result IsOptions }
@@ -199,8 +200,8 @@ impl Options {
         })
     }
 
-    /// How many frames apart PES packets are at most, 1 to 2,160,000. `None` where that is not
-    /// asked.
+    /// Returns the maximum distance of PES packets in frames, 1 to 2,160,000, or `None` if it is
+    /// not limited.
     pub fn pace(&self) -> Option<u64>
         ensures value { result ≡ self.now.pace }
         ensures options { IsOptions self.now }
@@ -208,8 +209,8 @@ impl Options {
         self.pace
     }
 
-    /// The same options, by which repeats may keep the page: a header of it that repeats it may
-    /// have C4, erase page, clear (own).
+    /// Allows repeats to keep the page: a header that repeats the page may have C4, erase page,
+    /// clear (own).
     pub fn keeping(self) -> Options
         ensures { result ≡ record self { keeps = true } }
     {
@@ -219,14 +220,14 @@ impl Options {
         }
     }
 
-    /// Whether repeats may keep the page.
+    /// Returns whether repeats may keep the page.
     pub fn may_keep(&self) -> bool
         ensures value { result ≡ self.now.keeps }
     {
         self.keeps
     }
 
-    /// The page that is sent.
+    /// Returns the page.
     pub fn page(&self) -> PageId
         ensures value { result ≡ self.now.page }
         ensures options { IsOptions self.now }
@@ -234,7 +235,7 @@ impl Options {
         self.page
     }
 
-    /// The repeat bound in frames, 1 to 2,160,000.
+    /// Returns the repeat bound in frames, 1 to 2,160,000.
     pub fn every(&self) -> u64
         ensures value { result ≡ self.now.every }
         ensures options { IsOptions self.now }
@@ -242,7 +243,7 @@ impl Options {
         self.every
     }
 
-    /// The PTS of frame 0 in ticks of 90 kHz, below 2^33.
+    /// Returns the PTS of frame 0 in ticks of 90 kHz, below 2^33.
     pub fn origin(&self) -> u64
         ensures value { result ≡ self.now.origin }
         ensures options { IsOptions self.now }
@@ -250,8 +251,8 @@ impl Options {
         self.origin
     }
 
-    /// The PTS of a frame of the day, below 2,160,000: 33 bits, in ticks of 90 kHz (EN 300 472,
-    /// PTS).
+    /// Returns the PTS of a frame of the day, below 2,160,000, in 33 bits and ticks of 90 kHz (EN
+    /// 300 472, PTS).
     pub fn pts_of(&self, frame: u32) -> u64
         requires { frame < day }
         ensures value { result ≡ pts_of self.now.origin frame }
@@ -260,14 +261,14 @@ impl Options {
         (self.origin + TICKS_PER_FRAME * u64::from(frame)) % PTS_END
     }
 
-    /// The frame of the day that a PTS is read as. `None` for a PTS that is that of no frame.
+    /// Converts a PTS to a frame of the day. Returns `None` if no frame has it.
     ///
-    /// Where the page has to be whole at the end of each frame, a PTS is that of the frame which
-    /// has it. Where frames are allowed (`allowing`), a PTS may be a quarter of a frame early, and
-    /// two fields are of one frame.
+    /// If the page must be right at the end of each frame, the frame is the one with exactly this
+    /// PTS. Otherwise (`allowing`), a PTS may be a quarter of a frame early, and both fields belong
+    /// to one frame.
     pub fn frame_of(&self, pts: u64) -> Option<u32>
         ensures value { result ≡ clock_of self.now pts }
-        // Where no frames are allowed, it is the frame that has this PTS.
+        // If `within` is 0, the frame is the one with exactly this PTS.
         ensures exact { self.now.within ≡ 0 → (frame : ℕ) → (result ≡ Some frame)
             ↔ ((frame < day) × (pts_of self.now.origin frame ≡ pts)) }
     {
@@ -279,7 +280,7 @@ impl Options {
     }
 }
 
-// The frame of the day that has a PTS.
+// Returns the frame of the day with exactly this PTS.
 fn exact_frame(origin: u64, pts: u64) -> Option<u32>
     requires { origin < 2 ^ 33 }
     ensures { result ≡ frame_of_pts origin pts }
@@ -298,7 +299,7 @@ fn exact_frame(origin: u64, pts: u64) -> Option<u32>
     Some(frame as u32)
 }
 
-// The frame of the day whose ticks a PTS is in, each 900 earlier.
+// Returns the frame of the day whose ticks, shifted by 900, include this PTS.
 fn nearest_frame(origin: u64, pts: u64) -> Option<u32>
     requires { origin < 2 ^ 33 }
     ensures { result ≡ near_frame origin pts }

@@ -1,4 +1,4 @@
-//! Writing the schedule of a programme, from edge to edge.
+//! Writes the schedule of a programme, from cue to cue.
 ghost use Rattle.std.specs.Prelude.{◌≡◌, ◌≢◌, ◌↔◌, ℕ, ◌+◌, ◌-◌, ◌<◌, ◌≤◌, List, [], Err, IfOk};
 ghost use Rattle.std.specs.Prelude.{length};
 ghost use Rattle.std.specs.List.{flat_map};
@@ -19,7 +19,7 @@ use ttx_packet::Packet;
 use ttx_page::Page;
 use ttx_pes::RepeatedPacket;
 
-// Writes packets as the PES packet of a frame.
+// Writes Teletext packets as the PES packet of a frame.
 fn put_at<K: Sink>(
     sink: &mut K,
     options: &Options,
@@ -37,7 +37,7 @@ fn put_at<K: Sink>(
     repeat_at(sink, options, frame, &mut once)
 }
 
-// Writes a packet that is sent again, at a frame.
+// Writes a repeated packet at a frame.
 fn repeat_at<K: Sink>(
     sink: &mut K,
     options: &Options,
@@ -56,7 +56,7 @@ fn repeat_at<K: Sink>(
     packet.put(sink)
 }
 
-// The repeat bound, as what is added to a frame.
+// Returns the repeat bound, to be added to a frame.
 fn step_of(options: &Options) -> u32
     ensures value { result ≡ options.now.every }
     ensures least { 1 ≤ result }
@@ -65,7 +65,7 @@ fn step_of(options: &Options) -> u32
     options.every() as u32
 }
 
-// Sends packets at a frame and each `every` frames after it, up to before another.
+// Writes packets at `from` and at each `every` frames after it, before `end`.
 fn send_steps<K: Sink>(
     sink: &mut K,
     options: &Options,
@@ -95,8 +95,8 @@ fn send_steps<K: Sink>(
     Ok(count)
 }
 
-// The first frame after one at which another page is due than there, or else the last frame; and
-// the page that is due at it. The due page is drawn at edges alone.
+// Returns the first frame after `frame` with a different expected page, or else `last`; and the
+// expected page there. Draws the page only at cues.
 fn next_change(programme: &Programme, frame: u32, page: &Page, last: u32) -> (u32, Page)
     requires within { frame < last }
     requires page { page.now ≡ due_in programme.now frame }
@@ -122,7 +122,7 @@ fn next_change(programme: &Programme, frame: u32, page: &Page, last: u32) -> (u3
     (last, programme.due_page(last))
 }
 
-// Writes the sendings from the first frame to the last, and answers how many there are.
+// Writes the page transmissions from the first frame to the last, and returns their number.
 fn send_all<K: Sink>(
     programme: &Programme,
     options: &Options,
@@ -158,19 +158,19 @@ fn send_all<K: Sink>(
     Ok(count + 1)
 }
 
-/// Writes the schedule of a programme, from the first TCI to the last TCO, and answers the number
-/// of sendings.
+/// Writes the schedule of a programme, from the first TCI to the last TCO, and returns the number
+/// of page transmissions.
 ///
-/// Each sending is one PES packet (EN 300 472): the header of the page, its rows, the closing
-/// header. A sending stands at the first frame and at each frame at which the due page changes,
-/// each `every` frames after such a frame up to the next, and at the last frame (own). `serial`
-/// sets C11, magazine serial, in all headers. The due page is drawn at edges alone, and nothing is
-/// kept in memory.
+/// Each page transmission is one PES packet (EN 300 472): the header of the page, its rows and the
+/// closing header. Pages are transmitted at the first frame, at each frame at which the expected
+/// page changes, at each `every` frames after such a frame up to the next, and at the last frame
+/// (own). `serial` sets C11, magazine serial, in all headers. The expected page is drawn only at
+/// cues, and nothing is kept in memory.
 ///
 /// # Errors
 ///
-/// `NoSubtitles` where the programme has no subtitle: nothing was written. `Write` where the sink
-/// failed: a prefix of the schedule was written, and nothing after the failure.
+/// Returns `NoSubtitles` if the programme has no subtitle; nothing was written. Returns `Write` if
+/// the sink fails; a prefix of the schedule was written, and nothing after the failure.
 pub fn schedule<K: Sink>(
     programme: &Programme,
     options: &Options,

@@ -1,4 +1,4 @@
-//! The packets of one sending of a page.
+//! The packets of one page transmission.
 ghost use Rattle.std.specs.Prelude.{◌≡◌, ◌≤◌, ◌<◌, ◌↔◌, [], ◌∷◌, ◌++◌, IsTrue, length, replicate};
 ghost use Rattle.ttx_page.specs.Page.{space};
 ghost use Rattle.sub_plan.specs.Sending.{closing_header, is_sent_row, sending, watched_control};
@@ -10,13 +10,14 @@ use stl_rows::{National, NationalBits};
 use ttx_packet::{Control, Header, Packet, PageId};
 use ttx_page::Page;
 
-/// The most packets of a sending: the header of the page, 24 rows, the closing header.
+/// The maximum number of packets of a page transmission: the header of the page, 24 rows, the
+/// closing header.
 const MOST_PACKETS: usize = 26;
 
-/// The packets of one sending, in the order in which they are sent.
+/// The packets of one page transmission, in the order of transmission.
 #[derive(Drop)]
 pub(crate) struct PageSending {
-    // The first of them are the sending's; the others are not used.
+    // Only the first `count` are used.
     packets: [Packet; MOST_PACKETS],
     count: usize,
 }
@@ -32,7 +33,7 @@ impl Model for PageSending {
 }
 
 impl PageSending {
-    // One packet.
+    // Creates a list of one packet.
     fn of(packet: Packet) -> PageSending
         ensures { result ≡ packet ∷ [] }
     {
@@ -42,7 +43,7 @@ impl PageSending {
         }
     }
 
-    // Adds a packet at the end, where there is room.
+    // Appends a packet, for which there must be room.
     fn push(&mut self, packet: Packet)
         requires { length self.old < 26 }
         ensures { self.new ≡ self.old ++ packet ∷ [] }
@@ -51,7 +52,7 @@ impl PageSending {
         self.count += 1;
     }
 
-    /// The packets.
+    /// Returns the packets.
     pub(crate) fn packets(&self) -> &[Packet]
         ensures value { result.now ≡ self.now }
         ensures few { length result.now ≤ 26 }
@@ -59,8 +60,8 @@ impl PageSending {
         &self.packets[..self.count]
     }
 
-    /// The sending of a page: its header, the rows that hold a cell other than a space, rising, and
-    /// the closing header.
+    /// Creates the transmission of a page: its header, the rows with a cell other than a space in
+    /// rising order, and the closing header.
     pub(crate) fn of_page(
         watched: PageId,
         national: National,
@@ -83,21 +84,21 @@ impl PageSending {
     }
 }
 
-// Whether a row is blank.
+// Returns whether a row is blank.
 fn is_blank(codes: &[u8; 40]) -> bool
     ensures { IsTrue result ↔ (codes.now ≡ replicate 40 space) }
 {
     *codes == [0x20; 40]
 }
 
-// Whether the row holds a cell other than a space.
+// Returns whether the row has a cell other than a space.
 fn is_sent_row(codes: &[u8; 40]) -> bool
     ensures { result ≡ is_sent_row codes.now }
 {
     !is_blank(codes)
 }
 
-// The control bits of the header of the page.
+// Returns the control bits of the header of the page.
 fn watched_control(serial: bool, bits: NationalBits) -> Control
     ensures { result.0 ≡ watched_control serial bits }
 {
@@ -109,7 +110,7 @@ fn watched_control(serial: bool, bits: NationalBits) -> Control
     control
 }
 
-// The header of the page.
+// Returns the header of the page.
 fn watched_header(watched: PageId, national: National, serial: bool) -> Header
     ensures value { result ≡ watched_header watched national serial }
     ensures subcode { result.subcode ≡ 0 }
@@ -121,7 +122,7 @@ fn watched_header(watched: PageId, national: National, serial: bool) -> Header
     }
 }
 
-// The closing header: page FF, which is not displayed.
+// Returns the closing header: page FF, which is not displayed.
 fn closing_header(serial: bool) -> Header
     ensures value { result ≡ closing_header serial }
     ensures subcode { result.subcode ≡ 0x3F7F }
