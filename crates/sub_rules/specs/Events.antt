@@ -1,14 +1,14 @@
--- What is told of a transmission, one event after another (own): each rule that is broken, at its
--- place; and of the rules of a frame's end, which may stay broken from one frame to the next, where
--- they begin to be broken, and up to which frame they stood so. This is the order in which all that
--- is asked is looked at: a refusal is what is told first.
+-- All events of a transmission in order (own): each broken rule with its place; for the rules of a
+-- frame's end, which may stay broken from one frame to the next, where they begin to be broken, and
+-- the last frame at which they are. The order is that of the checks, so the first event is the
+-- reason for rejecting the file.
 --
--- Both are told since a wrong page stays until something else is sent: one line with both frames
--- would come only then.
+-- Beginning and end are separate events, since a wrong page stays until something else is sent: a
+-- single event with both frames would come only then.
 --
--- The ends are looked at in this order: for each PES packet first the frames of the day that lie
--- after every PES packet before it, and before its own frame, and then its own frame. At an end the
--- PES packets up to there count: those before, for a frame without one; with its own, for its own.
+-- The order of the ends: for each PES packet, first the frames of the day after all earlier PES
+-- packets and before its own frame, then its own frame. An end of a frame without a PES packet
+-- takes the earlier PES packets into account, that of its own frame also this one.
 use Rattle.std.specs.Prelude.{ℕ, zero, suc, max, ◌+◌, ◌-◌, ◌&&◌, ◌==◌, Bool, true, false, not, List}
 use Rattle.std.specs.Prelude.{[], ◌∷◌, ◌++◌, map, length, take, Option, Some, None, is_some}
 use Rattle.std.specs.Prelude.{◌||◌, option_and_then, option_map, nat_le, nat_lt, if◌then◌else◌}
@@ -37,18 +37,18 @@ use Rattle.sub_rules.specs.declared.packet_rule.PacketRule.TheVariants as rule
 use Rattle.sub_rules.specs.declared.packet_rule.Watched.{Watched}
 use Rattle.sub_rules.specs.declared.standing.Standing.{Standing}
 
--- ---- what stands broken at an end
+-- ---- active faults at an end
 
--- The rules of a frame's end, in the order in which they are told.
+-- The rules of a frame's end, in the order of reports.
 unfoldable pub end_rules : List EndRule
 end_rules = end.Content ∷ end.Gap ∷ end.Incomplete ∷ end.Undecided ∷ end.Silent ∷ []
 
--- A rule of the whole frame is broken: at no cell, (0, 0).
+-- The place of a broken rule about the whole frame: (0, 0), no cell.
 abbrev pub whole_frame : Bool → Option (ℕ × ℕ)
 whole_frame true = Some (0, 0)
 whole_frame false = None
 
--- Where each of them stands broken, if it does.
+-- The place at which a rule is broken, if it is.
 abbrev pub broken_at : EndRule → Standing → Option (ℕ × ℕ)
 broken_at end.Content s = s.content
 broken_at end.Gap s = whole_frame s.gap
@@ -56,7 +56,7 @@ broken_at end.Incomplete s = whole_frame s.incomplete
 broken_at end.Undecided s = whole_frame s.undecided
 broken_at end.Silent s = whole_frame s.silent
 
--- Nothing stands broken.
+-- There is no active fault.
 abbrev pub nothing_stands : Standing
 nothing_stands = record {
   content = None;
@@ -66,51 +66,51 @@ nothing_stands = record {
   silent = false;
 }
 
--- The first cell that passes a test: by its row, 1 to 24, then by its column, 0 to 39.
+-- The first cell that passes a test: the least row, 1 to 24, then the least column, 0 to 39.
 unfoldable pub first_cell : (ℕ → ℕ → Bool) → Option (ℕ × ℕ)
 first_cell test =
     option_and_then
     (λ above. option_map (λ column. (above + 1, column)) (first_below 40 (test (above + 1))))
     (first_below 24 (λ above. is_some (first_below 40 (test (above + 1)))))
 
--- A cell is right after these packets, where a page is due: as `IsRight`.
+-- A cell is right after these packets for a due page: `IsRight` as a test.
 abbrev pub is_right : Bool → PageIdValue → List (List ℕ) → Rows → ℕ → ℕ → Bool
 is_right keeps page packets due row column =
     kept keeps page packets row column == cell due row column
     && (cell due row column == space || has_row page packets row)
 
--- The first cell that is not right after these packets, where a page is due.
+-- The first cell that is not right after these packets for a due page.
 unfoldable pub wrong_after : Bool → PageIdValue → List (List ℕ) → Rows → Option (ℕ × ℕ)
 wrong_after keeps page packets due =
     first_cell (λ row column. not (is_right keeps page packets due row column))
 
--- The first cell that is not right after n frames of the list, at the end of frame f. Where it is
--- not known what is due, any code may be in any cell.
+-- The first cell that is not right after n frames of the list, at the end of frame f. If the due
+-- page is unknown, any cell may have any code.
 abbrev pub wrong_cell : Criteria → Transmission → ℕ → ℕ → Option (ℕ × ℕ)
 wrong_cell g frames n f =
     if g.undecided f
     then None
     else wrong_after g.watched.keeps g.watched.page (packets_before frames n) (g.due f)
 
--- A header of the page in this frame is one of the last `every` frames up to f, or of a later one.
+-- A header of the page in this frame is in one of the last `every` frames up to f, or later.
 abbrev pub covers : Criteria → ℕ → SentFrame → Bool
 covers g f s = holds_header (kind g.watched.page) s.packets && nat_lt f (s.frame + g.every)
 
--- As many frames as the repeat bound end with f, from the first frame on, and none of the first n
--- frames of the list has a header of the page that is so late.
+-- As many frames as the repeat bound, starting with the first frame of the list or later, end with
+-- f, and none of the first n frames of the list has a header of the page in or after them.
 unfoldable pub is_gap : Criteria → Transmission → ℕ → ℕ → Bool
 is_gap g frames n f =
     nat_le (frame_at frames 0 + g.every) (f + 1) && not (list_any (covers g f) (take n frames))
 
--- The page is open after the first n frames of the list, where complete pages are asked for.
+-- Complete pages are required, and the page is open after the first n frames of the list.
 unfoldable pub is_incomplete : Criteria → Transmission → ℕ → Bool
 is_incomplete g frames n =
     g.watched.complete && is_open_after (kind g.watched.page) (packets_before frames n)
 
--- ---- within how many frames the page has to be whole
+-- ---- the number of frames within which the page must be right
 
--- The end of frame f, after n frames of the list, is unfinished: a cell is not right, or the page
--- is open where complete pages are asked for.
+-- The end of frame f, after n frames of the list, is unfinished: a cell is not right, or complete
+-- pages are required and the page is open.
 abbrev pub is_unfinished : Criteria → Transmission → ℕ → ℕ → Bool
 is_unfinished g frames n f = is_some (wrong_cell g frames n f) || is_incomplete g frames n
 
@@ -119,82 +119,83 @@ unfoldable pub latest : Transmission → ℕ → ℕ
 latest frames zero = 0
 latest frames (suc n) = max (latest frames n) (frame_at frames n)
 
--- As many frames as a pace end with f, all after this one.
+-- As many frames as a pace, all after frame `last`, end with f.
 abbrev pub silent_for : Option ℕ → ℕ → ℕ → Bool
 silent_for None last f = false
 silent_for (Some pace) last f = nat_le (last + pace) f
 
--- As many frames as the pace end with f, all after the first n frames of the list, whatever is in
--- these; or there is none of them.
+-- As many frames as the pace, all after the first n frames of the list whatever these contain, end
+-- with f; or there is a pace and n is 0.
 unfoldable pub is_silent : Criteria → Transmission → ℕ → ℕ → Bool
 is_silent g frames zero f = is_some g.pace
 is_silent g frames (suc n) f = silent_for g.pace (latest frames (suc n)) f
 
--- How many frames of the day lie after all of the first i frames of the list and before frame i.
+-- The number of frames of the day after all of the first i frames of the list and before frame i.
 unfoldable pub gap_length : Transmission → ℕ → ℕ
 gap_length frames zero = 0
 gap_length frames (suc i) = frame_at frames (suc i) - (latest frames (suc i) + 1)
 
--- The frame of the earliest of the unfinished ends that follow one another up to that of frame f,
--- by the one of those up to the end before it.
+-- The first frame of the run of unfinished ends up to that of frame f; `since` is that of the run
+-- up to the end before.
 abbrev pub unfinished_from : Option ℕ → Bool → ℕ → Option ℕ
 unfinished_from since unfinished f = if unfinished then Some (unwrap_or since f) else None
 
--- That up to the first k ends of frames of the day after the first n frames of the list, by the one
--- at the end of the last of these.
+-- The same for k frames of the day after the first n frames of the list, given that of the run up
+-- to the end of these.
 unfoldable pub since_in_gap : Criteria → Transmission → ℕ → Option ℕ → ℕ → Option ℕ
 since_in_gap g frames n since zero = since
 since_in_gap g frames n since (suc k) =
     let f = latest frames n + suc k in
     unfinished_from (since_in_gap g frames n since k) (is_unfinished g frames n f) f
 
--- That up to the end of frame n - 1 of the list; none before the first one.
+-- The same up to the end of frame n - 1 of the list; none before the first one.
 unfoldable pub since_frames : Criteria → Transmission → ℕ → Option ℕ
 since_frames g frames zero = None
 since_frames g frames (suc i) =
     unfinished_from (since_in_gap g frames i (since_frames g frames i) (gap_length frames i))
     (is_unfinished g frames (suc i) (frame_at frames i)) (frame_at frames i)
 
--- That up to the end of frame f, after n frames of the list; none where that end is finished.
+-- The first frame of the run of unfinished ends up to that of frame f, after n frames of the list;
+-- `None` if that end is finished.
 unfoldable pub unfinished_since : Criteria → Transmission → ℕ → ℕ → Option ℕ
 unfinished_since g frames n f =
     since_in_gap g frames n (since_frames g frames n) (f - latest frames n)
 
--- That up to the end before the one of frame f, up to which n frames of the list counted.
+-- The same up to the end before that of frame f, with n frames of the list up to it.
 unfoldable pub since_before : Criteria → Transmission → ℕ → ℕ → Option ℕ
 since_before g frames zero f = None
 since_before g frames (suc i) f = unfinished_since g frames (suc i) (f - 1)
 
--- The next frame is the TCO of a subtitle none of whose frames with an end was finished: it began
--- with the first of these unfinished ends or after it, or had begun before the first frame of the
--- list, where that is the first of them.
+-- The next frame is the TCO of a subtitle of which no end was finished: it began at or after the
+-- first of the unfinished ends, or had begun before the first frame of the list, and that is the
+-- first of them.
 abbrev pub is_missed : Option ℕ → ℕ → ℕ → Bool
 is_missed None first since = false
 is_missed (Some tci) first since = nat_le since tci || (since == first && nat_lt tci first)
 
--- An end of frame f, up to which the ends are unfinished since this frame, is overdue: the page had
--- to be whole by now. A finished end is not.
+-- An end of frame f with unfinished ends since `since` is overdue: the page must be right by now. A
+-- finished end is not overdue.
 abbrev pub is_overdue : Criteria → ℕ → Option ℕ → ℕ → Bool
 is_overdue g first None f = false
 is_overdue g first (Some since) f =
     nat_le (since + g.within) f || is_missed (g.ending (f + 1)) first since
 
--- The end of frame f, after n frames of the list, is late where it is unfinished. Within 0 frames
--- each is; else those that are overdue.
+-- An unfinished end of frame f, after n frames of the list, is late. If `within` is 0 every one is
+-- late, otherwise those that are overdue.
 unfoldable pub is_late : Criteria → Transmission → ℕ → ℕ → Bool
 is_late g frames n f =
     g.within == 0 || is_overdue g (frame_at frames 0) (unfinished_since g frames n f) f
 
--- The code was due at the cell at frame f, or at one of the n frames before it, from the first
--- frame of the list on.
+-- The code was due in the cell at frame f or at one of the n frames before it, from the first frame
+-- of the list on.
 unfoldable pub was_due : (ℕ → Rows) → ℕ → ℕ → ℕ → ℕ → ℕ → ℕ → Bool
 was_due due first f zero row column code = cell (due f) row column == code
 was_due due first f (suc n) row column code =
     was_due due first f n row column code
     || (nat_le (first + suc n) f && (cell (due (f - suc n)) row column == code))
 
--- The first cell in which after these packets, at the end of frame f, neither a space is kept nor a
--- code that was due there at that frame or one of the last n, from the first frame on.
+-- The first cell that, after these packets, has neither a space nor a code that was due at frame f
+-- or at one of the n frames before it, from the first frame on.
 unfoldable pub undue_after :
     Bool → PageIdValue → List (List ℕ) → (ℕ → Rows) → ℕ → ℕ → ℕ → Option (ℕ × ℕ)
 undue_after keeps page packets due first f n =
@@ -203,20 +204,19 @@ undue_after keeps page packets due first f n =
     not (kept keeps page packets row column == space)
     && not (was_due due first f n row column (kept keeps page packets row column)))
 
--- It is not known what was due at frame f, or at one of the n frames before it, from the first
--- frame of the list on.
+-- The due page is unknown at frame f or at one of the n frames before it, from the first frame of
+-- the list on.
 unfoldable pub was_undecided : (ℕ → Bool) → ℕ → ℕ → ℕ → Bool
 was_undecided undecided first f zero = undecided f
 was_undecided undecided first f (suc n) =
     was_undecided undecided first f n || (nat_le (first + suc n) f && undecided (f - suc n))
 
--- So at the end of frame f, for the frames within which the page has to be whole.
+-- The same at the end of frame f for the frames within which the page must be right.
 abbrev pub undecided_within : Criteria → Transmission → ℕ → Bool
 undecided_within g frames f = was_undecided g.undecided (frame_at frames 0) f g.within
 
--- The first cell in which is kept, after n frames of the list, what was not due within these
--- frames.
--- Where it is not known of one of them what was due, it may have been any code.
+-- The first cell with a code that was not due within these frames, after n frames of the list.
+-- `None` if the due page is unknown at one of them, since any code may have been due.
 abbrev pub undue_cell : Criteria → Transmission → ℕ → ℕ → Option (ℕ × ℕ)
 undue_cell g frames n f =
     if undecided_within g frames f
@@ -225,13 +225,13 @@ undue_cell g frames n f =
     undue_after g.watched.keeps g.watched.page (packets_before frames n) g.due (frame_at frames 0)
     f g.within
 
--- What of the page's content stands broken at the end of frame f, after n frames of the list: where
--- it is late each cell has to be right, and else what is kept there was due within these frames.
+-- The first wrong cell at the end of frame f, after n frames of the list: if the end is late, each
+-- cell must be right; otherwise its code must have been due within these frames.
 abbrev pub broken_cell : Criteria → Transmission → ℕ → ℕ → Option (ℕ × ℕ)
 broken_cell g frames n f =
     if is_late g frames n f then wrong_cell g frames n f else undue_cell g frames n f
 
--- What stands broken at the end of frame f, after n frames of the list.
+-- The active faults at the end of frame f, after n frames of the list.
 unfoldable pub standing_at : Criteria → Transmission → ℕ → ℕ → Standing
 standing_at g frames n f = record {
   content = broken_cell g frames n f;
@@ -241,9 +241,9 @@ standing_at g frames n f = record {
   silent = is_silent g frames n f;
 }
 
--- ---- what is told at an end
+-- ---- events at an end
 
--- The refusal of a rule that is broken at this place, at the end of frame f.
+-- The fault of a rule that is broken at this place, at the end of frame f.
 abbrev pub end_fault : EndRule → ℕ → ℕ × ℕ → CheckFault
 end_fault end.Content f cell = fault.Content f cell.0 cell.1
 end_fault end.Gap f cell = fault.Gap f
@@ -251,8 +251,8 @@ end_fault end.Incomplete f cell = fault.Incomplete f
 end_fault end.Undecided f cell = fault.Undecided f
 end_fault end.Silent f cell = fault.Silent f
 
--- What is told of a rule, where it stood broken there at the end before, of frame `before`, and
--- stands broken here at the end of frame f.
+-- The events of a rule at the end of frame f, given the place at which it was broken at the end
+-- before, of frame `before`, and the place at which it is broken now.
 abbrev pub rule_events : EndRule → Option (ℕ × ℕ) → ℕ → Option (ℕ × ℕ) → ℕ → List Event
 rule_events rule None before None f = []
 rule_events rule None before (Some new) f = Told (end_fault rule f new) ∷ []
@@ -262,40 +262,39 @@ rule_events rule (Some old) before (Some new) f =
     then []
     else Ended rule before ∷ Told (end_fault rule f new) ∷ []
 
--- What is told at the end of frame f, where the one stood at the end before, of frame `before`, and
--- the other stands now: of each rule in their order.
+-- The events at the end of frame f, given the active faults at the end before, of frame `before`,
+-- and those now: for each rule in order.
 unfoldable pub end_events : Standing → ℕ → Standing → ℕ → List Event
 end_events old before new f =
     flat_map (λ rule. rule_events rule (broken_at rule old) before (broken_at rule new) f) end_rules
 
--- ---- the ends in their order
+-- ---- the order of ends
 
--- The frame of the end before that of frame f, up to which i frames of the list count: the frame
--- before, where that has no PES packet; else that of the PES packet before.
+-- The frame of the end before that of frame f, after i frames of the list: the frame before, if
+-- that has no PES packet, otherwise that of the PES packet before.
 abbrev pub end_before : Transmission → ℕ → ℕ → ℕ
 end_before frames i f =
     if nat_lt (latest frames i + 1) f then f - 1 else frame_at frames (i - 1)
 
--- What stood broken at that end; nothing before the first one.
+-- The active faults at that end; none before the first one.
 unfoldable pub standing_before : Criteria → Transmission → ℕ → ℕ → Standing
 standing_before g frames zero f = nothing_stands
 standing_before g frames (suc i) f = standing_at g frames (suc i) (end_before frames (suc i) f)
 
--- What is told at the end of frame f, up to which i frames of the list counted at the end before,
--- and now n.
+-- The events at the end of frame f, after i frames of the list at the end before, and n now.
 abbrev pub events_at_end : Criteria → Transmission → ℕ → ℕ → ℕ → List Event
 events_at_end g frames i n f =
     end_events (standing_before g frames i f) (end_before frames i f) (standing_at g frames n f) f
 
--- ---- a PES packet
+-- ---- events of a PES packet
 
 -- A subtitle is due before this frame.
 abbrev pub is_early : Option ℕ → ℕ → Bool
 is_early None frame = false
 is_early (Some first_in) frame = nat_lt first_in frame
 
--- What is told of the number of frame i of the list: the first one is not after the first TCI, and
--- each other one is after the one before.
+-- The events for the number of frame i of the list: the first one must not be after the first TCI,
+-- and each other one must be after the one before.
 unfoldable pub order_events : Criteria → Transmission → ℕ → List Event
 order_events g frames zero =
     if is_early g.first_in (frame_at frames 0)
@@ -306,7 +305,7 @@ order_events g frames (suc i) =
     then []
     else Told (fault.Order (suc i)) ∷ []
 
--- The refusal of a packet that breaks a rule.
+-- The fault of a packet that breaks a rule.
 abbrev pub packet_fault : PacketRule → ℕ → ℕ → CheckFault
 packet_fault rule.Address frame packet = fault.Address frame packet
 packet_fault rule.HeaderCode frame packet = fault.HeaderCode frame packet
@@ -316,24 +315,24 @@ packet_fault rule.Parity frame packet = fault.Parity frame packet
 packet_fault rule.RowChanged frame packet = fault.RowChanged frame packet
 packet_fault rule.Enhancement frame packet = fault.Enhancement frame packet
 
--- What is told of packet k of a frame, sent after these packets: all rules that it breaks.
+-- The events of packet k of a frame, after these packets: all rules that it breaks.
 unfoldable pub rules_told : Watched → ℕ → ℕ → List (List ℕ) → List ℕ → List Event
 rules_told w frame k before p =
     map (λ (r : PacketRule). Told (packet_fault r frame k)) (broken_rules w before p)
 
--- What is told of the first n of some packets of a frame, which are counted in it from this number
--- on, sent after these packets.
+-- The events of the first n of some packets of a frame, which are counted from `from` on, after
+-- these packets.
 unfoldable pub packets_told : Watched → ℕ → ℕ → List (List ℕ) → List (List ℕ) → ℕ → List Event
 packets_told w frame from before packets zero = []
 packets_told w frame from before packets (suc n) =
     packets_told w frame from before packets n
     ++ rules_told w frame (from + n) (before ++ take n packets) (slice_index_or packets n [])
 
--- What is told of the first n packets of a frame, sent after these packets.
+-- The events of the first n packets of a frame, after these packets.
 abbrev pub packet_events : Watched → ℕ → List (List ℕ) → List (List ℕ) → ℕ → List Event
 packet_events w frame before packets n = packets_told w frame 0 before packets n
 
--- What is told of the first frame after its packets: it has a header of the page.
+-- The event of the first frame after its packets, if it has no header of the page.
 unfoldable pub first_header_events : Criteria → Transmission → ℕ → List Event
 first_header_events g frames zero =
     if holds_header (kind g.watched.page) (packets_of_frame frames 0)
@@ -341,14 +340,14 @@ first_header_events g frames zero =
     else Told (fault.NoFirstHeader (frame_at frames 0)) ∷ []
 first_header_events g frames (suc i) = []
 
--- ---- the whole
+-- ---- events of the whole transmission
 
--- What stands broken at the last end has ended there.
+-- At the last end, all active faults end.
 abbrev pub endings : Standing → ℕ → List Event
 endings last frame = end_events last frame nothing_stands frame
 
--- The refusal of what follows the frames that are read, as PES packet `pes`; of a file without one,
--- that it has none.
+-- The fault of the bytes after the frames, as PES packet `pes`; for a file without frames, that it
+-- is empty.
 abbrev pub unread_fault : ℕ → Option Unread → CheckFault
 unread_fault pes (Some (BadPacket f)) = fault.Pes pes f
 unread_fault pes (Some NoFrame) = fault.OffFrame pes
@@ -359,34 +358,35 @@ abbrev pub is_short : Option ℕ → ℕ → Bool
 is_short None frame = false
 is_short (Some last_out) frame = nat_lt frame last_out
 
--- The last end is unfinished and not late: the page may be whole in a frame that does not come.
+-- The last end is unfinished but not late: the page could have become right in a frame that is
+-- missing.
 unfoldable pub is_pending : Criteria → Transmission → Bool
 is_pending g frames =
     let n = length frames in
     is_some (unfinished_since g frames n (end_frame frames))
     && not (is_late g frames n (end_frame frames))
 
--- What is told of what follows the list: of the bytes that are left; else that the last TCO is
--- after the last frame, or that the page was not whole at its end.
+-- The event after the list: the last TCO is after the last frame, or the page was not right at its
+-- end.
 abbrev pub late_events : Criteria → Transmission → List Event
 late_events g frames =
     if is_short g.last_out (end_frame frames) || is_pending g frames
     then Told (fault.Late (end_frame frames)) ∷ []
     else []
 
--- What is told where frames were read, by what keeps the file from being read to its end.
+-- The events after the last frame, given why the rest of the file cannot be read, if it cannot.
 abbrev pub rest_events : Criteria → Transmission → Option Unread → List Event
 rest_events g frames (Some unread) = Told (unread_fault (length frames) (Some unread)) ∷ []
 rest_events g frames None = late_events g frames
 
--- What is told after the last frame of the list; of a list without one, why it has none.
+-- The events after the last frame of the list; for an empty list, the reason.
 unfoldable pub closing_events : Criteria → Transmission → ℕ → List Event
 closing_events g frames zero = Told (unread_fault 0 g.unread) ∷ []
 closing_events g frames (suc n) =
     endings (standing_at g frames (suc n) (end_frame frames)) (end_frame frames)
     ++ rest_events g frames g.unread
 
--- The fault that is told first.
+-- The first fault.
 abbrev pub first_told : List Event → Option CheckFault
 first_told [] = None
 first_told (Told f ∷ more) = Some f

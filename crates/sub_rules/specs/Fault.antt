@@ -1,6 +1,5 @@
--- The faults of a pair of files, a row each: the number and the name by which one is told (own),
--- where it is, and what follows where it is told; and which of them are those of a device, of
--- memory or of the one file.
+-- The faults of a pair of files, one row each: the number and the name in reports (own), the place,
+-- and the consequences; and which faults are those of a device, of memory or of the subtitle file.
 use Rattle.std.specs.Prelude.{ℕ, List, Bool, true, false, Option, Some, None}
 use Rattle.std.specs.Prelude.{codes, unwrap_or}
 use Rattle.sub_io.specs.FaultCode.{FaultCodeValue, fault_code}
@@ -28,25 +27,25 @@ rule_code end.Incomplete = fault_code 77 (codes "Incomplete")
 rule_code end.Undecided = fault_code 78 (codes "Undecided")
 rule_code end.Silent = fault_code 79 (codes "Silent")
 
--- Where a fault of loading is: at a TTI block, and one of a text at its place in it too.
+-- The place of a fault of loading: a TTI block, for a text fault also the position in the text.
 abbrev pub load_place : LoadFaultKind → ℕ → FaultPlace
 load_place (Row f) block = place.Text block f.at
 load_place _ block = place.Block block
 
 -- ---- a row for each fault
 
--- The row of a fault for which no PES packet is passed over.
+-- The row of a fault for which no PES packet is skipped.
 abbrev pub coded_row : FaultCodeValue → FaultPlace → Bool → FaultRow
 coded_row code place doubts =
     record { code = code; place = place; doubts = doubts; is_passed = false }
 
--- The row of a fault with this number and name, for which no PES packet is passed over.
+-- The row of a fault with this number and name, for which no PES packet is skipped.
 abbrev pub rule_row : ℕ → List ℕ → FaultPlace → Bool → FaultRow
 rule_row number name place doubts = coded_row (fault_code number name) place doubts
 
--- The row of a fault of a pair of files: its number and name, and its place; whether a frame is
--- quiet no more where it is told; and whether a PES packet is passed over for it. Receivers depend
--- neither on C11 nor on packets X/25 to X/28.
+-- The row of a fault of a pair of files: its number and name; its place; whether its frame is no
+-- longer fault-free; and whether the PES packet is skipped. Receivers depend neither on C11 nor on
+-- packets X/25 to X/28.
 abbrev pub fault_row : CheckFault → FaultRow
 fault_row (fault.Subtitles f) = coded_row (load_code f.kind) (load_place f.kind f.block) false
 fault_row (fault.Pes n f) =
@@ -79,9 +78,9 @@ check_code f = (fault_row f).code
 abbrev pub place_of : CheckFault → FaultPlace
 place_of f = (fault_row f).place
 
--- The first frame that is trusted no more where a fault is told, if one is, by its place: of a PES
--- packet that of the one before it, `last`, in which it may have been sent too; at a late end the
--- one since which the page is not whole.
+-- The first frame that is no longer trusted because of a fault, if there is one, by the fault's
+-- place. For a PES packet it is `last`, the frame of the PES packet before, to which its contents
+-- may belong; at a late end it is the frame since which the page is wrong.
 abbrev pub doubted_frame : ℕ → Option ℕ → Bool → FaultPlace → Option ℕ
 doubted_frame last late true (place.Pes n) = Some last
 doubted_frame last late true (place.Frame f) = Some (unwrap_or late f)
@@ -89,21 +88,21 @@ doubted_frame last late true (place.Packet f k) = Some f
 doubted_frame last late true (place.Cell f r c) = Some (unwrap_or late f)
 doubted_frame last late _ _ = None
 
--- A refusal that names a PES packet names this one.
+-- Replaces the PES packet in the place of a fault, if it has one.
 abbrev pub fault_at_pes : ℕ → CheckFault → CheckFault
 fault_at_pes pes (fault.Order index) = fault.Order pes
 fault_at_pes pes (fault.Pes index f) = fault.Pes pes f
 fault_at_pes pes (fault.OffFrame index) = fault.OffFrame pes
 fault_at_pes pes refusal = refusal
 
--- ---- what it comes of
+-- ---- causes of faults
 
 -- The source of the PES file failed.
 abbrev pub is_pes_read : CheckFault → Bool
 is_pes_read (fault.Pes index f) = pes.is_read f
 is_pes_read _ = false
 
--- A sink of PES packets failed: no check tells that.
+-- A sink of PES packets failed. No check reports this.
 abbrev pub is_pes_write : CheckFault → Bool
 is_pes_write (fault.Pes index f) = pes.is_write f
 is_pes_write _ = false
@@ -118,13 +117,13 @@ abbrev pub is_subtitle_fault : CheckFault → Bool
 is_subtitle_fault (fault.Subtitles f) = true
 is_subtitle_fault _ = false
 
--- The subtitle file was not loaded since its source failed or memory was refused.
+-- The subtitle file was not loaded because its source failed or memory could not be allocated.
 abbrev pub is_failure_kind : LoadFaultKind → Bool
 is_failure_kind Memory = true
 is_failure_kind (File stl.Read) = true
 is_failure_kind _ = false
 
--- A source failed or memory was refused: that tells nothing of the files.
+-- A source failed or memory could not be allocated, which says nothing about the files.
 abbrev pub is_failure : CheckFault → Bool
 is_failure (fault.Subtitles f) = is_failure_kind f.kind
 is_failure (fault.Pes index Read) = true

@@ -1,5 +1,5 @@
--- What is asked at the end of each frame, in terms of the first frames of a transmission and of the
--- criteria: what the transmission is checked against.
+-- The requirements at the end of each frame, in terms of the first frames of a transmission and of
+-- the criteria against which the transmission is checked.
 use Rattle.std.specs.Prelude.{◌≡◌, ℕ, ◌+◌, ◌-◌, ◌<◌, ◌⊎◌, ◌&&◌, Bool, false, true, List, []}
 use Rattle.std.specs.Prelude.{Option, Some, map, take, length, IsTrue, IsFalse}
 use Rattle.std.specs.Prelude.{slice_index, slice_index_or, flat_map}
@@ -16,18 +16,17 @@ use Rattle.sub_rules.specs.Kept.{IsRight}
 use Rattle.sub_rules.specs.Transmission.{SentFrame, Transmission}
 use Rattle.sub_rules.specs.declared.packet_rule.Watched.{Watched}
 
--- Why the bytes of a PES file are not read as frames to their end: what follows the frames begins
--- with no PES packet, by this fault, or with one whose PTS is that of no frame of the day.
+-- Why the rest of a PES file cannot be read as frames: after the frames there is no valid PES
+-- packet, for this fault, or one whose PTS is that of no frame of the day.
 pub data Unread : Type 0 where
   BadPacket : PesFault → Unread
   NoFrame : Unread
 
--- What a transmission is checked against: the page and its national option, the repeat bound,
--- within how many frames the page that is due has to be whole, how many frames apart PES packets
--- are at most, where that is asked, the page that is due at each frame, the TCI of the subtitle
--- whose TCO a frame is, the first TCI and the last TCO; whether subtitles of the file are refused,
--- and at which frames it is not known for that what is due; and what keeps the PES file from being
--- read to its end, if anything does.
+-- The criteria of a check: the page and its national option; the repeat bound; within how many
+-- frames the due page must be right; the maximum distance of PES packets in frames, if it is
+-- limited; the due page at each frame; the TCI of the subtitle with a given TCO; the first TCI and
+-- the last TCO; whether subtitles of the file were rejected, and the frames at which the due page
+-- is therefore unknown; and why the rest of the PES file cannot be read, if it cannot.
 pub record Criteria : Type 0 where
   pub watched : Watched
   pub every : ℕ
@@ -41,8 +40,8 @@ pub record Criteria : Type 0 where
   pub undecided : ℕ → Bool
   pub unread : Option Unread
 
--- The page and the national option that a programme is watched with, whether complete pages are
--- asked for, and whether repeats may keep the page.
+-- The page to check with the national option of a programme, whether complete pages are required,
+-- and whether repeats may keep the page.
 abbrev pub watched_of : ProgrammeValue → OptionsValue → Watched
 watched_of programme options = record {
   page = options.page;
@@ -51,8 +50,8 @@ watched_of programme options = record {
   keeps = options.keeps;
 }
 
--- The criteria of a programme of a file in which nothing is refused, where this is watched with
--- this repeat bound, within these frames, with this pace.
+-- The criteria for a programme without rejected subtitles, with this page, repeat bound, number of
+-- frames and pace.
 abbrev pub criteria_with : ProgrammeValue → Watched → ℕ → ℕ → Option ℕ → Option Unread → Criteria
 criteria_with programme watched every within pace unread = record {
   watched = watched;
@@ -68,18 +67,18 @@ criteria_with programme watched every within pace unread = record {
   unread = unread;
 }
 
--- The criteria of a programme and options.
+-- The criteria for a programme and options.
 abbrev pub criteria_of : ProgrammeValue → OptionsValue → Option Unread → Criteria
 criteria_of programme options unread =
     criteria_with programme (watched_of programme options) options.every options.within options.pace
     unread
 
--- It is not known what is due at this frame.
+-- The due page is unknown at this frame.
 abbrev pub is_due_undecided : JudgedValue → ℕ → Bool
 is_due_undecided j frame = has_refused j && is_undecided_in j frame
 
--- The criteria of what can be judged of a subtitle file. Where nothing of it is refused they are
--- those of the programme.
+-- The criteria for the reliable subtitles of a file. If none was rejected, they are those of the
+-- programme.
 abbrev pub criteria_of_judged : JudgedValue → OptionsValue → Option Unread → Criteria
 criteria_of_judged j options unread =
     record (criteria_of j.programme options unread) {
@@ -87,11 +86,11 @@ criteria_of_judged j options unread =
       undecided = is_due_undecided j;
     }
 
--- The number of frame i of the list, from 0.
+-- The number of frame i of the list, counted from 0.
 abbrev pub frame_at : Transmission → ℕ → ℕ
 frame_at frames i = slice_index (map (λ (s : SentFrame). s.frame) frames) i
 
--- Its packets.
+-- The packets of frame i of the list.
 abbrev pub packets_of_frame : Transmission → ℕ → List (List ℕ)
 packets_of_frame frames i = slice_index_or (map (λ (s : SentFrame). s.packets) frames) i []
 
@@ -103,29 +102,29 @@ packets_before frames n = flat_map (λ (s : SentFrame). s.packets) (take n frame
 abbrev pub end_frame : Transmission → ℕ
 end_frame frames = frame_at frames (length frames - 1)
 
--- A header of the page is among the packets of frame i of the list.
+-- Frame i of the list has a header of the page.
 abbrev pub HasHeader : Criteria → Transmission → ℕ → Type 0
 HasHeader g frames i = holds_header (kind g.watched.page) (packets_of_frame frames i) ≡ true
 
--- After n frames of the list, at the end of frame f of the day, the cell is right.
+-- The cell is right at the end of frame f of the day, after n frames of the list.
 abbrev pub ShowsDue : Criteria → Transmission → ℕ → ℕ → ℕ → ℕ → Type 0
 ShowsDue g frames n f row column =
     IsRight g.watched.keeps g.watched.page (packets_before frames n) (g.due f) row column
 
--- Of the frames of the day that end with f, as many as the repeat bound, one is before the first
--- frame of the list, or has a header of the page.
+-- Of as many frames of the day as the repeat bound, up to f, one is before the first frame of the
+-- list, or has a header of the page.
 abbrev pub IsCovered : Criteria → Transmission → ℕ → ℕ → Type 0
 IsCovered g frames n f =
     (f + 1 < frame_at frames 0 + g.every)
     ⊎ ((j : ℕ) × (j < n) × (f < frame_at frames j + g.every) × HasHeader g frames j)
 
--- Where a pace is asked for, one of the first n frames of the list is less than that many frames
--- before frame f, or after it.
+-- If a pace is required, one of the first n frames of the list is less than that many frames before
+-- frame f, or after it.
 abbrev pub IsPaced : Criteria → Transmission → ℕ → ℕ → Type 0
 IsPaced g frames n f =
     (pace : ℕ) → g.pace ≡ Some pace → (j : ℕ) × (j < n) × (f < frame_at frames j + pace)
 
--- Where complete pages are asked for, the page is not open after n frames of the list.
+-- If complete pages are required, the page is not open after n frames of the list.
 abbrev pub IsEnded : Criteria → Transmission → ℕ → Type 0
 IsEnded g frames n =
     IsTrue g.watched.complete

@@ -1,6 +1,6 @@
--- What is asked of a cell and of a header where repeats may keep the page: inserters set C4, erase
--- page, where the text changes, and many clear it where they send the same page again. What is sent
--- again is then the whole page, and is what was sent before.
+-- The requirements on a cell and a header if repeats may keep the page: inserters set C4, erase
+-- page, when the text changes, and many clear it when they repeat the same page. A repeat must then
+-- contain the whole page, unchanged.
 use Rattle.std.specs.Prelude.{◌≡◌, ◌≢◌, ◌↔◌, ℕ, ◌⊎◌, Bool, false, List, [], ◌∷◌}
 use Rattle.std.specs.Prelude.{Option, Some, None, IsTrue, IsFalse}
 use Rattle.std.specs.List.{list_any}
@@ -27,26 +27,25 @@ abbrev pub has_row : PageIdValue → List (List ℕ) → ℕ → Bool
 has_row page packets row =
     list_any (λ packet. is_row row (kind page packet)) (span (kind page) packets)
 
--- A cell is right after these packets, where a page is due: what is kept there is what is due; and
--- where that is no space, the row was sent again since the last header of the page.
--- Else it differs.
+-- A cell is right after these packets for a due page: it has the due code, and unless that is a
+-- space, the row was sent after the last header of the page. Otherwise the cell is wrong.
 pub record IsRight
     (keeps : Bool) (page : PageIdValue) (packets : List (List ℕ)) (due : Rows) (row column : ℕ)
     : Type 0 where
   pub kept_is : kept keeps page packets row column ≡ cell due row column
   pub again : cell due row column ≢ space → IsTrue (has_row page packets row)
 
--- Where repeats may not keep, a cell is right exactly where it shows what is due.
--- So `Good` is what is asked where each header erases the page.
+-- If repeats must not keep the page, a cell is right exactly if it shows the due code. So `Good` is
+-- the requirement if each header erases the page.
 abbrev pub LawOfRightCells : Type 0
 LawOfRightCells =
     (page : PageIdValue) (packets : List (List ℕ)) (due : Rows) (row column : ℕ)
     → IsRight false page packets due row column
     ↔ (shown page packets row column ≡ cell due row column)
 
--- ---- when a header may keep
+-- ---- when a header may keep the page
 
--- A header of the page, where the packet is one.
+-- The header of the page, if the packet is one.
 abbrev pub header_of_page : PacketKind → Option Header
 header_of_page (ThisPage h) = Some h
 header_of_page _ = None
@@ -56,22 +55,21 @@ abbrev pub last_header : PageIdValue → List (List ℕ) → Option Header
 last_header page [] = None
 last_header page (p ∷ ps) = option_or (last_header page ps) (header_of_page (kind page p))
 
--- A header of the page that is sent after these packets repeats the page: it has the subcode of the
--- header of it before, where there was one; and where complete pages are asked for, the page is not
--- open.
+-- A header of the page after these packets repeats the page: it has the sub-code of the page's
+-- previous header, if there was one; and if complete pages are required, the page is not open.
 pub record IsRepeat (complete : Bool) (page : PageIdValue) (before : List (List ℕ)) (h : Header)
     : Type 0 where
   pub subcode : (last : Header) → last_header page before ≡ Some last → h.subcode ≡ last.subcode
   pub closed : IsTrue complete → IsFalse (is_open_after (kind page) before)
 
--- Where the packet is a header of the page, it erases the page or repeats it.
+-- If the packet is a header of the page, it erases the page or repeats it.
 abbrev pub ErasesOrRepeats : Bool → PageIdValue → List (List ℕ) → List ℕ → Type 0
 ErasesOrRepeats complete page before packet =
     (h : Header)
     → kind page packet ≡ ThisPage h
     → IsTrue (c4 h) ⊎ IsRepeat complete page before h
 
--- The control bits of a subtitle's header, but for C4: as in `IsSubtitleHeader`.
+-- The control bits of a subtitle's header except C4, as in `IsSubtitleHeader`.
 pub record HasSubtitleBits (national : National) (h : Header) : Type 0 where
   pub no_newsflash : IsFalse (c5 h)
   pub subtitle : IsTrue (c6 h)
@@ -79,13 +77,13 @@ pub record HasSubtitleBits (national : National) (h : Header) : Type 0 where
   pub displayed : IsFalse (c10 h)
   pub option : national_bits h ≡ (sub_set national).bits
 
--- Where the packet is a header of the page, it has these bits.
+-- If the packet is a header of the page, it has these bits.
 abbrev pub IsOfSubtitle : National → PageIdValue → List ℕ → Type 0
 IsOfSubtitle national page packet =
     (h : Header) → kind page packet ≡ ThisPage h → HasSubtitleBits national h
 
--- What the rule of a header asks of a packet that is sent after others: where it is a header of the
--- page it is a subtitle's; and it erases the page or, where repeats may keep it, repeats it.
+-- The rule for a header, for a packet after others: a header of the page has the control bits of a
+-- subtitle; and it erases the page or, if repeats may keep the page, repeats it.
 pub record IsControlledBy (w : Watched) (before : List (List ℕ)) (packet : List ℕ) : Type 0 where
   pub control : IsOfSubtitle w.national w.page packet
   pub erases : IsFalse w.keeps → ErasesPage w.page packet

@@ -1,5 +1,5 @@
--- What is asked of a packet that is sent after others. Each rule looks back over the whole list of
--- the packets before it, to the first packet of the transmission.
+-- The rules for a packet that is sent after others. Each rule takes the whole list of packets
+-- before it into account, from the first packet of the transmission on.
 use Rattle.std.specs.Prelude.{◌≡◌, ℕ, ◌<◌, List, [], ◌∷◌, take, length, slice_index_or}
 use Rattle.std.specs.Prelude.{Option, Some, None, IsTrue, filter, map, drop}
 use Rattle.std.specs.List.{AllByRecursion}
@@ -34,42 +34,42 @@ codes_of packet = map code_of (drop 2 packet)
 abbrev pub header_count : PageIdValue → List (List ℕ) → ℕ
 header_count page packets = length (filter (λ p. is_this_page (kind page p)) packets)
 
--- The packet p, sent after these packets, keeps the rule.
+-- Packet p, sent after these packets, keeps the rule.
 abbrev pub KeepsRule : PacketRule → Watched → List (List ℕ) → List ℕ → Type 0
--- Both address bytes are code words, with no bit wrong.
+-- Both address bytes are code words, without a wrong bit.
 KeepsRule rule.Address w before p = HasExactAddress p
--- In a packet X/0 the eight coded bytes are code words, with no bit wrong.
+-- In a packet X/0 the eight coded bytes are code words, without a wrong bit.
 KeepsRule rule.HeaderCode w before p =
     (a : PacketAddress) → address p ≡ Some a → a.packet_number ≡ 0 → HasExactHeader p
--- A page header, of any page, has the C11 of the first one.
+-- A page header, of any page, has the same C11 as the first one.
 KeepsRule rule.Mode w before p =
     (h first : Header)
     → header p ≡ Some h
     → first_header before ≡ Some first
     → c11 h ≡ c11 first
--- A header of the page is a subtitle's; it erases the page or, where repeats may keep it, repeats
--- it.
+-- A header of the page has the control bits of a subtitle; it erases the page or, if repeats may
+-- keep the page, repeats it.
 KeepsRule rule.Control w before p = IsControlledBy w before p
--- While the page is open a row of it has 40 bytes of odd parity.
+-- While the page is open, its rows have 40 bytes of odd parity.
 KeepsRule rule.Parity w before p =
     IsTrue (is_open_after (kind w.page) before) → IsOddRow w.page p
--- While the page is open a row equals each packet of its row since the last header of the page;
--- where repeats may keep the page, since the last one that erases it.
+-- While the page is open, a row equals each packet of that row since the last header of the page;
+-- if repeats may keep the page, since the last header that erases it.
 KeepsRule rule.RowChanged w before p =
     IsTrue (is_open_after (kind w.page) before)
     → (row : ℕ)
     → kind w.page p ≡ Row row
     → AllByRecursion (λ q. kind w.page q ≡ Row row → q ≡ p)
     (text_span w.keeps (kind w.page) before)
--- While the page is open no packet X/25 to X/28 of its magazine comes.
+-- While the page is open, there is no packet X/25 to X/28 of its magazine.
 KeepsRule rule.Enhancement w before p =
     IsTrue (is_open_after (kind w.page) before) → IsEnhancement w.page p → ⊥
 
--- It keeps all seven.
+-- The packet keeps all seven rules.
 abbrev pub KeepsAllRules : Watched → List (List ℕ) → List ℕ → Type 0
 KeepsAllRules w before p = (f : PacketRule) → KeepsRule f w before p
 
--- These packets are whole, and each keeps all seven, sent after those before it.
+-- These packets are well-formed, and each keeps all seven rules after those before it.
 abbrev pub AreClean : Watched → List (List ℕ) → Type 0
 AreClean w packets =
     (k : ℕ)

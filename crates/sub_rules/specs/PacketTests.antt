@@ -1,6 +1,6 @@
--- The rules of a packet as tests, whatever was sent before: a packet may break several, and is
--- tested also where packets before it broke some. The page header and the address are read with
--- one wrong bit in a byte corrected.
+-- The rules for a packet as tests, whatever was sent before. A packet may break several rules, and
+-- is tested even if earlier packets broke some. Page header and address are read with a single
+-- wrong bit per byte corrected.
 use Rattle.std.specs.Prelude.{ℕ, zero, suc, ◌+◌, ◌&&◌, ◌||◌, ◌==◌, Bool, true, false, not, List, []}
 use Rattle.std.specs.Prelude.{◌∷◌, Option, Some, None, option_map, is_some, nat_le, slice_index}
 use Rattle.std.specs.List.{filter, find}
@@ -30,8 +30,7 @@ unfoldable pub is_word_below : ℕ → ℕ → Bool
 is_word_below b zero = false
 is_word_below b (suc n) = b == code_word n || is_word_below b n
 
--- Each byte of a packet from a place on, as many as these, is a code word, with no bit wrong (EN
--- 300 706, 8.2).
+-- n bytes of a packet from a place on are code words, without a wrong bit (EN 300 706, 8.2).
 unfoldable pub are_code_words : ℕ → ℕ → List ℕ → Bool
 are_code_words from zero packet = true
 are_code_words from (suc n) packet =
@@ -42,7 +41,7 @@ abbrev pub is_of_header : Option PacketAddress → Bool
 is_of_header None = false
 is_of_header (Some a) = a.packet_number == 0
 
--- C11 of a header, where there is one, is another than that of the first one.
+-- C11 of a header, if there is one, differs from that of the first header.
 abbrev pub is_other_mode : Option Bool → Option Bool → Bool
 is_other_mode (Some true) (Some false) = true
 is_other_mode (Some false) (Some true) = true
@@ -58,38 +57,37 @@ abbrev pub is_same_option : NationalBits → NationalBits → Bool
 is_same_option one other =
     is_same_bit one.c12 other.c12 && is_same_bit one.c13 other.c13 && is_same_bit one.c14 other.c14
 
--- The control bits are a subtitle's, of the national option, whatever C4 is.
+-- The control bits are those of a subtitle with this national option, except C4.
 abbrev pub has_subtitle_bits : National → Header → Bool
 has_subtitle_bits national h =
     not (c5 h) && c6 h && c7 h && not (c10 h)
     && is_same_option (national_bits h) (sub_set national).bits
 
--- The subcode of a header is that of another one, where there is one.
+-- The sub-code of a header is that of another one, if there is one.
 abbrev pub is_same_subcode : Option Header → Header → Bool
 is_same_subcode None h = true
 is_same_subcode (Some last) h = h.subcode == last.subcode
 
--- A header of the page that is sent after these packets repeats the page.
+-- A header of the page after these packets repeats the page.
 abbrev pub repeats_page : Bool → PageIdValue → List (List ℕ) → Header → Bool
 repeats_page complete page before h =
     is_same_subcode (last_header page before) h
     && not (complete && is_open_after (kind page) before)
 
--- A header of the page that is sent after these packets erases it or, where repeats may keep it,
--- repeats it.
+-- A header of the page after these packets erases it or, if repeats may keep the page, repeats it.
 abbrev pub may_come : Watched → List (List ℕ) → Header → Bool
 may_come w before h = c4 h || (w.keeps && repeats_page w.complete w.page before h)
 
--- It is a subtitle's.
+-- The header is allowed here, and has the control bits of a subtitle.
 abbrev pub is_subtitle_header : Watched → List (List ℕ) → Header → Bool
 is_subtitle_header w before h = may_come w before h && has_subtitle_bits w.national h
 
--- A header of the page, and no subtitle's.
+-- The packet is a header of the page that breaks this rule.
 abbrev pub is_wrong_header : Watched → List (List ℕ) → PacketKind → Bool
 is_wrong_header w before (ThisPage h) = not (is_subtitle_header w before h)
 is_wrong_header w before _ = false
 
--- The codes of a packet, where there is one, are others than these.
+-- The codes of a packet, if there is one, differ from these.
 abbrev pub is_other_text : Option (List ℕ) → List ℕ → Bool
 is_other_text None codes = false
 is_other_text (Some q) codes = not (row_differing (codes_of q) codes == 0)
@@ -98,7 +96,7 @@ is_other_text (Some q) codes = not (row_differing (codes_of q) codes == 0)
 abbrev pub first_of_row : PageIdValue → List (List ℕ) → ℕ → Option (List ℕ)
 first_of_row page packets row = find (λ q. is_row row (kind page q)) packets
 
--- The codes of a row are others than those of the first packet of its row among these.
+-- The codes of a row differ from those of the first packet of the row among these.
 abbrev pub is_other_row : PageIdValue → List (List ℕ) → List ℕ → PacketKind → Bool
 is_other_row page packets p (Row row) = is_other_text (first_of_row page packets row) (codes_of p)
 is_other_row page packets p _ = false
@@ -109,7 +107,7 @@ is_of_enhancement page None = false
 is_of_enhancement page (Some a) =
     a.magazine == page.magazine && nat_le 25 a.packet_number && nat_le a.packet_number 28
 
--- The packet p, sent after these packets, breaks the rule.
+-- Packet p, sent after these packets, breaks the rule.
 unfoldable pub breaks : PacketRule → Watched → List (List ℕ) → List ℕ → Bool
 breaks rule.Address w before p = not (are_code_words 0 2 p)
 breaks rule.HeaderCode w before p = is_of_header (address p) && not (are_code_words 2 8 p)
@@ -126,12 +124,12 @@ breaks rule.RowChanged w before p =
 breaks rule.Enhancement w before p =
     is_open_after (kind w.page) before && is_of_enhancement w.page (address p)
 
--- The rules in the order in which they are told of one packet.
+-- The rules in the order in which they are reported for a packet.
 unfoldable pub packet_rules : List PacketRule
 packet_rules =
     rule.Address ∷ rule.HeaderCode ∷ rule.Mode ∷ rule.Control ∷ rule.Parity ∷ rule.RowChanged
     ∷ rule.Enhancement ∷ []
 
--- Those of them that the packet breaks, sent after these packets.
+-- The rules that the packet breaks, sent after these packets.
 unfoldable pub broken_rules : Watched → List (List ℕ) → List ℕ → List PacketRule
 broken_rules w before p = filter (λ r. breaks r w before p) packet_rules

@@ -1,5 +1,5 @@
--- How PES packets are a transmission: by the PTS of frame 0, each PTS is that of a frame of the day
--- (EN 300 472, PTS: 33 bits at 90 kHz).
+-- How PES packets form a transmission: given the PTS of frame 0, each PTS is that of a frame of the
+-- day (EN 300 472, PTS: 33 bits at 90 kHz).
 use Rattle.std.specs.Prelude.{◌≡◌, ℕ, ◌<◌, ◌≤◌, List, length, map, Some}
 use Rattle.std.specs.List.{AllZip, concat}
 use Rattle.ttx_pes.specs.DataUnit.{UnitValue}
@@ -10,15 +10,15 @@ use Rattle.sub_plan.specs.FrameTime.{Clock, pts_of}
 use Rattle.sub_rules.specs.Pieces.{joined}
 use Rattle.sub_rules.specs.Transmission.{SentFrame, Transmission, IsRising}
 
--- A PES packet is sent as a frame: its PTS is that of the frame, which is a frame of the day, and
--- its Teletext units carry the frame's packets, in order. Stuffing and other data units carry none.
+-- A PES packet carries a frame: it has the PTS of the frame, which is a frame of the day, and its
+-- Teletext units carry the frame's packets in order. Stuffing and other data units carry none.
 pub record IsSentAs (origin : ℕ) (pes : PesValue) (s : SentFrame) : Type 0 where
   pub in_day : s.frame < day
   pub pts : pes.pts ≡ pts_of origin s.frame
   pub packets : s.packets ≡ map (λ (u : UnitValue). u.packet) pes.units
 
--- The bytes are a PES file that carries the transmission: PES packets, joined, at most as many as a
--- day has frames. Read with an origin each is sent as one of its frames, and these rise.
+-- The bytes are a PES file with this transmission: valid PES packets, joined, at most as many as a
+-- day has frames. With this origin, each carries one of the frames, and the frames rise.
 pub record Carries (origin : ℕ) (bytes : List ℕ) (frames : Transmission) : Type 0 where
   pub values : List PesValue
   pub packets : List (List ℕ)
@@ -28,14 +28,15 @@ pub record Carries (origin : ℕ) (bytes : List ℕ) (frames : Transmission) : T
   pub sent : AllZip (IsSentAs origin) values frames
   pub rising : IsRising frames
 
--- A PES packet is read as a frame by a clock, and its Teletext units carry the frame's packets.
+-- A clock converts the PTS of a PES packet to this frame, and its Teletext units carry the frame's
+-- packets.
 pub record IsReadAs (clock : Clock) (pes : PesValue) (s : SentFrame) : Type 0 where
   pub frame : clock pes.pts ≡ Some s.frame
   pub packets : s.packets ≡ map (λ (u : UnitValue). u.packet) pes.units
 
--- The bytes are a PES file that carries the transmission within frames: PES packets, joined, at
--- most as many as a day has frames. By the clock each is read as a frame, those of one frame that
--- follow one another are sent as one, and the frames rise.
+-- The bytes are a PES file with this transmission, read by a clock: valid PES packets, joined, at
+-- most as many as a day has frames. The clock converts each PTS to a frame, consecutive PES packets
+-- of the same frame are merged, and the frames rise.
 pub record CarriesBy
     (clock : Clock) (within : ℕ) (bytes : List ℕ) (frames : Transmission)
     : Type 0 where

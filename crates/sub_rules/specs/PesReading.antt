@@ -1,5 +1,5 @@
--- A PES file as one value: the frames that its bytes are read as, by the PTS of frame 0 (EN 300
--- 472, PTS), and what keeps it from being read to its end.
+-- A PES file as one value: the frames in its bytes, given the PTS of frame 0 (EN 300 472, PTS), and
+-- why the rest cannot be read, if it cannot.
 use Rattle.std.specs.Prelude.{◌≡◌, ◌↔◌, ℕ, List, Option}
 use Rattle.sub_rules.specs.FrameRules.{Unread}
 use Rattle.sub_plan.specs.FrameTime.{Clock, clock_of}
@@ -8,23 +8,21 @@ use Rattle.sub_rules.specs.PesFrames.{Carries, CarriesBy}
 use Rattle.sub_rules.specs.Pieces.{PesFileValue, pieces_at, until_passed_over}
 use Rattle.sub_rules.specs.Transmission.{Transmission}
 
--- What the bytes that are left after `given` PES packets are read as: up to the first piece that is
--- passed over where reading goes on.
+-- The frames in the bytes after `given` PES packets, up to the first packet that would be skipped.
 unfoldable pub file_at : Clock → ℕ → List ℕ → PesFileValue
 file_at clock given bytes = until_passed_over (pieces_at clock given bytes)
 
--- What the bytes of a PES file are read as.
+-- The frames of a PES file.
 abbrev pub pes_file_of : Clock → List ℕ → PesFileValue
 pes_file_of clock bytes = file_at clock 0 bytes
 
--- After `given` PES packets the bytes are read as these frames, up to what is unread.
+-- The bytes after `given` PES packets contain exactly these frames, up to the unread rest.
 abbrev pub ReadsAs : Clock → ℕ → List ℕ → Transmission → Option Unread → Type 0
 ReadsAs clock given bytes frames unread =
     file_at clock given bytes ≡ record { frames = frames; unread = unread }
 
--- Within 0 frames the transmissions that the bytes carry by the clock of the options are those that
--- they carry by the PTS of each frame of the day.
--- So what is said within frames is said of these too.
+-- If `within` is 0, the transmissions in the bytes by the clock of the options are those by the
+-- exact PTS of each frame of the day. So results for any `within` hold for these too.
 abbrev pub LawOfExactFrames : Type 0
 LawOfExactFrames =
     (options : OptionsValue) (bytes : List ℕ) (frames : Transmission)

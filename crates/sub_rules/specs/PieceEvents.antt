@@ -1,11 +1,10 @@
--- What is told of a PES file that is read on after the pieces that are passed over (own): of the
--- frames that are sent what is told of a transmission, and in its place the number of each piece
--- that is passed over. Of such pieces one directly after the other with one number the first is
--- told, and up to which one they go, directly before whatever is told next.
+-- The events of a PES file that is read on after skipped PES packets (own): those of the
+-- transmission, with the fault of each skipped packet in its place. For consecutive skipped packets
+-- with the same fault, the first is reported, and the last directly before the next event.
 --
--- A checker can't look ahead: what comes of a PES packet goes by the frames sent up to it.
--- Within frames the PES packets of one frame are one sending, so its end comes where one of another
--- frame does, or none.
+-- A checker cannot look ahead: its steps for a PES packet depend only on the frames so far. If
+-- `within` is not 0, consecutive PES packets of one frame are merged, so the frame ends only when
+-- one of another frame comes, or none.
 use Rattle.std.specs.Prelude.{ℕ, zero, suc, ◌+◌, ◌-◌, ◌&&◌, ◌||◌, ◌==◌, ◌≡◌, Bool, false, not}
 use Rattle.std.specs.Prelude.{List, []}
 use Rattle.std.specs.Prelude.{◌∷◌, ◌++◌, length, map, Option, Some, None, is_some, if◌then◌else◌}
@@ -32,20 +31,20 @@ use Rattle.sub_rules.specs.declared.fault_place.FaultPlace.TheVariants as place
 
 -- ---- ends
 
--- Beside what is refused of the subtitle file, and within frames, it is told of the frames before
--- one that is trusted no more whether the page was whole at the last of their ends.
+-- A `GoesBack` step is needed: subtitles were rejected, and the page may take some frames to become
+-- right.
 abbrev pub goes_back : Criteria → Bool
 goes_back g = g.any_refused && not (g.within == 0)
 
--- Since which frame it was not, where that is asked.
+-- That step, if it is needed: since which frame the page is wrong.
 abbrev pub steps_before : Criteria → Option ℕ → List CheckStep
 steps_before g since = if goes_back g then GoesBack since ∷ [] else []
 
--- What comes at the end of a frame: within frames, since which the page is not whole, and whether
--- that is late; and what is told.
+-- The steps at the end of a frame. If `within` is not 0: since which frame the page is wrong, and
+-- whether that is late; then the events.
 --
---   i   how many frames of the list had been sent by the end of the frame before
---   n   how many have been sent by this end
+--   i   how many frames of the list were sent by the end of the frame before
+--   n   how many were sent by this end
 --   f   the frame of the day
 abbrev pub steps_at_end : Criteria → Transmission → ℕ → ℕ → ℕ → List CheckStep
 steps_at_end g frames i n f =
@@ -55,16 +54,16 @@ steps_at_end g frames i n f =
     else AtEnd f (unfinished_since g frames n f) (is_late g frames n f) ∷ [])
     ++ map Says (events_at_end g frames i n f)
 
--- What comes at the ends of the first n frames of the day after all of the first i frames of the
+-- The steps at the ends of the first n frames of the day after all of the first i frames of the
 -- list and before frame i.
 unfoldable pub steps_of_gap : Criteria → Transmission → ℕ → ℕ → List CheckStep
 steps_of_gap g frames i zero = []
 steps_of_gap g frames i (suc n) =
     steps_of_gap g frames i n ++ steps_at_end g frames i i (latest frames i + suc n)
 
--- ---- each piece by itself
+-- ---- one PES packet at a time
 
--- What comes before the packets of frame i of the list: what is told of its number, and the ends of
+-- The steps before the packets of frame i of the list: the events for its number, and the ends of
 -- the frames of the day before it.
 abbrev pub steps_of_arrival : Criteria → Transmission → ℕ → List CheckStep
 steps_of_arrival g frames i =
@@ -73,14 +72,14 @@ steps_of_arrival g frames i =
     ++ Begins (frame_at frames i)
     ∷ steps_before g (since_before g frames i (frame_at frames i))
 
--- What comes of its packets.
+-- The steps for the packets of frame i.
 abbrev pub steps_of_packets : Criteria → Transmission → ℕ → List CheckStep
 steps_of_packets g frames i =
     map Says
     (packet_events g.watched (frame_at frames i) (packets_before frames i)
     (packets_of_frame frames i) (length (packets_of_frame frames i)))
 
--- What comes at its end.
+-- The steps at the end of frame i.
 abbrev pub steps_of_ending : Criteria → Transmission → ℕ → List CheckStep
 steps_of_ending g frames i =
     map Says (first_header_events g frames i)
@@ -89,14 +88,14 @@ steps_of_ending g frames i =
     (holds_beginning g.watched.keeps (kind g.watched.page) (packets_of_frame frames i))
     (stands_none (standing_at g frames (suc i) (frame_at frames i))) ∷ []
 
--- Within frames a frame ends where a PES packet of another one comes, or none: what comes at the
--- end of the last frame that was sent.
+-- The steps at the end of the last frame, if `within` is not 0: then the frame ends only when a PES
+-- packet of another frame comes, or none.
 unfoldable pub steps_of_waiting : Criteria → Transmission → List CheckStep
 steps_of_waiting g [] = []
 steps_of_waiting g (s ∷ sent) =
     if g.within == 0 then [] else steps_of_ending g (s ∷ sent) (length sent)
 
--- What comes of more packets of the last frame that was sent.
+-- The steps for more Teletext packets of the last frame.
 abbrev pub steps_of_more : Criteria → Transmission → List (List ℕ) → List CheckStep
 steps_of_more g sent packets =
     map Says
@@ -104,7 +103,7 @@ steps_of_more g sent packets =
     (length (packets_of_frame sent (length sent - 1)))
     (packets_before sent (length sent)) packets (length packets))
 
--- What comes of another frame, where these were sent before it.
+-- The steps for another frame after these.
 abbrev pub steps_of_next : Criteria → Transmission → SentFrame → List CheckStep
 steps_of_next g sent s =
     let frames = sent ++ s ∷ [] in
@@ -113,15 +112,15 @@ steps_of_next g sent s =
     ++ steps_of_packets g frames i
     ++ (if g.within == 0 then steps_of_ending g frames i else [])
 
--- What comes of a PES packet that is sent, where these frames were sent before it.
+-- The steps for a PES packet that is sent after these frames.
 unfoldable pub steps_of_sent : Criteria → Transmission → ℕ → SentFrame → List CheckStep
 steps_of_sent g sent pes s =
     if goes_on_with g.within sent s
     then AtPes pes ∷ steps_of_more g sent s.packets
     else steps_of_waiting g sent ++ AtPes pes ∷ steps_of_next g sent s
 
--- What comes of pieces, the first of them PES packet `pes`, where these frames were sent before it.
--- What a piece that is passed over puts on air is not known: its fault doubts the frame before.
+-- The steps for PES packets, the first of them number `pes`, after these frames. It is unknown what
+-- a skipped packet puts on air, so its fault affects the frame before.
 unfoldable pub steps_of_each : Criteria → Transmission → ℕ → List Piece → List CheckStep
 steps_of_each g sent pes [] = []
 steps_of_each g sent pes (Sent s ∷ pieces) =
@@ -131,18 +130,17 @@ steps_of_each g sent pes (Passed u ∷ pieces) =
     AtPes pes ∷ Says (Told (unread_fault pes (Some u)))
     ∷ steps_of_each g sent (suc pes) pieces
 
--- What is told where there are pieces and none is sent: nothing but what keeps the bytes from being
--- read on.
+-- The events if there are PES packets but no frames: only why the rest cannot be read.
 abbrev pub told_of_unread : ℕ → Option Unread → List Event
 told_of_unread pes None = []
 told_of_unread pes (Some u) = Told (unread_fault pes (Some u)) ∷ []
 
--- What is told after the last one, of `pes` pieces that send n frames.
+-- The events after the last of `pes` PES packets with n frames.
 unfoldable pub closing_of_pieces : Criteria → Transmission → ℕ → ℕ → List Event
 closing_of_pieces g frames (suc pes) zero = told_of_unread (suc pes) g.unread
 closing_of_pieces g frames pes n = closing_events g frames n
 
--- What comes then.
+-- The steps after the last PES packet.
 abbrev pub steps_of_closing : Criteria → Transmission → ℕ → ℕ → List CheckStep
 steps_of_closing g frames pes n =
     AtPes pes
@@ -150,11 +148,12 @@ steps_of_closing g frames pes n =
     (g.any_refused || not (tells_none (closing_of_pieces g frames pes n)))
     ∷ map Says (closing_of_pieces g frames pes n)
 
--- The frames that are sent by pieces, within frames those of PES packets of one frame as one.
+-- The frames of these PES packets. If `within` is not 0, consecutive PES packets of one frame are
+-- merged.
 abbrev pub sent_by_pieces : Criteria → List Piece → Transmission
 sent_by_pieces g pieces = joined g.within (frames_of pieces)
 
--- What comes of all pieces of a file.
+-- The steps for all PES packets of a file.
 abbrev pub steps_of_pieces : Criteria → List Piece → List CheckStep
 steps_of_pieces g pieces =
     let frames = sent_by_pieces g pieces in
@@ -162,42 +161,41 @@ steps_of_pieces g pieces =
     ++ steps_of_waiting g frames
     ++ steps_of_closing g frames (length pieces) (length frames)
 
--- ---- pieces that are passed over one directly after the other
+-- ---- consecutive skipped PES packets
 
--- The one place is the PES packet directly after that of the other.
+-- The second place is the PES packet directly after the first.
 abbrev pub is_behind : FaultPlace → FaultPlace → Bool
 is_behind (place.Pes last) (place.Pes pes) = pes == suc last
 is_behind _ _ = false
 
--- The refusal, of a piece that is passed over directly after another one, has its number.
+-- The fault belongs to a skipped packet directly after another one, and has the same number.
 unfoldable pub goes_on : CheckFault → CheckFault → Bool
 goes_on last refusal =
     (fault_row refusal).is_passed
     && is_behind (place_of last) (place_of refusal)
     && ((check_code refusal).number == (check_code last).number)
 
--- Pieces that were passed over last, one directly after the other, for faults of one number: the
--- fault of the last of them, where one was passed over last, and whether there are more than one.
+-- The current run of consecutive skipped packets with the same number of fault: the fault of the
+-- last of them, if the last packet was skipped, and whether the run has several.
 pub record PassedRun : Type 0 where
   pub last : Option CheckFault
   pub many : Bool
 
--- No piece was passed over.
+-- No packet was skipped.
 abbrev pub no_run : PassedRun
 no_run = record { last = None; many = false }
 
--- A refusal is that of a piece that is passed over directly after the last one.
+-- A fault belongs to a skipped packet directly after the last one.
 abbrev pub goes_on_after : Option CheckFault → CheckFault → Bool
 goes_on_after None refusal = false
 goes_on_after (Some last) refusal = goes_on last refusal
 
--- The run goes on with this event.
+-- The event continues the run.
 unfoldable pub joins : PassedRun → Event → Bool
 joins run (Told refusal) = goes_on_after run.last refusal
 joins run event = false
 
--- A run that a refusal begins or goes on with: none where it is not that of a piece that is passed
--- over.
+-- The run that a fault begins or continues; none if its packet is not skipped.
 abbrev pub run_with : CheckFault → Bool → PassedRun
 run_with refusal many = record {
   last = if (fault_row refusal).is_passed then Some refusal else None;
@@ -209,20 +207,20 @@ unfoldable pub passed_after : PassedRun → Event → PassedRun
 passed_after run (Told refusal) = run_with refusal (goes_on_after run.last refusal)
 passed_after run event = no_run
 
--- Up to which piece it goes.
+-- The event for the last packet of a run.
 abbrev pub until : Option CheckFault → List Event
 until None = []
 until (Some refusal) = PassedUntil refusal ∷ []
 
--- Up to which piece a run goes: told where it has more than one.
+-- The same, if the run has several packets.
 abbrev pub ended_run : PassedRun → List Event
 ended_run run = if run.many then until run.last else []
 
--- What is told by an event after the run.
+-- The events that are reported for an event after the run.
 unfoldable pub announced : PassedRun → Event → List Event
 announced run event = if joins run event then [] else ended_run run ++ event ∷ []
 
--- What is told by events, one after another, the first of them after the run.
+-- The events that are reported for a list of events, the first of them after the run.
 unfoldable pub all_announced : PassedRun → List Event → List Event
 all_announced run [] = []
 all_announced run (e ∷ es) = announced run e ++ all_announced (passed_after run e) es
@@ -232,31 +230,31 @@ unfoldable pub passed_after_all : PassedRun → List Event → PassedRun
 passed_after_all run [] = run
 passed_after_all run (e ∷ es) = passed_after_all (passed_after run e) es
 
--- ---- the whole
+-- ---- all events
 
--- What is told of pieces, where nothing is told after them.
+-- The events of these PES packets, without those after the last.
 unfoldable pub events_of_pieces : Criteria → List Piece → List Event
 events_of_pieces g pieces = all_announced no_run (told_after [] (steps_of_each g [] 0 pieces))
 
--- What is told of each piece, and after the last one.
+-- The events of each PES packet, and those after the last.
 unfoldable pub told_of_pieces : Criteria → List Piece → List Event
 told_of_pieces g pieces = told_after [] (steps_of_pieces g pieces)
 
--- All that is told of a PES file that is read on after the pieces that are passed over.
+-- All events of a PES file that is read on after skipped PES packets.
 unfoldable pub all_of_pieces : Criteria → List Piece → List Event
 all_of_pieces g pieces =
     let told = told_of_pieces g pieces in
     all_announced no_run told ++ ended_run (passed_after_all no_run told)
 
--- ---- what is told first
+-- ---- the first event
 
--- The criteria of what is read up to the first piece that is passed over.
+-- The criteria for the file up to the first skipped packet.
 abbrev pub until_passed : Criteria → List Piece → Criteria
 until_passed g pieces = record g { unread = (read_until_passed pieces g.unread).unread }
 
--- Of a PES file that is read on the refusal is told first that is told of it where reading stops at
--- the first piece that is passed over, where each end is told at once.
--- So who reads the whole list finds at its front what is told where nothing else is asked for.
+-- The first fault of a PES file that is read on is the first fault of the same file if reading
+-- stops at the first skipped packet, if `within` is 0. So a user who reads all events finds the
+-- result of stopping at the first fault at their front.
 abbrev pub LawOfFirstTold : Type 0
 LawOfFirstTold =
     (g : Criteria) (pieces : List Piece)

@@ -1,5 +1,5 @@
--- A PES file as pieces: those that are sent as frames of the day, and those that are passed over,
--- since they are no PES packets of the grammar or their PTS is that of no frame of the day (own).
+-- Defines a PES file as a list of PES packets. Each is sent (it carries a frame of the day) or
+-- skipped (it does not match the grammar, or its PTS is that of no frame of the day) (own).
 use Rattle.std.specs.Prelude.{◌≡◌, ℕ, ◌+◌, ◌==◌, ◌&&◌, Bool, false, not, if◌then◌else◌, List, []}
 use Rattle.std.specs.Prelude.{◌∷◌, ◌++◌, length, map, Option, Some, None, Result, Ok, Err, IfOk}
 use Rattle.std.specs.Prelude.{IsSome}
@@ -20,53 +20,52 @@ use Rattle.sub_rules.specs.declared.piece.NextPiece.{NextPiece}
 use Rattle.sub_rules.specs.declared.piece.NextPiece.TheVariants as next
 use Rattle.sub_rules.specs.declared.sending.Sending.{Sending}
 
--- A piece of a PES file: a frame is sent by it, or it is passed over.
+-- A PES packet carries a frame, or it is skipped for a reason.
 pub data Piece : Type 0 where
   Sent : SentFrame → Piece
   Passed : Unread → Piece
 
--- A PES file, read by a clock: its pieces, up to what keeps it from being read to its end.
+-- The contents of a PES file, and why the rest of it cannot be read, if it cannot.
 pub record PieceFileValue : Type 0 where
   pub pieces : List Piece
   pub unread : Option Unread
 
--- A PES packet of this frame and these packets; passed over where its PTS is that of none.
+-- The PES packet with this frame and these Teletext packets. It is skipped if it has no frame.
 abbrev pub piece_with : Option ℕ → List (List ℕ) → Piece
 piece_with None packets = Passed NoFrame
 piece_with (Some frame) packets = Sent (record { frame = frame; packets = packets })
 
--- What is read of a piece, by the clock.
+-- Classifies the result of reading a PES packet. `clock` converts its PTS to a frame.
 unfoldable pub piece_of : Clock → Result PesValue PesFault → Piece
 piece_of clock (Ok v) = piece_with (clock v.pts) (packets_of_units v.units)
 piece_of clock (Err f) = Passed (BadPacket f)
 
--- What keeps bytes from being read on.
+-- Why the rest of the bytes cannot be read.
 abbrev pub unread_by : Option PesFault → Option Unread
 unread_by None = None
 unread_by (Some f) = Some (BadPacket f)
 
--- What pieces are as a file.
+-- The PES file with these PES packets.
 abbrev pub file_of_pieces : Clock → PiecesValue → PieceFileValue
 file_of_pieces clock value = record {
   pieces = map (piece_of clock) value.pieces;
   unread = unread_by value.left;
 }
 
--- What the bytes that are left after `given` pieces are read as.
+-- The PES packets in the bytes that follow the first `given` packets of a file.
 unfoldable pub pieces_at : Clock → ℕ → List ℕ → PieceFileValue
 pieces_at clock given bytes = file_of_pieces clock (pieces_after given bytes)
 
--- What the bytes of a PES file are read as, where reading goes on after a piece that is passed
--- over.
+-- The PES packets of a whole file. Reading continues after a skipped packet.
 abbrev pub piece_file_of : Clock → List ℕ → PieceFileValue
 piece_file_of clock bytes = pieces_at clock 0 bytes
 
--- After `given` pieces the bytes are read as these, up to what is unread.
+-- The bytes after `given` PES packets contain exactly these packets, up to the unread rest.
 abbrev pub ReadsPieces : Clock → ℕ → List ℕ → List Piece → Option Unread → Type 0
 ReadsPieces clock given bytes pieces unread =
     pieces_at clock given bytes ≡ record { pieces = pieces; unread = unread }
 
--- The first of the pieces that are left after n pieces, and those that follow it.
+-- `piece` is the first of `pieces`, and the others are in the bytes that follow it.
 pub record ReadsPiece
     (clock : Clock) (n : ℕ) (bytes : List ℕ) (pieces : List Piece) (unread : Option Unread)
     (piece : Piece)
@@ -75,17 +74,16 @@ pub record ReadsPiece
   pub first : pieces ≡ piece ∷ more
   pub left : ReadsPieces clock (n + 1) (behind_piece bytes) more unread
 
--- So much is so where a piece is answered.
+-- `IsSo` holds if the result is a PES packet.
 abbrev pub OnPiece : Result (Option NextPiece) CheckFault → Type 0 → Type 0
 OnPiece answer IsSo = IfOk answer (λ piece. IsSome piece → IsSo)
 
--- And this of how it is sent, where it is.
+-- `IsSo` holds for the frame of a PES packet that is sent.
 abbrev pub IfSent : Result (Option NextPiece) CheckFault → (Sending → Type 0) → Type 0
 IfSent answer IsSo = (sending : Sending) → answer ≡ Ok (Some (next.Sent sending)) → IsSo sending
 
--- What is read of the bytes that are left after n pieces, which are read as these pieces, by an
--- answer, with the value v of the PES packet that is sent: the first of the pieces; or that there
--- is none, and what keeps the bytes from being read on.
+-- A result of `next_piece` agrees with the bytes after n PES packets: it is the first of `pieces`,
+-- with the value v if it is sent; or there is none, and `unread` says why.
 abbrev pub TellsPiece : Clock → ℕ → List ℕ → List Piece → Option Unread → PesValue
     → Result (Option NextPiece) CheckFault → Type 0
 TellsPiece clock n bytes pieces unread v (Ok None) = (pieces ≡ []) × (unread ≡ None)
@@ -100,66 +98,65 @@ TellsPiece clock n bytes pieces unread v (Ok (Some (next.Passed f))) =
 TellsPiece clock n bytes pieces unread v (Err f) =
     (pieces ≡ []) × (u : Unread) × (unread ≡ Some u) × (f ≡ unread_fault n (Some u))
 
--- The bytes that were taken are a piece.
+-- Exactly one PES packet was consumed.
 pub record TakesOnePiece (old new : Option (List ℕ)) : Type 0 where
   pub bytes : List ℕ
   pub is_piece : IsPiece bytes
   pub consumed : Consumes old new bytes
 
--- So many pieces were taken.
+-- Exactly n PES packets were consumed.
 pub record TakesPieces (n : ℕ) (old new : Option (List ℕ)) : Type 0 where
   pub pieces : List (List ℕ)
   pub number : length pieces ≡ n
   pub each : AllByRecursion IsPiece pieces
   pub consumed : Consumes old new (concat pieces)
 
--- The source failed while this piece was read, counted from 0: those before it were taken.
+-- The source failed within PES packet n, counted from 0. The packets before it were consumed.
 pub record FailsAtPiece (n : ℕ) (old new : Option (List ℕ)) : Type 0 where
   pub behind : Option (List ℕ)
   pub before : TakesPieces n old behind
   pub within : FailsWithin behind new
 
--- The frames that are sent by pieces.
+-- The frames that are sent; skipped packets have none.
 unfoldable pub frames_of : List Piece → Transmission
 frames_of [] = []
 frames_of (Sent s ∷ pieces) = s ∷ frames_of pieces
 frames_of (Passed u ∷ pieces) = frames_of pieces
 
--- More packets of the last frame of the list.
+-- Appends Teletext packets to the last frame of the list.
 unfoldable pub with_packets : List (List ℕ) → Transmission → Transmission
 with_packets packets [] = []
 with_packets packets (s ∷ []) =
     record { frame = s.frame; packets = s.packets ++ packets } ∷ []
 with_packets packets (s ∷ next ∷ frames) = s ∷ with_packets packets (next ∷ frames)
 
--- Within frames a PES packet of the last frame goes on with what is sent in it.
+-- With `--within`, a PES packet with the frame number of the last frame belongs to that frame.
 abbrev pub goes_on_with : ℕ → Transmission → SentFrame → Bool
 goes_on_with within [] s = false
 goes_on_with within (first ∷ sent) s =
     not (within == 0) && (end_frame (first ∷ sent) == s.frame)
 
--- The frames that are sent, one PES packet on.
+-- The frames after one more PES packet.
 abbrev pub sent_after : ℕ → Transmission → SentFrame → Transmission
 sent_after within sent s =
     if goes_on_with within sent s then with_packets s.packets sent else sent ++ s ∷ []
 
--- The frames that are sent by these PES packets after others, by which these were.
+-- Appends the frames of more PES packets to those that were sent before.
 unfoldable pub joined_after : ℕ → Transmission → Transmission → Transmission
 joined_after within sent [] = sent
 joined_after within sent (s ∷ frames) = joined_after within (sent_after within sent s) frames
 
--- The frames that are sent by PES packets of these: within frames those of PES packets of one frame
--- that follow one another are one frame with the packets of all. Within 0 each is one.
+-- Merges consecutive PES packets that have the same frame number into one frame. If `within` is 0,
+-- each PES packet is a frame of its own.
 abbrev pub joined : ℕ → Transmission → Transmission
 joined within frames = joined_after within [] frames
 
--- The frames of a PES file, one for each PES packet, up to what keeps it from being read to its
--- end, if anything does.
+-- The frames of a PES file, one per PES packet, and why the rest cannot be read, if it cannot.
 pub record PesFileValue : Type 0 where
   pub frames : Transmission
   pub unread : Option Unread
 
--- What is read of pieces up to the first one that is passed over.
+-- The frames up to the first skipped packet.
 unfoldable pub read_until_passed : List Piece → Option Unread → PesFileValue
 read_until_passed [] unread = record { frames = []; unread = unread }
 read_until_passed (Sent s ∷ pieces) unread =
@@ -167,6 +164,6 @@ read_until_passed (Sent s ∷ pieces) unread =
     record { frames = s ∷ rest.frames; unread = rest.unread }
 read_until_passed (Passed u ∷ pieces) unread = record { frames = []; unread = Some u }
 
--- A file, up to there.
+-- The frames of a file up to its first skipped packet.
 abbrev pub until_passed_over : PieceFileValue → PesFileValue
 until_passed_over file = read_until_passed file.pieces file.unread

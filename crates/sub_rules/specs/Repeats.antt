@@ -1,10 +1,10 @@
--- A good transmission within some frames, as many as the options give, whose repeats may keep the
--- page or may not. What is sent may be that late, and a page may be sent in parts, over some
--- frames. Inserters set C4, erase page, where the text changes, and many clear it where they send
--- the same page again: what is sent again is then the whole page, and is what was sent before.
+-- A good transmission if the page may take some frames to become right, as many as the options
+-- allow, and if repeats may or may not keep the page. Packets may be that late, and a page may be
+-- sent in parts over some frames. Inserters set C4, erase page, when the text changes, and many
+-- clear it when they repeat the same page; a repeat must then contain the whole page, unchanged.
 --
--- `keeps` says that repeats may keep. Where they may not, rules 1 to 6 are those of `Good`; and
--- within no frame rule 7 is too, of complete pages where these are asked for.
+-- `keeps`: repeats may keep the page. Otherwise rules 1 to 6 are those of `Good`; and if `within`
+-- is 0 so is rule 7, with complete pages if they are required.
 use Rattle.std.specs.Prelude.{◌≡◌, ◌↔◌, ℕ, ◌+◌, ◌-◌, ◌<◌, ◌≤◌, ◌⊎◌, Bool, true, false, []}
 use Rattle.std.specs.Prelude.{length, take, slice_index_or, All, IfSome, IsTrue, IsFalse}
 use Rattle.ttx_packet.specs.PageHeader.{HasExactWords}
@@ -23,10 +23,10 @@ use Rattle.sub_rules.specs.Kept.{ErasesOrRepeats, IsOfSubtitle, IsRight}
 use Rattle.sub_rules.specs.Transmission.{EachPacket, IsRising, Transmission, first_frame}
 use Rattle.sub_rules.specs.Transmission.{last_frame, on_air_until}
 
--- ---- what is kept at ends
+-- ---- the page at ends
 
--- At the end of frame f each cell is right: where repeats may not keep, it shows what is due
--- (`LawOfRightCells`).
+-- At the end of frame f each cell is right. If repeats must not keep the page, it shows the due
+-- code (`LawOfRightCells`).
 abbrev pub IsWholePage : Bool → ProgrammeValue → PageIdValue → Transmission → ℕ → Type 0
 IsWholePage keeps programme page transmission f =
     (row column : ℕ)
@@ -38,8 +38,8 @@ abbrev pub HasEndedPage : PageIdValue → Transmission → ℕ → Type 0
 HasEndedPage page transmission f =
     IsFalse (is_open_after (kind page) (on_air_until transmission f))
 
--- What a cell may hold at the end of frame f: a space, or the code that is due there in that frame
--- or in one of the `within` frames before it, none of them before the first of the transmission.
+-- The allowed codes of a cell at the end of frame f: a space, or the code that is due there at that
+-- frame or at one of the `within` frames before it, not before the first frame of the transmission.
 abbrev pub IsDueWithin : ProgrammeValue → Transmission → OptionsValue → ℕ → ℕ → ℕ → ℕ → Type 0
 IsDueWithin programme transmission options f row column code =
     (code ≡ space)
@@ -49,8 +49,8 @@ IsDueWithin programme transmission options f row column code =
     × (f ≤ e + options.within)
     × (code ≡ cell (due_in programme e) row column))
 
--- At the end of each frame from a to b what is kept in each cell is a space, or was due there
--- within the frames that the options allow.
+-- At the end of each frame from a to b, each cell has a space or a code that was due there within
+-- the frames that the options allow.
 abbrev pub KeepsDueCodes :
     Bool → ProgrammeValue → Transmission → OptionsValue → ℕ → ℕ → Type 0
 KeepsDueCodes keeps programme transmission options a b =
@@ -63,12 +63,12 @@ KeepsDueCodes keeps programme transmission options a b =
 
 -- ---- the transmission
 
--- Rules 1 to 6 of `Good`, where repeats may keep or may not.
+-- Rules 1 to 6 of `Good`, for repeats that may or may not keep the page.
 pub record KeepsRulesBy
     (keeps : Bool) (programme : ProgrammeValue) (transmission : Transmission)
     (options : OptionsValue)
     : Type 0 where
-  -- 1, 2 and 3 as there.
+  -- 1, 2 and 3 as in `Good`.
   pub not_empty : 0 < length transmission
   pub rising : IsRising transmission
   pub whole : EachPacket (λ packet. length packet ≡ 42) transmission
@@ -76,8 +76,8 @@ pub record KeepsRulesBy
   pub lasts : IfSome (last_out programme.records) (λ tco. tco ≤ last_frame transmission)
   pub exact : EachPacket HasExactWords transmission
   pub serial : EachPacket (λ one. EachPacket (IsInOneMode one) transmission) transmission
-  -- 4. Each header of the page is a subtitle's. It erases the page; or, where repeats may keep, it
-  -- repeats it.
+  -- 4. Each header of the page has the control bits of a subtitle. It erases the page or, if
+  -- repeats may keep the page, repeats it.
   pub control : EachPacket (IsOfSubtitle programme.drawing.national options.page) transmission
   pub erases : IsFalse keeps → EachPacket (ErasesPage options.page) transmission
   pub keeping :
@@ -86,20 +86,20 @@ pub record KeepsRulesBy
       → n < length (on_air_until transmission f)
       → ErasesOrRepeats options.asks_complete options.page
       (take n (on_air_until transmission f)) (slice_index_or (on_air_until transmission f) n [])
-  -- 5. Since the last header that erases it, while the page is open, each row has odd parity and
-  -- stays as it is, and no packet X/25 to X/28 of its magazine comes.
+  -- 5. Since the last header that erases the page, while the page is open, each row has odd parity
+  -- and is repeated unchanged, and there is no packet X/25 to X/28 of its magazine.
   pub spans :
       (f n : ℕ)
       → f ≤ last_frame transmission
       → IsCleanSpan options.page
       (text_span keeps (kind options.page) (take n (on_air_until transmission f)))
-  -- 6 as there, and the pace.
+  -- 6 as in `Good`, and the pace.
   pub opens : HoldsHeader options.page transmission (first_frame transmission)
   pub repeats : Repeats options.page options.every transmission
   pub paced : KeepsPace options.pace transmission
 
--- Frame f is finished: at its end each cell is right and, where complete pages are asked for, the
--- page is not open.
+-- Frame f is finished: at its end each cell is right and, if complete pages are required, the page
+-- is not open.
 pub record IsFinishedBy
     (keeps : Bool) (programme : ProgrammeValue) (transmission : Transmission)
     (options : OptionsValue) (f : ℕ)
@@ -107,13 +107,12 @@ pub record IsFinishedBy
   pub whole : IsWholePage keeps programme options.page transmission f
   pub ended : IsTrue options.asks_complete → HasEndedPage options.page transmission f
 
--- Of the frames from a to b one at least is finished.
+-- At least one of the frames from a to b is finished.
 abbrev pub SomeFinishedBy : Bool → ProgrammeValue → Transmission → OptionsValue → ℕ → ℕ → Type 0
 SomeFinishedBy keeps programme transmission options a b =
     (f : ℕ) × (a ≤ f) × (f ≤ b) × IsFinishedBy keeps programme transmission options f
 
--- Of each `within` and one more frames from a to b that follow one another, one at least is
--- finished.
+-- Of any `within` + 1 consecutive frames from a to b, at least one is finished.
 abbrev pub FinishesAgainBy :
     Bool → ProgrammeValue → Transmission → OptionsValue → ℕ → ℕ → Type 0
 FinishesAgainBy keeps programme transmission options a b =
@@ -122,17 +121,17 @@ FinishesAgainBy keeps programme transmission options a b =
     → start + options.within ≤ b
     → SomeFinishedBy keeps programme transmission options start (start + options.within)
 
--- A good transmission of a programme, within as many frames as the options give, where repeats may
--- keep or may not.
+-- A good transmission of a programme, within as many frames as the options allow, with repeats that
+-- may or may not keep the page.
 pub record GoodBy
     (keeps : Bool) (programme : ProgrammeValue) (transmission : Transmission)
     (options : OptionsValue)
     : Type 0 where
-  -- 1 to 6.
+  -- Rules 1 to 6.
   pub rules : KeepsRulesBy keeps programme transmission options
-  -- 7. At each frame's end what is kept in a cell is a space, or was due there within these frames;
-  -- of each `within` and one more frames that follow one another one at least is finished, and of
-  -- the frames of each subtitle, and the last one is.
+  -- 7. At each frame's end, each cell has a space or a code that was due there within these frames.
+  -- Of any `within` + 1 consecutive frames at least one is finished; so is at least one of the
+  -- frames of each subtitle, and the last frame.
   pub codes :
       KeepsDueCodes keeps programme transmission options (first_frame transmission)
       (last_frame transmission)
@@ -144,22 +143,22 @@ pub record GoodBy
       programme.records
   pub ends : IsFinishedBy keeps programme transmission options (last_frame transmission)
 
--- Where repeats may not keep, rules 1 to 6 are those of `Good`.
+-- If repeats must not keep the page, rules 1 to 6 are those of `Good`.
 abbrev pub LawOfNoRepeats : Type 0
 LawOfNoRepeats =
     (programme : ProgrammeValue) (transmission : Transmission) (options : OptionsValue)
     → KeepsRulesBy false programme transmission options
     ↔ KeepsRules programme transmission options
 
--- What is good where repeats may not keep is good where they may.
+-- A transmission that is good if repeats must not keep the page is good if they may.
 abbrev pub LawOfMayKeep : Type 0
 LawOfMayKeep =
     (programme : ProgrammeValue) (transmission : Transmission) (options : OptionsValue)
     → GoodBy false programme transmission options
     → GoodBy true programme transmission options
 
--- What is good where they may, and has no header of the page that keeps it, is good where they may
--- not.
+-- A transmission that is good if repeats may keep the page, and in which every header of the page
+-- erases it, is good if they must not.
 abbrev pub LawOfNoneKeeps : Type 0
 LawOfNoneKeeps =
     (programme : ProgrammeValue) (transmission : Transmission) (options : OptionsValue)

@@ -1,4 +1,4 @@
--- A frame that PES packets are read as.
+-- A frame of a transmission.
 use Rattle.std.specs.Prelude.{◌≡◌, ℕ, ◌<◌, List, length}
 use Rattle.sub_rules.specs.FrameRules.{frame_at, packets_of_frame}
 use Rattle.sub_rules.specs.Transmission.{Transmission}

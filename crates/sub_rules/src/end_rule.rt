@@ -1,27 +1,28 @@
-//! The rules of a frame's end, which may stay broken from one frame to the next.
+//! The rules that are checked at the end of a frame and may stay broken from one frame to the next.
 ghost use Rattle.std.specs.Prelude.{◌≡◌};
 
 use sub_io::FaultCode;
 
-/// A rule that is asked at the end of each frame. Once it is broken it may stay so for some frames.
+/// A rule that is checked at the end of each frame. Once broken, it may stay broken for some
+/// frames.
 #[derive(Clone, Copy, Debug, PartialEq, Eq)]
 pub enum EndRule {
-    /// The page that is shown is the page that is due.
+    /// The page that is shown is the due page.
     Content,
-    /// A header of the page is not too long ago.
+    /// The last header of the page is not too long ago.
     Gap,
-    /// Where complete pages are asked for, the page is not open.
+    /// If complete pages are required, the page is not open.
     Incomplete,
-    /// It is known what is due: no subtitle is refused that may be due there.
+    /// The due page is known: no rejected subtitle may be due.
     Undecided,
-    /// Where a pace is asked for, a PES packet is not too long ago.
+    /// If a pace is required, the last PES packet is not too long ago.
     Silent,
 }
 
 impl EndRule {
     ghost use Rattle.sub_rules.specs.Fault.{rule_code};
 
-    /// The number and the name of the fault that tells where the rule is broken (own).
+    /// Returns the number and the name of the fault for a broken rule (own).
     pub fn code(self) -> FaultCode
         ensures { result ≡ rule_code self }
     {

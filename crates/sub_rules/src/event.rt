@@ -1,30 +1,30 @@
-//! What is told of a PES file, one event after another.
+//! The events that are reported for a PES file, in order.
 use crate::end_rule::EndRule;
 use crate::fault::CheckFault;
 
-/// What is told of a PES file that is checked: a rule that is broken, or one that is so no more;
-/// and frames that may stay on air as they are.
+/// An event of checking a PES file: a rule is broken, or no longer broken; or frames can stay on
+/// air unchanged.
 #[derive(Clone, Copy, Debug, PartialEq, Eq)]
 pub enum Event {
-    /// What is asked is broken here. A rule of a frame's end is told where it was not broken at the
-    /// end before, or, of the page's cells, not at this cell.
+    /// A rule is broken here. A rule of a frame's end is reported only if it was not broken at the
+    /// end before, or, for the contents of the page, not at this cell.
     Told(CheckFault),
-    /// A rule of a frame's end that was told stood broken up to here.
+    /// A rule of a frame's end that was reported stays broken up to here.
     Ended {
         /// The rule.
         rule: EndRule,
-        /// The last frame at whose end it stood broken.
+        /// The last frame at whose end it was broken.
         frame: u32,
     },
-    /// More than one PES packet was passed over, one directly after the other, for the fault that
-    /// was told of the first of them: this is that of the last.
+    /// Several consecutive PES packets were skipped for the fault that was reported for the first
+    /// of them. This is the fault of the last.
     PassedUntil(CheckFault),
-    /// These frames may stay as they are, whatever is broken elsewhere: in them nothing is told
-    /// that a receiver depends on, and the first one holds a header of the page.
+    /// These frames can stay on air unchanged, whatever is broken elsewhere: they have no fault
+    /// that affects receivers, and the first one has a header of the page.
     Trusted {
-        /// The first of them.
+        /// The first frame.
         from: u32,
-        /// The last of them.
+        /// The last frame.
         to: u32,
     },
 }

@@ -1,4 +1,4 @@
-//! Why a pair of files is refused, and where.
+//! Faults of a pair of files, with their places.
 ghost use Rattle.std.specs.Prelude.{◌≡◌, ◌≤◌, false, length, true};
 ghost use Rattle.sub_rules.specs.Fault.{coded_row, fault_row, rule_code, rule_row};
 ghost use Rattle.sub_rules.specs.declared.fault_place.FaultPlace.TheVariants.{Frame, Packet};
@@ -10,29 +10,29 @@ use stl_rows::{LoadFault, LoadFaultKind};
 use sub_io::FaultCode;
 use ttx_pes::PesFault;
 
-/// Why a pair of files is refused, and where, in the order of the manual's table of refusals.
+/// A fault of a pair of files, with its place, in the order of the manual's table of faults.
 ///
 /// `pes` counts PES packets from 0. `frame` is a frame of the day. `packet` counts from 0 among the
 /// Teletext units of its PES packet. `row` is 1 to 24, `column` 0 to 39.
 #[derive(Clone, Copy, Debug, PartialEq, Eq)]
 pub enum CheckFault {
-    /// The subtitle file is refused.
+    /// The subtitle file is rejected.
     Subtitles(LoadFault),
-    /// A PES packet is no PES packet with Teletext, or the source failed.
+    /// A PES packet is not a valid PES packet with Teletext, or the source failed.
     Pes {
         /// The PES packet.
         pes: u32,
-        /// What is wrong with it.
+        /// The fault of the packet.
         fault: PesFault,
     },
     /// There is no PES packet.
     Empty,
-    /// A PTS is that of no frame of the day.
+    /// A PTS does not belong to any frame of the day.
     OffFrame {
         /// The PES packet.
         pes: u32,
     },
-    /// A frame is not after the one before.
+    /// A frame does not come after the one before.
     Order {
         /// The PES packet.
         pes: u32,
@@ -42,14 +42,14 @@ pub enum CheckFault {
         /// The first frame.
         frame: u32,
     },
-    /// An address byte is no code word.
+    /// An address byte is not a code word.
     Address {
         /// The frame.
         frame: u32,
         /// The packet.
         packet: u32,
     },
-    /// One of the eight coded bytes of a packet X/0 is no code word.
+    /// One of the eight coded bytes of a packet X/0 is not a code word.
     HeaderCode {
         /// The frame.
         frame: u32,
@@ -63,8 +63,8 @@ pub enum CheckFault {
         /// The packet.
         packet: u32,
     },
-    /// A header of the page is no subtitle's: C4, C6 or C7 is clear, C5 or C10 is set, or C12 to
-    /// C14 are not those of the national option.
+    /// A header of the page does not have the control bits of a subtitle: C4, C6 or C7 is clear, C5
+    /// or C10 is set, or C12 to C14 are not those of the national option.
     Control {
         /// The frame.
         frame: u32,
@@ -78,14 +78,15 @@ pub enum CheckFault {
         /// The packet.
         packet: u32,
     },
-    /// A row of the open page differs from an earlier packet of it since the page's last header.
+    /// A row of the open page differs from an earlier packet of the row since the page's last
+    /// header.
     RowChanged {
         /// The frame.
         frame: u32,
         /// The packet.
         packet: u32,
     },
-    /// Packet X/25 to X/28 of the page's magazine, while the page is open.
+    /// A packet X/25 to X/28 of the page's magazine while the page is open.
     Enhancement {
         /// The frame.
         frame: u32,
@@ -97,9 +98,9 @@ pub enum CheckFault {
         /// The first frame.
         frame: u32,
     },
-    /// A cell of the page differs from the page that is due. Where frames are allowed within which
-    /// the page has to be whole, that is asked at an end by which it had to be; at another one a
-    /// cell shows a space, or a code that was due within these frames.
+    /// A cell of the page differs from the due page. If the page may take some frames to become
+    /// right, this is checked only at an end at which it must be right; at any other end, a cell
+    /// must have a space or a code that was due within these frames.
     Content {
         /// The frame.
         frame: u32,
@@ -108,32 +109,31 @@ pub enum CheckFault {
         /// The column.
         column: u8,
     },
-    /// As many frames as the repeat bound end here without a header of the page.
+    /// As many frames as the repeat bound, without a header of the page, end here.
     Gap {
         /// The last of these frames.
         frame: u32,
     },
-    /// Complete pages are asked for, and the page is open at the end of a frame: no header after
-    /// its last one has ended it. Where frames are allowed, only an end counts by which the page
-    /// had to be whole.
+    /// Complete pages are required, and the page is open at the end of a frame: no later header has
+    /// ended it. If the page may take some frames to become right, this is checked only at an end
+    /// at which it must be right.
     Incomplete {
         /// The frame.
         frame: u32,
     },
-    /// It is not known what is due, since a subtitle is refused beside which the transmission is
-    /// judged. Where frames are allowed within which the page has to be whole, also of what was due
-    /// within these frames.
+    /// The due page is unknown, since a subtitle was rejected. If the page may take some frames to
+    /// become right, also if the due page was unknown within these frames.
     Undecided {
         /// The frame.
         frame: u32,
     },
-    /// As many frames as the pace end here without a PES packet.
+    /// As many frames as the pace, without a PES packet, end here.
     Silent {
         /// The last of these frames.
         frame: u32,
     },
-    /// The last TCO is after the last frame. Where frames are allowed, also that the page was not
-    /// whole at the end of the last frame, before they were over.
+    /// The last TCO is after the last frame. If the page may take some frames to become right, also
+    /// if it is not right at the end of the last frame but still had time.
     Late {
         /// The last frame.
         frame: u32,
@@ -143,7 +143,7 @@ pub enum CheckFault {
 impl CheckFault {
     ghost use Rattle.sub_rules.specs.Fault.{check_code, fault_at_pes, place_of};
 
-    /// Its row.
+    /// Returns its row in the table.
     pub fn row(self) -> FaultRow
         ensures { result ≡ fault_row self }
     {
@@ -186,22 +186,22 @@ impl CheckFault {
         }
     }
 
-    /// The number and the name by which the fault is told (own).
+    /// Returns the number and the name of the fault in reports (own).
     pub fn code(self) -> FaultCode
         ensures { result ≡ check_code self }
     {
         self.row().code
     }
 
-    /// Where the fault is: at the PES packet or the TTI block of the file that it is of, and one of
-    /// a text at its place in it too; at a frame, a packet or a cell of the transmission.
+    /// Returns its place: the PES packet or the TTI block, for a text fault also the position in
+    /// the text; or a frame, a packet or a cell of the transmission.
     pub fn place(self) -> FaultPlace
         ensures { result ≡ place_of self }
     {
         self.row().place
     }
 
-    /// The same of this PES packet, where it names one.
+    /// Returns the fault with this PES packet as its place, if it has one.
     pub fn at_pes(self, pes: u32) -> CheckFault
         ensures { result ≡ fault_at_pes pes self }
     {
@@ -214,7 +214,7 @@ impl CheckFault {
     }
 }
 
-// The row of a fault of the subtitle file.
+// Returns the row of a fault of the subtitle file.
 fn load_row(fault: LoadFault) -> FaultRow
     ensures { result ≡ fault_row (CheckFault.Subtitles fault) }
 {
@@ -226,7 +226,7 @@ fn load_row(fault: LoadFault) -> FaultRow
     coded_row(fault.kind.code(), place, false)
 }
 
-// The row of a fault of a PES packet.
+// Returns the row of a fault of a PES packet.
 fn pes_row(pes: u32, fault: PesFault) -> FaultRow
     ensures { result ≡ fault_row (CheckFault.Pes pes fault) }
 {
@@ -236,7 +236,7 @@ fn pes_row(pes: u32, fault: PesFault) -> FaultRow
     }
 }
 
-// The row of a fault for which no PES packet is passed over.
+// Returns the row of a fault for which no PES packet is skipped.
 fn coded_row(code: FaultCode, place: FaultPlace, doubts: bool) -> FaultRow
     ensures { result ≡ coded_row code place doubts }
 {
@@ -255,7 +255,7 @@ fn rule_row(number: u8, name: &'static str, place: FaultPlace, doubts: bool) -> 
     coded_row(FaultCode::new(number, name), place, doubts)
 }
 
-// One of a packet, of a frame, or of a frame's end.
+// Returns the row of a fault of a packet.
 fn packet_row(number: u8, name: &'static str, frame: u32, packet: u32, doubts: bool) -> FaultRow
     requires { length name.now ≤ 16 }
     ensures { result ≡ rule_row number name.now (Packet frame packet) doubts }

@@ -1,9 +1,9 @@
-//! Where a fault is.
+//! Places of faults.
 
-/// Where an input is refused.
+/// The place of a fault.
 #[derive(Clone, Copy, Debug, PartialEq, Eq)]
 pub enum FaultPlace {
-    /// No place is told.
+    /// No place.
     Nowhere,
     /// A PES packet, counted from 0.
     Pes {
@@ -15,7 +15,7 @@ pub enum FaultPlace {
         /// The block.
         block: u32,
     },
-    /// A place in the text of a subtitle: a byte or a line, both counted from 0.
+    /// A position in the text of a subtitle: a byte or a line, both counted from 0.
     Text {
         /// The subtitle's last TTI block.
         block: u32,

@@ -1,29 +1,29 @@
-//! What is said of a fault beside what is wrong: one row for each.
+//! The properties of faults, one row for each.
 ghost use Rattle.std.specs.Prelude.{◌≡◌};
 ghost use Rattle.sub_rules.specs.Fault.{doubted_frame};
 
 use crate::fault_place::FaultPlace;
 use sub_io::FaultCode;
 
-/// A row of the table of faults of a pair of files: `CheckFault::row`.
+/// A row of the table of faults of a pair of files. Returned by `CheckFault::row`.
 #[derive(Drop)]
 pub struct FaultRow {
-    /// The number and the name by which the fault is told.
+    /// The number and the name of the fault in reports.
     pub code: FaultCode,
-    /// Where it is: at the PES packet or the TTI block of the file that it is of, and one of a text
-    /// at its place in it too; at a frame, a packet or a cell of the transmission.
+    /// Its place: the PES packet or the TTI block, for a text fault also the position in the text;
+    /// or a frame, a packet or a cell of the transmission.
     pub place: FaultPlace,
-    /// Whether a frame may not stay as it is where it is told, since receivers depend on what is
-    /// broken.
+    /// The fault affects receivers, so its frame cannot stay on air unchanged.
     pub doubts: bool,
-    /// Whether reading goes on behind the PES packet.
+    /// The PES packet is skipped, and reading continues after it.
     pub is_passed: bool,
 }
 
 impl FaultRow {
-    /// The first frame that may not stay as it is where the fault is told after a PES packet of
-    /// frame `last`: that of its place. What is told of a PES packet may have been sent in the last
-    /// one; and at a late end the page is not whole since the frame `late`.
+    /// Returns the first frame that cannot stay on air unchanged because of the fault, which is
+    /// reported after a PES packet of frame `last`: the frame of its place. The contents of a
+    /// faulty PES packet may belong to frame `last`. At a late end, the page has been wrong since
+    /// frame `late`.
     pub fn doubted(&self, last: u32, late: Option<u32>) -> Option<u32>
         ensures { result ≡ doubted_frame last late self.now.doubts self.now.place }
     {

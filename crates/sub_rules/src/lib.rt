@@ -1,10 +1,10 @@
-//! What is asked of a transmission, and what is told where it is broken.
+//! The requirements on a transmission, and the reports for one that breaks them.
 //!
-//! Stands on `ttx_page` for what packets show, on `stl_rows` for the due page, on `ttx_pes` for PES
-//! packets, and on `sub_plan` for the options. `specs/` says what a transmission is and how the
-//! bytes of a PES file are read as one, what a good one is, `Good`, and all that is told of one
-//! that is not good, in order, `Events`. The checker, the receiver that hears a file and the laws
-//! stand on it.
+//! Builds on `ttx_page` for what packets show, on `stl_rows` for the due page, on `ttx_pes` for PES
+//! packets, and on `sub_plan` for the options. `specs/` defines what a transmission is and how it
+//! is read from the bytes of a PES file, a good transmission, `Good`, and all events for any
+//! transmission in order, `Events`. The checker, the receiver of a file and the laws build on this
+//! crate.
 //!
 //! ```text
 //! next_piece(&mut reader, &mut source, &options, 0)?; // Some(Sent(Sending { frame: 250, .. }))

@@ -1,11 +1,12 @@
-//! The rules of a single packet, by name, and what they are asked of.
+//! The names of the rules for a single packet, and the parameters of checking.
 
 use stl_rows::National;
 use ttx_packet::PageId;
 
-/// What is asked of a packet, in the order in which it is looked at.
+/// The rules for a packet, in the order in which they are checked.
 ///
-/// The refusals of `check` from `Address` to `Enhancement` are of these; its contract names them.
+/// The faults of `check` from `Address` to `Enhancement` belong to these rules; its contract names
+/// them.
 #[derive(Clone, Copy, Debug, PartialEq, Eq)]
 pub enum PacketRule {
     /// Both address bytes are code words.
@@ -14,28 +15,27 @@ pub enum PacketRule {
     HeaderCode,
     /// All headers agree on C11.
     Mode,
-    /// A header of the page is a subtitle's.
+    /// A header of the page has the control bits of a subtitle.
     Control,
     /// A row of the open page has odd parity.
     Parity,
-    /// A row of the open page stays as it is.
+    /// A row of the open page is repeated unchanged.
     RowChanged,
-    /// No packet X/25 to X/28 comes while the page is open.
+    /// There is no packet X/25 to X/28 while the page is open.
     Enhancement,
 }
 
-/// The page that is watched, the national option that its headers have, and whether complete pages
-/// are asked for.
+/// The page to check, the national option of its headers, and whether complete pages are required.
 ///
-/// `check` makes it of the options and the programme; its contract names it.
+/// `check` derives it from the options and the programme; its contract names it.
 #[derive(Clone, Copy)]
 pub struct Watched {
     /// The page.
     pub page: PageId,
     /// Its national option.
     pub national: National,
-    /// Whether complete pages are asked for.
+    /// Complete pages are required.
     pub complete: bool,
-    /// Whether repeats may keep the page.
+    /// Repeats may keep the page.
     pub keeps: bool,
 }

@@ -1,4 +1,4 @@
-//! Pieces of a PES file, one after another: those that are sent, and those that are passed over.
+//! Reads a PES file one PES packet at a time, and skips those that are invalid.
 ghost use Rattle.std.specs.Prelude.{◌≡◌, ◌≢◌, ℕ, ◌+◌, ◌<◌, ◌≤◌, List, IfErr, IfOk, IsSome, Option};
 ghost use Rattle.std.specs.Prelude.{Ok, Some, false, true};
 ghost use Rattle.sub_io.specs.Device.{CanFail, CountsIf, failed};
@@ -20,26 +20,25 @@ use crate::sending::Sending;
 use sub_plan::Options;
 use ttx_pes::{Compared, ComparingReader, PesFault, Pieces};
 
-/// A piece of a PES file: it begins as a PES packet does, and is as long as its length field says
-/// (EN 300 472, PES_packet_length).
+/// The next PES packet of a file: a start code, and as many bytes as `PES_packet_length` gives (EN
+/// 300 472).
 #[derive(Clone, Copy, Debug, PartialEq, Eq)]
 pub enum NextPiece {
-    /// It is a PES packet, and its PTS is that of a frame of the day (EN 300 472, PTS).
+    /// The packet is valid, and its PTS is that of a frame of the day (EN 300 472, PTS).
     Sent(Sending),
-    /// It is none, or its PTS is not: its fault, `Pes` or `OffFrame`.
+    /// The packet is skipped: it is invalid (`Pes`), or its PTS is that of no frame (`OffFrame`).
     Passed(CheckFault),
 }
 
-/// Reads the next piece, the one of this number from 0, and goes on after one that is passed over:
-/// `None` where nothing is left.
+/// Reads PES packet number `pes`, counted from 0. Returns `None` at the end of the file.
 ///
-/// The reader lends what was read. After a piece that is passed over `again` says nothing of what
-/// was sent before it.
+/// The contents of the packet stay in `reader`, which lends them. After a skipped packet, ignore
+/// `again`: it may refer to the skipped one.
 ///
 /// # Errors
 ///
-/// `Pes` with the fault of bytes that are no piece: `Truncated`, `Start`, `Length` or `TooMany`;
-/// `Read` where the source failed.
+/// Returns `Pes` with `Truncated`, `Start`, `Length` or `TooMany` if the bytes are no PES packet,
+/// and with `Read` if the source fails.
 #[inline(always)]
 pub fn next_piece<P: Pieces>(
     reader: &mut ComparingReader,
@@ -54,36 +53,36 @@ pub fn next_piece<P: Pieces>(
         → IfKnown (P.remaining source.old) (λ bytes. failed is_pes_read result ≡ false
         → ReadsPieces (clock_of options.now) pes bytes pieces unread
         → TellsPiece (clock_of options.now) pes bytes pieces unread reader.new.frame result) }
-    // Exactly the bytes of the piece were taken.
+    // Consumes exactly the bytes of the packet.
     ensures taken { OnPiece result (TakesOnePiece (P.remaining source.old)
         (P.remaining source.new)) }
-    // Where it is sent, they are a PES packet of the grammar.
+    // The bytes of a valid packet match the grammar.
     ensures sent { IfSent result (λ _. TakesPesPacket (P.remaining source.old)
         (P.remaining source.new) reader.new.frame) }
     ensures left { IfKnown (P.remaining source.old) (λ bytes.
         OnPiece result (P.remaining source.new ≡ Some (behind_piece bytes))) }
     ensures progress { OnPiece result (reader.new.progress ≡ Reading (pes + 1)) }
-    // More than a day has frames are refused.
+    // Rejects more packets than a day has frames.
     ensures below { OnPiece result (pes < most_packets) }
-    // What is sent again is what was sent before.
+    // If `again` is set, the data units are those of the packet before.
     ensures again { IfSent result (λ sending. sending.again ≡ true
         → reader.new.frame.units ≡ reader.old.frame.units) }
-    // What is not has another data field than what was sent before.
+    // Otherwise the data field differs from that of the packet before.
     ensures other { IfSent result (λ sending. sending.again ≡ false
         → reader.new.data_field ≢ reader.old.data_field) }
     ensures day { IfSent result (λ sending. sending.frame < day) }
     ensures own { failed is_subtitle_fault result ≡ false }
-    // None is passed over where the source failed.
+    // A failing source never counts as an invalid packet.
     ensures passed { (fault : CheckFault) → result ≡ Ok (Some (NextPiece.Passed fault))
         → (is_pes_read fault ≡ false) × (is_subtitle_fault fault ≡ false) }
-    // That the source failed is told at this piece, within which it failed.
+    // A failure of the source is reported for the packet in which it happened.
     ensures place { IfErr result (λ f. is_pes_read f ≡ true
         → f ≡ CheckFault.Pes pes PesFault.Read) }
     ensures within { IfErr result (λ f. is_pes_read f ≡ true
         → FailsWithin (P.remaining source.old) (P.left source.new)) }
-    // Nothing behind a piece that was taken was read.
+    // Reads nothing beyond the packet.
     ensures settled { OnPiece result (P.left source.new ≡ P.remaining source.new) }
-    // Where the source asks no device for it, it does not fail.
+    // Cannot fail if no device has to be called for the packet.
     ensures ready { P.ready source.old ≡ true → failed is_pes_read result ≡ false }
     ensures device { P.device source.new ≡ P.device source.old }
     ensures count { CountsIf P.failure_count source.old (failed is_pes_read result) source.new }
@@ -102,7 +101,7 @@ pub fn next_piece<P: Pieces>(
     }
 }
 
-// The piece that a PES packet of this PTS and this number is.
+// Converts a PTS to a frame; the packet is skipped if there is none.
 fn piece_of(pts: u64, options: &Options, pes: u32, again: bool) -> NextPiece
     ensures exact { (v : PesValue) (bytes : List ℕ) (pieces : List Piece) (unread : Option Unread)
         → v.pts ≡ pts → pes ≤ most_packets → answer_at pes bytes ≡ Ok (Some v)

@@ -1,19 +1,19 @@
-//! Sendings, as they are read of a PES file: one for each PES packet.
+//! The PES packets of a file with their frames.
 ghost use Rattle.std.specs.Prelude.{◌≡◌, ◌≤◌, length};
 ghost use Rattle.ttx_pes.specs.PesPacket.{IsPesValue, most_units};
 
 use ttx_pes::{ComparingReader, SentUnits};
 
-/// What is sent in a frame: the packets of one PES packet.
+/// A PES packet with its frame.
 #[derive(Clone, Copy, Debug, PartialEq, Eq)]
 pub struct Sending {
     /// The frame of the day.
     pub frame: u32,
-    /// Its packets are those of the PES packet before, byte for byte.
+    /// Its Teletext packets repeat those of the PES packet before, byte for byte.
     pub again: bool,
 }
 
-/// The Teletext units of the PES packet that was read last, in the bytes that carry them.
+/// Returns the Teletext units of the PES packet that was read last, borrowed from its bytes.
 pub fn units_of(reader: &ComparingReader) -> SentUnits<'_>
     ensures value { result ≡ reader.now.frame.units }
     ensures few { length result ≤ most_units }

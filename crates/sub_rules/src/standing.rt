@@ -1,27 +1,27 @@
-//! What of the rules of a frame's end stands broken.
+//! The rules that are broken at a frame's end.
 ghost use Rattle.std.specs.Prelude.{◌≡◌, ◌↔◌, IsTrue};
 ghost use Rattle.sub_rules.specs.Events.{broken_at, nothing_stands, whole_frame};
 ghost use Rattle.sub_rules.specs.Trusted.{stands_none};
 
 use crate::end_rule::EndRule;
 
-/// What of the rules of a frame's end stands broken.
+/// The active faults: the rules that are broken at a frame's end.
 #[derive(Drop)]
 pub struct Standing {
-    /// The first cell that is wrong, by its row and column.
+    /// The row and column of the first wrong cell.
     pub content: Option<(u8, u8)>,
-    /// A header of the page is too long ago.
+    /// The last header of the page is too long ago.
     pub gap: bool,
-    /// Complete pages are asked for, and the page is open.
+    /// Complete pages are required, and the page is open.
     pub incomplete: bool,
-    /// It is not known what is due, since a subtitle is refused.
+    /// The due page is unknown, since a subtitle was rejected.
     pub undecided: bool,
-    /// A PES packet is too long ago.
+    /// The last PES packet is too long ago.
     pub silent: bool,
 }
 
 impl Standing {
-    /// Nothing stands broken.
+    /// Returns the state without active faults.
     pub fn none() -> Self
         ensures { result ≡ nothing_stands }
     {
@@ -34,19 +34,19 @@ impl Standing {
         }
     }
 
-    /// Whether nothing stands broken.
+    /// Returns whether there is no active fault.
     #[inline(always)]
     #[tactic(auto, unfolding(crate::specs::Events::end_rules))]
     pub fn has_none(&self) -> bool
         ensures is_none { IsTrue result ↔ (self.now ≡ nothing_stands) }
         ensures none { result ≡ stands_none self.now }
     {
-        // One test for all, since it is asked at each end.
+        // A single test without branches, since it runs at each end.
         self.content.is_none() & !self.gap & !self.incomplete & !self.undecided & !self.silent
     }
 
-    /// Where a rule stands broken, if it does: at its first wrong cell, or, where it is one of the
-    /// whole frame, at no cell: row 0, column 0.
+    /// Returns the place at which a rule is broken, if it is: the first wrong cell, or row 0 and
+    /// column 0 for a rule about the whole frame.
     pub fn at(&self, rule: EndRule) -> Option<(u8, u8)>
         ensures { result ≡ broken_at rule self.now }
     {
@@ -60,7 +60,7 @@ impl Standing {
     }
 }
 
-// A rule of the whole frame is broken, or it is not.
+// Returns the place of a rule about the whole frame, if it is broken.
 fn whole_frame(is_broken: bool) -> Option<(u8, u8)>
     ensures { result ≡ whole_frame is_broken }
 {
