@@ -1,4 +1,4 @@
--- Where at most 14 packets in a row are gone, `law_of_reading` says which PES packets arrive:
+-- If at most 14 packets in a row are missing, `law_of_reading` says which PES packets arrive:
 -- `law_of_losses`, `law_of_neighbours`.
 use Rattle.std.proofs.Common.{◌≡◌, ℕ, inl, inr, Bool, true, false, ◌||◌, List, [], ◌∷◌, ◌++◌}
 use Rattle.std.proofs.Common.{length, refl, sym, ap, ◌∙◌}
@@ -17,19 +17,19 @@ use Rattle.recording_laws.proofs.ReadingLemmas.{is_held}
 use Rattle.recording_laws.proofs.ReadingLemmas.{Located, located, sent-next, skip}
 use Rattle.std.specs.Bool.{⊤}
 
--- A PES packet that is skipped is a gap.
+-- A skipped PES packet is a gap.
 skip-gap : (held : Held) (s : SentPes Fated)
     → (is_held (skip held s) ≡ is_held held) × (is_gap (skip held s) ≡ true)
 skip-gap Nothing s = (refl, refl)
 skip-gap Marked s = (refl, refl)
 skip-gap (After x t between skipped) s = (refl, refl)
 
--- Marks alone.
+-- Gap markers alone.
 concat-alone : (marked : Bool) → concat (marks_where marked) ≡ mark_where marked
 concat-alone true = append-nil (mark_where true)
 concat-alone false = refl
 
--- Pieces that are read where few are gone are those that arrive.
+-- If few packets are missing, the PES packets that are read are those that arrive.
 reads-lead : (held : Held) (sent : List (SentPes Fated)) (pieces : List (List ℕ))
     → Reads true held sent pieces
     → Leads (is_held held) (is_gap held) sent (concat pieces)
@@ -53,14 +53,13 @@ reads-lead held (s ∷ more) pieces reads = elim reads [
       (reads-lead (After here.1 s (length s.others) false) more here.2 here.6)
 ]
 
--- What is carried where few are gone.
+-- What is carried then.
 given-few : (number distance : ℕ) (m : Multiplex Fated) (recording : List ℕ)
     → IsLossy number distance m recording
     → Gives true Nothing m.sent (carried number distance recording)
 given-few number distance m recording h =
     law_of_reading number distance true m recording h.losses (λ e. h.few) (λ e. absurd (cc e))
 
--- The law of losses.
 pub law_of_losses : LawOfLosses
 law_of_losses number distance m recording h = record {
   is_marked = leads.is_marked;
@@ -76,7 +75,6 @@ law_of_losses number distance m recording h = record {
         leads-ungiven true false m.sent (concat gives.pieces)
         (reads-lead Nothing m.sent gives.pieces gives.reads)
 
--- The law of neighbours.
 pub law_of_neighbours : LawOfNeighbours
 law_of_neighbours number distance m recording before [] behind h each joined none =
     ([], sent_bytes m.sent, refl)

@@ -1,4 +1,4 @@
--- What a part gives that begins as a PES packet does, whatever was joined to its first packet. Main
+-- The result of a part that begins like a PES packet, whatever was joined to its first packet. Main
 -- lemma: closes-front.
 use Rattle.std.proofs.Common.{◌≡◌, ℕ, ◌≤◌, ◌⊎◌, inl, inr, Bool, true, false, not, ◌&&◌, ◌||◌, List}
 use Rattle.std.proofs.Common.{[], ◌∷◌, ◌++◌, length, take, drop, Ok, sym, ap, ◌∙◌, arith, nat_le}
@@ -19,18 +19,17 @@ use Rattle.recording_laws.specs.Pace.{up_to_pts}
 use Rattle.recording_laws.proofs.ClosedPartLemmas.{Closes, closes-broken, closes-piece}
 use Rattle.recording_laws.proofs.PartLemmas.{piece-long, piece-size}
 
--- ---- bytes that begin as others do
+-- ---- bytes with the same beginning
 
--- The front of a front.
 take-less : (n m : ℕ) (l : List ℕ) → n ≤ length (take m l) → take n (take m l) ≡ take n l
 take-less n m l h =
     sym (take-append-le n (take m l) (drop m l) h) ∙ ap (take n) (take-append-drop m l)
 
--- It is short enough.
+-- It is long enough.
 front-long : (n m : ℕ) (l : List ℕ) → n ≤ m → m ≤ length l → n ≤ length (take m l)
 front-long n m l less long = omega (arith, length-take m l)
 
--- Bytes that are the same up to a PTS are the same in their first six.
+-- Bytes that agree up to a PTS agree in the first six.
 pub same-six : (a b : List ℕ)
     → 14 ≤ length a
     → 14 ≤ length b
@@ -41,12 +40,12 @@ same-six a b long_a long_b same =
     ∙ ap (take 6) same
     ∙ take-less 6 14 b (front-long 6 14 b (omega arith) long_b)
 
--- The first six bytes of a piece.
+-- The first six bytes of a PES packet.
 piece-six : (b : List ℕ) (h : IsPiece b)
     → take 6 b ≡ packet_start ++ bytes_high_first 2 (packet_length h.n)
 piece-six b h = ap (take 6) h.bytes
 
--- Bytes with these, as long as the piece, are a piece.
+-- Bytes with these, as long as the PES packet, are one.
 piece-as : (b x : List ℕ)
     → IsPiece b
     → take 6 x ≡ take 6 b
@@ -60,9 +59,9 @@ piece-as b x h six long = record {
   long = long ∙ h.long;
 }
 
--- ---- parts that begin as a PES packet does
+-- ---- parts that begin like a PES packet
 
--- The part begins as the PES packet does, up to its PTS.
+-- The part begins like the PES packet, up to its PTS.
 pub record IsFront (part : Part) (s : SentPes Fated) : Type 0 where
   pub begins : part.begins ≡ true
   pub long : 14 ≤ length (part_bytes part)
@@ -73,11 +72,11 @@ pub record IsFront (part : Part) (s : SentPes Fated) : Type 0 where
 abbrev pub given_bytes : Part → SentPes Fated → List ℕ
 given_bytes part s = take (length s.bytes) (part_bytes part)
 
--- More bytes stand behind them.
+-- More bytes follow them.
 abbrev pub is_longer : Part → SentPes Fated → Bool
 is_longer part s = nat_lt (length s.bytes) (length (part_bytes part))
 
--- Its size is told.
+-- Its size is known.
 front-size : (part : Part) (s : SentPes Fated)
     → IsFront part s
     → size_at (take 6 (part_bytes part)) ≡ Ok (length s.bytes)
@@ -86,7 +85,7 @@ front-size part s h =
     ap size_at (same-six (part_bytes part) s.bytes h.long (omega (arith, long)) h.same)
     ∙ piece-size s.bytes h.is_piece
 
--- Where all of it is there, it gives a piece.
+-- If all of it is there, it gives a PES packet.
 outcome-front : (cut_off : Bool) (part : Part) (s : SentPes Fated)
     → IsFront part s
     → nat_le (length s.bytes) (length (part_bytes part)) ≡ true
@@ -98,7 +97,7 @@ outcome-front cut_off part s h enough =
     let long = h.long in grind (arith, nat_tests) in
     rw (h.begins, six, size, enough)
 
--- Else it is not whole.
+-- Otherwise it is incomplete.
 outcome-short : (cut_off : Bool) (part : Part) (s : SentPes Fated)
     → IsFront part s
     → nat_le (length s.bytes) (length (part_bytes part)) ≡ false
@@ -110,7 +109,7 @@ outcome-short cut_off part s h short =
     let long = h.long in grind (arith, nat_tests) in
     rw (h.begins, six, size, short)
 
--- The piece begins as the PES packet does.
+-- The result begins like the PES packet.
 given-front : (part : Part) (s : SentPes Fated)
     → IsFront part s
     → nat_le (length s.bytes) (length (part_bytes part)) ≡ true
@@ -132,7 +131,7 @@ given-front part s h enough = (long, front)
         take-less 14 (length s.bytes) (part_bytes part) (omega (arith, size, long))
         ∙ h.same
 
--- It is a piece.
+-- It is a PES packet.
 given-piece : (part : Part) (s : SentPes Fated)
     → IsFront part s
     → nat_le (length s.bytes) (length (part_bytes part)) ≡ true
@@ -145,10 +144,10 @@ given-piece part s h enough =
     (same-six (given_bytes part s) s.bytes (omega (arith, size, same)) (omega (arith, size)) is.1)
     is.0
 
--- ---- what it gives
+-- ---- its result
 
--- It gives a piece that begins as the PES packet does, and is it where the part has no other bytes;
--- or nothing, and there is a gap.
+-- It gives a PES packet that begins like this one, and equals it if the part has no other bytes; or
+-- nothing, and there is a gap.
 pub record ClosesGiven (part : Part) (given gap : Bool) (s : SentPes Fated) : Type 0 where
   pub piece : List ℕ
   pub longer : Bool

@@ -1,4 +1,4 @@
--- What a recording carries of carriers of which some are lost: the good packets of what is left.
+-- What a recording carries of carriers some of which are lost: the good packets of what is left.
 -- Main lemma: carried-left.
 use Rattle.std.proofs.Common.{◌≡◌, ℕ, ◌+◌, ◌%◌, ◌≤◌, ◌⊎◌, inl, inr, Bool, true, false, ◌||◌, ◌==◌}
 use Rattle.std.proofs.Common.{List, [], ◌∷◌, ◌++◌, length, length-append, map, None, refl, ap, ◌∙◌}
@@ -29,21 +29,21 @@ use Rattle.recording_laws.proofs.RecordingLemmas.{noted, notes-units}
 
 -- ---- the recording
 
--- Where no unit was sent none is left.
+-- If no unit was sent, none is left.
 none-left : (fs : List Fated)
     → map (λ (f : Fated). f.unit) fs ≡ []
     → units_left fs ≡ []
 none-left [] none = refl
 none-left (f ∷ fs) none = absurd (cc)
 
--- What is left of a unit is one.
+-- What is left of a unit is a unit.
 spoiled-unit : (distance number : ℕ) (unit other : List ℕ)
     → IsRecordedUnit distance unit
     → IsSpoiled distance number unit other
     → IsRecordedUnit distance other
 spoiled-unit distance number unit other h1 h2 = grind (arith, nat_tests)
 
--- Units in front of those that are left.
+-- A unit before those that are left.
 left-unit : (distance number : ℕ) (unit : List ℕ) (fate : Fate) (sent left : List (List ℕ))
     → IsFate distance number unit fate
     → IsRecordedUnit distance unit
@@ -54,7 +54,7 @@ left-unit : (distance number : ℕ) (unit : List ℕ) (fate : Fate) (sent left :
 left-unit distance number unit fate sent left h1 h2 h3 h4 h5 =
     grind (arith, nat_tests, spoiled-unit)
 
--- The units that are left are those of a recording.
+-- The remaining units are those of a recording.
 left-units : (distance number : ℕ) (fs : List Fated)
     → AreRecordedUnits distance (map (λ (f : Fated). f.unit) fs)
     → AllByRecursion (λ (f : Fated). IsFate distance number f.unit f.fate) fs
@@ -69,7 +69,7 @@ length-left_of : (distance number : ℕ) (unit : List ℕ) (fate : Fate)
     → length (concat (recorded_of unit fate)) ≤ length unit
 length-left_of distance number unit fate h1 = grind (arith, nat_tests, length-append)
 
--- Nor are all.
+-- Nor is the whole.
 length-left : (distance number : ℕ) (fs : List Fated)
     → AllByRecursion (λ (f : Fated). IsFate distance number f.unit f.fate) fs
     → length (concat (units_left fs)) ≤ length (concat (map (λ (f : Fated). f.unit) fs))
@@ -84,7 +84,7 @@ length-left distance number (f ∷ fs) fates =
       length-append (concat (recorded_of f.unit f.fate)) (concat (units_left fs)),
     )
 
--- What is noted of the units that are left.
+-- The notes of the remaining units.
 notes-left : (distance number : ℕ) (fs : List Fated)
     → flat_map (λ u. noted number (packet_in distance u)) (units_left fs)
     ≡ flat_map (heard_left distance number) fs
@@ -92,7 +92,7 @@ notes-left distance number [] = grind (arith, nat_tests)
 notes-left distance number (f ∷ fs) =
     grind (arith, nat_tests, flat_map-append, noted, heard_left, (notes-left distance number fs))
 
--- ---- what is known of each unit
+-- ---- the facts about each unit
 
 -- What is left of a PES packet, whether it arrives or not.
 pub record IsLeftPes (distance number : ℕ) (s : SentPes Fated) : Type 0 where
@@ -103,7 +103,7 @@ pub record IsLeftPes (distance number : ℕ) (s : SentPes Fated) : Type 0 where
       concat (map (λ c. payload (sent_packet distance c.packet)) (carriers_of_pes s)) ≡ s.bytes
 
 module _ (distance number : ℕ) where
-  -- What became of each.
+  -- What became of each unit.
   all-left : (fs : List Fated)
       → AreRecordedUnits distance (map (λ (f : Fated). f.unit) fs)
       → AllByRecursion (λ (f : Fated). IsFate distance number f.unit f.fate) fs
@@ -115,7 +115,7 @@ module _ (distance number : ℕ) where
     all-left fs each.2 fates.1 none.1,
   )
 
-  -- Of two lists, of the first,
+  -- In a joined list, of the first part,
   all-first : (xs ys : List Fated)
       → AllByRecursion (IsLeft distance number) (xs ++ ys)
       → AllByRecursion (IsLeft distance number) xs
@@ -129,7 +129,7 @@ module _ (distance number : ℕ) where
   all-second [] ys each = each
   all-second (x ∷ xs) ys each = all-second xs ys each.1
 
-  -- A carrier of which this is known.
+  -- A carrier with these facts.
   left-carrier : (first : Bool) (c : Carrier Fated)
       → IsCarrier (sent_packet distance) number first c
       → AllByRecursion (IsLeft distance number) (items_of_carrier c)
@@ -199,7 +199,7 @@ module _ (distance number : ℕ) where
 
   -- ---- counters
 
-  -- No jump is announced in these.
+  -- They announce no jump.
   none-announced : (fs : List Fated)
       → AllByRecursion (IsLeft distance number) fs
       → list_any (λ f. announces number (sent_packet distance f)) fs ≡ false
@@ -213,7 +213,7 @@ module _ (distance number : ℕ) where
   next-number : (a b j : ℕ) → a ≡ j % 16 → (b == (a + 1) % 16) ≡ true → b ≡ (j + 1) % 16
   next-number a b j first on = grind (arith, nat_tests)
 
-  -- Where no jump is announced the counter is the next.
+  -- Without an announced jump the counter is the next.
   next-rises : (c d : Carrier Fated) (j : ℕ)
       → IsSomeLeft distance number c
       → IsSomeLeft distance number d
@@ -236,7 +236,7 @@ module _ (distance number : ℕ) where
     ]
   ]
 
-  -- The counters rise behind a carrier.
+  -- The counters rise after a carrier.
   next-rising : (c : Carrier Fated) (cs : List (Carrier Fated)) (j : ℕ)
       → IsSomeLeft distance number c
       → AllByRecursion (IsSomeLeft distance number) cs
@@ -248,7 +248,7 @@ module _ (distance number : ℕ) where
       let second = next-rises c d j left_c each.0 next.0 first in
       (second, next-rising d cs (j + 1) each.0 each.1 next.1 second)
 
-  -- The number of the first carrier.
+  -- The counter of the first carrier.
   pub first_counter : List (Carrier Fated) → ℕ
   first_counter [] = 0
   first_counter (c ∷ cs) = counter (sent_packet distance c.packet)
@@ -257,7 +257,7 @@ module _ (distance number : ℕ) where
   counter-number : (a : ℕ) → a % 16 ≡ (15 + a % 16 + 1 + 0) % 16
   counter-number a = omega arith
 
-  -- The counters of all rise from there on.
+  -- All counters rise from there.
   all-rising : (cs : List (Carrier Fated))
       → AllByRecursion (IsSomeLeft distance number) cs
       → AreInSequence (sent_packet distance) number cs
@@ -271,16 +271,16 @@ module _ (distance number : ℕ) where
             first,
       )
 
--- ---- what is known where units are missing or wrong
+-- ---- the facts if units are missing or damaged
 
 module _ (distance number : ℕ) (m : Multiplex Fated) (recording : List ℕ) where
-  -- The units,
+  -- For the units,
   all-units : AreLosses number distance m recording
       → AllByRecursion (IsLeft distance number) (items_of_multiplex m)
   all-units h =
       all-left distance number (items_of_multiplex m) h.is_recording.each h.fates h.no_jump
 
-  -- the PES packets,
+  -- for the PES packets,
   pub all-pes : AreLosses number distance m recording
       → AllByRecursion (IsLeftPes distance number) m.sent
   all-pes h =
@@ -288,7 +288,7 @@ module _ (distance number : ℕ) (m : Multiplex Fated) (recording : List ℕ) wh
       (all-second distance number m.lead (flat_map items_of_carrier (carriers_of m.sent))
       (all-units h))
 
-  -- and that their counters rise.
+  -- and their counters rise.
   pub pes-rising : AreLosses number distance m recording
       → AreRising distance number (15 + first_counter distance number (carriers_of m.sent) + 1 + 0)
       (carriers_of m.sent)
@@ -310,7 +310,7 @@ module _ (distance number : ℕ) (m : Multiplex Fated) (recording : List ℕ) wh
         omega arith;
   }
 
-  -- What is carried is what the carriers give.
+  -- What is carried follows from the carriers.
   pub carried-left : AreLosses number distance m recording
       → carried number distance recording
       ≡ with_marks false false

@@ -1,4 +1,4 @@
--- What is noted of a carrier's items, and the good packet that it is. Main lemma: good-carrier.
+-- The notes of a carrier's items, and its good packet. Main lemma: good-carrier.
 use Rattle.std.proofs.Common.{◌≡◌, ℕ, ◌+◌, ◌%◌, ◌<◌, inl, inr, Bool, true, false, ◌||◌, ◌==◌, List}
 use Rattle.std.proofs.Common.{[], ◌∷◌, ◌++◌, Option, Some, refl, sym, ap, ◌∙◌}
 use Rattle.std.proofs.Common.{arith, append_assoc}
@@ -17,7 +17,7 @@ use Rattle.recording_laws.specs.Multiplex.{is_quiet}
 use Rattle.recording_laws.specs.Multiplex.{carries, announces, items_of_carrier, AreNextCarriers}
 use Rattle.recording_laws.proofs.RecordingLemmas.{noted}
 
--- What is known after a quiet packet.
+-- The state after a packet without payload.
 abbrev pub since_quiet : Since → Bool → Since
 since_quiet since jump = record since { has_jump = since.has_jump || jump }
 
@@ -25,12 +25,12 @@ since_quiet since jump = record since { has_jump = since.has_jump || jump }
 since_quiet-none : (since : Since) → since_quiet since false ≡ since
 since_quiet-none since = grind (arith, nat_tests)
 
--- Of two announcements one is enough.
+-- Two announcements count as one.
 since_quiet-twice : (since : Since) (a b : Bool)
     → since_quiet (since_quiet since a) b ≡ since_quiet since (a || b)
 since_quiet-twice since a b = grind (arith, nat_tests)
 
--- A quiet packet.
+-- A packet without payload.
 pub good-quiet : (number : ℕ) (since : Since) (p : List ℕ) (ns : List Note)
     → is_quiet number p ≡ true
     → good_after since (noted number p ++ ns)
@@ -56,13 +56,13 @@ pub good-repeat : (number : ℕ) (since : Since) (p : List ℕ) (ns : List Note)
 unfolding good_after
 good-repeat number since p ns carried again = grind (arith, nat_tests)
 
--- What was sent again is the repeat of the packet before it.
+-- A packet that was sent again is the repeat of the packet before it.
 pub is_repeat-again : (number : ℕ) (p q : List ℕ)
     → IsRepetition number p q
     → is_repeat (nothing_since (Some p)) q ≡ true
 is_repeat-again number p q h = grind (arith, nat_tests, h.same, h.jump)
 
--- Two packets that are the same have the same counter.
+-- Equal packets have the same counter.
 pub counter-same : (p q : List ℕ) → is_same p q ≡ true → counter p ≡ counter q
 counter-same p q h1 = grind (arith, nat_tests, bytes_eq-Decides, get_or-take)
 
@@ -70,16 +70,16 @@ counter-same p q h1 = grind (arith, nat_tests, bytes_eq-Decides, get_or-take)
 next-counter : (c : ℕ) → c < 16 → (c == (c + 1) % 16) ≡ true → ⊥
 next-counter c small e = grind (arith, nat_tests)
 
--- A packet with the next counter is another.
+-- A packet with the next counter is another one.
 pub not-same : (p q : List ℕ) → counts_on p q ≡ true → is_same p q ≡ false
 not-same p q h1 = grind (arith, nat_tests, counter-same, next-counter)
 
 module _ {A : Type 0} (packet_of : A → List ℕ) (number : ℕ) where
-  -- What is noted of an item.
+  -- The note of an item.
   abbrev pub heard : A → List Note
   heard x = noted number (packet_of x)
 
-  -- What is known after a carrier, where nothing of it is lost.
+  -- The state after a carrier without losses.
   abbrev pub since_carrier : Carrier A → Since
   since_carrier c = record {
     good = Some (packet_of c.packet);
@@ -89,7 +89,7 @@ module _ {A : Type 0} (packet_of : A → List ℕ) (number : ℕ) where
     has_hole = false;
   }
 
-  -- Quiet items.
+  -- Items without payload.
   pub good-quiets : (since : Since) (xs : List A) (ns : List Note)
       → AllByRecursion (λ x. is_quiet number (packet_of x) ≡ true) xs
       → good_after since (flat_map heard xs ++ ns)
@@ -105,7 +105,7 @@ module _ {A : Type 0} (packet_of : A → List ℕ) (number : ℕ) where
       ∙ good-quiets (since_quiet since one) xs ns quiet.1
       ∙ ap (λ (s : Since). good_after s ns) (since_quiet-twice since one others)
 
-  -- Quiet items that announce nothing.
+  -- Items without payload that announce nothing.
   pub good-silent : (since : Since) (xs : List A) (ns : List Note)
       → AllByRecursion (λ x. is_quiet number (packet_of x) ≡ true) xs
       → AllByRecursion (λ x. announces number (packet_of x) ≡ false) xs
@@ -177,7 +177,7 @@ module _ {A : Type 0} (packet_of : A → List ℕ) (number : ℕ) where
       ≡ false
   next-unbroken c d h1 = grind (arith, nat_tests)
 
-  -- and within a PES packet it follows.
+  -- and within a PES packet it continues it.
   pub next-follows : (c d : Carrier A)
       → IsNextCarrier packet_of number c d
       → begins (packet_of d.packet) ≡ false
@@ -193,7 +193,7 @@ module _ {A : Type 0} (packet_of : A → List ℕ) (number : ℕ) where
   abbrev pub IsSomeCarrier : Carrier A → Type 0
   IsSomeCarrier c = (first : Bool) × IsCarrier packet_of number first c
 
-  -- They are those that are found, behind a carrier.
+  -- They are those that are found after a carrier.
   pub good-carriers : (c : Carrier A) (more : List (Carrier A))
       → AllByRecursion IsSomeCarrier more
       → AreNextCarriers packet_of number c more

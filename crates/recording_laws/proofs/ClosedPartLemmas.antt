@@ -1,4 +1,4 @@
--- What a part that is closed gives, whatever follows it. Main lemmas: closes-piece, closes-broken.
+-- The result of a closed part, whatever follows it. Main lemmas: closes-piece, closes-broken.
 use Rattle.std.proofs.Common.{◌≡◌, ℕ, ◌<◌, ◌≤◌, inl, inr, Bool, true, false, not, ◌&&◌, ◌||◌, List}
 use Rattle.std.proofs.Common.{[], ◌∷◌, ◌++◌, length, length-append, take, Ok, refl, sym, ap, ◌∙◌}
 use Rattle.std.proofs.Common.{arith, append_assoc, nat_le}
@@ -13,19 +13,19 @@ use Rattle.mpeg_ts.specs.Parts.{Gap, PartOutcome, Part, Pes, part_bytes, gap_whe
 use Rattle.mpeg_ts.specs.Parts.{outcome, outcomes, parts_from, with_packet}
 use Rattle.recording_laws.proofs.PartLemmas.{piece-size}
 
--- A gap before outcomes.
+-- A gap before results.
 pub gap-before : (given gap here : Bool) (more : List PartOutcome)
     → with_marks given gap (gap_where here ++ more) ≡ with_marks given (gap || here) more
 unfolding with_marks
 gap-before given gap here more = grind (arith, nat_tests)
 
--- Bytes are those, and one mark behind them at most, where a PES packet was given.
+-- The bytes are these, with at most one gap marker after them, if a PES packet came before.
 pub record EndsMarked (given : Bool) (front bytes : List ℕ) : Type 0 where
   pub is_marked : Bool
   pub after_one : is_marked ≡ true → given ≡ true
   pub bytes_are : bytes ≡ front ++ mark_where is_marked
 
--- A part, once it is closed, gives these bytes; and then this is known, for what comes behind it.
+-- A closed part gives these bytes, and this is known for what follows.
 pub record Closes (part : Part) (given gap : Bool) (front : List ℕ) (given' gap' : Bool)
     : Type 0 where
   pub next :
@@ -37,7 +37,7 @@ pub record Closes (part : Part) (given gap : Bool) (front : List ℕ) (given' ga
       (wrong_behind : Bool)
       → EndsMarked given' front (with_marks given gap (outcomes wrong_behind (part ∷ [])))
 
--- A mark behind a PES packet, where there was a gap.
+-- A gap marker after a PES packet, if there was a gap.
 mark-behind : (gap : Bool)
     → (wrong_behind : Bool)
     → with_marks true gap (outcomes wrong_behind []) ≡ mark_where (gap || wrong_behind)
@@ -45,8 +45,8 @@ unfolding with_marks outcomes
 mark-behind gap true = elim (cases_Bool gap) [ inl e ↦ rw e | inr e ↦ rw e ]
 mark-behind gap false = elim (cases_Bool gap) [ inl e ↦ rw e | inr e ↦ rw e ]
 
--- A part that gives a piece, behind a mark where there was a gap; and there is one behind it where
--- more bytes stand there.
+-- A part that gives a PES packet, after a gap marker if there was a gap; another one follows if the
+-- part has more bytes.
 pub closes-piece : (part : Part) (given gap : Bool) (bytes : List ℕ) (longer : Bool)
     → ((cut_off : Bool) → outcome cut_off part ≡ Pes bytes ∷ gap_where longer)
     → Closes part given gap (mark_where (given && (gap || part.after_break)) ++ bytes) true longer
@@ -78,11 +78,11 @@ closes-piece part given gap bytes longer gives = record {
         ∙ sym (append_assoc (mark_where (given && (gap || part.after_break))) bytes
         (with_marks true longer (outcomes wrong_behind more)))
 
--- A part that is not whole, wherever it stands.
+-- A part that is incomplete, wherever it is.
 pub record IsBroken (part : Part) : Type 0 where
   pub outcome_is : (cut_off : Bool) → outcome cut_off part ≡ gap_where (not cut_off)
 
--- It is a gap, if it is not the last.
+-- It is a gap, unless it is the last.
 pub closes-broken : (part : Part) (given gap : Bool)
     → IsBroken part
     → Closes part given gap [] given true
@@ -118,12 +118,12 @@ closes-broken part given gap h = record {
         ∙ ap (λ (b : Bool). mark_where (given && b))
         (elim (cases_Bool (gap || part.after_break)) [ inl e ↦ rw e | inr e ↦ rw e ]))
 
--- A part that begins no PES packet is not whole.
+-- A part that begins no PES packet is incomplete.
 pub broken-unbegun : (part : Part) → part.begins ≡ false → IsBroken part
 unfolding outcome
 broken-unbegun part h1 = grind (arith, nat_tests)
 
--- Nor is one that has the front of a PES packet, and not all of it.
+-- So is one with only the first bytes of a PES packet.
 pub broken-short : (part : Part) (missing bytes : List ℕ)
     → part_bytes part ++ missing ≡ bytes
     → 0 < length missing
@@ -153,7 +153,7 @@ broken-short part missing bytes joined some piece = record { outcome_is = is }
 
 -- ---- parts of good packets
 
--- A recording does not end before parts of which there is one at least.
+-- A recording does not end before a part.
 pub parts_from-some : (wrong_behind : Bool) (part : Part) (goods : List GoodPacket)
     → may_be_cut_off wrong_behind (parts_from part goods) ≡ false
 unfolding parts_from

@@ -1,4 +1,4 @@
--- Recordings in full: example_of_multiplex, example_of_losses.
+-- Complete recordings: example_of_multiplex, example_of_losses.
 use Rattle.std.proofs.Common.{◌≡◌, ◌≤◌, ℕ, true, List, [], ◌∷◌, ◌++◌, length, refl, inl, inr, arith}
 use Rattle.std.proofs.Common.{le_refl}
 use Rattle.std.proofs.lemmas.Bool.{true≢false}
@@ -12,11 +12,10 @@ use Rattle.recording_laws.specs.Examples.{wrong_packet_with}
 use Rattle.recording_laws.specs.Losses.{Kept, LeftOut, MadeWrong, arriving, sent_packet}
 use Rattle.recording_laws.specs.Multiplex.{IsRecordedUnit, IsSentPes, carries, packet_in}
 
--- Such a PES packet is a piece.
 is_piece : (filler : ℕ) → IsPiece (pes_of filler)
 is_piece filler = grind (arith, nat_tests)
 
--- It is sent in one packet, by what is to be seen of that.
+-- It is sent in one packet, as can be computed.
 sent_whole :
     {A : Type 0} (packet_of : A → List ℕ) (item : A) (filler : ℕ)
     → carries 257 (packet_of item) ≡ true
@@ -44,7 +43,7 @@ unit_of byte_3 filler = record { long = le_refl 188; short = le_refl 188; sync =
 null_unit : IsRecordedUnit 188 null_packet
 null_unit = record { long = le_refl 188; short = le_refl 188; sync = refl }
 
--- So few bytes are read.
+-- The recording is short enough to be read.
 few : (bytes : List ℕ) (n : ℕ) → length bytes ≡ n → n ≤ 1000 → length bytes ≤ most_bytes
 unfolding most_bytes
 few bytes n size short = omega (arith, size, short)
@@ -82,7 +81,7 @@ sent_before_losses =
     ++ (packet_with 0x11 (pes_of 0x21)
     ++ (packet_with 0x12 (pes_of 0x22) ++ packet_with 0x13 (pes_of 0x23))))
 
--- The packet that is made wrong.
+-- The damaged packet.
 abbrev wrong : List ℕ
 wrong = wrong_packet_with 0x12 (pes_of 0x22)
 

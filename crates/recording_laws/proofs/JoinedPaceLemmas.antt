@@ -1,4 +1,4 @@
--- PES packets that are sent as frames near one another are near one another: `near-sendings`.
+-- If the frames of PES packets are close together, so are the PES packets: `near-sendings`.
 use Rattle.std.proofs.lemmas.Bool.Decides.{nat_tests}
 use Rattle.std.proofs.Common.{◌≡◌, ℕ, suc, ◌+◌, ◌-◌, ◌≤◌, ◌==◌, ◌&&◌, not, Bool, true, false, List}
 use Rattle.std.proofs.Common.{[], ◌∷◌, ◌++◌, length, refl, sym, ap, ◌∙◌, subst, arith, cond}
@@ -18,7 +18,7 @@ module _ (pace : ℕ) where
   near-from-init x [] y h = tt
   near-from-init x (z ∷ xs) y h = (h.0, near-from-init z xs y h.1)
 
-  -- All but the last are near one another,
+  -- All but the last are close together,
   near-init : (xs : List ℕ) (y : ℕ) → AreNear pace (xs ++ y ∷ []) → AreNear pace xs
   near-init [] y h = tt
   near-init (x ∷ xs) y h = near-from-init x xs y h
@@ -29,7 +29,7 @@ module _ (pace : ℕ) where
   near-from-two x [] last y h = h.1.0
   near-from-two x (z ∷ init) last y h = near-from-two z init last y h.1
 
-  -- and the last is near the one before it.
+  -- and the last is close to the one before it.
   near-two : (init : List ℕ) (last y : ℕ)
       → AreNear pace ((init ++ last ∷ []) ++ y ∷ [])
       → y ≤ last + pace
@@ -65,7 +65,7 @@ ends-at sent last h =
     ∙ ap (λ (l : List ℕ). slice_index l (length h.init)) h.are
     ∙ last-at h.init last
 
--- What goes on is of the last frame.
+-- A PES packet that continues a frame belongs to the last one.
 both-hold : (b : Bool) (m n : ℕ) → (b && (m == n)) ≡ true → m ≡ n
 both-hold b m n h = grind (arith, nat_tests)
 
@@ -75,10 +75,10 @@ goes-on : (within : ℕ) (sent : Transmission) (s : SentFrame)
 goes-on within [] s h = grind (arith, nat_tests)
 goes-on within (x ∷ sent) s h = both-hold (not (within == 0)) (end_frame (x ∷ sent)) s.frame h
 
--- ---- what is sent
+-- ---- PES packets
 
 module _ (pace within : ℕ) where
-  -- The frames before others stay.
+  -- The frames before others stay the same.
   kept-near : (sent frames : Transmission)
       → AreNear pace (numbers (joined_after within sent frames))
       → AreNear pace (numbers sent)
@@ -94,7 +94,7 @@ module _ (pace within : ℕ) where
       go false near =
           near-init pace (numbers sent) s.frame (subst (AreNear pace) (numbers-push sent s) near)
 
-  -- PES packets after others are near them.
+  -- PES packets after others are close to them.
   after-near : (last : ℕ) (sent frames : Transmission)
       → EndsWith sent last
       → AreNear pace (numbers (joined_after within sent frames))

@@ -1,4 +1,4 @@
--- What bytes have to be, so that they are the PES packets that arrive of those that were sent.
+-- The condition for bytes to be the PES packets that arrive.
 use Rattle.std.proofs.lemmas.Bool.Decides.{nat_tests}
 use Rattle.std.proofs.Common.{arith, ◌≡◌, ℕ, Bool, true, false, ◌&&◌, ◌||◌, List, [], ◌∷◌, ◌++◌}
 use Rattle.std.proofs.Common.{append_assoc}
@@ -9,7 +9,7 @@ use Rattle.recording_laws.specs.Losses.{units_before}
 use Rattle.recording_laws.specs.Multiplex.{SentPes}
 use Rattle.recording_laws.proofs.LeftNoteLemmas.{or-true}
 
--- Bytes are the PES packets that arrive, with one mark behind them at most.
+-- The bytes are the PES packets that arrive, with at most one gap marker after them.
 pub record Leads (given gap : Bool) (sent : List (SentPes Fated)) (bytes : List ℕ) : Type 0 where
   pub is_marked : Bool
   pub after_one : is_marked ≡ true → (given || list_any arrives sent) ≡ true

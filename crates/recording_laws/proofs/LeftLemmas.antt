@@ -23,14 +23,14 @@ use Rattle.recording_laws.proofs.LeftNoteLemmas.{IsLeft, IsLeftCarrier, copy_of,
 
 -- ---- copies
 
--- A packet says what another says, and announces no jump.
+-- A packet has the contents of another, and announces no jump.
 pub record IsCopy (p h : List ℕ) : Type 0 where
   pub counter : counter h ≡ counter p
   pub begins : begins h ≡ begins p
   pub payload : payload h ≡ payload p
   pub no_jump : announces_jump h ≡ false
 
--- Two packets that are the same begin both, or neither.
+-- Of equal packets both begin a PES packet, or neither.
 begins-same : (p q : List ℕ) → is_same p q ≡ true → begins p ≡ begins q
 begins-same p q h1 = grind (arith, nat_tests, bytes_eq-Decides, get_or-take)
 
@@ -45,14 +45,14 @@ pub carried-no_jump : (number : ℕ) (p : List ℕ)
     → announces_jump p ≡ false
 carried-no_jump number p carried none = grind (arith, nat_tests)
 
--- A payload has a byte.
+-- A payload has at least one byte.
 payload-long : (number : ℕ) (p : List ℕ)
     → length p ≡ 188
     → carries number p ≡ true
     → 0 < length (payload p)
 payload-long number p long carried = grind (arith, nat_tests, length-drop)
 
--- A packet in a unit is whole.
+-- The packet of a unit is complete.
 length-packet : (distance : ℕ) (u : List ℕ)
     → IsRecordedUnit distance u
     → length (packet_in distance u) ≡ 188
@@ -62,7 +62,7 @@ length-packet distance u h =
 
 -- ---- counters
 
--- Less than 16 carriers on the counter is another.
+-- Fewer than 16 carriers later the counter is another one.
 counter-far : (i n a b : ℕ)
     → a ≡ i % 16
     → b ≡ (i + 1 + n) % 16
@@ -84,7 +84,7 @@ counter-later : (i n a b : ℕ)
     → (b == (a + 1) % 16) ≡ false
 counter-later i n a b first second some small = grind (arith, nat_tests)
 
--- Whether a packet is the next after another, by how many carriers are gone between them.
+-- Whether a packet continues another, given how many carriers are missing between them.
 counts_on-by_gone : (i n : ℕ) (g h : List ℕ)
     → counter g ≡ i % 16
     → counter h ≡ (i + 1 + n) % 16
@@ -92,7 +92,7 @@ counts_on-by_gone : (i n : ℕ) (g h : List ℕ)
     → counts_on g h ≡ not (nat_lt 0 n)
 counts_on-by_gone i n g h h1 h2 h3 = grind (arith, nat_tests, counter-later, counter-next)
 
--- The number of a good packet's carrier, where there is one.
+-- The counter of a good packet's carrier, if there is one.
 abbrev pub IsCounter : Option (List ℕ) → ℕ → Type 0
 IsCounter None i = ⊤
 IsCounter (Some g) i = counter g ≡ i % 16
@@ -107,22 +107,22 @@ fresh-later good again wrong h i n h1 h2 h3 = grind (arith, nat_tests, counter-f
 
 -- ---- links
 
--- What links a packet to a good one, by whether a unit was made wrong between them.
+-- What links a packet to the good one before, given whether a unit was damaged between them.
 abbrev pub link_left : Option (List ℕ) → Bool → List ℕ → Link
 link_left None wrong h = First
 link_left (Some g) wrong h = if wrong then Break else if counts_on g h then Follows else Break
 
--- The good packet that it is.
+-- The good packet with that link.
 abbrev pub good_left : Option (List ℕ) → Bool → List ℕ → GoodPacket
 good_left good wrong h = record { link = link_left good wrong h; packet = h }
 
--- That is what links it.
+-- That is its link.
 pub linked-left : (good : Option (List ℕ)) (again wrong : Bool) (h : List ℕ)
     → announces_jump h ≡ false
     → linked (since_loss good again wrong) h ≡ good_left good wrong h
 linked-left good again wrong h h1 = grind (arith, nat_tests)
 
--- Something is lost where a unit was made wrong, or a carrier is gone.
+-- Something is lost if a unit was damaged or a carrier is missing.
 pub break-left : (i n : ℕ) (g h : List ℕ) (wrong : Bool)
     → counter g ≡ i % 16
     → counter h ≡ (i + 1 + n) % 16
@@ -130,19 +130,19 @@ pub break-left : (i n : ℕ) (g h : List ℕ) (wrong : Bool)
     → is_break (link_left (Some g) wrong h) ≡ (wrong || nat_lt 0 n)
 break-left i n g h wrong h1 h2 h3 = grind (arith, nat_tests, counts_on-by_gone)
 
--- Behind a good packet a link cuts where something is lost.
+-- After a good packet a link cuts if something is lost.
 pub cut-left : (g h : List ℕ) (wrong : Bool)
     → is_unlinked (link_left (Some g) wrong h) ≡ is_break (link_left (Some g) wrong h)
 cut-left g h wrong = grind (arith, nat_tests)
 
--- Where a carrier is there, none is gone.
+-- If a carrier is there, none is missing.
 pub few-there : (n : ℕ) (c : Carrier Fated) (cs : List (Carrier Fated))
     → is_there c ≡ true
     → are_few_gone n (c ∷ cs) ≡ true
     → are_few_gone 0 cs ≡ true
 few-there n c cs there few = rw there at few
 
--- Where it is gone, one more is.
+-- If it is missing, there is one more.
 pub few-gone : (n : ℕ) (c : Carrier Fated) (cs : List (Carrier Fated))
     → is_there c ≡ false
     → are_few_gone n (c ∷ cs) ≡ true
@@ -159,7 +159,7 @@ module _ (distance number : ℕ) where
   copy-again p again h1 h2 h3 =
       grind (arith, nat_tests, counter-same, begins-same, payload-same, carried-no_jump)
 
-  -- The payload of a carrier has a byte.
+  -- The payload of a carrier has at least one byte.
   pub carrier-payload : (first : Bool) (c : Carrier Fated)
       → IsLeftCarrier distance number first c
       → 0 < length (payload (sent_packet distance c.packet))

@@ -1,5 +1,5 @@
--- What is noted of what is left of a carrier, and the good packet that it is, if it is there. Main
--- lemmas: good-first, good-second.
+-- The notes of what is left of a carrier, and its good packet, if it is there. Main lemmas:
+-- good-first, good-second.
 use Rattle.std.proofs.Common.{◌≡◌, ℕ, Bool, true, false, ◌||◌, List, [], ◌∷◌, ◌++◌, Option, Some}
 use Rattle.std.proofs.Common.{None, sym, ap, ◌∙◌, arith, append_assoc}
 use Rattle.std.specs.List.{AllByRecursion, flat_map}
@@ -18,7 +18,7 @@ use Rattle.recording_laws.proofs.CarrierLemmas.{is_repeat-again}
 use Rattle.recording_laws.proofs.CarrierLemmas.{since_quiet}
 use Rattle.recording_laws.proofs.RecordingLemmas.{noted}
 
--- What came since a good packet, where no jump is announced and nothing skipped.
+-- The state since a good packet, without announced jumps and skipped bytes.
 abbrev pub since_loss : Option (List ℕ) → Bool → Bool → Since
 since_loss good again wrong = record {
   good = good;
@@ -28,24 +28,21 @@ since_loss good again wrong = record {
   has_hole = false;
 }
 
--- Two tests in one.
 pub or-assoc : (a b c : Bool) → ((a || b) || c) ≡ (a || (b || c))
 or-assoc a b c = grind (arith, nat_tests)
 
--- No test more.
 pub or-false : (a : Bool) → (a || false) ≡ a
 or-false a = grind (arith, nat_tests)
 
--- A test that is passed.
 pub or-true : (a : Bool) → (a || true) ≡ true
 or-true a = grind (arith, nat_tests)
 
 module _ (distance number : ℕ) where
-  -- What is noted of what is left of a unit.
+  -- The notes of what is left of a unit.
   abbrev pub heard_left : Fated → List Note
   heard_left f = flat_map (λ u. noted number (packet_in distance u)) (recorded_of f.unit f.fate)
 
-  -- What is known of a unit: what may have become of it, and that no jump is announced in it.
+  -- The facts about a unit: what may have become of it, and that it announces no jump.
   pub record IsLeft (f : Fated) : Type 0 where
     pub recorded : IsRecordedUnit distance f.unit
     pub fate : IsFate distance number f.unit f.fate
@@ -62,7 +59,7 @@ module _ (distance number : ℕ) where
   unfolding good_after
   good-lost good again wrong unit fate ns h1 h2 = grind (arith, nat_tests, or-false, or-true)
 
-  -- A quiet unit.
+  -- A unit without payload.
   good-quiet-left : (good : Option (List ℕ)) (again wrong : Bool) (unit : List ℕ) (fate : Fate)
       (ns : List Note)
       → IsFate distance number unit fate
@@ -74,7 +71,7 @@ module _ (distance number : ℕ) where
   good-quiet-left good again wrong unit fate ns h1 h2 h3 =
       grind (arith, nat_tests, append-nil, noted, good-quiet, since_quiet, or-false, good-lost)
 
-  -- Quiet units.
+  -- Units without payload.
   pub good-quiets-left : (good : Option (List ℕ)) (again wrong : Bool) (fs : List Fated)
       (ns : List Note)
       → AllByRecursion IsLeft fs
@@ -92,14 +89,14 @@ module _ (distance number : ℕ) where
       ∙ ap (λ (w : Bool). good_after (since_loss good again w) ns)
       (or-assoc wrong (is_made_wrong f.fate) (any_wrong fs))
 
-  -- What is noted of a unit that is there as it was sent.
+  -- The notes of a unit that is there as it was sent.
   pub heard-kept : (unit : List ℕ) (fate : Fate)
       → is_as_sent fate ≡ true
       → flat_map (λ u. noted number (packet_in distance u)) (recorded_of unit fate)
       ≡ noted number (packet_in distance unit)
   heard-kept unit fate h1 = grind (arith, nat_tests, append-nil, noted)
 
-  -- It was not made wrong.
+  -- It was not damaged.
   kept-not_wrong : (fate : Fate) → is_as_sent fate ≡ true → is_made_wrong fate ≡ false
   kept-not_wrong fate h1 = grind (arith, nat_tests)
 
@@ -127,7 +124,7 @@ module _ (distance number : ℕ) where
 
   -- ---- carriers
 
-  -- The copy of a carrier's packet that is heard, where one is there.
+  -- The copy of a carrier's packet that is received, if there is one.
   abbrev pub copy_of : Option Fated → List ℕ → List ℕ
   copy_of None p = p
   copy_of (Some f) p = sent_packet distance f
@@ -140,14 +137,14 @@ module _ (distance number : ℕ) where
     pub again : AllByRecursion IsLeft (option_to_list c.again)
     pub after : AllByRecursion IsLeft c.after
 
-  -- What is noted of a carrier, part by part.
+  -- The notes of a carrier, part by part.
   pub heard-carrier : (c : Carrier Fated) (ns : List Note)
       → flat_map heard_left (items_of_carrier c) ++ ns
       ≡ heard_left c.packet ++ (flat_map heard_left c.before
       ++ (flat_map heard_left (option_to_list c.again) ++ (flat_map heard_left c.after ++ ns)))
   heard-carrier c ns = simp (flat_map-append, append_assoc)
 
-  -- What was made wrong of three lists.
+  -- The damaged units of three lists.
   wrong-of_three : (a b c : List Fated)
       → any_wrong (a ++ (b ++ c)) ≡ ((any_wrong a || any_wrong b) || any_wrong c)
   wrong-of_three a b c = grind (arith, nat_tests, list_any-append, or-assoc)
@@ -175,7 +172,7 @@ module _ (distance number : ℕ) where
         wrong-of_three,
       )
 
-  -- What is known of it where its packet is not there.
+  -- The facts about it if its packet is not there.
   pub good-no_first : (good : Option (List ℕ)) (again wrong first : Bool) (c : Carrier Fated)
       (ns : List Note)
       → IsLeftCarrier first c

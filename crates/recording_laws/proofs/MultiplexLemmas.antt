@@ -1,4 +1,4 @@
--- What a multiplexer sends is given back: `law_of_multiplex`.
+-- What a multiplexer sends is returned: `law_of_multiplex`.
 use Rattle.std.proofs.lemmas.Bool.Decides.{nat_tests}
 use Rattle.std.proofs.Common.{arith}
 use Rattle.std.proofs.Common.{◌≡◌, ℕ, Bool, true, false, List, [], ◌∷◌, ◌++◌, map, None, refl, sym}
@@ -31,7 +31,7 @@ parts_from-begins : (part : Part) (g : GoodPacket) (more : List GoodPacket)
 unfolding parts_from
 parts_from-begins part g more first = rw first
 
--- Carriers of PES packets are carriers.
+-- Carriers of a PES packet are carriers.
 some-carriers : {A : Type 0} (packet_of : A → List ℕ) (number : ℕ) (others : List (Carrier A))
     (more : List (Carrier A))
     → AllByRecursion (IsCarrier packet_of number false) others
@@ -42,21 +42,21 @@ some-carriers packet_of number (c ∷ others) more each rest =
     ((false, each.0), some-carriers packet_of number others more each.1 rest)
 
 module _ {A : Type 0} (packet_of : A → List ℕ) (number : ℕ) where
-  -- All carriers of PES packets are.
+  -- So are those of all PES packets.
   pub all-carriers : (sent : List (SentPes A))
       → AllByRecursion (IsSentPes packet_of number) sent
       → AllByRecursion (IsSomeCarrier packet_of number) (carriers_of sent)
   all-carriers [] each = grind (arith, nat_tests)
   all-carriers (s ∷ more) each = grind (arith, nat_tests, some-carriers, (all-carriers more each.1))
 
-  -- What is carried from a part on that is open, behind a carrier.
+  -- What is carried from an open part on, after a carrier.
   abbrev carried_from : Bool → Part → Carrier A → List (Carrier A) → List ℕ
   carried_from given part c more =
       with_marks given false
       (outcomes false
       (parts_from part (goods packet_of number (since_carrier packet_of number c) more)))
 
-  -- The other carriers of a PES packet fill up the part of the first.
+  -- The other carriers of a PES packet complete the part of the first.
   fills-part : (given : Bool) (part : Part) (c : Carrier A) (others rest : List (Carrier A))
       (bytes then : List ℕ)
       → IsPiece bytes
@@ -100,7 +100,7 @@ module _ {A : Type 0} (packet_of : A → List ℕ) (number : ℕ) where
       within =
           rw (each.0.begins, next-follows packet_of number c d next.0 each.0.begins)
 
-  -- A part that is whole and PES packets behind it are carried one after another.
+  -- A complete part and the PES packets after it are carried one after another.
   whole-then : (given : Bool) (part : Part) (c : Carrier A) (sent : List (SentPes A))
       (bytes : List ℕ)
       → IsWhole part bytes
@@ -178,7 +178,6 @@ module _ {A : Type 0} (packet_of : A → List ℕ) (number : ℕ) where
       rest : List (Carrier A)
       rest = s.others ++ carriers_of more
 
--- The law of what is sent.
 pub law_of_multiplex : LawOfMultiplex
 unfolding carried
 law_of_multiplex number distance packets recording h =

@@ -1,4 +1,4 @@
--- The rest of a PES packet, where any number of packets is gone, by induction from the front, from
+-- The rest of a PES packet, if any number of packets is missing, by induction from the front, from
 -- any state. Main lemmas: headless-within, open-within.
 use Rattle.std.proofs.Common.{◌≡◌, ℕ, ◌+◌, ◌%◌, ◌≤◌, ◌⊎◌, inl, inr, Bool, true, false, ◌&&◌, ◌||◌}
 use Rattle.std.proofs.Common.{List, [], ◌∷◌, ◌++◌, length, length-append, refl, sym, ap, ◌∙◌, subst}
@@ -44,12 +44,12 @@ closed-by wrong_behind part given gap front given' gap' g later h1 h2 =
 abbrev pub payloads_of : ℕ → List (Carrier Fated) → List ℕ
 payloads_of distance cs = concat (map (λ c. payload (sent_packet distance c.packet)) cs)
 
--- What was given, where there is a gap since.
+-- The state if there is a gap since the last result.
 abbrev pub gapped : Bool → Held
 gapped true = Marked
 gapped false = Nothing
 
--- Bytes are pieces that come of PES packets.
+-- The bytes are results for PES packets.
 pub record Gives (few : Bool) (held : Held) (sent : List (SentPes Fated)) (bytes : List ℕ)
     : Type 0 where
   pub pieces : List (List ℕ)
@@ -57,8 +57,8 @@ pub record Gives (few : Bool) (held : Held) (sent : List (SentPes Fated)) (bytes
   pub joined : bytes ≡ concat pieces
   pub reads : Reads few held sent pieces
 
--- The first of them, behind a mark or none, comes of the PES packet whose first packet began the
--- part that is open.
+-- The first of them, after a gap marker or none, is that of the PES packet whose first packet began
+-- the open part.
 pub record GivesOne (few marked : Bool) (s : SentPes Fated) (between : ℕ) (skipped : Bool)
     (sent : List (SentPes Fated)) (bytes : List ℕ) : Type 0 where
   pub piece : List ℕ
@@ -70,16 +70,16 @@ pub record GivesOne (few marked : Bool) (s : SentPes Fated) (between : ℕ) (ski
   pub joined : bytes ≡ mark_where marked ++ (piece ++ concat rest)
   pub reads : Reads few (After piece s between skipped) sent rest
 
--- It does, or nothing comes of that one.
+-- This holds, or that PES packet has no result.
 abbrev pub Opens : Bool → Bool → Bool → SentPes Fated → ℕ → Bool → List (SentPes Fated) → List ℕ
     → Type 0
 Opens few given marked s between skipped sent bytes =
     GivesOne few marked s between skipped sent bytes
     ⊎ ((few ≡ true → arrives s ≡ false) × Gives few (gapped given) sent bytes)
 
--- ---- what is held
+-- ---- the state
 
--- Behind a gap a PES packet of which nothing is given changes nothing.
+-- After a gap a PES packet without a result changes nothing.
 gapped-skip : (few given : Bool) (s : SentPes Fated) (more : List (SentPes Fated))
     (pieces : List (List ℕ))
     → Reads few (gapped given) more pieces
@@ -87,7 +87,7 @@ gapped-skip : (few given : Bool) (s : SentPes Fated) (more : List (SentPes Fated
 gapped-skip few true s more pieces h = h
 gapped-skip few false s more pieces h = h
 
--- What comes behind a gap comes behind what was given before.
+-- What follows a gap follows the results before it.
 held-skip : (few : Bool) (held : Held) (given : Bool) (s : SentPes Fated)
     (more : List (SentPes Fated)) (pieces : List (List ℕ))
     → is_held held ≡ given
@@ -101,7 +101,7 @@ held-skip few (After x t between skipped) true s more pieces e h =
     reads-marked few x t (between + length (carriers_of_pes s)) true more pieces (λ e. refl) h
 held-skip few (After x t between skipped) false s more pieces e h = absurd (cc e)
 
--- A PES packet of which nothing is given.
+-- A PES packet without a result.
 pub gives-later : (few given : Bool) (s : SentPes Fated) (more : List (SentPes Fated))
     (bytes : List ℕ)
     → (few ≡ true → arrives s ≡ false)
@@ -114,7 +114,7 @@ gives-later few given s more bytes gone h = record {
   reads = inl (gone, gapped-skip few given s more h.pieces h.reads);
 }
 
--- The same, where another's part is open.
+-- The same, while the part of another one is open.
 pub opens-later : (few given marked : Bool) (s : SentPes Fated) (between : ℕ) (skipped : Bool)
     (t : SentPes Fated) (more : List (SentPes Fated)) (bytes : List ℕ)
     → (few ≡ true → arrives t ≡ false)
@@ -172,7 +172,7 @@ gives-opened few held given marked s more bytes is fits exact h = elim h [
       }
 ]
 
--- A piece before others.
+-- A result before others.
 pub gives-one : (few marked : Bool) (s : SentPes Fated) (between : ℕ) (skipped : Bool)
     (sent : List (SentPes Fated)) (piece bytes inner : List ℕ)
     → IsPiece piece
@@ -195,7 +195,7 @@ gives-one few marked s between skipped sent piece bytes inner is front as_sent e
   reads = h.reads;
 }
 
--- What comes behind a gap.
+-- What follows a gap.
 pub gives-marked : (few : Bool) (x : List ℕ) (s : SentPes Fated) (between : ℕ) (skipped : Bool)
     (sent : List (SentPes Fated)) (bytes : List ℕ)
     → (few ≡ true → (skipped || is_wrong_behind s) ≡ true)
@@ -208,13 +208,13 @@ gives-marked few x s between skipped sent bytes gap h = record {
   reads = reads-marked few x s between skipped sent h.pieces gap h.reads;
 }
 
--- ---- what links carriers, where few are gone
+-- ---- links of carriers, if few are missing
 
--- The next carrier is gone,
+-- The next carrier is missing,
 not-there : (a b c d : Bool) → b ≡ false → (not a && (b && (not c && d))) ≡ false
 not-there a b c d h1 = grind (arith, nat_tests)
 
--- a unit was made wrong before it,
+-- a unit was damaged before it,
 wrong-between : (a b c d : Bool) → (a || c) ≡ true → (not a && (b && (not c && d))) ≡ false
 wrong-between a b c d h1 = grind (arith, nat_tests)
 
@@ -233,7 +233,7 @@ nothing-lost : (a b : Bool) (n : ℕ)
 nothing-lost a b n h1 =
     (grind (arith, nat_tests), grind (arith, nat_tests), grind (arith, nat_tests))
 
--- Something is, and not for a carrier.
+-- Something is lost, but no carrier.
 wrong-lost : (a b : Bool) (n : ℕ)
     → ((a || b) || nat_lt 0 n) ≡ true
     → n ≡ 0
@@ -246,7 +246,7 @@ module _ (distance number : ℕ) (wrong_behind few : Bool) where
   carried_from part given gap goods =
       with_marks given gap (outcomes wrong_behind (parts_from part goods))
 
-  -- ---- how far an open part has come
+  -- ---- the state of an open part
 
   -- It has all of its PES packet up to these carriers.
   pub record IsUnbroken (part : Part) (s : SentPes Fated) (between : ℕ) (skipped : Bool) (n : ℕ)
@@ -262,27 +262,27 @@ module _ (distance number : ℕ) (wrong_behind few : Bool) where
         × (is_wrong_behind s ≡ any_wrong (units_behind (last_carrier last cs)))
         × (wrong ≡ any_wrong (units_behind last))
 
-  -- It is not whole; or it is, and the next PES packet's first carrier is gone.
+  -- It is incomplete; or it is complete, and the first carrier of the next PES packet is missing.
   abbrev pub IsLost : Part → SentPes Fated → Bool → Type 0
   IsLost part s skipped =
       (IsBroken part × (arrives s ≡ false))
       ⊎ (IsWhole part s.bytes × (arrives s ≡ true) × (skipped ≡ true))
 
-  -- It has; or some are gone, since its first packet or later; or there were 16 at least. `between`
-  -- carriers stand between its first packet and the next PES packet's, with these.
+  -- It is unbroken; or carriers are missing, after its first packet or later; or at least 16 were.
+  -- `between` carriers, with these, are between its first packet and that of the next PES packet.
   abbrev pub IsGoing : Part → SentPes Fated → ℕ → Bool → ℕ → Bool → List (Carrier Fated) → Type 0
   IsGoing part s between skipped n wrong cs =
       IsUnbroken part s between skipped n wrong cs
       ⊎ (((1 ≤ n) × (n + length cs ≤ between) × (few ≡ true → IsLost part s skipped))
       ⊎ ((16 + length cs ≤ between) × (few ≡ false)))
 
-  -- It begins as its PES packet does.
+  -- It begins like its PES packet.
   pub record IsFirst (part : Part) (s : SentPes Fated) : Type 0 where
     pub begins : part.begins ≡ true
     pub is_piece : IsPiece s.bytes
     pub front : few ≡ false → IsFront part s
 
-  -- It is not whole where carriers are to come.
+  -- It is incomplete while carriers are to come.
   broken-here : (part : Part) (s : SentPes Fated) (between : ℕ) (skipped : Bool) (n : ℕ)
       (wrong : Bool) (c : Carrier Fated) (cs : List (Carrier Fated))
       → IsPiece s.bytes
@@ -300,7 +300,7 @@ module _ (distance number : ℕ) (wrong_behind few : Bool) where
       ))
       is
 
-  -- One more is gone.
+  -- One more is missing.
   going-gone : (part : Part) (s : SentPes Fated) (between : ℕ) (skipped : Bool) (n : ℕ)
       (wrong since : Bool) (c : Carrier Fated) (cs : List (Carrier Fated))
       → IsPiece s.bytes
@@ -327,7 +327,7 @@ module _ (distance number : ℕ) (wrong_behind few : Bool) where
   going-gone part s between skipped n wrong since c cs is left gone (inr (inr far)) =
       let many = far.0 in inr (inr (omega (arith, many), far.1))
 
-  -- It is whole.
+  -- It is complete.
   whole-here : (part : Part) (s : SentPes Fated) (between : ℕ) (skipped : Bool) (n : ℕ)
       (wrong : Bool)
       → IsFirst part s
@@ -339,14 +339,14 @@ module _ (distance number : ℕ) (wrong_behind few : Bool) where
     is_piece = first.is_piece;
   }
 
-  -- What is lost stays so.
+  -- What is lost stays lost.
   lost-skip : (part : Part) (s : SentPes Fated) (skipped : Bool)
       → IsLost part s skipped
       → IsLost part s true
   lost-skip part s skipped (inl broken) = inl broken
   lost-skip part s skipped (inr whole) = inr (whole.0, whole.1, refl)
 
-  -- All of a PES packet is passed over, from its first packet on.
+  -- All of a PES packet is skipped, from its first packet on.
   pub going-skip : (part : Part) (s : SentPes Fated) (between : ℕ) (skipped : Bool) (n : ℕ)
       (wrong since : Bool) (t : SentPes Fated)
       → IsFirst part s
@@ -370,7 +370,7 @@ module _ (distance number : ℕ) (wrong_behind few : Bool) where
   going-skip part s between skipped n wrong since t first (inr (inr far)) =
       let many = far.0 in inr (inr (omega (arith, many), far.1))
 
-  -- 16 are gone, where a packet follows and some are.
+  -- 16 are missing, if a packet follows and any are.
   sixteen : (n size between : ℕ)
       → 1 ≤ n
       → n % 16 ≡ 0
@@ -378,13 +378,13 @@ module _ (distance number : ℕ) (wrong_behind few : Bool) where
       → 16 + size ≤ between
   sixteen n size between h1 h2 h3 = omega arith
 
-  -- What is known of a packet that follows, where few are gone.
+  -- The facts about a packet that follows, if few are missing.
   abbrev StillThere : ℕ → Bool → Carrier Fated → Type 0
   StillThere n wrong c =
       few ≡ true
       → (n ≡ 0) × (wrong ≡ false) × (any_wrong (units_before c) ≡ false) × (is_there c ≡ true)
 
-  -- A packet that follows belongs to it.
+  -- A packet that continues the counter belongs to the part.
   going-follows : (part : Part) (s : SentPes Fated) (between : ℕ) (skipped : Bool) (n : ℕ)
       (wrong since : Bool) (c : Carrier Fated) (cs : List (Carrier Fated)) (g : GoodPacket)
       → IsGoing part s between skipped n wrong (c ∷ cs)
@@ -427,7 +427,7 @@ module _ (distance number : ℕ) (wrong_behind few : Bool) where
   going-follows part s between skipped n wrong since c cs g (inr (inr far)) same on still is =
       let many = far.0 in inr (inr (omega (arith, many), far.1))
 
-  -- Where the next PES packet begins, its piece fits.
+  -- When the next PES packet begins, the result fits.
   pub going-fits : (part : Part) (given gap : Bool) (s : SentPes Fated) (between : ℕ)
       (skipped : Bool) (n : ℕ) (wrong : Bool) (piece : List ℕ) (longer breaks : Bool)
       → (part_bytes part ≡ s.bytes → piece ≡ s.bytes)
@@ -447,7 +447,7 @@ module _ (distance number : ℕ) (wrong_behind few : Bool) where
       part given gap s between skipped n wrong piece longer breaks as_sent (inr (inr far)) on none =
       let many = far.0 in inl (omega (arith, many))
 
-  -- It begins as its PES packet does, whatever is joined to it.
+  -- It begins like its PES packet, whatever is joined to it.
   front-with : (part : Part) (s : SentPes Fated) (g : GoodPacket)
       → IsFront part s
       → IsFront (with_packet part g) s
@@ -469,7 +469,7 @@ module _ (distance number : ℕ) (wrong_behind few : Bool) where
           ∙ concat-snoc part.payloads (payload g.packet) [] (part_bytes part ++ payload g.packet)
           (ap (λ (x : List ℕ). part_bytes part ++ x) (append-nil (payload g.packet)))
 
-  -- Nor where it has to.
+  -- So does the part with one more packet.
   first-with : (part : Part) (s : SentPes Fated) (g : GoodPacket)
       → IsFirst part s
       → IsFirst (with_packet part g) s
@@ -479,9 +479,9 @@ module _ (distance number : ℕ) (wrong_behind few : Bool) where
     front = λ e. front-with part s g (h.front e);
   }
 
-  -- ---- what it gives
+  -- ---- its result
 
-  -- A piece, and where few are gone the PES packet.
+  -- A PES packet; if few are missing, the one that was sent.
   pub record ClosesAs (part : Part) (given gap : Bool) (s : SentPes Fated) : Type 0 where
     pub is : ClosesGiven part given gap s
     pub exact : few ≡ true → (arrives s ≡ true) × (is.piece ≡ s.bytes) × (is.longer ≡ false)
@@ -492,13 +492,13 @@ module _ (distance number : ℕ) (wrong_behind few : Bool) where
       ClosesAs part given gap s
       ⊎ (Closes part given gap [] given true × (few ≡ true → arrives s ≡ false))
 
-  -- Where few are gone it is whole, or not.
+  -- If few are missing it is complete, or not.
   abbrev pub Ends : Part → SentPes Fated → Type 0
   Ends part s =
       few ≡ true
       → (IsBroken part × (arrives s ≡ false)) ⊎ (IsWhole part s.bytes × (arrives s ≡ true))
 
-  -- So one of the two.
+  -- So it is one of the two.
   pub closing : (part : Part) (given gap : Bool) (s : SentPes Fated)
       → IsFirst part s
       → Ends part s
@@ -528,7 +528,7 @@ module _ (distance number : ℕ) (wrong_behind few : Bool) where
     ]
   ]
 
-  -- What is lost ends so.
+  -- What is lost ends in this way.
   lost-ends : (part : Part) (s : SentPes Fated) (skipped : Bool)
       → (few ≡ true → IsLost part s skipped)
       → Ends part s
@@ -551,7 +551,7 @@ module _ (distance number : ℕ) (wrong_behind few : Bool) where
 
   -- ---- the rest of a PES packet
 
-  -- PES packets lead on from a part that begins none,
+  -- PES packets follow a part that begins none,
   abbrev pub OnwardHeadless : List (SentPes Fated) → Type 0
   OnwardHeadless sent =
       (part : Part) (given gap behind : Bool) (n : ℕ) (wrong : Bool) (goods : List GoodPacket)
@@ -559,7 +559,7 @@ module _ (distance number : ℕ) (wrong_behind few : Bool) where
       → Traced distance number few behind n wrong (carriers_of sent) goods
       → Gives few (gapped given) sent (carried_from part given gap goods)
 
-  -- and from one that does.
+  -- and one that does.
   abbrev pub OnwardOpen : List (SentPes Fated) → Type 0
   OnwardOpen sent =
       (part : Part) (given gap : Bool) (s : SentPes Fated) (between : ℕ) (skipped : Bool) (n : ℕ)
@@ -582,7 +582,7 @@ module _ (distance number : ℕ) (wrong_behind few : Bool) where
       → begins g.packet ≡ false
   heard-begins behind n wrong c g is heard = heard.copy.begins ∙ is.is_carrier.begins
 
-  -- Where it belongs to the part, it follows.
+  -- If it belongs to the part, it continues the counter.
   heard-follows : (n : ℕ) (wrong : Bool) (c : Carrier Fated) (g : GoodPacket)
       → IsHeard distance number few true n wrong c g
       → begins_part g ≡ false
@@ -601,7 +601,7 @@ module _ (distance number : ℕ) (wrong_behind few : Bool) where
       (sym ((heard.linked refl).exact is).1 ∙ heard-follows n wrong c g heard within) in
       (none.0, none.1, none.2, heard.there is)
 
-  -- Where it does not, something is lost.
+  -- If it does not, something is lost.
   heard-breaks : (n : ℕ) (wrong : Bool) (c : Carrier Fated) (g : GoodPacket)
       → begins g.packet ≡ false
       → IsHeard distance number few true n wrong c g
@@ -610,7 +610,7 @@ module _ (distance number : ℕ) (wrong_behind few : Bool) where
   heard-breaks n wrong c g begun heard cut =
       let link = (heard.linked refl).cut in grind (arith, nat_tests)
 
-  -- So what is open is not whole, or was so before.
+  -- So the open part is incomplete, or was complete before.
   cut-lost : (part : Part) (s : SentPes Fated) (between : ℕ) (skipped : Bool) (n : ℕ)
       (wrong : Bool) (c : Carrier Fated) (cs : List (Carrier Fated)) (g : GoodPacket)
       → IsPiece s.bytes
@@ -636,7 +636,7 @@ module _ (distance number : ℕ) (wrong_behind few : Bool) where
   cut-lost part s between skipped n wrong c cs g is left heard cut (inr (inr far)) e =
       absurd (cc (e, far.1))
 
-  -- The rest, behind a part that begins no PES packet.
+  -- The rest, after a part that begins no PES packet.
   pub headless-within : (more : List (SentPes Fated)) (part : Part) (given gap behind : Bool)
       (n : ℕ) (wrong : Bool) (cs : List (Carrier Fated)) (goods : List GoodPacket)
       → Onward more
@@ -671,7 +671,7 @@ module _ (distance number : ℕ) (wrong_behind few : Bool) where
         ]
       ]
 
-  -- A part is closed by a packet that begins none: what comes behind it.
+  -- A part is closed by a packet that begins none: what follows.
   open-cut : (more : List (SentPes Fated)) (part : Part) (given gap : Bool) (s : SentPes Fated)
       (between : ℕ) (skipped : Bool) (g : GoodPacket) (later : List GoodPacket)
       → IsFirst part s
@@ -708,7 +708,7 @@ module _ (distance number : ℕ) (wrong_behind few : Bool) where
             )
       ]
 
-  -- The rest, behind a part that begins one.
+  -- The rest, after a part that begins one.
   pub open-within : (more : List (SentPes Fated)) (part : Part) (given gap : Bool)
       (s : SentPes Fated) (between : ℕ) (skipped : Bool) (n : ℕ) (wrong : Bool)
       (cs : List (Carrier Fated)) (goods : List GoodPacket)

@@ -1,4 +1,5 @@
--- What is accepted with a pace was sent one after another: `law_of_paced_check`.
+-- What is accepted with a maximum distance of PES packets was sent one after another:
+-- `law_of_paced_check`.
 use Rattle.std.proofs.Common.{◌≡◌, ℕ, ◌<◌, List, [], ◌∷◌, ◌++◌, length, refl, sym, ap, ◌∙◌}
 use Rattle.std.proofs.Common.{subst, arith, append_assoc}
 use Rattle.std.specs.List.{AllByRecursion, AllZip, concat}
@@ -22,7 +23,7 @@ use Rattle.recording_laws.proofs.ReadPaceLemmas.{are-pieces, keeps-pace}
 
 -- ---- lists
 
--- Of lists one after another each has pieces.
+-- Of joined lists each consists of PES packets.
 pieces-left : (xs ys : List (List ℕ))
     → AllByRecursion IsPiece (xs ++ ys)
     → AllByRecursion IsPiece xs
@@ -35,7 +36,7 @@ pieces-right : (xs ys : List (List ℕ))
 pieces-right [] ys each = each
 pieces-right (x ∷ xs) ys each = pieces-right xs ys each.1
 
--- A list that is not empty has a last one.
+-- A list that is not empty has a last element.
 record HasLast (packets : List (List ℕ)) : Type 0 where
   pub run : List (List ℕ)
   pub last : List ℕ
@@ -51,7 +52,7 @@ has-last p (q ∷ packets) =
       are = ap (λ (l : List (List ℕ)). p ∷ l) rest.are;
     }
 
--- PES packets that carry a transmission with a frame have a last one.
+-- PES packets of a transmission with a frame have a last one.
 sent-last : (options : OptionsValue) (within : ℕ) (values : List PesValue)
     (packets : List (List ℕ)) (sendings : Transmission)
     → AllZip IsPesPacket values packets

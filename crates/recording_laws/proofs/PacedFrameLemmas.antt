@@ -1,4 +1,4 @@
--- Frames that rise and keep a pace are near one another: `near-covered`.
+-- Rising frames that keep a maximum distance are close together: `near-covered`.
 use Rattle.std.proofs.Common.{ℕ, zero, suc, ◌+◌, ◌<◌, ◌≤◌, inl, inr, List, [], ◌∷◌, length}
 use Rattle.std.proofs.Common.{map, arith}
 use Rattle.std.specs.Prelude.{⊤}
@@ -7,7 +7,7 @@ use Rattle.sub_rules.specs.FrameRules.{frame_at}
 use Rattle.sub_rules.specs.Transmission.{IsRising, SentFrame, Transmission, first_frame}
 use Rattle.sub_rules.specs.Transmission.{last_frame}
 
--- Each number is at most `pace` more than the one before it, the first than that one.
+-- Each number is at most `pace` more than the one before it; the first is so for the given one.
 abbrev pub AreNearFrom : ℕ → ℕ → List ℕ → Type 0
 AreNearFrom pace frame [] = ⊤
 AreNearFrom pace frame (x ∷ more) = (x ≤ frame + pace) × AreNearFrom pace x more
@@ -21,7 +21,7 @@ AreNear pace (x ∷ more) = AreNearFrom pace x more
 abbrev pub numbers : Transmission → List ℕ
 numbers frames = map (λ (s : SentFrame). s.frame) frames
 
--- Each frame from the first to the last is one of these, or less than `pace` behind one of them.
+-- Each frame from the first to the last is one of these, or less than `pace` after one of them.
 abbrev pub AreCovering : ℕ → Transmission → Type 0
 AreCovering pace frames =
     (f : ℕ)
@@ -32,7 +32,7 @@ AreCovering pace frames =
     × (frame_at frames j ≤ f)
     × (f < frame_at frames j + pace)
 
--- ---- frames that rise
+-- ---- rising frames
 
 rising-tail : (s : SentFrame) (frames : Transmission) → IsRising (s ∷ frames) → IsRising frames
 rising-tail s frames h i j d l m = h (suc i) (suc j) d (omega arith) (omega arith)
@@ -62,10 +62,10 @@ rising-last t (u ∷ more) rising =
     let rest = rising-last u more (rising-tail t (u ∷ more) rising) in
     omega (arith, rest, rising-first t u more rising)
 
--- ---- and cover
+-- ---- covering frames
 
 module _ (pace : ℕ) (s t : SentFrame) (more : Transmission) (rising : IsRising (s ∷ t ∷ more)) where
-  -- The frame that is `pace` behind the first is not covered before the second comes.
+  -- The frame `pace` after the first is not covered unless the second comes by then.
   uncovered : (j : ℕ)
       → s.frame + pace < t.frame
       → j < length (s ∷ t ∷ more)
@@ -86,7 +86,7 @@ module _ (pace : ℕ) (s t : SentFrame) (more : Transmission) (rising : IsRising
     | inr near ↦ near
   ]
 
-  -- What is covered by the first is covered by the second, from there on.
+  -- From the second on, what the first covers the second covers.
   covered-by : (f j : ℕ)
       → t.frame ≤ f
       → j < length (s ∷ t ∷ more)
@@ -106,7 +106,7 @@ module _ (pace : ℕ) (s t : SentFrame) (more : Transmission) (rising : IsRising
       let at = covered f (omega (arith, first, begun)) lasts in
       covered-by f at.0 begun at.1 at.2 at.3
 
--- So each is near the one before it.
+-- So each is close to the one before it.
 pub near-covered : (pace : ℕ) (frames : Transmission)
     → IsRising frames
     → AreCovering pace frames

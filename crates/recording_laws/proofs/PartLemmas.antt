@@ -1,4 +1,4 @@
--- What comes of a part that is whole. Main lemma: outcome-whole.
+-- The result of a complete part. Main lemma: outcome-whole.
 use Rattle.std.proofs.Common.{◌≡◌, ℕ, ◌≤◌, inl, inr, Bool, true, false, List, [], ◌∷◌, ◌++◌, length}
 use Rattle.std.proofs.Common.{append_assoc, take, arith, Ok}
 use Rattle.std.proofs.lemmas.Bool.{cases_Bool}
@@ -16,7 +16,7 @@ use Rattle.mpeg_ts.specs.Parts.{begins_part, may_be_cut_off, outcomes, part_of, 
 use Rattle.mpeg_ts.specs.Parts.{with_packet}
 use Rattle.mpeg_ts.specs.Carried.{with_marks}
 
--- A piece tells its size.
+-- The beginning of a PES packet gives its size.
 pub piece-size : (b : List ℕ) → IsPiece b → size_at (take 6 b) ≡ Ok (length b)
 piece-size b h1 = grind (arith, nat_tests, head_complete)
 
@@ -24,7 +24,7 @@ piece-size b h1 = grind (arith, nat_tests, head_complete)
 pub piece-long : (b : List ℕ) → IsPiece b → 184 ≤ length b
 piece-long b h1 = grind (arith, nat_tests)
 
--- A part that begins a PES packet, and has its bytes and no others.
+-- A part that begins a PES packet, and has exactly its bytes.
 pub record IsWhole (part : Part) (bytes : List ℕ) : Type 0 where
   pub begins : part.begins ≡ true
   pub bytes_are : part_bytes part ≡ bytes
@@ -50,7 +50,7 @@ unfolding outcomes
 outcomes-whole wrong_behind part more bytes h =
     rw (outcome-whole (may_be_cut_off wrong_behind more) part bytes h)
 
--- And where no break stands before it, its PES packet is what is carried next, without a mark.
+-- Without a break before it, its PES packet is carried next, without a gap marker.
 pub with_marks-whole : (given wrong_behind : Bool) (part : Part) (more : List Part)
     (bytes : List ℕ)
     → IsWhole part bytes
@@ -71,7 +71,7 @@ pub parts_from-cut : (part : Part) (g : GoodPacket) (more : List GoodPacket)
 unfolding parts_from
 parts_from-cut part g more cut = rw cut
 
--- One that follows, and begins none, belongs to the part.
+-- One that continues the counter, and begins none, belongs to the part.
 pub parts_from-follows : (part : Part) (g : GoodPacket) (more : List GoodPacket)
     → begins_part g ≡ false
     → parts_from part (g ∷ more) ≡ parts_from (with_packet part g) more

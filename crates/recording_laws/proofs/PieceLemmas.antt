@@ -1,4 +1,4 @@
--- Bytes as pieces, one after another. Main lemma: one-way.
+-- Bytes as PES packets, one after another. Main lemma: one-way.
 use Rattle.std.proofs.lemmas.Bool.Decides.{nat_tests}
 use Rattle.std.proofs.Common.{◌≡◌, ℕ, Bool, true, false, List, [], ◌∷◌, ◌++◌, length, length-append}
 use Rattle.std.proofs.Common.{take, drop, map, Ok, refl, sym, ap, ◌∙◌, arith}
@@ -12,26 +12,26 @@ use Rattle.recording_laws.specs.Losses.{Fated}
 use Rattle.recording_laws.specs.Multiplex.{SentPes}
 use Rattle.recording_laws.proofs.PartLemmas.{piece-long, piece-size}
 
--- ---- pieces
+-- ---- PES packets
 
--- The first of two lists that are equal.
+-- Equal lists have equal first elements.
 pub heads : {A : Type 0} (x y : A) (xs ys : List A) → x ∷ xs ≡ y ∷ ys → x ≡ y
 heads x y xs ys e = cc
 
--- Those behind it.
+-- They have equal rests.
 pub tails : {A : Type 0} (x y : A) (xs ys : List A) → x ∷ xs ≡ y ∷ ys → xs ≡ ys
 tails x y xs ys e = cc
 
--- No list with something in it is empty.
+-- A list with an element is not empty.
 pub not-empty : {A : Type 0} (xs ys : List A) (y : A) → [] ≡ xs ++ (y ∷ ys) → ⊥
 not-empty [] ys y e = cc
 not-empty (x ∷ xs) ys y e = cc
 
--- A piece at the front of bytes tells its size.
+-- A PES packet at the beginning of bytes gives its size.
 front-size : (p more : List ℕ) → IsPiece p → size_at (take 6 (p ++ more)) ≡ Ok (length p)
 front-size p more h1 = grind (arith, nat_tests, piece-long, take-append-le, piece-size)
 
--- Two pieces at the front of the same bytes have one size.
+-- Two PES packets at the beginning of the same bytes have the same size.
 front-length : (p q more others : List ℕ)
     → IsPiece p
     → IsPiece q
@@ -39,7 +39,7 @@ front-length : (p q more others : List ℕ)
     → length p ≡ length q
 front-length p q more others h1 h2 h3 = grind (arith, nat_tests, front-size)
 
--- They are one.
+-- They are equal.
 front-piece : (p q more others : List ℕ)
     → length p ≡ length q
     → p ++ more ≡ q ++ others
@@ -48,7 +48,7 @@ front-piece p q more others long e =
     sym (take-append_seam p more) ∙ ap (take (length p)) e
     ∙ ap (λ (n : ℕ). take n (q ++ others)) long ∙ take-append_seam q others
 
--- And the same stands behind it.
+-- The same bytes follow.
 front-rest : (p q more others : List ℕ)
     → length p ≡ length q
     → p ++ more ≡ q ++ others
@@ -57,11 +57,11 @@ front-rest p q more others long e =
     sym (drop-append_seam p more) ∙ ap (drop (length p)) e
     ∙ ap (λ (n : ℕ). drop n (q ++ others)) long ∙ drop-append_seam q others
 
--- No piece is empty.
+-- No PES packet is empty.
 piece-some : (p more : List ℕ) → IsPiece p → [] ≡ p ++ more → ⊥
 piece-some p more h1 h2 = grind (arith, nat_tests, piece-long, length-append)
 
--- Bytes fall into pieces in one way.
+-- Bytes can be split into PES packets in one way only.
 pub one-way : (ps qs : List (List ℕ))
     → AllByRecursion IsPiece ps
     → AllByRecursion IsPiece qs
@@ -76,34 +76,34 @@ one-way (p ∷ ps) (q ∷ qs) each others e =
     let rest = one-way ps qs each.1 others.1 (front-rest p q (concat ps) (concat qs) long e) in
     cc
 
--- The mark is a piece.
+-- The gap marker is a PES packet.
 pub mark-piece : IsPiece mark
 unfolding mark
 mark-piece = grind (arith, nat_tests)
 
--- ---- what is carried
+-- ---- the carried bytes
 
--- A mark, if there is one.
+-- A gap marker, if there is one.
 abbrev pub marks_where : Bool → List (List ℕ)
 marks_where true = mark ∷ []
 marks_where false = []
 
--- A mark before pieces.
+-- A gap marker before PES packets.
 pub concat-marks : (b : Bool) (x : List ℕ) (xs : List (List ℕ))
     → concat (marks_where b ++ (x ∷ xs)) ≡ mark_where b ++ (x ++ concat xs)
 concat-marks b x xs = grind (arith, nat_tests)
 
--- A mark before pieces is one.
+-- They are PES packets.
 pub marks-pieces : (b : Bool) (xs : List (List ℕ))
     → AllByRecursion IsPiece xs
     → AllByRecursion IsPiece (marks_where b ++ xs)
 marks-pieces b xs h1 = grind (arith, nat_tests, mark-piece)
 
--- A mark alone is one.
+-- So is a gap marker alone.
 pub marks-alone : (b : Bool) → AllByRecursion IsPiece (marks_where b)
 marks-alone b = grind (arith, nat_tests, mark-piece)
 
--- One list behind another.
+-- Joined lists.
 pub pieces-append : (xs ys : List (List ℕ))
     → AllByRecursion IsPiece xs
     → AllByRecursion IsPiece ys
@@ -111,9 +111,9 @@ pub pieces-append : (xs ys : List (List ℕ))
 pieces-append [] ys each others = others
 pieces-append (x ∷ xs) ys each others = (each.0, pieces-append xs ys each.1 others)
 
--- ---- where no mark stands
+-- ---- without a gap marker
 
--- None of these is the mark.
+-- None of these is the gap marker.
 abbrev pub HasNoMark : List (List ℕ) → Type 0
 HasNoMark run = AllByRecursion (λ p. p ≡ mark → ⊥) run
 

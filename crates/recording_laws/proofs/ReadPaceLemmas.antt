@@ -1,4 +1,4 @@
--- PES packets that are read as frames near one another keep the pace: `keeps-pace`.
+-- PES packets whose frames are close together keep the maximum distance: `keeps-pace`.
 use Rattle.std.proofs.lemmas.Bool.Decides.{nat_tests}
 use Rattle.std.proofs.Common.{◌≡◌, ℕ, ◌+◌, ◌^◌, ◌<◌, ◌≤◌, List, [], ◌∷◌, take, drop, sym, ap, ◌∙◌}
 use Rattle.std.proofs.Common.{subst, arith, Option}
@@ -16,7 +16,7 @@ use Rattle.sub_rules.proofs.PieceFileLemmas.{packet_is_piece}
 use Rattle.recording_laws.specs.PacedCheck.{frame_by_clock}
 use Rattle.recording_laws.proofs.PacedFrameLemmas.{AreNear, AreNearFrom, numbers}
 
--- All PES packets are pieces.
+-- All valid PES packets are PES packets.
 pub are-pieces : (values : List PesValue) (packets : List (List ℕ))
     → AllZip IsPesPacket values packets
     → AllByRecursion IsPiece packets
@@ -26,11 +26,11 @@ are-pieces (v ∷ values) [] each = absurd each
 are-pieces (v ∷ values) (p ∷ packets) each =
     (packet_is_piece v p each.0, are-pieces values packets each.1)
 
--- The bits of a PTS, in its bytes behind two flags and a length.
+-- The bits of a PTS, in its bytes after two flags and a length.
 written-bits : (a b c pts : ℕ) → pts < 2 ^ 33 → pts_bits (a ∷ b ∷ c ∷ pts_bytes pts) ≡ pts
 written-bits a b c pts fits = grind (arith, nat_tests)
 
--- The bytes of a PES packet up to its PTS give it.
+-- The bytes of a PES packet up to its PTS give the PTS.
 front-bits : (v : PesValue) (p : List ℕ)
     → IsPesPacket v p
     → pts_bits (drop 6 (up_to_pts p)) ≡ v.pts
@@ -39,7 +39,7 @@ front-bits v p h =
     ∙ written-bits h.flags h.pts_dts_flags header_data_length v.pts h.pts_fits
 
 module _ (options : OptionsValue) where
-  -- So they give the frame that it is read as.
+  -- So they give its frame.
   front-frame : (v : PesValue) (p : List ℕ) (s : SentFrame)
       → IsPesPacket v p
       → IsReadAs (clock_of options) v s
@@ -64,7 +64,7 @@ module _ (options : OptionsValue) where
         subst (λ (f : ℕ). KeepPaceFrom (frame_by_clock options) pace f packets) (sym own) rest,
       )
 
-  -- They keep the pace.
+  -- They keep the maximum distance.
   pub keeps-pace : (pace : ℕ) (values : List PesValue) (packets : List (List ℕ))
       (sendings : Transmission)
       → AllZip IsPesPacket values packets

@@ -1,6 +1,6 @@
--- What is read of PES packets that were sent, whatever was lost of them: `law_of_reading`, by
--- induction over what was sent. The laws of losses, of neighbours and of the pace are read off it;
--- that of the pace here: `law_of_pace`.
+-- What is read of the PES packets that were sent, whatever was lost: `law_of_reading`, by induction
+-- on what was sent. The laws of losses, of neighbours and of the maximum distance follow; the last
+-- one here: `law_of_pace`.
 use Rattle.std.proofs.Common.{◌≡◌, ℕ, ◌+◌, inl, inr, Bool, true, false, ◌&&◌, ◌||◌, List, [], ◌∷◌}
 use Rattle.std.proofs.Common.{◌++◌, length, None, refl, sym, ap, ◌∙◌, subst, arith, nat_lt, ◌≤◌}
 use Rattle.std.specs.List.{AllByRecursion, flat_map}
@@ -38,7 +38,7 @@ use Rattle.recording_laws.proofs.PieceLemmas.{marks-alone, marks_where, one-way}
 use Rattle.recording_laws.proofs.TraceLemmas.{IsHeard, Traced, traced}
 use Rattle.recording_laws.proofs.BegunPartLemmas.{IsFront}
 
--- Marks alone are pieces, of no PES packet.
+-- Gap markers alone are no results.
 gives-marks : (few : Bool) (held : Held) (marked : Bool)
     → (marked ≡ true → is_held held ≡ true)
     → Gives few held [] (mark_where marked)
@@ -55,11 +55,11 @@ gives-marks few held false after = record {
   reads = (false, refl, after);
 }
 
--- A PES packet does not arrive whose first packet is gone.
+-- A PES packet does not arrive if its first packet is missing.
 not-first : (s : SentPes Fated) → is_there s.first ≡ false → arrives s ≡ false
 not-first s gone = ap (λ (b : Bool). b && are_there_after s.first s.others) gone
 
--- Whether a mark stands before a PES packet, where the one before is whole,
+-- Whether a gap marker comes before a PES packet, if the one before is complete,
 mark-behind-whole : (longer break wrong here skipped behind : Bool) (n : ℕ)
     → longer ≡ false
     → break ≡ ((wrong || here) || nat_lt 0 n)
@@ -70,7 +70,7 @@ mark-behind-whole : (longer break wrong here skipped behind : Bool) (n : ℕ)
 mark-behind-whole longer break wrong here skipped behind n h1 h2 h3 h4 h5 =
     grind (arith, nat_tests)
 
--- and where others are gone between.
+-- and if others are missing in between.
 mark-behind-gone : (longer break wrong here skipped behind : Bool) (n : ℕ)
     → break ≡ ((wrong || here) || nat_lt 0 n)
     → 1 ≤ n
@@ -79,7 +79,7 @@ mark-behind-gone : (longer break wrong here skipped behind : Bool) (n : ℕ)
 mark-behind-gone longer break wrong here skipped behind n h1 h2 h3 = grind (arith, nat_tests)
 
 module _ (distance number : ℕ) (wrong_behind few : Bool) where
-  -- The part of a PES packet's first packet begins as it does.
+  -- The part of a PES packet's first packet begins like it.
   front-first : (s : SentPes Fated) (g : GoodPacket)
       → IsLeftPes distance number s
       → HoldsPts distance s
@@ -151,23 +151,23 @@ module _ (distance number : ℕ) (wrong_behind few : Bool) where
   first-cuts s g is copy =
       ap (λ (b : Bool). b || is_unlinked g.link) (copy.begins ∙ is.first.is_carrier.begins)
 
-  -- Behind a gap a mark comes, if something was given.
+  -- After a gap comes a gap marker, if there was a result.
   gapped-fits : (given b : Bool) → Fits (gapped given) (given && (true || b))
   gapped-fits true b = refl
   gapped-fits false b = tt
 
-  -- Behind a gap something was given, or not.
+  -- After a gap there was a result, or there was none.
   gapped-held : (given : Bool) → is_held (gapped given) ≡ given
   gapped-held true = refl
   gapped-held false = refl
 
-  -- And a mark stands there exactly then.
+  -- A gap marker is there exactly then.
   gapped-exact : (given b : Bool) (s : SentPes Fated)
       → IsMarkExact few (gapped given) s (given && (true || b))
   gapped-exact true b s = λ e. refl
   gapped-exact false b s = λ e. refl
 
-  -- Behind a piece it is exact too.
+  -- It is exact after a result, too.
   going-exact : (part : Part) (s : SentPes Fated) (between : ℕ) (skipped : Bool) (n : ℕ)
       (wrong : Bool) (piece : List ℕ) (longer : Bool) (t : SentPes Fated) (g : GoodPacket)
       → IsGoing distance number wrong_behind few part s between skipped n wrong []
@@ -188,9 +188,9 @@ module _ (distance number : ℕ) (wrong_behind few : Bool) where
   going-exact part s between skipped n wrong piece longer t g (inr (inr far)) heard is = λ e.
       absurd (cc (e, far.1))
 
-  -- ---- PES packets lead on
+  -- ---- PES packets follow
 
-  -- The last part, where it begins no PES packet,
+  -- The last part, if it begins no PES packet,
   end-headless : (part : Part) (given gap : Bool) (goods : List GoodPacket)
       → part.begins ≡ false
       → goods ≡ []
@@ -204,7 +204,7 @@ module _ (distance number : ℕ) (wrong_behind few : Bool) where
       (gives-marks few (gapped given) end.is_marked
       (λ e. gapped-held given ∙ end.after_one e))
 
-  -- and where it does.
+  -- and if it does.
   end-open : (part : Part) (given gap : Bool) (s : SentPes Fated) (between : ℕ) (skipped : Bool)
       (n : ℕ) (wrong : Bool) (goods : List GoodPacket)
       → IsFirst distance number wrong_behind few part s
@@ -239,7 +239,7 @@ module _ (distance number : ℕ) (wrong_behind few : Bool) where
             )
       ]
 
-  -- The next PES packet behind a part that begins none,
+  -- The next PES packet after a part that begins none,
   next-headless : (t : SentPes Fated) (more : List (SentPes Fated)) (part : Part)
       (given gap behind : Bool) (n : ℕ) (wrong : Bool) (goods : List GoodPacket)
       → Onward distance number wrong_behind few more
@@ -270,7 +270,7 @@ module _ (distance number : ℕ) (wrong_behind few : Bool) where
             (gapped-exact given (is_break here.0.link) t))
       ]
 
-  -- and behind one that does, where its first packet is there.
+  -- and after one that does, if its first packet is there.
   next-opened : (t : SentPes Fated) (more : List (SentPes Fated)) (part : Part)
       (given gap : Bool) (s : SentPes Fated) (between : ℕ) (skipped : Bool) (n : ℕ)
       (wrong : Bool) (g : GoodPacket) (later : List GoodPacket) (since : Bool)
@@ -352,11 +352,11 @@ module _ (distance number : ℕ) (wrong_behind few : Bool) where
             holds first going here.3 here.5 here.6)
       ]
 
-  -- All of them hold a PTS in their first packets, if more may be gone in a row.
+  -- All of them have a PTS in their first packets, if more may be missing in a row.
   abbrev AllHold : List (SentPes Fated) → Type 0
   AllHold sent = few ≡ false → AllByRecursion (HoldsPts distance) sent
 
-  -- So PES packets lead on.
+  -- So PES packets follow.
   onward : (sent : List (SentPes Fated))
       → AllByRecursion (IsLeftPes distance number) sent
       → AllHold sent
@@ -378,15 +378,15 @@ module _ (distance number : ℕ) (wrong_behind few : Bool) where
 
   -- ---- from the beginning
 
-  -- What is carried of good packets that begin a recording.
+  -- What the good packets at the beginning of a recording carry.
   abbrev from_goods : List GoodPacket → List ℕ
   from_goods goods = with_marks false false (outcomes wrong_behind (parts goods))
 
-  -- No packet is there yet.
+  -- No packet yet.
   abbrev no_part : Part
   no_part = record { after_break = false; begins = false; payloads = [] }
 
-  -- Before something is given gaps do not matter.
+  -- Before the first result gaps do not matter.
   ungiven : (a b : Bool) (os : List PartOutcome) → with_marks false a os ≡ with_marks false b os
   unfolding with_marks
   ungiven a b [] = refl
@@ -394,7 +394,7 @@ module _ (distance number : ℕ) (wrong_behind few : Bool) where
   ungiven a b (Pes bytes ∷ os) = refl
   ungiven a b (Other bytes ∷ os) = refl
 
-  -- So the first good packet may come behind a part of no PES packet.
+  -- So the first good packet may follow a part of no PES packet.
   from-no_part : (n : ℕ) (wrong : Bool) (cs : List (Carrier Fated)) (goods : List GoodPacket)
       → Traced distance number few false n wrong cs goods
       → from_goods goods ≡ carried_from distance number wrong_behind few no_part false false goods
@@ -414,7 +414,7 @@ module _ (distance number : ℕ) (wrong_behind few : Bool) where
         ∙ or-true (begins here.0.packet)))
   ]
 
-  -- PES packets start.
+  -- The first PES packets.
   pub starting : (sent : List (SentPes Fated)) (wrong : Bool) (goods : List GoodPacket)
       → AllByRecursion (IsLeftPes distance number) sent
       → AllHold sent
@@ -424,8 +424,8 @@ module _ (distance number : ℕ) (wrong_behind few : Bool) where
       subst (Gives few Nothing sent) (sym (from-no_part 0 wrong (carriers_of sent) goods traced))
       ((onward sent each holds).headless no_part false false false 0 wrong goods refl traced)
 
--- What is carried are pieces of PES packets, where few carriers in a row are gone, or else each PES
--- packet's first packet holds its PTS.
+-- What is carried are results for PES packets, if few carriers in a row are missing, or if the
+-- first packet of each PES packet contains its PTS.
 pub law_of_reading : (number distance : ℕ) (few : Bool) (m : Multiplex Fated) (recording : List ℕ)
     → AreLosses number distance m recording
     → (few ≡ true → are_few_gone 0 (carriers_of m.sent) ≡ true)
@@ -451,7 +451,6 @@ law_of_reading number distance few m recording h small holds =
         good_after (since_loss None false (any_wrong m.lead))
         (flat_map (heard_left distance number) (flat_map items_of_carrier cs))
 
--- The law of pace.
 pub law_of_pace : LawOfPace
 law_of_pace number distance pace frame_of m recording before run behind last h holds far each joined
     unmarked keep =

@@ -1,6 +1,6 @@
--- How pieces are read of PES packets that were sent, where any number of packets is gone; and that
--- those which keep the pace, without a mark among them, were sent one after another. Main lemma:
--- read-run.
+-- The results for the PES packets that were sent, if any number of packets is missing. Those that
+-- keep the maximum distance, without a gap marker among them, were sent one after another. Main
+-- lemma: read-run.
 use Rattle.std.proofs.Common.{◌≡◌, ℕ, ◌+◌, ◌<◌, ◌≤◌, ◌⊎◌, inl, inr, Bool, true, false, List, []}
 use Rattle.std.proofs.Common.{◌∷◌, ◌++◌, length, refl, sym, ap, ◌∙◌, subst, arith, ◌&&◌, ◌||◌}
 use Rattle.std.specs.Bool.{⊤}
@@ -14,46 +14,46 @@ use Rattle.recording_laws.specs.Pace.{up_to_pts}
 use Rattle.recording_laws.proofs.PieceLemmas.{HasNoMark, heads, marks_where, not-empty}
 use Rattle.recording_laws.proofs.PieceLemmas.{sent_bytes, tails}
 
--- What was given before: nothing; something, and a gap since; or a piece that begins as this PES
--- packet does. Behind its first carrier so many stand before the next PES packet, and perhaps
--- nothing comes of a PES packet among them.
+-- The state before a result: none yet; one, and a gap since; or one that begins like this PES
+-- packet. After its first carrier come so many before the next PES packet, and perhaps one of the
+-- PES packets among them has no result.
 pub data Held : Type 0 where
   Nothing : Held
   Marked : Held
   After : List ℕ → SentPes Fated → ℕ → Bool → Held
 
--- A PES packet of which nothing is given stands between.
+-- A PES packet without a result comes between.
 abbrev pub skip : Held → SentPes Fated → Held
 skip Nothing t = Nothing
 skip Marked t = Marked
 skip (After x s between skipped) t = After x s (between + length (carriers_of_pes t)) true
 
--- A mark may be missing before the next piece: where nothing was given; or where the one before is
--- as it was sent, and the next one was sent behind it, if not 16 carriers stand between.
+-- A gap marker may be missing before the next result: if there was none; or if the one before is as
+-- it was sent and the next one was sent after it, unless 16 carriers are between them.
 abbrev pub Fits : Held → Bool → Type 0
 Fits Nothing marked = ⊤
 Fits Marked marked = marked ≡ true
 Fits (After x s between skipped) marked =
     marked ≡ false → (16 ≤ between) ⊎ ((skipped ≡ false) × (x ≡ s.bytes))
 
--- Something was given.
+-- There was a result.
 abbrev pub is_held : Held → Bool
 is_held Nothing = false
 is_held Marked = true
 is_held (After x s between skipped) = true
 
--- There was a gap since, where few are gone in a row.
+-- There was a gap since, if few are missing in a row.
 abbrev pub is_gap : Held → Bool
 is_gap Nothing = true
 is_gap Marked = true
 is_gap (After x s between skipped) = skipped || is_wrong_behind s
 
--- Where few are gone in a row, a mark stands exactly where there was a gap.
+-- If few are missing in a row, there is a gap marker exactly if there was a gap.
 abbrev pub IsMarkExact : Bool → Held → SentPes Fated → Bool → Type 0
 IsMarkExact few held s marked =
     few ≡ true → marked ≡ (is_held held && (is_gap held || any_wrong (units_before s.first)))
 
--- Pieces come of PES packets, in order; each begins as its PES packet does. Where few are gone in a
+-- The results for PES packets, in order; each begins like its PES packet. If few are missing in a
 -- row they are those that arrive, each as it was sent.
 abbrev pub Reads : Bool → Held → List (SentPes Fated) → List (List ℕ) → Type 0
 Reads few held [] pieces =
@@ -68,7 +68,7 @@ Reads few held (s ∷ more) pieces =
     × (few ≡ true → (arrives s ≡ true) × (x ≡ s.bytes))
     × IsMarkExact few held s marked)
 
--- What comes behind a gap may come behind a PES packet with a gap behind it.
+-- What may follow a gap may follow a PES packet with a gap after it.
 pub reads-marked : (few : Bool) (x : List ℕ) (s : SentPes Fated) (between : ℕ) (skipped : Bool)
     (sent : List (SentPes Fated)) (pieces : List (List ℕ))
     → (few ≡ true → (skipped || is_wrong_behind s) ≡ true)
@@ -97,14 +97,14 @@ reads-marked few x s between skipped (t ∷ more) pieces gap h = elim h [
       )
 ]
 
--- Marks are.
+-- They are gap markers.
 marks-same : (marked : Bool) → AllByRecursion (λ p. p ≡ mark) (marks_where marked)
 marks-same true = (refl, tt)
 marks-same false = tt
 
--- ---- where a piece begins
+-- ---- where a result begins
 
--- None of these is another piece.
+-- None of these is another result.
 pub no-piece : (pieces before tail : List (List ℕ)) (x : List ℕ)
     → AllByRecursion (λ p. p ≡ mark) pieces
     → pieces ≡ before ++ (x ∷ tail)
@@ -114,11 +114,11 @@ no-piece (p ∷ pieces) [] tail x all e = sym (heads p x pieces tail e) ∙ all.
 no-piece (p ∷ pieces) (q ∷ before) tail x all e =
     no-piece pieces before tail x all.1 (tails p q pieces (before ++ (x ∷ tail)) e)
 
--- `IsFar` is what is known of PES packets, and of those behind the first of them.
+-- `IsFar` is a property of PES packets, and of those after the first of them.
 module _ (few : Bool) (IsFar : List (SentPes Fated) → Type 0)
     (behind-far : (s : SentPes Fated) (more : List (SentPes Fated)) → IsFar (s ∷ more) → IsFar more)
   where
-    -- A piece that is no mark began as one of them, and is it where few are gone.
+    -- A result other than a gap marker began as one of them, and equals it if few are missing.
     pub record Located
         (x : List ℕ) (tail : List (List ℕ)) (sent : List (SentPes Fated))
         : Type 0 where
@@ -131,7 +131,7 @@ module _ (few : Bool) (IsFar : List (SentPes Fated) → Type 0)
       pub as_sent : few ≡ true → x ≡ here.bytes
       pub far : IsFar (here ∷ later)
 
-    -- Of one more.
+    -- With one more.
     located-behind : (x : List ℕ) (tail : List (List ℕ)) (s : SentPes Fated)
         (more : List (SentPes Fated))
         → Located x tail more
@@ -175,7 +175,7 @@ module _ (few : Bool) (IsFar : List (SentPes Fated) → Type 0)
     located-here s more y rest (z ∷ before) tail x e front reads as_sent far go =
         located-behind x tail s more (go before (tails y z rest (before ++ (x ∷ tail)) e))
 
-    -- Behind a mark, or none.
+    -- After a gap marker, or none.
     located-marked : (marked : Bool) (s : SentPes Fated) (more : List (SentPes Fated)) (y : List ℕ)
         (rest before tail : List (List ℕ)) (x : List ℕ)
         → marks_where marked ++ (y ∷ rest) ≡ before ++ (x ∷ tail)
@@ -222,7 +222,7 @@ module _ (few : Bool) (IsFar : List (SentPes Fated) → Type 0)
 module _ (frame_of : List ℕ → ℕ) (pace : ℕ) where
   -- ---- what follows it
 
-  -- What was sent behind a PES packet, of which this was read.
+  -- What was sent after a PES packet that was read.
   record Follows (x : List ℕ) (s : SentPes Fated) (skipped : Bool) (more : List (SentPes Fated))
       (run : List (List ℕ)) (last : List ℕ) : Type 0 where
     unskipped : skipped ≡ false
@@ -232,7 +232,7 @@ module _ (frame_of : List ℕ → ℕ) (pace : ℕ) where
     sent_are : sent_bytes more ≡ run ++ (next ∷ later)
     front : up_to_pts next ≡ up_to_pts last
 
-  -- 16 carriers are too many to keep the pace.
+  -- 16 carriers are too many to keep the maximum distance.
   too-far : (x y a b : List ℕ) (between : ℕ)
       → up_to_pts x ≡ up_to_pts a
       → up_to_pts y ≡ up_to_pts b
@@ -246,7 +246,7 @@ module _ (frame_of : List ℕ → ℕ) (pace : ℕ) where
       let second = ap frame_of h2 in
       omega (arith, far, h4, first, second)
 
-  -- One of two: the piece before was as it was sent, and none was skipped.
+  -- The result before was as it was sent, and none was skipped.
   as-sent : (x y : List ℕ) (s t : SentPes Fated) (between : ℕ) (skipped : Bool)
       → up_to_pts x ≡ up_to_pts s.bytes
       → up_to_pts y ≡ up_to_pts t.bytes
@@ -259,7 +259,7 @@ module _ (frame_of : List ℕ → ℕ) (pace : ℕ) where
       absurd (too-far x y s.bytes t.bytes between h1 h2 h3 h4 far)
   as-sent x y s t between skipped h1 h2 h3 h4 (inr next) = next
 
-  -- The next piece is that of this PES packet.
+  -- The next result is that of this PES packet.
   follows-here : (x : List ℕ) (s : SentPes Fated) (between : ℕ) (skipped : Bool)
       (t : SentPes Fated) (more : List (SentPes Fated)) (y : List ℕ) (rest run : List (List ℕ))
       (last : List ℕ) (behind : List (List ℕ))
@@ -308,7 +308,7 @@ module _ (frame_of : List ℕ → ℕ) (pace : ℕ) where
         front = more_is.front;
       }
 
-  -- Behind a mark, or none.
+  -- After a gap marker, or none.
   follows-marked : (marked : Bool) (x : List ℕ) (s : SentPes Fated) (between : ℕ)
       (skipped : Bool) (t : SentPes Fated) (more : List (SentPes Fated)) (y : List ℕ)
       (rest run : List (List ℕ)) (last : List ℕ) (behind : List (List ℕ))
@@ -336,7 +336,7 @@ module _ (frame_of : List ℕ → ℕ) (pace : ℕ) where
       second fits far go =
       absurd (none.0 (sym (heads mark z (y ∷ rest) (run ++ (last ∷ behind)) e)))
 
-  -- No piece follows.
+  -- No result follows.
   nothing-follows : (rest run : List (List ℕ)) (last : List ℕ) (behind : List (List ℕ))
       → AllByRecursion (λ p. p ≡ mark) rest
       → rest ≡ run ++ (last ∷ behind)
@@ -353,7 +353,8 @@ module _ (frame_of : List ℕ → ℕ) (pace : ℕ) where
       → Follows x s skipped (t ∷ more) run last
   follows-later x s skipped t more run last h = absurd (cc h.unskipped)
 
-  -- What is read behind a piece without a mark, and keeps the pace, was sent behind it.
+  -- What is read after a result without a gap marker, and keeps the maximum distance, was sent
+  -- after it.
   follows : (x : List ℕ) (s : SentPes Fated) (between : ℕ) (skipped : Bool)
       (more : List (SentPes Fated)) (rest run : List (List ℕ)) (last : List ℕ)
       (behind : List (List ℕ))
@@ -383,7 +384,7 @@ module _ (frame_of : List ℕ → ℕ) (pace : ℕ) where
             unmarked paced here.4 apart.0 apart.1)
       ]
 
-  -- What was sent where a run of pieces was read, and one more.
+  -- What was sent if a run of results and one more were read.
   pub record WasSent (sent : List (SentPes Fated)) (run : List (List ℕ)) (last : List ℕ)
       : Type 0 where
     pub earlier : List (List ℕ)
@@ -392,7 +393,8 @@ module _ (frame_of : List ℕ → ℕ) (pace : ℕ) where
     pub sent_are : sent_bytes sent ≡ earlier ++ (run ++ (next ∷ later))
     pub front : up_to_pts next ≡ up_to_pts last
 
-  -- Pieces without a mark among them, which keep the pace, were sent one after another.
+  -- Results without a gap marker among them, which keep the maximum distance, were sent one after
+  -- another.
   pub read-run : (held : Held) (sent : List (SentPes Fated)) (before run : List (List ℕ))
       (last : List ℕ) (behind : List (List ℕ))
       → Reads false held sent (before ++ (run ++ (last ∷ behind)))
@@ -430,9 +432,9 @@ module _ (frame_of : List ℕ → ℕ) (pace : ℕ) where
         front = behind_it.front;
       }
 
--- ---- where few are gone
+-- ---- if few are missing
 
--- Behind a gap a mark comes first.
+-- After a gap a gap marker comes first.
 mark-first : (x : List ℕ) (s : SentPes Fated) (between : ℕ) (sent : List (SentPes Fated))
     (pieces : List (List ℕ)) (y : List ℕ) (tail : List (List ℕ))
     → Reads true (After x s between true) sent pieces
@@ -451,7 +453,7 @@ mark-first x s between (t ∷ more) pieces y tail reads e = elim reads [
       ∙ sym here.3 ∙ e))
 ]
 
--- What follows a PES packet without a mark was sent behind it.
+-- What follows a PES packet without a gap marker was sent after it.
 pub sent-next : (x : List ℕ) (s : SentPes Fated) (between : ℕ) (sent : List (SentPes Fated))
     (pieces run behind : List (List ℕ))
     → Reads true (After x s between false) sent pieces

@@ -1,5 +1,6 @@
--- Where any number of carriers is gone: each good packet is a copy of a carrier's, and the next one
--- follows it only if 16 carriers, or none, or a multiple are gone between. Main lemma: traced.
+-- If any number of carriers is missing: each good packet is a copy of a carrier's packet, and the
+-- next one continues it only if the number of missing ones between is a multiple of 16. Main lemma:
+-- traced.
 use Rattle.std.proofs.Common.{◌<◌, nat_lt, ◌≡◌, ℕ, ◌+◌, ◌%◌, ◌⊎◌, inl, inr, Bool, true, false, ◌||◌}
 use Rattle.std.proofs.Common.{List, [], ◌∷◌, ◌++◌, Option, Some, None, refl, sym, ap, arith, ◌∙◌}
 use Rattle.std.proofs.Common.{subst}
@@ -27,7 +28,7 @@ use Rattle.recording_laws.proofs.LeftNoteLemmas.{good-no_first, good-no_second, 
 use Rattle.recording_laws.proofs.LeftNoteLemmas.{good-second, heard-carrier, heard-kept, heard_left}
 use Rattle.recording_laws.proofs.LeftNoteLemmas.{since_loss}
 
--- The carriers that are gone between two good packets, where the second follows the first.
+-- The number of missing carriers between two good packets, if the second continues the first.
 gone-between : (i n a b : ℕ)
     → a ≡ i % 16
     → b ≡ (i + 1 + n) % 16
@@ -35,7 +36,7 @@ gone-between : (i n a b : ℕ)
     → n % 16 ≡ 0
 gone-between i n a b first second on = omega arith
 
--- Where it does not break, the counter goes on.
+-- Without a break the counter continues.
 link-far : (i n : ℕ) (g h : List ℕ) (wrong : Bool)
     → counter g ≡ i % 16
     → counter h ≡ (i + 1 + n) % 16
@@ -44,7 +45,7 @@ link-far : (i n : ℕ) (g h : List ℕ) (wrong : Bool)
 link-far i n g h wrong h1 h2 h3 = grind (arith, nat_tests, gone-between)
 
 module _ (distance number : ℕ) (few : Bool) where
-  -- Good packets after those of a carrier, with these notes behind it: none, or a copy of its
+  -- The good packets after those of a carrier, with these notes after it: none, or a copy of its
   -- packet.
   pub record Stays (good : Option (List ℕ)) (c : Carrier Fated) (goods : GoodPackets)
       (ns : List Note) : Type 0 where
@@ -75,7 +76,7 @@ module _ (distance number : ℕ) (few : Bool) where
   abbrev pub Steps : Option (List ℕ) → Bool → Carrier Fated → GoodPackets → List Note → Type 0
   Steps good wrong c goods ns = Stays good c goods ns ⊎ Comes good wrong c goods ns
 
-  -- Where few are gone its packet is not taken for a repeat of the one before.
+  -- If few are missing, its packet is not taken for a repeat of the one before.
   abbrev pub IsFresh : Option (List ℕ) → Carrier Fated → Type 0
   IsFresh good c =
       few ≡ true
@@ -83,7 +84,7 @@ module _ (distance number : ℕ) (few : Bool) where
       → IsCopy (sent_packet distance c.packet) q
       → is_repeat (since_loss good again wrong) q ≡ false
 
-  -- A repeat that is heard as one.
+  -- A repeat that is taken for one.
   second-repeat : (good : Option (List ℕ)) (again wrong : Bool) (p : List ℕ) (o : Option Fated)
       (after : List Fated) (ns : List Note)
       → AllByRecursion (λ f. IsRepetition number p (sent_packet distance f)) (option_to_list o)
@@ -98,7 +99,7 @@ module _ (distance number : ℕ) (few : Bool) where
   second-repeat good again wrong p o after ns h1 h2 h3 h4 h5 =
       grind (arith, nat_tests, append-nil, heard-kept, good-repeat, good-quiets-left)
 
-  -- The repeat and what is behind it.
+  -- The repeat and what follows it.
   second-steps : (good : Option (List ℕ)) (again was wrong first : Bool) (c : Carrier Fated)
       (ns : List Note)
       → IsLeftCarrier distance number first c
@@ -164,7 +165,7 @@ module _ (distance number : ℕ) (few : Bool) where
       q : List ℕ
       q = copy_of distance number c.again p
 
-  -- A packet that is heard as a repeat.
+  -- A packet that is taken for a repeat.
   first-repeat : (good : Option (List ℕ)) (again wrong first : Bool) (c : Carrier Fated)
       (ns : List Note)
       → IsLeftCarrier distance number first c
@@ -233,8 +234,8 @@ module _ (distance number : ℕ) (few : Bool) where
 
   -- ---- all carriers
 
-  -- What links a good packet to the one before, after so many carriers that are gone, and where a
-  -- unit was made wrong since.
+  -- What links a good packet to the one before, given how many carriers are missing since, and
+  -- whether a unit was damaged.
   pub record IsLinked (n : ℕ) (wrong : Bool) (c : Carrier Fated) (g : GoodPacket) : Type 0 where
     pub cut : is_unlinked g.link ≡ is_break g.link
     pub far : is_break g.link ≡ false → n % 16 ≡ 0
@@ -242,7 +243,7 @@ module _ (distance number : ℕ) (few : Bool) where
         few ≡ true
         → (n < 15) × (is_break g.link ≡ ((wrong || any_wrong (units_before c)) || nat_lt 0 n))
 
-  -- A good packet that came of a carrier, behind another or not.
+  -- A good packet that came from a carrier, after another one or not.
   pub record IsHeard (behind : Bool) (n : ℕ) (wrong : Bool) (c : Carrier Fated) (g : GoodPacket)
       : Type 0 where
     pub copy : IsCopy (sent_packet distance c.packet) g.packet
@@ -250,8 +251,8 @@ module _ (distance number : ℕ) (few : Bool) where
     pub first : behind ≡ false → is_unlinked g.link ≡ true
     pub linked : behind ≡ true → IsLinked n wrong c g
 
-  -- Good packets that come of carriers, where so many are gone since the one before, if there is
-  -- one, and a unit was made wrong, or none.
+  -- Good packets that come from carriers, given how many are missing since the one before, if there
+  -- is one, and whether a unit was damaged.
   abbrev pub Traced : Bool → ℕ → Bool → List (Carrier Fated) → List GoodPacket → Type 0
   Traced behind n wrong [] goods = goods ≡ []
   Traced behind n wrong (c ∷ cs) goods =
@@ -261,11 +262,11 @@ module _ (distance number : ℕ) (few : Bool) where
       × (since : Bool) × (few ≡ true → since ≡ any_wrong (units_behind c))
       × Traced true 0 since cs more)
 
-  -- What few gone are: less than 15, and those to come.
+  -- Fewer than 15 are missing, with those to come.
   abbrev pub AreFew : ℕ → List (Carrier Fated) → Type 0
   AreFew n cs = few ≡ true → (n < 15) × (are_few_gone n cs ≡ true)
 
-  -- A step, and then all behind it.
+  -- One step, followed by all others.
   split-step : (good : Option (List ℕ)) (again wrong : Bool) (c : Carrier Fated)
       (cs : List (Carrier Fated))
       → IsSomeLeft distance number c
@@ -285,7 +286,7 @@ module _ (distance number : ℕ) (few : Bool) where
       (carrier-steps good again wrong is.0 c
       (flat_map (heard_left distance number) (flat_map items_of_carrier cs)) is.1 new)
 
-  -- What links a copy of a carrier's packet.
+  -- The link of a copy of a carrier's packet.
   linked-copy : (good : Option (List ℕ)) (i n : ℕ) (wrong spoiled : Bool) (c : Carrier Fated)
       (h : List ℕ)
       → IsCounter good i
@@ -305,14 +306,13 @@ module _ (distance number : ℕ) (few : Bool) where
     );
   }
 
-  -- The first is linked to none.
+  -- The first packet is linked to none.
   first-link : (good : Option (List ℕ)) (spoiled : Bool) (h : List ℕ)
       → is_some good ≡ false
       → is_unlinked (link_left good spoiled h) ≡ true
   first-link None spoiled h none = refl
   first-link (Some g) spoiled h none = absurd (cc none)
 
-  -- They are.
   pub traced : (good : Option (List ℕ)) (again wrong : Bool) (i n : ℕ) (cs : List (Carrier Fated))
       → IsCounter good i
       → AllByRecursion (IsSomeLeft distance number) cs

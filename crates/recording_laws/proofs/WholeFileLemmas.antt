@@ -1,4 +1,4 @@
--- Where all that is carried is PES packets with Teletext, no mark is among them:
+-- If everything that is carried is PES packets with Teletext, there is no gap marker among them:
 -- `law_of_whole_file`.
 use Rattle.std.proofs.Common.{◌≡◌, ℕ, List, [], ◌∷◌, ◌++◌, length, slice_index, ap, subst, ◌∙◌}
 use Rattle.std.proofs.Common.{arith}
@@ -11,14 +11,14 @@ use Rattle.recording_laws.specs.Laws.{LawOfWholeFile}
 use Rattle.recording_laws.proofs.ArrivingLaw.{law_of_neighbours}
 use Rattle.recording_laws.proofs.PieceLemmas.{pieces-append}
 
--- Byte 6 of a mark is FF, that of a PES packet with Teletext begins with 1000.
+-- Byte 6 of a gap marker is FF, that of a PES packet with Teletext begins with the bits 1000.
 no-packet : (v : PesValue) → IsPesPacket v mark → ⊥
 unfolding mark
 no-packet v h =
     let byte : 0xFF ≡ h.flags = ap (λ (l : List ℕ). slice_index l 6) h.bytes in
     absurd (omega (arith, byte, h.not_scrambled))
 
--- None of them is a mark.
+-- None of them is a gap marker.
 no-marks : (values : List PesValue) (packets : List (List ℕ))
     → AllZip IsPesPacket values packets
     → AllByRecursion (λ p. p ≡ mark → ⊥) packets
@@ -28,7 +28,6 @@ no-marks (v ∷ values) [] each = absurd each
 no-marks (v ∷ values) (p ∷ packets) each =
     (λ is. no-packet v (subst (IsPesPacket v) is each.0), no-marks values packets each.1)
 
--- A PES packet with Teletext is a piece.
 packet-piece : (v : PesValue) (p : List ℕ) → IsPesPacket v p → IsPiece p
 packet-piece v p h =
     let is = packet_of_body v p h in
@@ -41,7 +40,7 @@ packet-piece v p h =
       long = ap length is ∙ omega (arith, long, h.size.0);
     }
 
--- All of them are.
+-- All PES packets with Teletext are PES packets.
 packet-pieces : (values : List PesValue) (packets : List (List ℕ))
     → AllZip IsPesPacket values packets
     → AllByRecursion IsPiece packets
@@ -51,7 +50,6 @@ packet-pieces (v ∷ values) [] each = absurd each
 packet-pieces (v ∷ values) (p ∷ packets) each =
     (packet-piece v p each.0, packet-pieces values packets each.1)
 
--- The law.
 pub law_of_whole_file : LawOfWholeFile
 law_of_whole_file number distance recording before behind values packets is_before is_behind each
     joined =

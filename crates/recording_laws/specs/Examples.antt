@@ -1,11 +1,11 @@
--- Recordings in full, byte by byte: of what a multiplexer sends, and of what losses leave of it.
+-- Complete recordings, byte by byte: one of what a multiplexer sends, and one with losses.
 use Rattle.std.specs.Prelude.{◌≡◌, ℕ, false, List, [], ◌∷◌, ◌++◌, None, replicate}
 use Rattle.mpeg_ts.specs.Carried.{mark}
 use Rattle.recording_laws.specs.Losses.{Fate, Fated, IsLossy, Kept, LeftOut, MadeWrong, arriving}
 use Rattle.recording_laws.specs.Multiplex.{IsMultiplexed, Multiplex, SentPes}
 
--- A PES packet of 184 bytes: packet_start_code_prefix, stream_id and PES_packet_length, then this
--- byte up to its end.
+-- A PES packet of 184 bytes: packet_start_code_prefix, stream_id and PES_packet_length, followed by
+-- this byte up to its end.
 abbrev pub pes_of : ℕ → List ℕ
 pes_of filler = 0x00 ∷ 0x00 ∷ 0x01 ∷ 0xBD ∷ 0x00 ∷ 0xB2 ∷ replicate 178 filler
 
@@ -21,7 +21,7 @@ wrong_packet_with byte_3 bytes = 0x47 ∷ 0xC1 ∷ 0x01 ∷ byte_3 ∷ bytes
 abbrev pub null_packet : List ℕ
 null_packet = 0x47 ∷ 0x1F ∷ 0xFF ∷ 0x10 ∷ replicate 184 0xFF
 
--- A PES packet in one packet, with nothing between that and the next.
+-- A PES packet in one transport packet, directly before the next one.
 abbrev pub sent_in : {A : Type 0} → A → List ℕ → SentPes A
 sent_in item bytes = record {
   bytes = bytes;
@@ -29,7 +29,7 @@ sent_in item bytes = record {
   others = [];
 }
 
--- Two PES packets, each in one packet of PID 257, behind a packet of another PID.
+-- Two PES packets, each in one packet of PID 257, after a packet of another PID.
 abbrev pub recording_of_two : List ℕ
 recording_of_two =
     null_packet ++ (packet_with 0x10 (pes_of 0x20) ++ packet_with 0x11 (pes_of 0x21))
@@ -43,7 +43,7 @@ abbrev pub fated : (byte_3 filler : ℕ) → Fate → Fated
 fated byte_3 filler fate =
     record { unit = packet_with byte_3 (pes_of filler); fate = fate }
 
--- Four PES packets: the second is left out, and the packet of the third made wrong.
+-- Four PES packets: the second is left out, and the packet of the third is damaged.
 abbrev pub four_with_losses : Multiplex Fated
 four_with_losses = record {
   lead = record { unit = null_packet; fate = Kept } ∷ [];
@@ -55,14 +55,15 @@ four_with_losses = record {
       ∷ [];
 }
 
--- What is there of them.
+-- The recording of them.
 abbrev pub recording_with_losses : List ℕ
 recording_with_losses =
     null_packet
     ++ (packet_with 0x10 (pes_of 0x20)
     ++ (wrong_packet_with 0x12 (pes_of 0x22) ++ packet_with 0x13 (pes_of 0x23)))
 
--- That is a recording with losses. The first and the last of them arrive, with a mark between.
+-- That is a recording with losses. The first and the last PES packet arrive, with a gap marker
+-- between them.
 pub record ExampleOfLosses : Type 0 where
   pub lossy : IsLossy 257 188 four_with_losses recording_with_losses
   pub arrives : arriving false false four_with_losses.sent ≡ pes_of 0x20 ++ (mark ++ pes_of 0x23)

@@ -1,5 +1,5 @@
--- What may become of a recording's units, and what is carried then: units are left out, and packets
--- of the PID are made wrong.
+-- Recordings with losses, and what they carry: units are left out, and packets of the PID are
+-- damaged.
 use Rattle.std.specs.Prelude.{◌≡◌, ℕ, ◌+◌, ◌&&◌, ◌||◌, not, nat_lt, Bool, true, false}
 use Rattle.std.specs.Prelude.{if◌then◌else◌, List, [], ◌∷◌, ◌++◌, length, map, slice_index, ⊤}
 use Rattle.std.specs.List.{AllByRecursion, concat, list_any, flat_map}
@@ -9,8 +9,8 @@ use Rattle.mpeg_ts.specs.TransportPacket.{sync_byte, pid, is_wrong}
 use Rattle.recording_laws.specs.Multiplex.{Carrier, SentPes, Multiplex, IsMultiplex, IsRecording}
 use Rattle.recording_laws.specs.Multiplex.{announces, carriers_of, packet_in, items_of_multiplex}
 
--- What became of a unit: it is there as it was sent, it is left out, or other bytes are there in
--- its place, with a wrong packet.
+-- What became of a unit: it is there as it was sent, it is left out, or other bytes are there
+-- instead, with a wrong packet.
 pub data Fate : Type 0 where
   Kept : Fate
   LeftOut : Fate
@@ -35,23 +35,23 @@ abbrev pub is_made_wrong : Fate → Bool
 is_made_wrong (MadeWrong _) = true
 is_made_wrong _ = false
 
--- One of these units was made wrong.
+-- One of these units was damaged.
 abbrev pub any_wrong : List Fated → Bool
 any_wrong units = list_any (λ f. is_made_wrong f.fate) units
 
--- What is there of a unit.
+-- The recorded bytes of a unit.
 abbrev pub recorded_of : List ℕ → Fate → List (List ℕ)
 recorded_of unit Kept = unit ∷ []
 recorded_of unit LeftOut = []
 recorded_of unit (MadeWrong other) = other ∷ []
 
--- The units that are there.
+-- The recorded units.
 abbrev pub units_left : List Fated → List (List ℕ)
 units_left units = flat_map (λ f. recorded_of f.unit f.fate) units
 
--- A unit of the PID was made wrong: as when transport_error_indicator or one bit of
--- transport_scrambling_control was set in it. Its first byte and its PID are what they were; other
--- bytes may have changed too.
+-- A unit of the PID was damaged, for example because transport_error_indicator or one bit of
+-- transport_scrambling_control was set. Its first byte and its PID are unchanged; other bytes may
+-- have changed.
 pub record IsSpoiled (distance number : ℕ) (unit other : List ℕ) : Type 0 where
   pub size : length other ≡ length unit
   pub sync : slice_index (packet_in distance other) 0 ≡ sync_byte
@@ -65,7 +65,7 @@ IsFate distance number unit Kept = ⊤
 IsFate distance number unit LeftOut = ⊤
 IsFate distance number unit (MadeWrong other) = IsSpoiled distance number unit other
 
--- ---- what is there of carriers
+-- ---- the recorded parts of carriers
 
 -- A unit that may be there, as its packet or its repeat.
 abbrev pub any_kept : List Fated → Bool
@@ -75,49 +75,50 @@ any_kept units = list_any (λ f. is_as_sent f.fate) units
 abbrev pub is_there : Carrier Fated → Bool
 is_there c = is_as_sent c.packet.fate || any_kept (option_to_list c.again)
 
--- The units of a carrier that is there before the first copy of its packet that is,
+-- The units of a carrier before the first recorded copy of its packet,
 abbrev pub units_before : Carrier Fated → List Fated
 units_before c = if is_as_sent c.packet.fate then [] else c.packet ∷ c.before
 
--- and those behind that copy.
+-- and those after that copy.
 abbrev pub units_behind : Carrier Fated → List Fated
 units_behind c =
     if is_as_sent c.packet.fate then c.before ++ (option_to_list c.again ++ c.after) else c.after
 
--- Fewer than 15 carriers in a row are gone, the packet and its repeat, where `gone` are gone before
--- these.
+-- Fewer than 15 carriers in a row are missing, packet and repeat, counting `gone` missing ones
+-- before these.
 abbrev pub are_few_gone : ℕ → List (Carrier Fated) → Bool
 are_few_gone gone [] = true
 are_few_gone gone (c ∷ more) =
     if is_there c then are_few_gone 0 more
     else nat_lt (gone + 1) 15 && are_few_gone (gone + 1) more
 
--- The carriers after one that is there are there, with nothing wrong between any two.
+-- The carriers after one that is there are there, with nothing damaged between any two.
 abbrev pub are_there_after : Carrier Fated → List (Carrier Fated) → Bool
 are_there_after c [] = true
 are_there_after c (d ∷ more) =
     not (any_wrong (units_behind c))
     && (is_there d && (not (any_wrong (units_before d)) && are_there_after d more))
 
--- Each packet of a PES packet, or its repeat, is there, with no wrong one of the PID among them.
+-- Each packet of a PES packet, or its repeat, is there, with no damaged packet of the PID among
+-- them.
 abbrev pub arrives : SentPes Fated → Bool
 arrives s = is_there s.first && are_there_after s.first s.others
 
--- The last of carriers, of which there is one at least.
+-- The last carrier of a list that is not empty.
 abbrev pub last_carrier : Carrier Fated → List (Carrier Fated) → Carrier Fated
 last_carrier c [] = c
 last_carrier c (d ∷ more) = last_carrier d more
 
--- A unit was made wrong behind the last packet of a PES packet that arrives, or its repeat.
+-- A unit after the last packet of a PES packet that arrives, or after its repeat, was damaged.
 abbrev pub is_wrong_behind : SentPes Fated → Bool
 is_wrong_behind s = any_wrong (units_behind (last_carrier s.first s.others))
 
--- ---- what is carried
+-- ---- the carried bytes
 
--- The bytes of the PES packets that arrive, each as it was sent, in order. `given` says whether one
--- arrived before these, and `gap` whether something is missing since: one mark stands between two
--- that are no neighbours, and between neighbours where a unit of the PID was made wrong from the
--- first packet of the one to the first of the other, of those that are there.
+-- The bytes of the PES packets that arrive, each as it was sent, in order. `given`: one arrived
+-- before these; `gap`: something is missing since then. One gap marker is between two that are no
+-- neighbours, and between neighbours if a unit of the PID was damaged between their first recorded
+-- packets.
 unfoldable pub arriving : Bool → Bool → List (SentPes Fated) → List ℕ
 arriving given gap [] = []
 arriving given gap (s ∷ more) =
@@ -126,14 +127,14 @@ arriving given gap (s ∷ more) =
     ++ (s.bytes ++ arriving true (is_wrong_behind s) more)
     else arriving given true more
 
--- Bytes are the PES packets that arrive, and at most one mark behind the last of them.
+-- The bytes are the PES packets that arrive, with at most one gap marker after the last of them.
 pub record AreArriving (sent : List (SentPes Fated)) (bytes : List ℕ) : Type 0 where
   pub is_marked : Bool
   pub after_one : is_marked ≡ true → list_any arrives sent ≡ true
   pub bytes_are : bytes ≡ arriving false false sent ++ mark_where is_marked
 
--- A recording with losses of any length: of a multiplex in which no jump is announced, units were
--- left out and made wrong.
+-- A recording with losses of any length: units of a multiplex without announced jumps were left out
+-- or damaged.
 pub record AreLosses (number distance : ℕ) (m : Multiplex Fated) (recording : List ℕ)
     : Type 0 where
   pub is_multiplex : IsMultiplex (sent_packet distance) number m
@@ -145,7 +146,7 @@ pub record AreLosses (number distance : ℕ) (m : Multiplex Fated) (recording : 
       AllByRecursion (λ (f : Fated). IsFate distance number f.unit f.fate) (items_of_multiplex m)
   pub left : recording ≡ concat (units_left (items_of_multiplex m))
 
--- The same, where fewer than 15 carriers in a row are gone.
+-- The same, if fewer than 15 carriers in a row are missing.
 pub record IsLossy (number distance : ℕ) (m : Multiplex Fated) (recording : List ℕ) : Type 0 where
   pub losses : AreLosses number distance m recording
   pub few : are_few_gone 0 (carriers_of m.sent) ≡ true

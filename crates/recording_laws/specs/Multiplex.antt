@@ -1,9 +1,9 @@
--- What a multiplexer sends of a PID: PES packets one after another, each in the payloads of packets
--- that follow one another (ISO/IEC 13818-1, payload_unit_start_indicator, continuity_counter,
+-- What a multiplexer sends in packets of a PID: PES packets one after another, each in the payloads
+-- of consecutive packets (ISO/IEC 13818-1, payload_unit_start_indicator, continuity_counter,
 -- discontinuity_indicator).
 --
 -- The items of a multiplex are units of a recording, or units with what became of them; `packet_of`
--- is the packet of an item. So one grammar serves what was sent, and what is left of it.
+-- is the packet of an item. So one grammar covers what was sent and what is left of it.
 use Rattle.std.specs.Prelude.{◌≡◌, ◌⊎◌, ℕ, ◌+◌, ◌≤◌, ◌==◌, ◌&&◌, ◌||◌, not, Bool, true, false, List}
 use Rattle.std.specs.Prelude.{[], ◌∷◌, ◌++◌, length, map, take, drop, slice_index, Option, ⊤}
 use Rattle.std.specs.List.{AllByRecursion, concat, flat_map, list_any}
@@ -16,11 +16,11 @@ use Rattle.mpeg_ts.specs.TransportPacket.{has_payload, announces_jump, payload}
 
 -- ---- packets of a PID
 
--- A packet of another PID, or one that is not wrong and has no payload.
+-- A packet of another PID, or a correct one without a payload.
 abbrev pub is_quiet : ℕ → List ℕ → Bool
 is_quiet number p = not (pid p == number) || (not (is_wrong p) && not (has_payload p))
 
--- A packet of the PID that is not wrong and has a payload.
+-- A correct packet of the PID with a payload.
 abbrev pub carries : ℕ → List ℕ → Bool
 carries number p = (pid p == number) && (not (is_wrong p) && has_payload p)
 
@@ -36,21 +36,21 @@ pub record IsRepetition (number : ℕ) (p q : List ℕ) : Type 0 where
 
 -- ---- the grammar
 
--- A packet with a payload, and what is sent up to the next: quiet packets, and among them its
--- repeat, if it has one.
+-- A packet with a payload, and what is sent before the next one: packets without payload, and its
+-- repeat among them, if it has one.
 pub record Carrier (A : Type 0) : Type 0 where
   pub packet : A
   pub before : List A
   pub again : Option A
   pub after : List A
 
--- A PES packet and its carriers, of which there is one at least.
+-- A PES packet and its carriers, at least one.
 pub record SentPes (A : Type 0) : Type 0 where
   pub bytes : List ℕ
   pub first : Carrier A
   pub others : List (Carrier A)
 
--- What is sent: PES packets, and what comes before the first.
+-- PES packets, and what comes before the first.
 pub record Multiplex (A : Type 0) : Type 0 where
   pub lead : List A
   pub sent : List (SentPes A)
@@ -85,7 +85,7 @@ pub record IsCarrier {A : Type 0} (packet_of : A → List ℕ) (number : ℕ) (f
   pub after : AllByRecursion (λ x. is_quiet number (packet_of x) ≡ true) c.after
 
 -- A PES packet in its carriers: it begins with the first byte of the first one's payload, no other
--- begins one, and it is their payloads, joined.
+-- carrier begins one, and its bytes are their joined payloads.
 pub record IsSentPes {A : Type 0} (packet_of : A → List ℕ) (number : ℕ) (s : SentPes A)
     : Type 0 where
   pub is_piece : IsPiece s.bytes
@@ -93,16 +93,17 @@ pub record IsSentPes {A : Type 0} (packet_of : A → List ℕ) (number : ℕ) (s
   pub others : AllByRecursion (IsCarrier packet_of number false) s.others
   pub joined : concat (map (λ c. payload (packet_of c.packet)) (carriers_of_pes s)) ≡ s.bytes
 
--- A jump is announced between two carriers: by a quiet packet, or by the second one's packet. That
--- one is not taken for a repeat of the first: the first has one, or is another packet.
+-- A jump is announced between two carriers: by a packet without payload, or by the second one's
+-- packet. That packet can't be taken for a repeat of the first: the first has one, or is another
+-- packet.
 abbrev pub IsJump : {A : Type 0} → (A → List ℕ) → ℕ → Carrier A → Carrier A → Type 0
 IsJump packet_of number c d =
     (list_any (λ x. announces number (packet_of x)) c.after ≡ true)
     ⊎ ((announces_jump (packet_of d.packet) ≡ true)
     × ((is_some c.again || not (is_same (packet_of c.packet) (packet_of d.packet))) ≡ true))
 
--- The second carrier may follow the first: its counter is the next, or a jump is announced; and
--- within a PES packet none is.
+-- The second carrier may follow the first: its counter is the next, or a jump is announced; none is
+-- announced within a PES packet.
 pub record IsNextCarrier {A : Type 0} (packet_of : A → List ℕ) (number : ℕ) (c d : Carrier A)
     : Type 0 where
   pub counter :
@@ -112,7 +113,7 @@ pub record IsNextCarrier {A : Type 0} (packet_of : A → List ℕ) (number : ℕ
       → (list_any (λ x. announces number (packet_of x)) c.after ≡ false)
       × (announces_jump (packet_of d.packet) ≡ false)
 
--- Each carrier may follow the one before it, the first of the list that one.
+-- Each carrier may follow the one before it; the first of the list follows c.
 abbrev pub AreNextCarriers : {A : Type 0} → (A → List ℕ) → ℕ → Carrier A → List (Carrier A) → Type 0
 AreNextCarriers packet_of number c [] = ⊤
 AreNextCarriers packet_of number c (d ∷ more) =
@@ -134,20 +135,19 @@ pub record IsMultiplex {A : Type 0} (packet_of : A → List ℕ) (number : ℕ) 
 abbrev pub pes_packets : {A : Type 0} → Multiplex A → List (List ℕ)
 pes_packets m = map (λ s. s.bytes) m.sent
 
--- ---- as a recording has it
+-- ---- recordings
 
--- The packet of a unit: 188 bytes, behind the time stamp where there is one.
+-- The packet of a unit: 188 bytes, after the time stamp if there is one.
 abbrev pub packet_in : ℕ → List ℕ → List ℕ
 packet_in distance unit = take packet_size (drop (lead_size distance) unit)
 
--- A unit of a recording whose packets have that distance: a packet, and what stands before or
--- behind it.
+-- A unit of a recording with this packet distance: a packet, and what comes before or after it.
 pub record IsRecordedUnit (distance : ℕ) (unit : List ℕ) : Type 0 where
   pub long : lead_size distance + packet_size ≤ length unit
   pub short : length unit ≤ distance
   pub sync : slice_index (packet_in distance unit) 0 ≡ sync_byte
 
--- Units of a recording, one after another. What stands behind the last packet may be left out.
+-- Consecutive units of a recording. What comes after the last packet may be missing.
 abbrev pub AreRecordedUnits : ℕ → List (List ℕ) → Type 0
 AreRecordedUnits distance [] = ⊤
 AreRecordedUnits distance (unit ∷ more) =
@@ -155,7 +155,7 @@ AreRecordedUnits distance (unit ∷ more) =
     × ((more ≡ []) ⊎ (length unit ≡ distance))
     × AreRecordedUnits distance more
 
--- These are the bytes of a recording of these units.
+-- The bytes of a recording of these units.
 pub record IsRecording (distance : ℕ) (units : List (List ℕ)) (recording : List ℕ) : Type 0 where
   pub each : AreRecordedUnits distance units
   pub joined : recording ≡ concat units

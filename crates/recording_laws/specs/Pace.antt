@@ -1,6 +1,6 @@
 -- How far apart in time the PES packets of a PID are sent and read, so that no loss of any length
--- goes unseen. Counters alone can't tell: after 16 packets they are what they were (ISO/IEC
--- 13818-1, continuity_counter).
+-- goes unseen. Counters alone can't show it: after 16 packets they repeat (ISO/IEC 13818-1,
+-- continuity_counter).
 use Rattle.std.specs.Prelude.{ℕ, ◌+◌, ◌<◌, ◌≤◌, List, [], ◌∷◌, length, take, ⊤}
 use Rattle.mpeg_ts.specs.TransportPacket.{payload}
 use Rattle.recording_laws.specs.Losses.{Fated, sent_packet}
@@ -14,26 +14,26 @@ up_to_pts packet = take 14 packet
 abbrev pub frame_by : (List ℕ → ℕ) → List ℕ → ℕ
 frame_by frame_of packet = frame_of (up_to_pts packet)
 
--- The first packet of a PES packet holds it up to its PTS.
+-- The first transport packet of a PES packet contains its PTS.
 --
--- Where it does not, a PES packet that nobody sent may be read: of one whose first packet has nine
--- bytes come these, 16 packets of the PID are lost, and the next is from the middle of another PES
--- packet. What stands there is read as PTS, whatever it is, and its frame may fit in.
+-- Otherwise a PES packet that nobody sent could be read: nine bytes of one arrive in its first
+-- packet, 16 packets of the PID are lost, and the next packet is from the middle of another PES
+-- packet. Its bytes are then read as a PTS, whose frame may happen to fit.
 abbrev pub HoldsPts : ℕ → SentPes Fated → Type 0
 HoldsPts distance s = 14 ≤ length (payload (sent_packet distance s.first.packet))
 
 -- ---- as they are sent
 
--- PES packets, the first of them after so many carriers behind the first carrier of one with that
--- frame: where 16 or more stand between, they are more than `pace` frames later.
+-- These PES packets begin `between` carriers after one with this frame: those that begin 16 or more
+-- carriers after it are more than `pace` frames later.
 abbrev pub AreFarFrom : (List ℕ → ℕ) → ℕ → ℕ → ℕ → List (SentPes Fated) → Type 0
 AreFarFrom frame_of pace frame between [] = ⊤
 AreFarFrom frame_of pace frame between (s ∷ more) =
     (16 ≤ between → frame + pace < frame_by frame_of s.bytes)
     × AreFarFrom frame_of pace frame (between + length (carriers_of_pes s)) more
 
--- Any two PES packets between whose first carriers stand 16 or more are more than `pace` frames
--- apart, rising.
+-- Any two PES packets that begin 16 or more carriers apart are more than `pace` frames apart, in
+-- rising order.
 abbrev pub AreFarApart : (List ℕ → ℕ) → ℕ → List (SentPes Fated) → Type 0
 AreFarApart frame_of pace [] = ⊤
 AreFarApart frame_of pace (s ∷ more) =
@@ -42,8 +42,8 @@ AreFarApart frame_of pace (s ∷ more) =
 
 -- ---- as they are read
 
--- Each PES packet is at most `pace` frames later than the one before it, the first of the list than
--- that frame.
+-- Each PES packet is at most `pace` frames later than the one before it; the first is so for this
+-- frame.
 abbrev pub KeepPaceFrom : (List ℕ → ℕ) → ℕ → ℕ → List (List ℕ) → Type 0
 KeepPaceFrom frame_of pace frame [] = ⊤
 KeepPaceFrom frame_of pace frame (p ∷ more) =

@@ -1,4 +1,4 @@
--- Laws of what `check` accepts of a recording, beside what was sent.
+-- Laws that compare what `check` accepts of a recording with what was sent.
 use Rattle.std.specs.Prelude.{◌≡◌, ℕ, List, [], ◌∷◌, ◌++◌, drop, Some, unwrap_or}
 use Rattle.std.specs.List.{AllByRecursion, concat}
 use Rattle.ttx_pes.specs.Pieces.{IsPiece}
@@ -14,13 +14,13 @@ use Rattle.sub_rules.specs.PesFrames.{CarriesBy}
 use Rattle.sub_rules.specs.Repeats.{GoodBy}
 use Rattle.sub_rules.specs.Transmission.{Transmission}
 
--- The frame that a PES packet is read as by the clock of options, of its bytes up to its PTS; 0
--- where it is read as none.
+-- The frame of a PES packet by the clock of the options, from its bytes up to its PTS; 0 if it has
+-- none.
 abbrev pub frame_by_clock : OptionsValue → List ℕ → ℕ
 frame_by_clock options front = unwrap_or (clock_of options (pts_bits (drop 6 front))) 0
 
--- PES packets are some of those that were sent, one after another, none between them missing: each
--- as it was sent, but that the last is so up to its PTS alone. There is one at least.
+-- The PES packets are a run of those that were sent, none between them missing: each as it was
+-- sent, except that the last is so only up to its PTS. There is at least one.
 pub record WereSent (sent packets : List (List ℕ)) : Type 0 where
   pub run : List (List ℕ)
   pub last : List ℕ
@@ -31,12 +31,11 @@ pub record WereSent (sent packets : List (List ℕ)) : Type 0 where
   pub sent_are : sent ≡ earlier ++ (run ++ (next ∷ later))
   pub last_is : up_to_pts next ≡ up_to_pts last
 
--- Where two PES packets with 16 or more packets of the PID between their first ones are always more
--- than `pace` frames apart by the clock of the options, and what is carried, or some pieces of it
--- one after another, is a transmission that is good by options with that pace, these were sent one
--- after another, however many packets were lost.
--- So where `check` accepts a recording with `--pace`, which it does of such a transmission alone,
--- no loss of any length went unseen.
+-- Assume that two PES packets are always more than `pace` frames apart by the clock of the options
+-- if their first transport packets are 16 or more packets of the PID apart. If what is carried, or
+-- a run of PES packets in it, is a transmission that is good by options with that maximum distance,
+-- they were sent one after another, however many packets were lost. `check` with `--pace` accepts
+-- only such transmissions. So if it accepts a recording, no loss of any length went unseen.
 abbrev pub LawOfPacedCheck : Type 0
 LawOfPacedCheck =
     (number distance pace : ℕ) (m : Multiplex Fated) (recording : List ℕ)

@@ -1,6 +1,6 @@
-//! Recordings in full: of what a multiplexer sends, and of what losses leave of it.
+//! Complete recordings: one of what a multiplexer sends, and one with losses.
 //!
-//! They show that there is something of which the laws speak. The functions do nothing.
+//! They show that the laws apply to something. The functions do nothing.
 ghost use Rattle.recording_laws.specs.Examples.{ExampleOfLosses, ExampleOfMultiplex};
 
 /// A recording of two PES packets, as a multiplexer sends them.

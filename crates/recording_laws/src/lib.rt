@@ -1,9 +1,10 @@
-//! The laws of recordings: what a multiplexer sends is given back, no loss makes a PES packet, and
-//! where a recording is accepted with a pace, no loss of any length went unseen.
+//! The laws of recordings: what a multiplexer sends is returned, no loss creates a PES packet, and
+//! if a recording is accepted with a maximum distance of PES packets, no loss of any length went
+//! unseen.
 //!
-//! Stands on `mpeg_ts` for what the packets of a PID carry, and on `sub_rules` for what is asked of
-//! a transmission. There is no program in it: `specs/` says what a multiplexer sends and what may
-//! be lost of it, and each function is a law.
+//! `mpeg_ts` defines what the packets of a PID carry, and `sub_rules` the rules for a transmission.
+//! This crate contains no program: `specs/` defines what a multiplexer sends and what may be lost
+//! of it, and each function is a law.
 //!
 //! ```text
 //! law_of_multiplex: IsMultiplexed number distance packets recording

@@ -1,4 +1,4 @@
--- Which files are asked for of those that a request names, in which order, and what is opened then.
+-- The calls for the files that a request names, in order, and the files that are opened.
 use Rattle.std.specs.Prelude.{◌≡◌, ℕ, ◌*◌, Bool, true, false, List, [], ◌∷◌, Option, Some, None}
 use Rattle.std.specs.Prelude.{option_map}
 use Rattle.sub_request.specs.declared.files.FileNames.{FileNames}
@@ -12,9 +12,8 @@ use Rattle.sub_files.specs.declared.opening.Opened.{Opened}
 use Rattle.sub_files.specs.declared.opening.Opened.TheVariants.{Nothing, ReadBoth, ReadPes, ReadStl}
 use Rattle.sub_files.specs.declared.opening.Opened.TheVariants.{Extract, Write}
 
--- The file to be written is created, by its name, where it is another one than the file to be read,
--- which was opened; else no more is asked for, and nothing is opened. `opened` is what both are
--- then.
+-- After the input was opened, the output is created if it is another file; otherwise no further
+-- call is made, and nothing is opened. `opened` makes the result of both.
 abbrev pub CreatesApart :
     {I O : Type 0}
     → (O → Opened I O) → Bool → (output : List ℕ) → List (FileCall I O) → Option (Opened I O)
@@ -24,9 +23,8 @@ CreatesApart opened true output (Create name file ∷ []) result =
 CreatesApart opened false output [] result = result ≡ None
 CreatesApart opened are_apart output calls result = ⊥
 
--- A file to be read is opened by its name. Then, since another one is to be written, both names are
--- looked up and what standard output goes into, and that is created only where by what was found it
--- is another file.
+-- The input is opened. Then, for the output, both names and standard output are looked up, and it
+-- is created only if the results show that it is another file.
 abbrev pub OpensAndCreates :
     {I O : Type 0}
     → (I → O → Opened I O) → (input output : List ℕ) → List (FileCall I O) → Option (Opened I O)
@@ -42,9 +40,9 @@ OpensAndCreates
     × CreatesApart (opened file) (may_create found own there) output calls result
 OpensAndCreates _ _ _ _ _ = ⊥
 
--- The calls for the files of a request, and what is opened by them. Files to be read are opened by
--- their names, in the order of the words, before one that is to be written is created. The first
--- call that opens or creates nothing is the last, and nothing is opened then.
+-- The calls for the files of a request, and what they open. Input files are opened in the order of
+-- the arguments, before an output is created. The first call that fails is the last, and nothing is
+-- opened then.
 abbrev pub Opens :
     {I O : Type 0} → FileNames → List (FileCall I O) → Option (Opened I O) → Type 0
 Opens names.None [] result = result ≡ Some Nothing
@@ -60,7 +58,7 @@ Opens (names.Extract recording output) calls result =
     OpensAndCreates Extract recording output calls result
 Opens _ _ _ = ⊥
 
--- These files were opened, or none were, by the calls that were made.
+-- The calls that were made opened these files, or none.
 pub record OpensBy
     {I O : Type 0} (AreMade : List (FileCall I O) → Type 0) (names : FileNames)
     (result : Option (Opened I O))
@@ -69,27 +67,26 @@ pub record OpensBy
   pub are_made : AreMade calls
   pub opens : Opens names calls result
 
--- The bytes of a buffer: what a system call reads or writes at once.
+-- The size of a buffer in bytes: what a system call reads or writes at once.
 abbrev pub buffer_size : ℕ
 buffer_size = 0x1_0000
 
--- The bytes of the buffers of these files, one for each.
+-- The total size of the buffers of these files, one for each.
 abbrev pub rooms_size : FileNames → ℕ
 rooms_size (names.ReadBoth stl pes) = 2 * buffer_size
 rooms_size (names.Write stl output) = 2 * buffer_size
 rooms_size (names.Extract recording output) = 2 * buffer_size
 rooms_size _ = buffer_size
 
--- Why files are not opened: memory ran out, and nothing was asked for; or a call for one of those
--- that are named opened nothing, or found it unfit to be written.
+-- Why files are not opened: memory ran out, and no call was made; or the call for one of the files
+-- failed, or found that it must not be overwritten.
 abbrev pub IsUnopened :
     {I O : Type 0} → (List (FileCall I O) → Type 0) → FileNames → UsageFault → Type 0
 IsUnopened AreMade names usage.Memory = AreMade []
 IsUnopened AreMade names usage.Open = OpensBy AreMade names None
 IsUnopened AreMade names _ = ⊥
 
--- No call of these files has failed yet, by how often one that is read has failed, and one that is
--- written: they are as the device opened and created them.
+-- No call of these files has failed yet: they are as the device opened and created them.
 abbrev pub AreUnused : {I O : Type 0} → (I → ℕ) → (O → ℕ) → Opened I O → Type 0
 AreUnused reads writes Nothing = Unit {0}
 AreUnused reads writes (ReadStl stl) = reads stl ≡ 0

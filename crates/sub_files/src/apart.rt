@@ -1,21 +1,21 @@
-//! Whether the file that is written is another one than the file that is read, and than the one
-//! that standard output goes into.
+//! Checks that the output file is another one than the input file, and than the one to which
+//! standard output goes.
 ghost use Rattle.std.specs.Prelude.{◌≡◌};
 ghost use Rattle.sub_files.specs.Apart.{are_other_files, is_apart};
 
-/// What was found at a name.
+/// What a name leads to.
 #[derive(Clone, Copy, Debug, PartialEq, Eq)]
 pub enum Found {
     /// Nothing is there.
     Nothing,
-    /// A file, by its device and its inode there.
+    /// A file, with its device and its inode there.
     At(u64, u64),
     /// It could not be looked up.
     Unknown,
 }
 
-/// Whether creating the output can't empty the input, by what was found at both names: nothing is
-/// there, or another file, which is not the input by a link or by another way to it.
+/// Returns whether creating the output can't empty the input: there is nothing, or another file,
+/// which is not the input under another name.
 pub fn is_apart(input: Found, output: Found) -> bool
     ensures { result ≡ is_apart input output }
 {
@@ -29,8 +29,8 @@ pub fn is_apart(input: Found, output: Found) -> bool
     }
 }
 
-/// Whether the output is another file than the one that standard output goes into, by what was
-/// found of both: one of them is no file that is known, or they differ.
+/// Returns whether the output is another file than the one to which standard output goes: one of
+/// them is no known file, or they differ.
 pub fn are_other_files(standard_output: Found, output: Found) -> bool
     ensures { result ≡ are_other_files standard_output output }
 {

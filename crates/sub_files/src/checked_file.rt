@@ -1,8 +1,7 @@
-//! A file that is written, and looked at again once it is closed.
+//! A file that is written, and checked again after it was closed.
 //!
-//! Some file systems report only when a file is closed that nothing of it is stored, and std drops
-//! what closing a file answers. So a file that is to be stored is closed, and then the system is
-//! asked what it has.
+//! Some file systems report only at closing that nothing was stored, and std ignores the result of
+//! closing. So a file that has to be stored is closed, and then its size is looked up.
 ghost use Rattle.std.specs.Prelude.{◌≡◌, ℕ, [], Bool, None, OnOk, Some, false, is_none, length};
 ghost use Rattle.std.specs.Prelude.{true};
 ghost use Rattle.std.specs.Io.Iter.{u64_saturate};
@@ -14,21 +13,21 @@ use std::io::Write;
 use std::marker::Model;
 use sub_io::{Close, Failed, Flush, IntoFile, LetGo, Sink, Store};
 
-/// What can be asked, once a file is closed, what the system has of it.
+/// Looks up the size of a file after it was closed.
 pub trait SecondLook {
-    // It was asked in this state whether there are so many bytes, and answered so.
+    // Its state, the number of bytes, and its answer.
     ghost is_look: { Self → ℕ → Bool → Type 0 };
 
-    /// Whether the system has this file, which is closed, with this many bytes. What is stored
-    /// nowhere, as what a pipe, a terminal or a device took, is not asked for.
+    /// Returns whether the system has this closed file with this many bytes. Always `true` for what
+    /// is stored nowhere: a pipe, a terminal or a device.
     fn has_all<W: Write>(&self, file: &IntoFile<W>, length: u64) -> bool
         requires { file.now.device ≡ None }
         ensures { is_look self.now length result };
 }
 
-/// A file that is written, stored and closed, and then looked at again.
+/// A file that is written, stored and closed, and then checked again.
 ///
-/// Contracts see it as the file, what looks at it, and how many bytes it took.
+/// In contracts its value is the file, what checks it, and how many bytes were written.
 #[derive(Drop)]
 pub struct CheckedFile<W, L> {
     file: IntoFile<W>,
@@ -49,7 +48,7 @@ impl<W, L> Model for CheckedFile<W, L> {
 }
 
 impl<W: Write, L: SecondLook> CheckedFile<W, L> {
-    /// A file over a writer of std that has taken nothing yet, and what looks at it.
+    /// Returns a file for a writer of std to which nothing was written yet.
     pub fn new(writer: W, look: L) -> Self
         ensures { result ≡ record {
           file = record {
@@ -74,33 +73,33 @@ impl<W: Write, L: SecondLook> Sink for CheckedFile<W, L> {
 
     ghost failure_count = { λ s. s.file.failure_count };
 
-    /// Writes once. What is written so is not stored yet.
+    /// Writes once. The bytes are not stored yet.
     ///
     /// # Errors
     ///
-    /// `Failed` at each error of the writer, where it takes no byte, and once it is closed.
+    /// Returns `Failed` at each error of the writer, if it takes no byte, and after it was closed.
     fn push(&mut self, from: &[u8]) -> Result<usize, Failed> {
         let n = self.file.push(from)?;
         self.count = self.count.saturating_add(n as u64);
         Ok(n)
     }
 
-    /// How many calls have failed, taken no byte or lost something, and how many came after it was
-    /// closed.
+    /// Returns how many calls have failed, taken no byte or lost something, and how many came after
+    /// it was closed.
     fn failures(&self) -> u64 {
         self.file.failures()
     }
 }
 
 impl<W: Write, L: SecondLook> Flush for CheckedFile<W, L> {
-    // What it takes it hands to the writer at once.
+    // It passes all bytes to the writer at once.
     ghost held = { holds_nothing };
 
     /// Flushes the writer.
     ///
     /// # Errors
     ///
-    /// `Failed` at each error of the writer, and once it is closed.
+    /// Returns `Failed` at each error of the writer, and after it was closed.
     fn flush(&mut self) -> Result<(), Failed> {
         self.file.flush()
     }
@@ -113,15 +112,15 @@ impl<W: Write + LetGo + Store, L: SecondLook> Close for CheckedFile<W, L> {
 
     ghost is_close = { ClosesFile W.is_let_go };
 
-    /// Has the file stored, closes it, and looks at it again.
+    /// Stores and closes the file, and checks it again.
     ///
     /// # Errors
     ///
-    /// `Failed` at each error of the writer, where something is lost, where the system then has
-    /// another number of bytes, and once it is closed.
+    /// Returns `Failed` at each error of the writer, if something is lost, if the system then has
+    /// another number of bytes, and after it was closed.
     fn store(&mut self) -> Result<(), Failed>
         requires { CanFail self.old.file.failure_count }
-        // It was closed, and what looked at it again found all bytes that it has taken.
+        // It was closed, and the check found all bytes that were written.
         ensures closed { OnOk result (self.new.file.device ≡ None) }
         ensures look { OnOk result (L.is_look self.new.look
             (u64_saturate (length self.new.file.taken)) true) }
@@ -140,7 +139,7 @@ impl<W: Write + LetGo + Store, L: SecondLook> Close for CheckedFile<W, L> {
         self.file.flush()
     }
 
-    /// Lets go of the writer as it is, which closes a file.
+    /// Releases the writer, which closes a file.
     fn close(&mut self) {
         self.file.close();
     }

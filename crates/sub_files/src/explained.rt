@@ -1,13 +1,13 @@
-//! Devices of std that say on standard error why a call of them failed, for people.
+//! Devices of std that print on standard error why a call failed.
 //!
-//! Nothing is promised of those words, and they change no answer.
+//! These messages are not specified, and they change no result.
 ghost use Rattle.std.specs.Prelude.{None};
 
 use std::fs::{Metadata, OpenFile};
 use std::io;
 use std::io::{ErrorKind, Read, Write};
 
-/// A device that says on standard error why a call of it failed.
+/// A device that prints on standard error why a call failed.
 #[derive(Drop)]
 pub struct Explained<'a, T, E> {
     inner: T,
@@ -17,7 +17,7 @@ pub struct Explained<'a, T, E> {
 }
 
 impl<'a, T, E: Eprint> Explained<'a, T, E> {
-    /// The device, by the name that is printed for it.
+    /// Returns the device, with the name that is printed for it.
     pub fn new(inner: T, name: &'a str, errors: &'a E) -> Self {
         Explained {
             inner,
@@ -27,7 +27,7 @@ impl<'a, T, E: Eprint> Explained<'a, T, E> {
         }
     }
 
-    /// Standard output. A pipe that nobody reads any longer, as `head` leaves one, is not
+    /// Returns standard output. Writing to a pipe without a reader, as `head` leaves one, is not
     /// explained.
     pub fn standard_output(inner: T, errors: &'a E) -> Self {
         Explained {
@@ -38,7 +38,7 @@ impl<'a, T, E: Eprint> Explained<'a, T, E> {
         }
     }
 
-    // Says that the device could not do this.
+    // Prints that the device could not do this.
     fn explain(&self, what: &str, error: &io::Error) {
         if !self.is_standard_output || error.kind() != ErrorKind::BrokenPipe {
             explain(self.errors, what, self.name, error);

@@ -1,8 +1,7 @@
-//! The files of a request, each of a type of its own from where it is opened.
+//! The files of a request, each with a type of its own from the moment it is opened.
 //!
-//! A subtitle file that is read, a file of PES packets that is read and a file that was created are
-//! made here alone, by the names that a request has for each: so none of them can be taken for
-//! another.
+//! Subtitle files, files of PES packets and output files are created only here, from the names that
+//! a request has for each. So none of them can be taken for another.
 ghost use Rattle.std.specs.Prelude.{◌≡◌, IfSome, None, false, true};
 ghost use Rattle.sub_files.specs.Apart.{may_create};
 ghost use Rattle.sub_files.specs.FileCalls.{FileCall};
@@ -12,7 +11,7 @@ use crate::file_system::FileSystem;
 use std::marker::Model;
 use sub_request::{Output, PesInput, StlInput};
 
-/// A subtitle file that was opened to be read. Contracts see it as the file.
+/// A subtitle file that was opened for reading. In contracts its value is the file.
 #[derive(Drop)]
 pub struct StlFile<F> {
     file: F,
@@ -25,7 +24,7 @@ impl<F> Model for StlFile<F> {
 }
 
 impl<F> StlFile<F> {
-    /// The file.
+    /// Returns the file.
     pub fn into_file(self) -> F
         ensures { result ≡ self }
     {
@@ -34,7 +33,7 @@ impl<F> StlFile<F> {
     }
 }
 
-/// A file of PES packets that was opened to be read. Contracts see it as the file.
+/// A file of PES packets that was opened for reading. In contracts its value is the file.
 #[derive(Drop)]
 pub struct PesFile<F> {
     file: F,
@@ -47,7 +46,7 @@ impl<F> Model for PesFile<F> {
 }
 
 impl<F> PesFile<F> {
-    /// The file.
+    /// Returns the file.
     pub fn into_file(self) -> F
         ensures { result ≡ self }
     {
@@ -56,7 +55,7 @@ impl<F> PesFile<F> {
     }
 }
 
-/// A file that was created to be written. Contracts see it as the file.
+/// A file that was created for writing. In contracts its value is the file.
 #[derive(Drop)]
 pub struct CreatedFile<F> {
     file: F,
@@ -69,7 +68,7 @@ impl<F> Model for CreatedFile<F> {
 }
 
 impl<F> CreatedFile<F> {
-    /// The file.
+    /// Returns the file.
     pub fn into_file(self) -> F
         ensures { result ≡ self }
     {
@@ -78,7 +77,7 @@ impl<F> CreatedFile<F> {
     }
 }
 
-/// Opens a subtitle file to be read.
+/// Opens a subtitle file for reading.
 pub fn open_stl<D: FileSystem>(files: &mut D, stl: &StlInput<'_>) -> Option<StlFile<D::Input>>
     ensures unused { IfSome result (λ file. D.Input.failure_count file ≡ 0) }
     ensures call { D.is_call files.old (FileCall.Open stl.now result) files.new }
@@ -89,7 +88,7 @@ pub fn open_stl<D: FileSystem>(files: &mut D, stl: &StlInput<'_>) -> Option<StlF
     }
 }
 
-/// Opens a file of PES packets to be read.
+/// Opens a file of PES packets for reading.
 pub fn open_pes<D: FileSystem>(files: &mut D, pes: &PesInput<'_>) -> Option<PesFile<D::Input>>
     ensures unused { IfSome result (λ file. D.Input.failure_count file ≡ 0) }
     ensures call { D.is_call files.old (FileCall.Open pes.now result) files.new }
@@ -103,16 +102,16 @@ pub fn open_pes<D: FileSystem>(files: &mut D, pes: &PesInput<'_>) -> Option<PesF
 /// What was looked up before a file is created.
 #[derive(Clone, Copy)]
 pub struct LookedUp {
-    /// At the name of the file that is read.
+    /// What the name of the input leads to.
     pub input: Found,
-    /// At the name of the file that is to be created.
+    /// What the name of the output leads to.
     pub output: Found,
-    /// What standard output goes into.
+    /// Where standard output goes.
     pub standard_output: Found,
 }
 
-/// Creates a file to be written, where by what was looked up that can't empty the one that is read
-/// or the one that standard output goes into; else nothing is asked for.
+/// Creates a file for writing, if the lookups show that this empties neither the input nor the file
+/// to which standard output goes. Otherwise makes no call.
 pub fn create_apart<D: FileSystem>(
     files: &mut D,
     output: &Output<'_>,

@@ -1,7 +1,8 @@
-//! The files of a request, opened.
+//! Opens the files of a request.
 //!
-//! Stands on `sub_request` for the names of the files, and on nothing else, so that it is proved
-//! beside what answers a request. `sub_answer` reads and writes what is opened here.
+//! `sub_request` has the names of the files. This crate depends on nothing else, so it is proved in
+//! parallel with what answers a request. `sub_answer` reads and writes the files that are opened
+//! here.
 //!
 //! ```text
 //! open(&mut SystemFiles::new(rt, &mut names), &request.files()); // Opened::ReadStl: film.stl

@@ -1,7 +1,7 @@
-//! Files in memory, which tell their bytes.
+//! Files in memory, whose bytes are known.
 //!
-//! The system's files tell none. So a clause that says something of the bytes of files, where they
-//! tell them, says it of these.
+//! The bytes of the system's files are unknown to contracts. So clauses about the bytes of files
+//! apply to these.
 ghost use Rattle.std.specs.Prelude.{◌≡◌, option_map};
 ghost use Rattle.sub_files.specs.MemoryFiles.{IsMemoryCall, bytes_at};
 
@@ -13,9 +13,8 @@ use sub_io::{MemSink, MemSource};
 /// A file in memory.
 #[derive(Clone, Copy)]
 pub struct MemFile<'a> {
-    /// Its name.
     pub name: &'a str,
-    /// What is read of it.
+    /// Its contents.
     pub bytes: &'a [u8],
 }
 
@@ -45,7 +44,7 @@ impl<'a> Model for MemFiles<'a> {
 impl<'a> MemFiles<'a> {
     ghost use Rattle.std.specs.Prelude.{Some, length};
 
-    /// These files; the room is that of a file that is created.
+    /// Returns these files; `room` is that of a file that is created.
     pub fn new(first: MemFile<'a>, second: MemFile<'a>, room: &'a mut [u8]) -> Self
         ensures { result ≡ record {
           first = first.entry;
@@ -60,7 +59,7 @@ impl<'a> MemFiles<'a> {
         }
     }
 
-    // The bytes of the file that has this name.
+    // Returns the bytes of the file with this name.
     fn bytes_at(&self, name: &str) -> Option<&'a [u8]>
         ensures { option_map (λ bytes. bytes.now) result ≡ bytes_at name.now self.now }
     {

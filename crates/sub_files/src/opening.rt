@@ -1,7 +1,7 @@
 //! Opens the files that a request names.
 //!
-//! What is opened is handed on as files alone, so that no function that asks for files has another
-//! device or the lines in it.
+//! Callers get only the opened files, so no function that takes files has another device or the
+//! output lines in its scope.
 ghost use Rattle.std.specs.Prelude.{◌≡◌, ◌≤◌, [], ◌∷◌, IfSome, vec_len};
 ghost use Rattle.sub_files.specs.FileCalls.{CallsInTurn, FileCall};
 ghost use Rattle.sub_files.specs.Opening.{AreUnused, OpensBy, rooms_size};
@@ -11,13 +11,13 @@ use crate::files::{CreatedFile, LookedUp, PesFile, StlFile, create_apart, open_p
 use std::alloc::Global;
 use sub_request::{FileNames, Output, PesInput, StlInput};
 
-/// Bytes of each buffer: what a system call reads or writes at once.
+/// The size of a buffer in bytes: what a system call reads or writes at once.
 pub const BUFFER: usize = 0x1_0000;
 
-/// The files of a request, opened.
+/// The opened files of a request.
 #[derive(Drop)]
 pub enum Opened<I, O> {
-    /// It names none.
+    /// The request names none.
     Nothing,
     /// A subtitle file is read.
     ReadStl(StlFile<I>),
@@ -31,14 +31,14 @@ pub enum Opened<I, O> {
     Extract(PesFile<I>, CreatedFile<O>),
 }
 
-/// Room of so many bytes, `None` where memory runs out.
+/// Allocates so many bytes; `None` if memory runs out.
 pub fn room(alloc: Global, size: usize) -> Option<Vec<u8>>
     ensures { IfSome result (λ room. vec_len room ≡ size) }
 {
     vec![in alloc; 0; size].ok()
 }
 
-/// The bytes of the buffers of these files.
+/// Returns the total size of the buffers of these files.
 pub fn size_of_rooms(names: &FileNames<'_>) -> usize
     ensures size { result ≡ rooms_size names.now }
     ensures least { 2 ≤ result }
@@ -49,8 +49,8 @@ pub fn size_of_rooms(names: &FileNames<'_>) -> usize
     }
 }
 
-/// Opens the files, in the order of the words, and creates the one that is written. At the first
-/// that fails it asks for no more, and answers `None`.
+/// Opens the files in the order of the arguments, and creates the output. Returns `None` at the
+/// first failure, without further calls.
 pub fn open<D: FileSystem>(
     files: &mut D,
     names: &FileNames<'_>,
@@ -93,7 +93,7 @@ fn open_both<D: FileSystem>(
     }
 }
 
-// Opens a subtitle file, and creates the one that is written.
+// Opens a subtitle file, and creates the output.
 fn open_and_create<D: FileSystem>(
     files: &mut D,
     stl: &StlInput<'_>,
@@ -113,7 +113,7 @@ fn open_and_create<D: FileSystem>(
     }
 }
 
-// Opens a recording, and creates the file that is written.
+// Opens a recording, and creates the output.
 fn open_and_extract<D: FileSystem>(
     files: &mut D,
     recording: &PesInput<'_>,
@@ -133,7 +133,7 @@ fn open_and_extract<D: FileSystem>(
     }
 }
 
-// What is at both names, and what standard output goes into.
+// Looks up both names and standard output.
 fn look_up_all<D: FileSystem>(files: &mut D, name: &str, output: &Output<'_>) -> LookedUp
     ensures { CallsInTurn D.is_call files.old files.new
         (FileCall.LookUp name.now result.input ∷ FileCall.LookUp output.now result.output

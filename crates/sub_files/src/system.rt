@@ -15,23 +15,23 @@ use std::rt::Files;
 use std::{fs, io, str};
 use sub_io::{FromRead, IntoFile, Store};
 
-/// Bytes of the room for the names of the files of a request: Linux opens no longer ones.
+/// The number of bytes for the names of a request's files: Linux opens no longer ones.
 pub const NAMES: usize = 2 * 4096;
 
-// What standard output goes into.
+// The link to the file to which standard output goes.
 const STANDARD_OUTPUT: &str = "/proc/self/fd/1";
 
-/// The files of the system. No contract says what it answers, so each call is the one of `std::fs`
-/// with the same name, and prints on standard error why it failed.
+/// The files of the system. No contract says what the system returns, so each call is the one of
+/// `std::fs` with the same name, and prints on standard error why it failed.
 #[derive(Drop)]
 pub struct SystemFiles<'a, R> {
     rt: &'a R,
-    // Room for the names of files that are open.
+    // Room for the names of open files.
     names: Option<&'a mut [u8]>,
 }
 
 impl<'a, R: Files + Eprint> SystemFiles<'a, R> {
-    /// The files that this runtime opens; `names` has room for their names, `NAMES` bytes.
+    /// Returns the files that this runtime opens; `names` has room for their names, `NAMES` bytes.
     pub fn new(rt: &'a R, names: &'a mut [u8]) -> Self {
         SystemFiles {
             rt,
@@ -39,7 +39,7 @@ impl<'a, R: Files + Eprint> SystemFiles<'a, R> {
         }
     }
 
-    // Keeps a name as long as the file may be open. `None` where it has no room.
+    // Stores a name for as long as the file may be open; `None` if there is no room.
     fn keep(&mut self, name: &str) -> Option<&'a str> {
         let room = self.names.take()?;
         let length = name.len();
@@ -123,8 +123,7 @@ impl<'a, R: Files + Eprint> FileSystem for SystemFiles<'a, R> {
     }
 }
 
-// What is at a name that was looked up so. One that can't be looked up is never taken for one at
-// which nothing is.
+// Returns what a lookup found. A name that can't be looked up is never taken for a free one.
 fn found_by(looked_up: io::Result<Metadata>) -> Found
     ensures there { IfOk looked_up (λ _. was_found result ≡ true) }
     ensures nothing { IfErr looked_up (λ error.
@@ -141,19 +140,19 @@ fn found_by(looked_up: io::Result<Metadata>) -> Found
     }
 }
 
-/// Looks at a file of the system once it is closed.
+/// Looks up the size of a file of the system after it was closed.
 #[derive(Drop)]
 pub struct SystemLook<'a, R> {
     rt: &'a R,
     name: &'a str,
-    // Whether it was a file as it was created: no pipe, terminal or device.
+    // It was a file when it was created: no pipe, terminal or device.
     is_file: bool,
 }
 
 impl<R: Files + Eprint> SecondLook for SystemLook<'_, R> {
     ghost is_look = { λ _ _ _. Unit {0} };
 
-    /// The folder is stored, too, where it can be opened: by it a new file is found.
+    /// Stores the folder, too, if it can be opened: a new file is found through it.
     fn has_all<W: Write>(&self, _file: &IntoFile<W>, length: u64) -> bool {
         if !self.is_file {
             return true;
@@ -175,7 +174,7 @@ impl<R: Files + Eprint> SecondLook for SystemLook<'_, R> {
     }
 }
 
-// How many bytes a file has, as it is opened again; or by its name, where it may not be read.
+// Returns how many bytes a file has, after opening it again, or from its name if it can't be read.
 fn length_of<R: Files>(rt: &R, name: &str) -> io::Result<u64> {
     let there = match fs::open(rt, name) {
         Ok(file) => file.metadata(),
@@ -190,7 +189,7 @@ fn length_of<R: Files>(rt: &R, name: &str) -> io::Result<u64> {
     }
 }
 
-// Stores the folder of a file. One that may not be read can't be stored.
+// Stores the folder of a file. One that can't be read can't be stored.
 fn is_folder_stored<R: Files + Eprint>(rt: &R, name: &str) -> bool {
     let folder = match Path::new(name).parent() {
         Some(folder) if !folder.as_str().is_empty() => folder.as_str(),

@@ -1,11 +1,11 @@
--- The files that a request names, in the order of its words: what is read, and what is written.
+-- The files that a request names, in the order of its arguments: what is read, and what is written.
 use Rattle.std.specs.Prelude.{Bool, true, false}
 use Rattle.sub_request.specs.declared.files.FileNames.{FileNames}
 use Rattle.sub_request.specs.declared.files.FileNames.TheVariants as files
 use Rattle.sub_request.specs.declared.request.Request.{Request}
 use Rattle.sub_request.specs.declared.request.Request.TheVariants as ask
 
--- What a request reads, in the order of its words, and what it writes.
+-- The files that a request reads, in the order of its arguments, and the one that it writes.
 abbrev pub files_of : Request → FileNames
 files_of ask.Help = files.None
 files_of ask.Version = files.None

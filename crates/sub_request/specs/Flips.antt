@@ -1,21 +1,21 @@
--- What bits that are received wrong make of a packet (own). Packets are numbered from 0.
+-- Packets with bits that are received wrong (own). Packets are numbered from 0.
 use Rattle.std.specs.Prelude.{ℕ, ◌-◌, ◌^◌, ◌==◌, Bool, ◌&&◌, List, [], ◌∷◌, bit_xor, nat_le}
 use Rattle.std.specs.Prelude.{slice_index, slice_set, if◌then◌else◌}
 use Rattle.sub_request.specs.declared.listening.Flip.{Flip}
 
--- The flip is one of a bit of this packet.
+-- The flip belongs to a bit of this packet.
 abbrev pub is_flip_of : Flip → ℕ → Bool
 is_flip_of f number =
     (f.packet == number) && nat_le f.byte 41 && nat_le 1 f.bit && nat_le f.bit 8
 
--- A packet with one bit changed, where the flip is one of it: bit 1 is the lowest of its byte.
+-- A packet with one bit flipped, if the flip belongs to it: bit 1 is the lowest of its byte.
 abbrev pub with_flip : Flip → ℕ → List ℕ → List ℕ
 with_flip f number packet =
     if is_flip_of f number
     then slice_set packet f.byte (bit_xor (slice_index packet f.byte) (2 ^ (f.bit - 1)))
     else packet
 
--- A packet as it is received: each flip of it changes a bit.
+-- A packet as it is received: each of its flips changes a bit.
 abbrev pub with_flips : List Flip → ℕ → List ℕ → List ℕ
 with_flips [] number packet = packet
 with_flips (f ∷ flips) number packet = with_flips flips number (with_flip f number packet)

@@ -1,13 +1,13 @@
-//! The files that a request names: what is read, and what is written.
+//! The files that a request reads and writes.
 //!
-//! A subtitle file that is read, a file of PES packets that is read and a file that is written have
-//! types of their own, which are made here alone: so none of them can be taken for another.
+//! A subtitle file, a file of PES packets and an output file have types of their own, which are
+//! created only here. So none of them can be taken for another.
 ghost use Rattle.std.specs.Prelude.{◌≡◌, ℕ, List};
 
 use crate::request::Request;
 use std::marker::Model;
 
-/// The name of a subtitle file that is read. Contracts see it as the name.
+/// The name of a subtitle file that is read. In contracts its value is the name.
 #[derive(Drop)]
 pub struct StlInput<'a>(&'a str);
 
@@ -18,7 +18,7 @@ impl<'a> Model for StlInput<'a> {
 }
 
 impl<'a> StlInput<'a> {
-    /// The name.
+    /// Returns the name.
     pub fn name(&self) -> &'a str
         ensures { result.now ≡ self.now }
     {
@@ -26,8 +26,8 @@ impl<'a> StlInput<'a> {
     }
 }
 
-/// The name of a file of PES packets, or of a transport stream, that is read. Contracts see it as
-/// the name.
+/// The name of a file of PES packets, or of a transport stream, that is read. In contracts its
+/// value is the name.
 #[derive(Drop)]
 pub struct PesInput<'a>(&'a str);
 
@@ -38,7 +38,7 @@ impl<'a> Model for PesInput<'a> {
 }
 
 impl<'a> PesInput<'a> {
-    /// The name.
+    /// Returns the name.
     pub fn name(&self) -> &'a str
         ensures { result.now ≡ self.now }
     {
@@ -46,7 +46,7 @@ impl<'a> PesInput<'a> {
     }
 }
 
-/// The name of a file that is written. Contracts see it as the name.
+/// The name of a file that is written. In contracts its value is the name.
 #[derive(Drop)]
 pub struct Output<'a>(&'a str);
 
@@ -57,7 +57,7 @@ impl<'a> Model for Output<'a> {
 }
 
 impl<'a> Output<'a> {
-    /// The name.
+    /// Returns the name.
     pub fn name(&self) -> &'a str
         ensures { result.now ≡ self.now }
     {
@@ -65,10 +65,10 @@ impl<'a> Output<'a> {
     }
 }
 
-/// The names of the files of a request, in the order of its words.
+/// The names of the files of a request, in the order of its arguments.
 #[derive(Drop)]
 pub enum FileNames<'a> {
-    /// None.
+    /// No files.
     None,
     /// A subtitle file is read.
     ReadStl(StlInput<'a>),
@@ -85,7 +85,7 @@ pub enum FileNames<'a> {
 impl<'a> Request<'a> {
     ghost use Rattle.sub_request.specs.Files.{files_of};
 
-    /// The files that the request names.
+    /// Returns the files that the request names.
     pub fn files(&self) -> FileNames<'a>
         ensures { result ≡ files_of self.now }
     {

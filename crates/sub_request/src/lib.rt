@@ -1,11 +1,10 @@
-//! What the program is asked for: a request, as plain data, and why words are none.
+//! Requests to the program as plain data, and why arguments do not make one.
 //!
-//! A `Request` is a variant for each command, with the values of its words; it names the files that
-//! are read and written, each by a type that nothing else makes. Stands on `sub_plan` for the
-//! options of a schedule, on `stl_rows` for national options and layouts, and on `mpeg_ts` and
-//! `ttx_pes` for which PES packets are read.
-//! `sub_words` reads requests from words, `sub_listen` runs the receiver of a `Listening`, and
-//! `sub_answer` answers.
+//! `Request` has a variant for each command, with the values of its arguments. It names the files
+//! that are read and written, each by a type that only this crate creates. The options of a
+//! schedule are those of `sub_plan`, national options and layouts those of `stl_rows`; `mpeg_ts`
+//! and `ttx_pes` define which PES packets are read. `sub_words` parses requests, `sub_listen` runs
+//! the receiver of a `Listening`, and `sub_answer` answers them.
 //!
 //! ```text
 //! let request = Request::Show { stl: "film.stl" };

@@ -1,10 +1,10 @@
-//! What `listen` is asked for.
+//! The request of `listen`.
 use sub_plan::Options;
 
 /// A bit of a packet that is received wrong.
 #[derive(Clone, Copy, Debug, PartialEq, Eq)]
 pub struct Flip {
-    /// The packet: its number from 0 among all Teletext packets of the file.
+    /// The number of the packet, counted from 0 among all Teletext packets of the file.
     pub packet: u64,
     /// The byte of the packet, 0 to 41, address bytes first.
     pub byte: u8,
@@ -12,35 +12,34 @@ pub struct Flip {
     pub bit: u8,
 }
 
-/// What a receiver does where a byte of a row has even parity, and at a header of its page that
-/// does not erase it.
+/// What a receiver does if a byte of a row has even parity, and at a header of its page that does
+/// not erase it.
 #[derive(Clone, Copy, Debug, PartialEq, Eq)]
 pub enum ReceiverKind {
-    /// It leaves the byte's cell as it was.
+    /// It keeps the cell of the byte.
     Keep,
-    /// It stores a space in the byte's cell.
+    /// It stores a space in the cell of the byte.
     Blank,
     /// It drops the packet of the whole row.
     DropRow,
-    /// It stores a space in the byte's cell, and blanks the page at each of its headers, where the
-    /// others keep it if C4 is clear.
+    /// It stores a space in the cell of the byte, and blanks the page at each of its headers, where
+    /// the others keep it if C4 is clear.
     Anew,
 }
 
 /// One run of a receiver over the PES packets of a file.
 #[derive(Drop)]
 pub struct Listening {
-    /// The page that the receiver is tuned to, the PTS of frame 0, whether complete pages are asked
-    /// for, and whether frames are allowed, which is how PTS are read. The repeat bound is not
-    /// looked at.
+    /// The page to which the receiver is tuned, the PTS of frame 0, whether complete pages are
+    /// required, and `within`, on which the reading of PTS depends. The repeat bound is not used.
     pub options: Options,
-    /// TIME, as a frame of the day: the last frame that is heard.
+    /// The last frame that is received, as a frame of the day: TIME.
     pub at: u32,
-    /// How many Teletext packets are passed over, from the start of the file.
+    /// How many Teletext packets are skipped, from the start of the file.
     pub skip: u64,
-    /// The bits that are received wrong, no two in one byte.
+    /// The bits that are received wrong, at most one in a byte.
     pub flips: Vec<Flip>,
-    /// The numbers of the packets that are lost, counted as those of the flips.
+    /// The numbers of the lost packets, counted as in `flips`.
     pub lost: Vec<u64>,
     /// The receiver.
     pub receiver: ReceiverKind,

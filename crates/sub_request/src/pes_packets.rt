@@ -1,13 +1,12 @@
-//! Which PES packets are read: of which file, and which of that file's.
+//! The PES packets that are read: the file, and the selected packets of it.
 use mpeg_ts::{PacketSize, Pid};
 use ttx_pes::PieceRange;
 
 /// The transport packets that carry PES packets (ISO/IEC 13818-1).
 #[derive(Clone, Copy, Debug, PartialEq, Eq)]
 pub struct TransportStream {
-    /// Their PID.
     pub pid: Pid,
-    /// The bytes from one transport packet to the next.
+    /// The distance from one transport packet to the next.
     pub packet_size: PacketSize,
 }
 
@@ -16,9 +15,9 @@ pub struct TransportStream {
 pub struct PesPackets<'a> {
     /// The name of the file.
     pub name: &'a str,
-    /// The transport packets that carry them, where the file is a transport stream. `None` for a
-    /// file of PES packets.
+    /// The transport packets that carry them, if the file is a transport stream; `None` for a file
+    /// of PES packets.
     pub stream: Option<TransportStream>,
-    /// Which of them, by their numbers from 0. `None` for all.
+    /// The selected packets, by their numbers from 0; `None` for all.
     pub range: Option<PieceRange>,
 }

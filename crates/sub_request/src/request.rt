@@ -1,4 +1,4 @@
-//! What the program is asked for, and why it can't be asked so.
+//! Requests to the program, and why arguments do not make one.
 ghost use Rattle.std.specs.Prelude.{◌≡◌};
 
 use crate::listening::Listening;
@@ -10,12 +10,12 @@ use sub_io::FaultCode;
 use sub_plan::Options;
 use thiserror::Error;
 
-/// Why the program can't do what its words ask for, in the order in which faults are told.
+/// Why the program can't do what its arguments request, in the order in which faults are reported.
 ///
-/// The texts are for people; what the program prints are the lines of `say`.
+/// The descriptions are for readers; the program prints the lines of `say`.
 #[derive(Debug, Drop, Error)]
 pub enum UsageFault {
-    /// 0: the words are not those of a command, or ask for a version.
+    /// 0: the arguments are not those of a command.
     #[error("the words are not those of a command")]
     Words,
     /// 2: HEX is not 84 hexadecimal digits.
@@ -33,31 +33,31 @@ pub enum UsageFault {
     /// 81: the PTS of frame 0 is not below 2^33.
     #[error("the PTS of frame 0 does not have 33 bits")]
     Origin,
-    /// 83: the national option is none of those that `National::parse` reads.
+    /// 83: the national option is none that `National::parse` knows.
     #[error("there is no such national option")]
     BadOption,
-    /// 85: the frames within which the page has to be whole are not 0 to 50.
+    /// 85: `--within` is not 0 to 50 frames.
     #[error("the page is not allowed 0 to 50 frames")]
     Within,
     /// 86: the PID is not 0 to 8190.
     #[error("the PID is not 0 to 8190")]
     Pid,
-    /// 87: the bytes from one transport packet to the next are not 188, 192 or 204.
+    /// 87: the distance of transport packets is not 188, 192 or 204 bytes.
     #[error("the packet size is not 188, 192 or 204")]
     PacketSize,
-    /// 88: the PES packets are not given as `I-J` or `I-`, or the last stands before the first.
+    /// 88: the PES packets are not `I-J` or `I-`, or the last comes before the first.
     #[error("the PES packets are not I-J or I-")]
     Range,
-    /// 89: the layout is none of those that `Layout::parse` reads.
+    /// 89: the layout is none that `Layout::parse` knows.
     #[error("there is no such layout")]
     BadLayout,
-    /// 92: the frames by which PES packets are apart at most are not 1 to 2,160,000.
+    /// 92: the maximum distance of PES packets is not 1 to 2,160,000 frames.
     #[error("the pace is not 1 to 2160000 frames")]
     Pace,
     /// 6: the time is not `HH:MM:SS:FF` of a day.
     #[error("the time is not HH:MM:SS:FF of a day")]
     BadTime,
-    /// 8: the number of packets to be skipped is no number of one to ten digits.
+    /// 8: the number of packets to be skipped is not one to ten digits.
     #[error("the packets to be skipped are no number")]
     BadSkip,
     /// 5: the flips are not 1 to 64 places `P:B:K`, or two are in one byte.
@@ -72,7 +72,7 @@ pub enum UsageFault {
     /// 91: memory ran out.
     #[error("memory ran out")]
     Memory,
-    /// 90: a file can't be opened or created. `Request::parse` never answers it.
+    /// 90: a file can't be opened or created. `Request::parse` never returns this.
     #[error("a file can't be opened")]
     Open,
 }
@@ -80,7 +80,7 @@ pub enum UsageFault {
 impl UsageFault {
     ghost use Rattle.sub_request.specs.Fault.{usage_code};
 
-    /// The number and the name by which the fault is told (own).
+    /// Returns the number and name of the fault in reports (own).
     pub fn code(&self) -> FaultCode
         ensures { result ≡ usage_code self.now }
     {
@@ -109,10 +109,10 @@ impl UsageFault {
     }
 }
 
-/// What to do: a variant for each command, with the values of its words.
+/// A request: a variant for each command, with the values of its arguments.
 #[derive(Drop)]
 pub enum Request<'a> {
-    /// `--help`: tells how the program is used.
+    /// `--help`: explains how to use the program.
     Help,
     /// `--version`: prints the name and the version of the program.
     Version,
@@ -146,13 +146,13 @@ pub enum Request<'a> {
         pes: &'a str,
         /// The page, the repeat bound and the PTS of frame 0.
         options: Options,
-        /// Whether the headers are those of serial mode (C11 set).
+        /// Whether the headers are those of serial mode (C11 is set).
         serial: bool,
-        /// The national option by which the text is read.
+        /// The national option of the text.
         national: National,
         /// How the text is drawn.
         layout: Layout,
-        /// What of the subtitle file is taken.
+        /// The part of the subtitle file that is used.
         scope: Scope,
     },
     /// `check STL PES`: checks that a file of PES packets shows a subtitle file.
@@ -161,23 +161,23 @@ pub enum Request<'a> {
         stl: &'a str,
         /// The PES packets.
         pes: PesPackets<'a>,
-        /// The page, the repeat bound, the PTS of frame 0, whether complete pages are asked for,
-        /// and within how many frames the page has to be whole.
+        /// The page, the repeat bound, the PTS of frame 0, whether complete pages are required, and
+        /// within how many frames the page has to be right.
         options: Options,
-        /// The national option by which the text is read.
+        /// The national option of the text.
         national: National,
         /// How the text is drawn.
         layout: Layout,
-        /// What of the subtitle file is taken.
+        /// The part of the subtitle file that is used.
         scope: Scope,
-        /// Whether every broken place is told, and not the first alone.
+        /// Whether every fault is reported, and not only the first.
         all: bool,
     },
     /// `listen PES`: runs one receiver.
     Listen {
         /// The PES packets.
         pes: PesPackets<'a>,
-        /// What the receiver hears.
+        /// What the receiver gets.
         listening: Listening,
     },
     /// `extract TS PES`: writes the PES packets that a transport stream carries.
@@ -189,7 +189,7 @@ pub enum Request<'a> {
         /// The transport packets that carry them.
         stream: TransportStream,
     },
-    /// `survey RECORDING`: tells what there is in a recording.
+    /// `survey RECORDING`: lists what is in a recording.
     Survey {
         /// The name of the recording.
         recording: &'a str,

@@ -1,5 +1,5 @@
--- What clap's contract says of the program's own words. Main lemmas: command_in-parsed,
--- refusals-parsed and IsFaultOfCommand-refused; asked_for-met. The last is of the answer.
+-- What clap's contract says about the program's own commands. Main lemmas: command_in-parsed,
+-- refusals-parsed and IsFaultOfCommand-refused; asked_for-met. The last is about the answer.
 use Rattle.std.proofs.Common.{◌≡◌, ◌≢◌, ◌∙◌, true, false, List, [], Option, Some, None, Ok, Err}
 use Rattle.std.proofs.Common.{Bool, ◌||◌}
 use Rattle.std.proofs.Common.{refl, ap, subst, sym, inl, inr, arith, drop, get_or, ◌+◌, ◌≤◌}
@@ -34,21 +34,21 @@ use Rattle.sub_request.specs.declared.request.Request.{Request}
 use Rattle.sub_request.specs.declared.request.UsageFault.{UsageFault}
 use Rattle.sub_request.specs.declared.request.UsageFault.TheVariants as fault
 
--- The exactness of the matches is promised of a simple command, as the program's is.
+-- Exact matches are promised for a simple command, as the program's is.
 is_simple-subttx : is_simple subttx_app ≡ true
 unfolding subttx_app clap_on_literals
 is_simple-subttx = refl
 
--- The exactness of refusals is promised where no argument has a rule on another, as here.
+-- Exact refusals are promised if no argument has a rule about another, as here.
 is_free-subttx : is_simple_and_free subttx_app ≡ true
 unfolding subttx_app clap_on_literals
 is_free-subttx = refl
 
--- What the program's table says of a command.
+-- The entry of a command in the program's table.
 abbrev pub table_of : Bor Text × Bor (List Argument) → Text × List Rule
 table_of command = (command.0.now, map clap_rule command.1.now)
 
--- A fold over what is left of a list goes one step on.
+-- One more step of a fold over the rest of a list.
 pub fold_more : {A B X : Type 0} (f : B → A → B) (of : X → A) (xs : List X) (i : ℕ) (d : X)
     → (b new all : B)
     → i < length xs
@@ -59,7 +59,7 @@ fold_more f of xs i d b new all within whole e =
     ap (λ b'. fold f b' (map of (drop (i + 1) xs))) e
     ∙ sym (at_drop_more (λ rest. fold f b (map of rest)) xs i d within) ∙ whole
 
--- Where an item is not so, those behind it decide whether any is.
+-- If an item does not pass, those after it decide whether any does.
 pub any_more : {X : Type 0} (test : X → Bool) (xs : List X) (i : ℕ) (d : X) (all : Bool)
     → i < length xs
     → test (get_or xs i d) ≡ false
@@ -69,7 +69,7 @@ any_more test xs i d all within none whole =
     ap (λ b. b || list_any test (drop (i + 1) xs)) (sym none)
     ∙ sym (at_drop_more (list_any test) xs i d within) ∙ whole
 
--- Where nothing is left it is what it came to.
+-- At the end of the list it is the result so far.
 pub fold_all : {A B X : Type 0} (f : B → A → B) (of : X → A) (xs : List X) (i : ℕ) (b all : B)
     → length xs ≤ i
     → fold f b (map of (drop i xs)) ≡ all
@@ -77,12 +77,12 @@ pub fold_all : {A B X : Type 0} (f : B → A → B) (of : X → A) (xs : List X)
 fold_all f of xs i b all over whole =
     sym (at_drop_all (λ rest. fold f b (map of rest)) xs i over) ∙ whole
 
--- No words are those of no command.
+-- Without arguments there is no command.
 none-refused : (clap_refusals [] ≢ []) × (are_sound [] ≢ true)
 unfolding clap_refusals are_sound subttx_app clap_on_literals
 none-refused = (λ e. cc, λ e. cc)
 
--- No words at all.
+-- No arguments.
 pub no-words : (words : List (Bor (List ℕ)))
     → (length words == 0) ≡ true
     → IsFaultOfCommand (texts_of words) fault.Words
@@ -90,7 +90,7 @@ no-words [] none = none-refused
 no-words (w ∷ ws) none =
     let more : 0 < length (w ∷ ws) = omega arith in absurd (grind (arith, nat_tests))
 
--- Words as texts are as many.
+-- There are as many texts as arguments.
 pub some-texts : (words : List (Bor (List ℕ)))
     → (length words == 0) ≡ false
     → texts_of words ≢ []
@@ -101,21 +101,21 @@ pub some-words : (words : List (Bor (List ℕ))) → words ≢ [] → texts_of w
 some-words [] some e = some refl
 some-words (w ∷ ws) some e = cc
 
--- A fault that the arguments have, where no memory is taken.
+-- A fault of the arguments that needs no memory.
 own-fault : (asked : Result Asked UsageFault) (f : UsageFault)
     → (asked ≡ Err f) × (is_own f ≡ true)
     → IsFaultIn asked f
 own-fault asked fault.Memory is = tt
 own-fault asked f is = is
 
--- What takes no memory is read so too where memory may run out.
+-- What needs no memory is also read correctly if memory may run out.
 pub read_exactly : (asked : Result Asked UsageFault) (result : Result Request UsageFault)
     → IsReadExactly asked result
     → IsReadGivenMemory asked result
 read_exactly asked (Ok r) is = is
 read_exactly asked (Err f) is = own-fault asked f is
 
--- A fault of a command's arguments is one of the words.
+-- A fault of a command's arguments is one of the whole command line.
 fault-read : (words : List Text) (asked : Result Asked UsageFault) (f : UsageFault)
     → words ≢ []
     → clap_refusals words ≡ []
@@ -128,7 +128,7 @@ fault-read words asked fault.Open some taken is read = cc
 fault-read words asked f some taken is read =
     record { taken = taken; broken = is ∙ ap Some read.0 }
 
--- What the arguments of the words' command are read as.
+-- The request that the command's arguments make.
 pub fault-of_read :
     (words : List Text) (asked : Result Asked UsageFault) (result : Result Request UsageFault)
     → words ≢ []
@@ -140,7 +140,7 @@ fault-of_read words asked (Ok r) some taken is read = tt
 fault-of_read words asked (Err f) some taken is read =
     fault-read words asked f some taken is read
 
--- ---- what a parse of the program's command gives
+-- ---- the result of parsing the program's command line
 
 -- The matches are exact, since the command is simple.
 pub command_in-parsed : (app : App) (words : List Text) (m : ArgMatches)
@@ -152,7 +152,7 @@ command_in-parsed app words m is_program has =
     let P : App → Type 0 = λ a. HasMatchesOf a words m in
     (subst P is_program has is_simple-subttx).1
 
--- A command is among them, since the program wants one.
+-- There is a command, since the program requires one.
 pub has_subcommand-parsed : (c : Command) (m : ArgMatches)
     → app_of c ≡ subttx_app
     → IsParsedFrom c m
@@ -166,7 +166,7 @@ has_subcommand-parsed c m is_program from =
     (from.parsed (from.from.globals ∙ local)).checked.subcommand
     (from.from.needs_subcommand ∙ required)
 
--- An `Ok` comes only where nothing refuses, since no argument has a rule on another.
+-- `Ok` is returned only if nothing is refused, since no argument has a rule about another.
 pub refusals-parsed : (app : App) (words : List Text) (m : ArgMatches)
     → app ≡ subttx_app
     → (is_simple_and_free app ≡ true → FailsBy {T = ArgMatches} (fault_of app words) (Ok m))
@@ -176,7 +176,7 @@ refusals-parsed app words m is_program fails =
     let P : App → Type 0 = λ a. is_simple_and_free a ≡ true → fault_of a words ≡ [] in
     subst P is_program fails is_free-subttx
 
--- An error of another kind than memory has a kind that refuses.
+-- An error other than want of memory has a kind that refuses.
 kind_among : (kinds : Kinds) (e : Error)
     → HasKind kinds e
     → kind_of e ≢ OutOfMemory
@@ -186,7 +186,7 @@ kind_among kinds e has other none = elim has [
   | inr among ↦ subst (IsAmong (kind_of e)) none among
 ]
 
--- Words that are refused for another cause than memory.
+-- Arguments that are refused for another reason than memory.
 pub IsFaultOfCommand-refused : (app : App) (words : List Text) (e : Error)
     → app ≡ subttx_app
     → (is_simple_and_free app ≡ true → FailsBy {T = ArgMatches} (fault_of app words) (Err e))
@@ -201,7 +201,7 @@ IsFaultOfCommand-refused app words e is_program fails passes other =
       λ sound. other (subst Q is_program passes sound),
     )
 
--- What the command that was met is asked for: its name and its rows stand beside each other.
+-- The request of the matched command, from its name and its rows.
 pub asked_for-met : {Z : Type 0} (words : List Text) (met : Option (Box SubCommand Z))
     → (name : Text) (rows : List Row)
     → subcommand_rows met ≡ command_in words
@@ -211,5 +211,5 @@ pub asked_for-met : {Z : Type 0} (words : List Text) (met : Option (Box SubComma
 asked_for-met words None name rows is e f = cc
 asked_for-met words (Some sub) name rows is e f = rw (← is) cc
 
--- The value that `clap` gives for an id is the first of its row: for the arguments.
+-- The value that `clap` returns for an id is the first of its row: for the arguments.
 pub ruleset values = (first_value-rows)

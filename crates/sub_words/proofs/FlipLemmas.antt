@@ -15,14 +15,13 @@ use Rattle.sub_request.specs.declared.listening.Flip.{Flip}
 use Rattle.sub_words.specs.Laws.{LawOfFlips}
 use Rattle.sub_words.specs.Texts.{comma, flip_of_text, flips_of_text, is_same_byte, items_after}
 
--- ---- near lists
+-- ---- bytes with at most one wrong bit
 
--- A list is near itself.
 near_itself : (sent : List ℕ) → AreNear sent sent
 near_itself [] = tt
 near_itself (x ∷ xs) = (inl refl, near_itself xs)
 
--- It stays near where one bit changes of a byte that is as it was sent.
+-- One bit may change in a byte that is as it was sent.
 near-set : (sent got : List ℕ) (k bit : ℕ)
     → AreNear sent got
     → slice_index got k ≡ slice_index sent k
@@ -36,9 +35,9 @@ near-set (c ∷ cs) (g ∷ gs) zero bit near same below =
 near-set (c ∷ cs) (g ∷ gs) (suc k) bit near same below =
     (near.0, near-set cs gs k bit near.1 same below)
 
--- ---- a packet on its way through the flips
+-- ---- a packet after each flip
 
--- A flip of a byte that is as it was sent leaves a near packet near.
+-- A flip in a byte that is as it was sent leaves at most one wrong bit in each byte.
 with_flip-near : (f : Flip) (number : ℕ) (sent got : List ℕ)
     → AreNear sent got
     → (f.packet ≡ number → slice_index got f.byte ≡ slice_index sent f.byte)
@@ -52,7 +51,7 @@ with_flip-other : (f g : Flip) (number : ℕ) (got : List ℕ)
     → slice_index (with_flip f number got) g.byte ≡ slice_index got g.byte
 with_flip-other f g number got is other = grind (arith, nat_tests, get_or-set_other)
 
--- One flip more comes last.
+-- One more flip comes last.
 with_flips-more : (flips : List Flip) (f : Flip) (number : ℕ) (packet : List ℕ)
     → with_flips (flips ++ f ∷ []) number packet
     ≡ with_flip f number (with_flips flips number packet)
@@ -60,7 +59,7 @@ with_flips-more [] f number packet = refl
 with_flips-more (first ∷ flips) f number packet =
     with_flips-more flips f number (with_flip first number packet)
 
--- Flips leave a packet near, and as it was sent where they change nothing.
+-- Flips leave at most one wrong bit in each byte, and bytes without a flip as they were sent.
 record IsNoise (sent : List ℕ) (number : ℕ) (flips : List Flip) : Type 0 where
   near : AreNear sent (with_flips flips number sent)
   as_sent : (f : Flip)
@@ -68,7 +67,7 @@ record IsNoise (sent : List ℕ) (number : ℕ) (flips : List Flip) : Type 0 whe
       → list_any (is_same_byte f) flips ≡ false
       → slice_index (with_flips flips number sent) f.byte ≡ slice_index sent f.byte
 
--- Flips and one in another byte are such.
+-- So do these flips and one in another byte.
 IsNoise-more : (sent : List ℕ) (number : ℕ) (flips : List Flip) (f : Flip)
     → IsNoise sent number flips
     → list_any (is_same_byte f) flips ≡ false
@@ -87,14 +86,15 @@ IsNoise-more sent number flips f noise other =
 
 -- ---- the flips of a text
 
--- What is given where a test fails.
+-- The result if a test fails.
 given_if_not : {A : Type 0} (b : Bool) (o : Option A) (x : A)
     → (if b then None else o) ≡ Some x
     → (b ≡ false) × (o ≡ Some x)
 given_if_not true o x e = cc
 given_if_not false o x e = (refl, e)
 
--- What an item more keeps, where none before it is the same, holds of all the items of a list.
+-- A property that one more item keeps, unless one before it is the same, holds for all items of a
+-- list.
 items_after-keeps : {A : Type 0} (said : List ℕ → Option A) (same : A → A → Bool)
     → (P : List A → Type 0)
     → ((items : List A) (x : A) → P items → list_any (same x) items ≡ false → P (items ++ x ∷ []))
@@ -109,7 +109,6 @@ items_after-keeps said same P more items (text ∷ texts) all holds e =
     items_after-keeps said same P more (items ++ x ∷ []) texts all (more items x holds parts.0)
     parts.1)
 
--- The law.
 pub law_of_flips : LawOfFlips
 unfolding flips_of_text
 law_of_flips text flips number packet is =

@@ -1,4 +1,4 @@
--- How the arguments of a command are read (own).
+-- The values of a command's arguments (own).
 use Rattle.std.specs.Prelude.{ℕ, ◌^◌, ◌-◌, Bool, true, false, ◌&&◌, List, [], Option, Some, None}
 use Rattle.std.specs.Prelude.{Result, Ok, codes, nat_le, ok_or, option_map, unwrap_or}
 use Rattle.std.specs.Prelude.{if◌then◌else◌}
@@ -28,18 +28,18 @@ use Rattle.sub_request.specs.declared.request.UsageFault.TheVariants as fault
 abbrev pub argument : Text → List Row → Text
 argument id rows = unwrap_or (first_of id rows) []
 
--- Whether a flag is set. `clap` keeps the text `true` or `false` for it.
+-- Whether a flag is set. `clap` stores the text `true` or `false` for it.
 abbrev pub is_given : Text → List Row → Bool
 is_given id rows = bytes_eq (argument id rows) (codes "true")
 
--- A number that is neither below nor above what is allowed.
+-- A number within these bounds.
 abbrev pub between : ℕ → ℕ → Option ℕ → Option ℕ
 between least most None = None
 between least most (Some n) = if nat_le least n && nat_le n most then Some n else None
 
--- `[--page P] [--origin T] [--complete]`: the options of a repeat bound of 1 to 2,160,000 frames, a
--- day, with a PTS of 33 bits; the first fault where a number is missing or out of range. Of a
--- command that has no flag `complete` none is given.
+-- `[--page P] [--origin T] [--complete]`: the options with a repeat bound of 1 to 2,160,000 frames
+-- (a day) and a PTS of 33 bits, or the first fault if a number is missing or out of range.
+-- `complete` is not set for a command without this flag.
 abbrev pub options_of : Option ℕ → List Row → Result OptionsValue UsageFault
 options_of every rows = do
   page ← ok_or (page_of_text (argument (codes "page") rows)) fault.BadPage
@@ -57,14 +57,14 @@ options_of every rows = do
         keeps = false;
       })
 
--- `[--within N]`: the options, where the page has to be whole within so many frames, 0 to 50.
+-- `[--within N]`: the page has to be right within so many frames, 0 to 50.
 abbrev pub allowing_of : OptionsValue → List Row → Result OptionsValue UsageFault
 allowing_of options rows = do
   frames ← ok_or (between 0 50 (number_of_text (argument (codes "within") rows))) fault.Within
   Ok (record options { within = frames })
 
--- `[--pace K]`: the options, where PES packets are at most so many frames apart, 1 to 2,160,000;
--- as they are where it is left out.
+-- `[--pace K]`: PES packets are at most so many frames apart, 1 to 2,160,000; no limit if it is
+-- left out.
 abbrev pub pacing_of : OptionsValue → List Row → Result OptionsValue UsageFault
 pacing_of options rows =
     option_map_or
@@ -73,7 +73,7 @@ pacing_of options rows =
       Ok (record options { pace = Some frames }))
     (first_of (codes "pace") rows) (Ok options)
 
--- `[--keeping]`: the options, by which repeats may keep the page where the flag is given.
+-- `[--keeping]`: repeats may keep the page if the flag is set.
 abbrev pub keeping_of : OptionsValue → List Row → OptionsValue
 keeping_of options rows =
     if is_given (codes "keeping") rows then record options { keeps = true } else options
@@ -82,20 +82,19 @@ keeping_of options rows =
 abbrev pub national_of : List Row → Result National UsageFault
 national_of rows = ok_or (option_named (argument (codes "option") rows)) fault.BadOption
 
--- `[--layout TEXT]`: the default layout where it is left out.
+-- `[--layout TEXT]`: the default layout if it is left out.
 abbrev pub layout_of : List Row → Result Layout UsageFault
 layout_of rows =
     ok_or (option_map_or layout_of_text (first_of (codes "layout") rows) (Some default_layout))
     fault.BadLayout
 
--- What an option that may be left out is given as: none where it is left out. None at all where its
--- text says nothing.
+-- The value of an optional option, `Some None` if it is left out; `None` if its text has no value.
 abbrev pub given_as : {A : Type 0} → (Text → Option A) → Text → List Row → Option (Option A)
 given_as said id rows =
     option_map_or (λ text. option_map Some (said text)) (first_of id rows) (Some None)
 
--- `[--from TIME] [--to TIME] [--open]`: the frames at which subtitles may start, all of the day
--- where they are left out.
+-- `[--from TIME] [--to TIME] [--open]`: the frames at which subtitles may start, the whole day if
+-- left out.
 abbrev pub scope_of : List Row → Result Scope UsageFault
 scope_of rows = do
   from ← ok_or (given_as frame_of_text (codes "from") rows) fault.BadTime
@@ -112,16 +111,16 @@ abbrev pub packet_size_of : List Row → Result PacketSize UsageFault
 packet_size_of rows =
     ok_or (packet_size_of_text (argument (codes "packet-size") rows)) fault.PacketSize
 
--- `[--pid P] [--packet-size S]`: the transport packets that carry PES packets. Where no PID is
--- given there are none: the packet size is read then too, and has no effect.
+-- `[--pid P] [--packet-size S]`: the transport packets that carry PES packets. Without a PID there
+-- are none; the packet size is still read, and has no effect.
 abbrev pub stream_of : List Row → Result (Option TransportStream) UsageFault
 stream_of rows = do
   pid ← ok_or (given_as pid_of_text (codes "pid") rows) fault.Pid
   packet_size ← packet_size_of rows
   Ok (option_map (λ pid. record { pid = pid; packet_size = packet_size }) pid)
 
--- `[--page P] [--pid P] [--packet-size S]`: what is asked of a survey, which finds each packet size
--- that is not given.
+-- `[--page P] [--pid P] [--packet-size S]`: the options of a survey, which detects the packet size
+-- if it is not given.
 abbrev pub survey_options_of : List Row → Result SurveyOptions UsageFault
 survey_options_of rows = do
   page ← ok_or (page_of_text (argument (codes "page") rows)) fault.BadPage
@@ -133,8 +132,8 @@ survey_options_of rows = do
 abbrev pub range_given_of : List Row → Result (Option PieceRangeValue) UsageFault
 range_given_of rows = ok_or (given_as range_of_text (codes "pes") rows) fault.Range
 
--- Which PES packets are read: the name of a file, the transport packets that carry them where it is
--- a transport stream, and the numbers of the first and the last.
+-- The selected PES packets: the name of a file, the transport packets that carry them if it is a
+-- transport stream, and the numbers of the first and the last.
 pub record PesAsked : Type 0 where
   pub name : Text
   pub stream : Option TransportStream
@@ -147,8 +146,8 @@ pes_packets_of rows = do
   range ← range_given_of rows
   Ok (record { name = argument (codes "recording") rows; stream = stream; range = range })
 
--- The items of an option's list. An option that is left out stands for the empty list, and one with
--- an empty text does not.
+-- The items of an option with a list. An option that is left out has an empty list; one with an
+-- empty text is a fault.
 abbrev pub listed_of :
     {A : Type 0} → (Text → Option A) → (A → A → Bool) → Text → List Row → Option (List A)
 listed_of said same id rows = option_map_or (list_of_text said same) (first_of id rows) (Some [])

@@ -10,19 +10,19 @@ use Rattle.clap.specs.declared.builder.action.ArgAction.TheVariants.{SetTrue}
 use Rattle.sub_words.specs.declared.command.Argument.{Argument}
 use Rattle.sub_words.specs.declared.command.Argument.TheVariants as argument
 
--- An argument that has to be there.
+-- A required argument.
 abbrev pub required_rule : Text → Rule
 required_rule id = record (new_rule id) { required = true }
 
--- An option `--name TEXT`, and the text that it has where it is left out.
+-- An option `--name TEXT` with a default.
 abbrev pub option_rule : Text → Text → Rule
 option_rule id value = record (new_rule id) { long = Some id; defaults = value ∷ [] }
 
--- An option that may be left out and then has no text.
+-- An optional option without a default.
 abbrev pub bare_option_rule : Text → Rule
 bare_option_rule id = record (new_rule id) { long = Some id }
 
--- An option that has to be there.
+-- A required option.
 abbrev pub required_option_rule : Text → Rule
 required_option_rule id = record (new_rule id) { long = Some id; required = true }
 
@@ -38,8 +38,8 @@ clap_rule (argument.Option id value) = option_rule id.now value.now
 clap_rule (argument.BareOption id) = bare_option_rule id.now
 clap_rule (argument.Flag id) = flag_rule id.now
 
--- The arguments of a schedule that is written or checked, by the name of the second file, and then
--- those of the one or the other.
+-- The arguments of `schedule` and `check`, given the name of the second file, followed by those of
+-- one of the two.
 abbrev pub pair_rules : Text → List Rule → List Rule
 pair_rules second others =
     required_rule (codes "stl") ∷ required_rule second
@@ -52,7 +52,7 @@ pair_rules second others =
 abbrev pub packet_size_rule : Rule
 packet_size_rule = option_rule (codes "packet-size") (codes "188")
 
--- `[--pid P] [--packet-size S] [--pes I-J]`, and then other arguments. Since `pes` is an option
+-- `[--pid P] [--packet-size S] [--pes I-J]`, followed by other arguments. Since `pes` is an option
 -- here, the file that is read is the argument `recording`.
 abbrev pub recording_rules : List Rule → List Rule
 recording_rules others =
@@ -114,7 +114,7 @@ commands =
     )
     ∷ []
 
--- A word is the name of a command.
+-- The word is the name of a command.
 unfoldable pub is_command : Text → Bool
 is_command word = list_any (λ command. bytes_eq word command.0) commands
 
@@ -123,7 +123,7 @@ abbrev pub with_command : App → Text × List Rule → App
 with_command app command =
     with_subcommand app (fold with_rule (new_app command.0) command.1).top
 
--- The program and its commands. It offers neither help nor a version, and wants a command.
+-- The program and its commands. It defines neither help nor version, and requires a command.
 unfoldable pub subttx_app : App
 subttx_app = let plain = new_app (codes "subttx") in fold with_command (record plain {
   top = record plain.top {
@@ -134,19 +134,19 @@ subttx_app = let plain = new_app (codes "subttx") in fold with_command (record p
   };
 }) commands
 
--- What `clap`'s contract says of words, as functions of them. The kinds of its refusal: none where
--- it takes the words.
+-- `clap`'s contract as functions of the arguments. The kinds of its refusal; none if it accepts
+-- them.
 unfoldable pub clap_refusals : List Text → Kinds
 clap_refusals words = fault_of subttx_app words
 
--- The command that the words name, with its arguments as rows.
+-- The command that the arguments name, with its arguments as rows.
 unfoldable pub command_in : List Text → Option (Text × List Row)
 command_in words = subcommand_of subttx_app words
 
--- Whether only memory can refuse the words.
+-- Whether the arguments can be refused only for want of memory.
 unfoldable pub are_sound : List Text → Bool
 are_sound words = takes subttx_app words
 
--- The words of the command line as texts.
+-- The arguments of the command line as texts.
 abbrev pub texts_of : List (Bor (List ℕ)) → List Text
 texts_of = map (λ word. word.now)

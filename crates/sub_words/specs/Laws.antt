@@ -1,13 +1,12 @@
--- What the words of `listen` do to packets.
+-- The effect of the options of `listen` on packets.
 use Rattle.std.specs.Prelude.{◌≡◌, ℕ, List, Some}
 use Rattle.ttx_packet.specs.OneBit.{AreNear}
 use Rattle.sub_request.specs.Flips.{with_flips}
 use Rattle.sub_request.specs.declared.listening.Flip.{Flip}
 use Rattle.sub_words.specs.Texts.{flips_of_text}
 
--- The flips that a text asks for leave each packet, whatever its number, near what was sent: in no
--- byte is more than one bit wrong.
--- So what `--flip` makes of a transmission is noise as the headline speaks of it.
+-- The flips of an option leave at most one wrong bit in each byte of each packet. So what `--flip`
+-- makes of a transmission is noise in the sense of the headline.
 abbrev pub LawOfFlips : Type 0
 LawOfFlips =
     (text : List ℕ) (flips : List Flip) (number : ℕ) (packet : List ℕ)

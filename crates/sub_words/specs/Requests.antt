@@ -1,4 +1,4 @@
--- How the words of the command line are read.
+-- How the arguments of the command line make a request.
 use Rattle.std.specs.Prelude.{◌≡◌, ◌≢◌, ◌⊎◌, ◌==◌, ⊤, ℕ, Bool, true, false, List, [], Option, Some}
 use Rattle.std.specs.Prelude.{Ok, Err, MatchResult, Result, codes, ok_or, option_map}
 use Rattle.std.specs.Prelude.{if◌then◌else◌}
@@ -31,7 +31,7 @@ use Rattle.sub_request.specs.declared.request.Request.TheVariants as ask
 use Rattle.sub_request.specs.declared.request.UsageFault.{UsageFault}
 use Rattle.sub_request.specs.declared.request.UsageFault.TheVariants as fault
 
--- What is asked for: a request, without where its texts and lists lie in memory.
+-- A request, independent of where its texts and lists are in memory.
 pub data Asked : Type 0 where
   Help : Asked
   Version : Asked
@@ -47,11 +47,11 @@ pub data Asked : Type 0 where
   Extract : (recording pes : Text) → TransportStream → Asked
   Survey : (recording : Text) → SurveyOptions → Asked
 
--- Which PES packets a request asks for.
+-- The PES packets that a request selects.
 abbrev pub pes_asked : PesPackets → PesAsked
 pes_asked pes = record { name = pes.name.now; stream = pes.stream; range = pes.range }
 
--- What a request asks for.
+-- The value of a request.
 abbrev pub asked_by : Request → Asked
 asked_by ask.Help = Help
 asked_by ask.Version = Version
@@ -68,9 +68,9 @@ asked_by (ask.Listen pes l) =
 asked_by (ask.Extract recording pes stream) = Extract recording.now pes.now stream
 asked_by (ask.Survey recording options) = Survey recording.now options
 
--- ---- the arguments of each command: what they ask for, or the first fault, in this order (own)
+-- ---- the arguments of each command: its request, or the first fault, in this order (own)
 
--- `packet HEX`: 84 digits, of either case.
+-- `packet HEX`: 84 digits, in either case.
 abbrev pub packet_asked : List Row → Result Asked UsageFault
 packet_asked rows = do
   bytes ← ok_or (result_ok (decode_sized (argument (codes "hex") rows) 42)) fault.BadHex
@@ -82,7 +82,7 @@ packets_asked rows = do
   pes ← pes_packets_of rows
   Ok (Packets pes)
 
--- The names of an input and of a file to be written, which are not the same.
+-- The names of an input and an output, which must differ.
 abbrev pub unlike : Text → Text → Result (Text × Text) UsageFault
 unlike input output = if bytes_eq input output then Err fault.SameFile else Ok (input, output)
 
@@ -119,9 +119,9 @@ check_asked rows = do
       let all = is_given (codes "all") rows in
       Ok (Check (argument (codes "stl") rows) pes options national layout scope all)
 
--- `listen PES [--page P] [--origin T] [--within N] [--complete] [--pid P] [--packet-size S]
--- [--pes I-J] --at TIME [--skip N] [--flip F] [--lose L] [--receiver R]`: the repeat bound of the
--- options is not looked at.
+-- `listen PES [--page P] [--origin T] [--within N] [--complete] [--pid P] [--packet-size S] [--pes
+-- I-J] --at TIME [--skip N] [--flip F] [--lose L] [--receiver R]`: the repeat bound of the options
+-- is not used.
 abbrev pub listen_asked : List Row → Result Asked UsageFault
 listen_asked rows = do
   plain ← options_of (Some 1) rows
@@ -148,7 +148,7 @@ survey_asked rows = do
   options ← survey_options_of rows
   Ok (Survey (argument (codes "recording") rows) options)
 
--- What a command's arguments ask for, by its name. `clap` gives no name but these and `survey`.
+-- The request of a command's arguments, by its name. `clap` gives no names but these and `survey`.
 abbrev pub asked_in : Text → List Row → Result Asked UsageFault
 asked_in name rows =
     if bytes_eq name (codes "packet") then packet_asked rows
@@ -161,63 +161,63 @@ asked_in name rows =
     else (if bytes_eq name (codes "extract") then extract_asked rows
     else survey_asked rows)))))))
 
--- ---- what is answered
+-- ---- the result
 
--- A fault of the program's own rules: neither one that `clap` tells nor one of the machine.
+-- A fault of the program's own rules: not one of `clap` or of the machine.
 abbrev pub is_own : UsageFault → Bool
 is_own fault.Words = false
 is_own fault.Memory = false
 is_own fault.Open = false
 is_own _ = true
 
--- The result is what the arguments ask for, or their fault: memory never runs out.
+-- The result is the request of the arguments, or their fault: memory never runs out.
 abbrev pub IsReadExactly : Result Asked UsageFault → Result Request UsageFault → Type 0
 IsReadExactly asked result =
     MatchResult result (λ r. asked ≡ Ok (asked_by r))
     (λ fault. (asked ≡ Err fault) × (is_own fault ≡ true))
 
--- The fault is the one that the arguments have, or memory ran out before it was known.
+-- The fault is that of the arguments, or memory ran out before it was known.
 abbrev pub IsFaultIn : Result Asked UsageFault → UsageFault → Type 0
 IsFaultIn asked fault.Memory = ⊤
 IsFaultIn asked fault = (asked ≡ Err fault) × (is_own fault ≡ true)
 
--- The result is what the arguments ask for or their fault, or memory ran out before it was known.
+-- The result is the request of the arguments or their fault, or memory ran out before it was known.
 abbrev pub IsReadGivenMemory : Result Asked UsageFault → Result Request UsageFault → Type 0
 IsReadGivenMemory asked result =
     MatchResult result (λ r. asked ≡ Ok (asked_by r)) (IsFaultIn asked)
 
--- ---- words
+-- ---- arguments
 
--- What the command that the words name is asked for.
+-- The request of the command that the arguments name.
 abbrev pub asked_for : List Text → Option (Result Asked UsageFault)
 asked_for words = option_map (λ command. asked_in command.0 command.1) (command_in words)
 
--- The request is the one that the command asks for which the words name, and `clap` takes them.
+-- The request is that of the command that the arguments name, and `clap` accepts them.
 pub record AsksOfCommand (words : List Text) (request : Request) : Type 0 where
   pub taken : clap_refusals words ≡ []
   pub asked : asked_for words ≡ Some (Ok (asked_by request))
 
--- `clap` takes the words, and this is the first fault of their command's arguments.
+-- `clap` accepts the arguments, and this is the first fault of their command.
 pub record Breaks (words : List Text) (fault : UsageFault) : Type 0 where
   pub taken : clap_refusals words ≡ []
   pub broken : asked_for words ≡ Some (Err fault)
 
--- The fault is one that the words have: `clap` refuses them, or they break the program's own rule.
--- Want of memory says of the words only that there are some, and no file is opened by reading them.
+-- The fault is one of the arguments: `clap` refuses them, or they break a rule of the program. If
+-- memory runs out, all that is known is that there are arguments; reading them opens no file.
 abbrev pub IsFaultOfCommand : List Text → UsageFault → Type 0
 IsFaultOfCommand words fault.Words = (clap_refusals words ≢ []) × (are_sound words ≢ true)
 IsFaultOfCommand words fault.Memory = words ≢ []
 IsFaultOfCommand words fault.Open = ⊥
 IsFaultOfCommand words own = Breaks words own
 
--- The request is the one that the words ask for: the version, help, or what a command asks for.
+-- The request is that of the arguments: the version, help, or that of a command.
 abbrev pub AsksFor : List Text → Request → Type 0
 AsksFor words request =
     ((asks_version words ≡ true) × (request ≡ ask.Version))
     ⊎ ((asks_version words ≡ false) × (asks_help words ≡ true) × (request ≡ ask.Help))
     ⊎ ((asks_version words ≡ false) × (asks_help words ≡ false) × AsksOfCommand words request)
 
--- The fault is one that the words have, which do not ask for the version or help.
+-- The fault is one of the arguments, which request neither the version nor help.
 pub record IsFaultOf (words : List Text) (fault : UsageFault) : Type 0 where
   pub no_version : asks_version words ≡ false
   pub no_help : asks_help words ≡ false

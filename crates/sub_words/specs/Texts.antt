@@ -1,5 +1,5 @@
--- What the words of `listen` ask for: how numbers, lists of numbers, flips, TIME and the receiver
--- are written (own).
+-- The texts of the options of `listen`: numbers, lists of numbers, flips, TIME and the receiver
+-- (own).
 use Rattle.std.specs.Prelude.{ℕ, ◌+◌, ◌-◌, ◌*◌, Bool, ◌&&◌, List, [], ◌∷◌, ◌++◌, length}
 use Rattle.std.specs.Prelude.{Option, Some, None, codes, slice_index, if◌then◌else◌, ◌==◌, nat_le}
 use Rattle.std.specs.Char.{is_ascii_digit}
@@ -15,8 +15,7 @@ use Rattle.sub_request.specs.declared.listening.ReceiverKind.TheVariants.{DropRo
 
 -- ---- numbers
 
--- The number that a text is: one to ten decimal digits, and nothing else; the first ones may be
--- zeros.
+-- A number: one to ten decimal digits, and nothing else; leading zeros are allowed.
 unfoldable pub number_of_text : List ℕ → Option ℕ
 number_of_text text =
     if nat_le 1 (length text) && nat_le (length text) 10 && list_all is_ascii_digit text
@@ -25,16 +24,16 @@ number_of_text text =
 
 -- ---- lists
 
--- The characters between the items of a list, and between the numbers of an item.
+-- The character between the items of a list.
 abbrev pub comma : ℕ
 comma = 0x2C
 
--- It parts the fields of a time, and those of a flip.
+-- The character between the fields of a time, and of a flip.
 abbrev pub colon : ℕ
 colon = 0x3A
 
--- The items of a list: those so far, and those that more texts say. None where a text says none, or
--- one that is the same, by a test, as an item before it.
+-- The items of a list: those so far, and those of more texts; `None` if a text is no item, or the
+-- same item, by a test, as one before it.
 abbrev pub items_after :
     {A : Type 0} → (List ℕ → Option A) → (A → A → Bool) → List A → List (List ℕ)
     → Option (List A)
@@ -43,7 +42,7 @@ items_after said same items (text ∷ texts) = do
   x ← said text
   if list_any (same x) items then None else items_after said same (items ++ x ∷ []) texts
 
--- A list of 1 to 64 items joined by commas, no two of them the same.
+-- A list of 1 to 64 different items, separated by commas.
 abbrev pub list_of_text :
     {A : Type 0} → (List ℕ → Option A) → (A → A → Bool) → List ℕ → Option (List A)
 list_of_text said same text =
@@ -52,7 +51,7 @@ list_of_text said same text =
 
 -- ---- flips
 
--- A flip of a bit, 1 to 8, of a byte, 0 to 41, of a packet, each as a text.
+-- A flip of a bit, 1 to 8, of a byte, 0 to 41, of a packet, from three texts.
 abbrev pub flip_of_fields : List (List ℕ) → Option Flip
 flip_of_fields (packet ∷ byte ∷ bit ∷ []) = do
   packet ← number_of_text packet
@@ -63,21 +62,21 @@ flip_of_fields (packet ∷ byte ∷ bit ∷ []) = do
       else None
 flip_of_fields _ = None
 
--- Three numbers joined by colons: packet, byte and bit.
+-- Three numbers separated by colons: packet, byte and bit.
 unfoldable pub flip_of_text : List ℕ → Option Flip
 flip_of_text text = flip_of_fields (slice_split (λ c. c == colon) text)
 
--- Two flips are in one byte of one packet.
+-- Two flips are in the same byte of a packet.
 abbrev pub is_same_byte : Flip → Flip → Bool
 is_same_byte a b = (a.packet == b.packet) && (a.byte == b.byte)
 
--- Flips joined by commas, no byte of a packet twice.
+-- Flips separated by commas, at most one in each byte of a packet.
 unfoldable pub flips_of_text : List ℕ → Option (List Flip)
 flips_of_text text = list_of_text flip_of_text is_same_byte text
 
 -- ---- TIME
 
--- The number of two decimal digits that stand at a place of a text.
+-- The value of two decimal digits at a place of a text.
 unfoldable pub two_digits_at : List ℕ → ℕ → Option ℕ
 two_digits_at text place =
     let tens = slice_index text place in
@@ -86,7 +85,7 @@ two_digits_at text place =
     then Some (10 * (tens - 0x30) + (units - 0x30))
     else None
 
--- Eleven characters, of which three stand between pairs.
+-- Eleven characters, with colons between the pairs.
 abbrev pub has_colons : List ℕ → Bool
 has_colons text =
     (length text == 11)
@@ -94,7 +93,7 @@ has_colons text =
     && (slice_index text 5 == colon)
     && (slice_index text 8 == colon)
 
--- The frame of a time code (EBU Tech 3264, TCI and TCO) whose four pairs of digits stand in a text.
+-- The frame of a time code (EBU Tech 3264, TCI and TCO) with four pairs of digits.
 abbrev pub frame_of_digits : List ℕ → Option ℕ
 frame_of_digits text = do
   hours ← two_digits_at text 0
@@ -105,13 +104,13 @@ frame_of_digits text = do
       then Some (frame_of hours minutes seconds frames)
       else None
 
--- The frame of the day that `HH:MM:SS:FF` names, two digits each.
+-- The frame of the day of `HH:MM:SS:FF`, two digits each.
 unfoldable pub frame_of_text : List ℕ → Option ℕ
 frame_of_text text = if has_colons text then frame_of_digits text else None
 
 -- ---- the receiver
 
--- The receiver of a name.
+-- The receiver with a name.
 unfoldable pub receiver_of_text : List ℕ → Option ReceiverKind
 receiver_of_text text =
     if bytes_eq text (codes "blank") then Some Blank

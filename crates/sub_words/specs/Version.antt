@@ -1,13 +1,13 @@
--- Which words ask for the version (own).
+-- The arguments that request the version (own).
 use Rattle.std.specs.Prelude.{Bool, false, ◌||◌, List, [], ◌∷◌, codes}
 use Rattle.std.specs.Str.{bytes_eq}
 use Rattle.clap.specs.Words.{Text}
 
--- `--version`, or in short `-V`.
+-- `--version` or `-V`.
 abbrev pub is_version_word : Text → Bool
 is_version_word word = bytes_eq word (codes "--version") || bytes_eq word (codes "-V")
 
--- The words ask for the version: behind the program's name a word for it stands alone.
+-- The arguments request the version: a word for it is alone after the program's name.
 unfoldable pub asks_version : List Text → Bool
 asks_version (program ∷ word ∷ []) = is_version_word word
 asks_version _ = false

@@ -1,4 +1,4 @@
-//! The arguments of a command, read one by one.
+//! Reads the arguments of a command one by one.
 ghost use Rattle.std.specs.Prelude.{◌≡◌, IfErr, IfOk, ok_or, option_map, true};
 ghost use Rattle.std.specs.Result.{result_map_both};
 ghost use Rattle.clap.specs.Words.{first_of, found_of, rows_of};
@@ -24,7 +24,7 @@ use sub_request::{PesPackets, TransportStream, UsageFault};
 use ttx_packet::PageId;
 use ttx_pes::PieceRange;
 
-/// The text of an option. `None` where it is left out and has no default.
+/// Returns the text of an option; `None` if it is left out and has no default.
 #[tactic(auto, using(crate::proofs::CommandLemmas::values))]
 pub fn given_at<'a>(matches: &ArgMatches<'a>, id: &str) -> Option<&'a str>
     ensures { option_map (λ text. text.now) result
@@ -33,26 +33,26 @@ pub fn given_at<'a>(matches: &ArgMatches<'a>, id: &str) -> Option<&'a str>
     matches.get_str(id)
 }
 
-/// The text of an argument, defaults included.
+/// Returns the text of an argument, defaults included.
 pub fn text_at<'a>(matches: &ArgMatches<'a>, id: &str) -> &'a str
     ensures { result.now ≡ argument id.now (rows_of (found_of matches.now)) }
 {
     given_at(matches, id).unwrap_or("")
 }
 
-/// Whether a flag is set. `clap` keeps the text `true` or `false` for it.
+/// Returns whether a flag is set. `clap` stores the text `true` or `false` for it.
 pub fn flag_at<'a>(matches: &ArgMatches<'a>, id: &str) -> bool
     ensures { result ≡ is_given id.now (rows_of (found_of matches.now)) }
 {
     text_at(matches, id) == "true"
 }
 
-/// The options of a repeat bound: with the page, the PTS of frame 0, and whether complete pages are
-/// asked for. A number that is missing stands for one that is out of range.
+/// Returns the options with this repeat bound, the page, the PTS of frame 0, and whether complete
+/// pages are required. A missing number counts as out of range.
 ///
 /// # Errors
 ///
-/// `BadPage`, then `Every`, then `Origin`.
+/// Returns `BadPage`, then `Every`, then `Origin`.
 pub fn options_at<'a>(matches: &ArgMatches<'a>, every: Option<u64>) -> Result<Options, UsageFault>
     ensures { result ≡ options_of every (rows_of (found_of matches.now)) }
 {
@@ -67,12 +67,11 @@ pub fn options_at<'a>(matches: &ArgMatches<'a>, every: Option<u64>) -> Result<Op
     }
 }
 
-/// The options, allowing as many frames as `--within` says. A number that is missing stands for one
-/// that is out of range.
+/// Returns the options with the frames of `--within`. A missing number counts as out of range.
 ///
 /// # Errors
 ///
-/// `Within` alone.
+/// Returns only `Within`.
 pub fn allowing_at<'a>(matches: &ArgMatches<'a>, options: Options) -> Result<Options, UsageFault>
     ensures { result ≡ allowing_of options (rows_of (found_of matches.now)) }
 {
@@ -82,23 +81,23 @@ pub fn allowing_at<'a>(matches: &ArgMatches<'a>, options: Options) -> Result<Opt
         .map_err(usage_fault_of)
 }
 
-/// The options, with the pace that `--pace` says; as they are where it is left out.
+/// Returns the options with the maximum distance of `--pace`; unchanged if it is left out.
 ///
 /// # Errors
 ///
-/// `Pace` alone.
+/// Returns only `Pace`.
 pub fn pacing_at<'a>(matches: &ArgMatches<'a>, options: Options) -> Result<Options, UsageFault>
     ensures { result ≡ pacing_of options (rows_of (found_of matches.now)) }
 {
     let Some(text) = given_at(matches, "pace") else {
         return Ok(options);
     };
-    // A number that is missing stands for one that is out of range.
+    // A missing number counts as out of range.
     let frames = parse_number(text);
     options.pacing(frames.unwrap_or(0)).map_err(usage_fault_of)
 }
 
-/// The options, by which repeats may keep the page where `--keeping` is given.
+/// Returns the options; repeats may keep the page if `--keeping` is given.
 pub fn keeping_at<'a>(matches: &ArgMatches<'a>, options: Options) -> Options
     ensures { result ≡ keeping_of options (rows_of (found_of matches.now)) }
 {
@@ -109,7 +108,7 @@ pub fn keeping_at<'a>(matches: &ArgMatches<'a>, options: Options) -> Options
     }
 }
 
-// A fault of options, as one of the words.
+// Converts a fault of options to one of the arguments.
 fn usage_fault_of(fault: OptionFault) -> UsageFault
     ensures every { fault ≡ OptionFault.Every → result ≡ UsageFault.Every }
     ensures origin { fault ≡ OptionFault.Origin → result ≡ UsageFault.Origin }
@@ -124,11 +123,11 @@ fn usage_fault_of(fault: OptionFault) -> UsageFault
     }
 }
 
-/// The layout that `--layout` says. The default where it is left out.
+/// Returns the layout of `--layout`; the default if it is left out.
 ///
 /// # Errors
 ///
-/// `BadLayout` alone.
+/// Returns only `BadLayout`.
 pub fn layout_at<'a>(matches: &ArgMatches<'a>) -> Result<Layout, UsageFault>
     ensures { result ≡ layout_of (rows_of (found_of matches.now)) }
 {
@@ -138,12 +137,12 @@ pub fn layout_at<'a>(matches: &ArgMatches<'a>) -> Result<Layout, UsageFault>
     }
 }
 
-/// What of a subtitle file is taken: by `--from` and `--to` the frames at which subtitles may
-/// start, by `--open` whether open subtitles are taken too.
+/// Returns the part of a subtitle file that is used: `--from` and `--to` give the frames at which
+/// subtitles may start, `--open` includes open subtitles.
 ///
 /// # Errors
 ///
-/// `BadTime` alone.
+/// Returns only `BadTime`.
 pub fn scope_at<'a>(matches: &ArgMatches<'a>) -> Result<Scope, UsageFault>
     ensures { result ≡ scope_of (rows_of (found_of matches.now)) }
 {
@@ -156,7 +155,7 @@ pub fn scope_at<'a>(matches: &ArgMatches<'a>) -> Result<Scope, UsageFault>
     })
 }
 
-// The frame of the TIME that an option says. `None` where it is left out. The fault is `BadTime`.
+// Returns the frame of an option's TIME; `None` if it is left out. The fault is `BadTime`.
 fn frame_at<'a>(matches: &ArgMatches<'a>, id: &str) -> Result<Option<u32>, UsageFault>
     ensures { result ≡ ok_or (given_as frame_of_text id.now (rows_of (found_of matches.now)))
         UsageFault.BadTime }
@@ -167,29 +166,29 @@ fn frame_at<'a>(matches: &ArgMatches<'a>, id: &str) -> Result<Option<u32>, Usage
     }
 }
 
-/// The PID that `--pid` says, where the option has to be there.
+/// Returns the PID of `--pid`, which is required.
 ///
 /// # Errors
 ///
-/// `Pid` alone.
+/// Returns only `Pid`.
 pub fn pid_at<'a>(matches: &ArgMatches<'a>) -> Result<Pid, UsageFault>
     ensures { result ≡ required_pid_of (rows_of (found_of matches.now)) }
 {
     parse_pid(text_at(matches, "pid")).ok_or(UsageFault::Pid)
 }
 
-/// The bytes from one transport packet to the next, as `--packet-size` says.
+/// Returns the distance of transport packets of `--packet-size`.
 ///
 /// # Errors
 ///
-/// `PacketSize` alone.
+/// Returns only `PacketSize`.
 pub fn packet_size_at<'a>(matches: &ArgMatches<'a>) -> Result<PacketSize, UsageFault>
     ensures { result ≡ packet_size_of (rows_of (found_of matches.now)) }
 {
     parse_packet_size(text_at(matches, "packet-size")).ok_or(UsageFault::PacketSize)
 }
 
-// The transport packets of the PID that `--pid` says. `None` where it is left out: then the packet
+// Returns the transport packets with the PID of `--pid`; `None` if it is left out, when the packet
 // size has no effect. The faults are `Pid`, then `PacketSize`.
 fn stream_at<'a>(matches: &ArgMatches<'a>) -> Result<Option<TransportStream>, UsageFault>
     ensures { result ≡ stream_of (rows_of (found_of matches.now)) }
@@ -202,11 +201,11 @@ fn stream_at<'a>(matches: &ArgMatches<'a>) -> Result<Option<TransportStream>, Us
     Ok(pid.map(|pid| TransportStream { pid, packet_size }))
 }
 
-/// What is asked of a survey, by `--page`, `--pid` and `--packet-size`.
+/// Returns the options of a survey, from `--page`, `--pid` and `--packet-size`.
 ///
 /// # Errors
 ///
-/// `BadPage`, then `Pid`, then `PacketSize`.
+/// Returns `BadPage`, then `Pid`, then `PacketSize`.
 pub fn survey_options_at<'a>(matches: &ArgMatches<'a>) -> Result<SurveyOptions, UsageFault>
     ensures { result ≡ survey_options_of (rows_of (found_of matches.now)) }
 {
@@ -228,7 +227,7 @@ pub fn survey_options_at<'a>(matches: &ArgMatches<'a>) -> Result<SurveyOptions, 
     })
 }
 
-// The PES packets that `--pes` says, by their numbers. `None` where it is left out. The fault is
+// Returns the PES packets of `--pes`, by their numbers; `None` if it is left out. The fault is
 // `Range`.
 fn range_at<'a>(matches: &ArgMatches<'a>) -> Result<Option<PieceRange>, UsageFault>
     ensures { result ≡ range_given_of (rows_of (found_of matches.now)) }
@@ -239,12 +238,12 @@ fn range_at<'a>(matches: &ArgMatches<'a>) -> Result<Option<PieceRange>, UsageFau
     }
 }
 
-/// Which PES packets are read: of which file, by `--pid`, `--packet-size` and `--pes`.
+/// Returns the selected PES packets: the file, `--pid`, `--packet-size` and `--pes`.
 ///
 /// # Errors
 ///
-/// `Pid`, then `PacketSize`, then `Range`.
-// Its callers match: the prover has no rule for `?` on a struct that holds a reference.
+/// Returns `Pid`, then `PacketSize`, then `Range`.
+// Its callers match: the prover has no rule for `?` on a struct that contains a reference.
 #[tactic(auto, unfolding(crate::specs::Arguments::pes_packets_of))]
 pub fn pes_at<'a>(matches: &ArgMatches<'a>) -> Result<PesPackets<'a>, UsageFault>
     ensures value { result_map_both pes_asked (λ fault. fault) result
@@ -260,12 +259,12 @@ pub fn pes_at<'a>(matches: &ArgMatches<'a>) -> Result<PesPackets<'a>, UsageFault
     })
 }
 
-/// The items of an option's list, which is empty where the option is left out. `None` where its
-/// text is no such list.
+/// Returns the items of an option with a list, which is empty if the option is left out; `None` if
+/// its text is no such list.
 ///
 /// # Errors
 ///
-/// `Memory` alone.
+/// Returns only `Memory`.
 pub fn list_at<'a, T: Item + Drop>(
     alloc: Global,
     matches: &ArgMatches<'a>,

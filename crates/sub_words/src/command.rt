@@ -1,7 +1,7 @@
 //! The command line, as `clap` reads it: one level of subcommands, of which one is required.
 //!
-//! The commands are a table here and in specs/Commands. Help and versions are not offered: `clap`
-//! refuses the words for them.
+//! The commands are a table here and in specs/Commands. Help and version are not defined: `clap`
+//! refuses these words.
 ghost use Rattle.std.specs.Prelude.{◌≡◌, IfOk, false, map};
 ghost use Rattle.std.specs.List.{fold};
 ghost use Rattle.clap.specs.Words.{app_of, new_app, rule_of, with_rule};
@@ -14,19 +14,19 @@ use std::alloc::{AllocError, Global};
 /// An argument of a command, by its name.
 #[derive(Clone, Copy)]
 pub enum Argument {
-    /// It has to be there.
+    /// A required argument.
     Required(&'static str),
-    /// An option that has to be there.
+    /// A required option.
     RequiredOption(&'static str),
-    /// An option, and the text that it has where it is left out.
+    /// An option with its default.
     Option(&'static str, &'static str),
-    /// An option that may be left out and then has no text.
+    /// An optional option without a default.
     BareOption(&'static str),
     /// A flag.
     Flag(&'static str),
 }
 
-// The commands, each with what stands after its name.
+// The commands, each with its arguments.
 const COMMANDS: [(&str, &[Argument]); 9] = [
     ("packet", &[Argument::Required("hex")]),
     (
@@ -120,7 +120,7 @@ const COMMANDS: [(&str, &[Argument]); 9] = [
     ),
 ];
 
-/// Whether a word is the name of a command.
+/// Returns whether a word is the name of a command.
 #[tactic(auto, unfolding(crate::specs::Commands::is_command))]
 pub fn is_command(word: &str) -> bool
     ensures { result ≡ Rattle.sub_words.specs.Commands.is_command word.now }
@@ -133,11 +133,11 @@ pub fn is_command(word: &str) -> bool
     false
 }
 
-/// The program and its commands.
+/// Returns the program and its commands.
 ///
 /// # Errors
 ///
-/// Want of memory alone.
+/// Fails only if memory runs out.
 pub fn subttx_command<'a>(alloc: Global) -> Result<Command<'a>, AllocError>
     ensures { IfOk result (λ c. app_of c ≡ subttx_app) }
 {
@@ -152,7 +152,7 @@ pub fn subttx_command<'a>(alloc: Global) -> Result<Command<'a>, AllocError>
     Ok(program)
 }
 
-// A command with these arguments.
+// Returns a command with these arguments.
 fn command_with<'a>(
     alloc: Global,
     name: &'a str,
@@ -169,7 +169,7 @@ fn command_with<'a>(
     Ok(command)
 }
 
-// An argument as `clap` has it.
+// Converts an argument for `clap`.
 fn clap_argument<'a>(alloc: Global, argument: Argument) -> Arg<'a>
     ensures rule { rule_of result ≡ clap_rule argument }
     ensures local { result.global ≡ false }

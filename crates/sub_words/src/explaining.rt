@@ -1,11 +1,11 @@
-//! Why words are no command, for people.
+//! Explains why arguments are no command.
 use crate::command::subttx_command;
 use crate::help::asks_help;
 use crate::version::asks_version;
 use std::alloc::Global;
 
-/// Prints `clap`'s own message where it refuses the words, on standard error. Nothing is promised
-/// of it.
+/// Prints `clap`'s own message on standard error if it refuses the arguments. The message is not
+/// specified.
 pub fn explain_words<E: Eprint>(alloc: Global, words: &[&str], errors: &E) {
     if words.is_empty() || asks_help(words) || asks_version(words) {
         return;

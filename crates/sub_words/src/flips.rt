@@ -1,5 +1,5 @@
-//! Flips of bits as people write them: `P:B:K`, the number of the packet, that of the byte, 0 to
-//! 41, and that of the bit, 1 to 8, each of one to ten decimal digits.
+//! Flips of bits as users write them: `P:B:K`, the numbers of the packet, of the byte, 0 to 41, and
+//! of the bit, 1 to 8, each of one to ten decimal digits.
 ghost use Rattle.std.specs.Prelude.{◌≡◌, ◌==◌, option_map, slice_get};
 ghost use Rattle.std.specs.List.{slice_split};
 ghost use Rattle.sub_words.specs.Texts.{colon, flip_of_text, is_same_byte};
@@ -30,7 +30,7 @@ impl Item for Flip {
     }
 }
 
-// The text between two colons of a text, by its number from 0.
+// Returns the part of a text between two colons, counted from 0.
 fn field_of(text: &str, number: usize) -> Option<&str>
     ensures { option_map (λ x. x.now) result
         ≡ slice_get (slice_split (λ c. c == colon) text.now) number }

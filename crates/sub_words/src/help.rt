@@ -1,14 +1,14 @@
-//! Words that ask for help.
+//! Arguments that request help.
 ghost use Rattle.std.specs.Prelude.{◌≡◌};
 ghost use Rattle.sub_words.specs.Commands.{texts_of};
 ghost use Rattle.sub_words.specs.Help as specs;
 
 use crate::command::is_command;
 
-/// Whether words ask for help: a word for help stands behind the program's name, alone or with the
-/// name of a command beside it.
+/// Returns whether arguments request help: after the program's name there is a word for help, alone
+/// or together with the name of a command.
 ///
-/// No other call is help, so that status 0 of a command is its answer.
+/// No other arguments do, so status 0 of a command is its answer.
 #[tactic(auto, unfolding(crate::specs::Help::asks_help))]
 pub fn asks_help(words: &[&str]) -> bool
     ensures { result ≡ specs.asks_help (texts_of words.now) }
@@ -22,7 +22,7 @@ pub fn asks_help(words: &[&str]) -> bool
     }
 }
 
-// Whether one of two words is for help, and the other the name of a command.
+// Returns whether one of two words requests help, and the other is the name of a command.
 fn is_help_of(first: &str, second: &str) -> bool
     ensures { result ≡ specs.is_help_of first.now second.now }
 {
@@ -33,14 +33,14 @@ fn is_help_of(first: &str, second: &str) -> bool
     }
 }
 
-// Whether a word is `help`, `--help` or `-h`.
+// Returns whether a word is `help`, `--help` or `-h`.
 fn is_help_word(word: &str) -> bool
     ensures { result ≡ specs.is_help_word word.now }
 {
     word == "help" || is_help_flag(word)
 }
 
-// Whether a word is `--help` or `-h`.
+// Returns whether a word is `--help` or `-h`.
 fn is_help_flag(word: &str) -> bool
     ensures { result ≡ specs.is_help_flag word.now }
 {

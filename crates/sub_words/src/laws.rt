@@ -1,9 +1,9 @@
-//! What the words of `listen` do to packets.
+//! The effect of the options of `listen` on packets.
 //!
-//! The function does nothing: its contract is a law over the definitions of `specs/`.
+//! The function does nothing: its contract is a law about the definitions of `specs/`.
 ghost use Rattle.sub_words.specs.Laws.{LawOfFlips};
 
-/// The flips that a text asks for leave in no byte of a packet more than one wrong bit.
+/// The flips of an option leave at most one wrong bit in each byte of a packet.
 #[tactic(auto, using(crate::proofs::FlipLemmas::law_of_flips))]
 pub fn law_of_flips()
     ensures { LawOfFlips }

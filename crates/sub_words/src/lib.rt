@@ -1,7 +1,7 @@
-//! How the words of the command line are read as a request.
+//! Parses the arguments of the command line as a request.
 //!
-//! `Request::parse` stands on `clap`, which no other crate uses: `command` says what `clap` reads,
-//! and the arguments that it gives are read one by one, each by a function of its own.
+//! `Request::parse` uses `clap`, which no other crate does: `command` defines the command line for
+//! `clap`, and the arguments that it returns are read one by one, each by a function of its own.
 //!
 //! ```text
 //! let request = Request::parse(alloc, &["subttx", "show", "film.stl"])?;

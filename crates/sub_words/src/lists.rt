@@ -1,4 +1,4 @@
-//! Lists as people write them.
+//! Lists as users write them.
 ghost use Rattle.std.specs.Prelude.{◌≡◌, ◌==◌, ℕ, Bool, IfOk, List, [], ◌∷◌, None, Option};
 ghost use Rattle.std.specs.Prelude.{Some, map};
 ghost use Rattle.std.specs.Prelude.{if◌then◌else◌, option_map};
@@ -7,33 +7,33 @@ ghost use Rattle.sub_words.specs.Texts.{comma, items_after, list_of_text};
 
 use std::alloc::{AllocError, Allocator};
 
-/// The most items of a list.
+/// The maximum number of items of a list.
 const MOST_ITEMS: usize = 64;
 
 /// An item of a list.
 pub trait Item: Copy {
-    /// The item that a text is.
+    /// The item of a text.
     ghost said: { List ℕ → Option Self };
 
-    /// Whether two items may not stand in one list.
+    /// Whether two items are not allowed in one list.
     ghost same: { Self → Self → Bool };
 
-    /// The item that a text is.
+    /// Returns the item of a text.
     fn read(text: &str) -> Option<Self>
         ensures { result ≡ said text.now };
 
-    /// Whether the two may not stand in one list.
+    /// Returns whether the two are not allowed in one list.
     fn is_same(&self, other: &Self) -> bool
         ensures { result ≡ same self.now other.now };
 }
 
-/// A list: 1 to 64 items joined by commas, no two of them the same. `None` for any other text.
+/// Parses a list: 1 to 64 different items, separated by commas. Returns `None` for any other text.
 ///
-/// It takes its memory from any allocator, so that a test can refuse a growth.
+/// It works with any allocator, so that a test can refuse an allocation.
 ///
 /// # Errors
 ///
-/// Want of memory.
+/// Fails if memory runs out.
 pub fn parse_list<A: Allocator + Copy + Drop, T: Item + Drop>(
     alloc: A,
     text: &str,
@@ -48,7 +48,7 @@ pub fn parse_list<A: Allocator + Copy + Drop, T: Item + Drop>(
     items_of(alloc, texts.as_slice())
 }
 
-// The texts between the commas of a text.
+// Splits a text at its commas.
 fn texts_of<A: Allocator>(alloc: A, text: &str) -> Result<Vec<&str, A>, AllocError>
     ensures { IfOk result (λ texts.
         map (λ x. x.now) texts.items ≡ slice_split (λ c. c == comma) text.now) }
@@ -56,7 +56,7 @@ fn texts_of<A: Allocator>(alloc: A, text: &str) -> Result<Vec<&str, A>, AllocErr
     text.split(',').collect(alloc)
 }
 
-// The items that texts are. `None` where one of them is none, or the same as one before it.
+// Returns the items of the texts; `None` if one of them is no item, or the same as one before it.
 fn items_of<A: Allocator + Drop, T: Item + Drop>(
     alloc: A,
     texts: &[&str],
@@ -69,8 +69,8 @@ fn items_of<A: Allocator + Drop, T: Item + Drop>(
     Ok(if all { Some(list) } else { None })
 }
 
-// Adds the items that texts are to a list, up to the first text that is none, or the same as one
-// before it. Whether all were added.
+// Adds the items of the texts to a list, up to the first text that is no item, or the same as one
+// before it. Returns whether all were added.
 fn add_items<A: Allocator, T: Item>(
     list: &mut Vec<T, A>,
     texts: &[&str],
@@ -87,7 +87,7 @@ fn add_items<A: Allocator, T: Item>(
     Ok(true)
 }
 
-// Adds the item that a text is to a list. Whether it is one, and not the same as one before it.
+// Adds the item of a text to a list. Returns whether it is one, and not the same as one before it.
 fn add_item<A: Allocator, T: Item>(list: &mut Vec<T, A>, text: &str) -> Result<bool, AllocError>
     ensures { IfOk result (λ added. (more : List (List ℕ))
         → items_after T.said T.same list.old.items (text.now ∷ more)
@@ -103,7 +103,7 @@ fn add_item<A: Allocator, T: Item>(list: &mut Vec<T, A>, text: &str) -> Result<b
     Ok(true)
 }
 
-// Whether an item stands in a list.
+// Returns whether an item is in a list.
 fn stands_in<T: Item>(item: &T, list: &[T]) -> bool
     ensures { result ≡ list_any (T.same item.now) list.now }
 {

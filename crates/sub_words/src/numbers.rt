@@ -1,4 +1,4 @@
-//! Numbers as people write them.
+//! Numbers as users write them.
 ghost use Rattle.std.specs.Prelude.{◌≡◌, ◌<◌, ◌^◌, ◌==◌, IfSome};
 ghost use Rattle.std.specs.Char.{is_ascii_digit};
 ghost use Rattle.std.specs.List.{list_all};
@@ -6,9 +6,9 @@ ghost use Rattle.sub_words.specs.Texts.{number_of_text};
 
 use crate::lists::Item;
 
-/// The number that a text is: one to ten decimal digits, of which the first ones may be zeros.
+/// Parses a number: one to ten decimal digits, with leading zeros allowed.
 ///
-/// `None` for any other text.
+/// Returns `None` for any other text.
 #[tactic(auto, unfolding(crate::specs::Texts::number_of_text))]
 pub fn parse_number(text: &str) -> Option<u64>
     ensures value { result ≡ number_of_text text.now }
@@ -21,7 +21,7 @@ pub fn parse_number(text: &str) -> Option<u64>
     text.parse().ok()
 }
 
-// Whether all bytes are decimal digits.
+// Returns whether all bytes are decimal digits.
 fn are_digits(bytes: &[u8]) -> bool
     ensures { result ≡ list_all is_ascii_digit bytes.now }
 {

@@ -1,4 +1,4 @@
-//! The words of the command line, read as a request.
+//! Parses the arguments of the command line as a request.
 ghost use Rattle.std.specs.Prelude.{◌≡◌, ◌≢◌, [], IfErr, IfOk, OnOk, true};
 ghost use Rattle.clap.specs.Words.{has_subcommand, subcommand_rows_of};
 ghost use Rattle.sub_words.specs.Commands.{command_in, clap_refusals, texts_of};
@@ -13,22 +13,22 @@ use clap::error::ErrorKind;
 use std::alloc::Global;
 use sub_request::{Request, UsageFault};
 
-/// What is asked for by the words of a command line.
+/// Parses arguments.
 ///
-/// The type of requests stands below this crate, so that its call for them is a trait's.
+/// The type of requests is in a lower crate, so its constructor is in a trait.
 pub trait ParseWords<'a>: Sized {
-    /// Reads the words, of which the first is the program's name.
+    /// Parses the arguments, of which the first is the program's name.
     ///
-    /// Words that ask for help or the version are not looked at any further. What it gives of others are the
-    /// matches that `clap` has for them, defaults included, read by the rules of their command.
+    /// If they request help or the version, nothing else is read. Otherwise the request is made
+    /// from the matches that `clap` returns, defaults included, by the rules of their command.
     ///
     /// # Errors
     ///
-    /// `Words` where `clap` refuses the words. Then the first fault of the command's arguments:
-    /// `BadHex`, `SameFile`, `BadPage`, `Every`, `Origin`, `BadOption`, `Within`, `Pid`,
+    /// Returns `Words` if `clap` refuses the arguments. Then the first fault of the command's
+    /// arguments: `BadHex`, `SameFile`, `BadPage`, `Every`, `Origin`, `BadOption`, `Within`, `Pid`,
     /// `PacketSize`, `Range`, `BadLayout`, `BadTime`, `BadSkip`, `BadFlip`, `BadLose`,
-    /// `BadReceiver`. `Memory` where memory ran out before that was known: where there are no words
-    /// none is taken.
+    /// `BadReceiver`. Returns `Memory` if memory ran out before that was known; without arguments
+    /// none is needed.
     fn parse(alloc: Global, words: &'a [&'a str]) -> Result<Self, UsageFault>;
 }
 
@@ -47,7 +47,7 @@ impl<'a> ParseWords<'a> for Request<'a> {
     }
 }
 
-// What is asked for by words that name a command.
+// Returns the request of arguments that name a command.
 fn parse_command<'a>(alloc: Global, words: &'a [&'a str]) -> Result<Request<'a>, UsageFault>
     ensures request { IfOk result (AsksOfCommand (texts_of words.now)) }
     ensures fault { IfErr result (IsFaultOfCommand (texts_of words.now)) }
@@ -62,7 +62,7 @@ fn parse_command<'a>(alloc: Global, words: &'a [&'a str]) -> Result<Request<'a>,
     }
 }
 
-// The matches that `clap` gives for the words.
+// Returns `clap`'s matches for the arguments.
 fn matches_of<'a>(alloc: Global, words: &'a [&'a str]) -> Result<ArgMatches<'a>, UsageFault>
     requires { words.now ≢ [] }
     ensures command { IfOk result (λ m. subcommand_rows_of m ≡ command_in (texts_of words.now)) }

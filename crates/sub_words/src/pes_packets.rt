@@ -1,4 +1,4 @@
-//! Which PES packets are read, as people write it: `--pid P`, `--packet-size S` and `--pes I-J`.
+//! The selection of PES packets as users write it: `--pid P`, `--packet-size S` and `--pes I-J`.
 ghost use Rattle.std.specs.Prelude.{◌≡◌, ◌<◌, ◌^◌, IfSome, option_map};
 ghost use Rattle.std.specs.Char.{is_ascii_hexdigit};
 ghost use Rattle.std.specs.List.{list_all};
@@ -9,10 +9,10 @@ use crate::numbers::parse_number;
 use mpeg_ts::{PacketSize, Pid};
 use ttx_pes::PieceRange;
 
-/// The PID that a text is: one to ten decimal digits, or `0x` and one to eight hexadecimal digits
-/// of either case; 0 to 8190.
+/// Parses a PID: one to ten decimal digits, or `0x` and one to eight hexadecimal digits in either
+/// case; 0 to 8190.
 ///
-/// `None` for any other text.
+/// Returns `None` for any other text.
 #[tactic(auto, unfolding(crate::specs::PesTexts::pid_of_text))]
 pub fn parse_pid(text: &str) -> Option<Pid>
     ensures { result ≡ pid_of_text text.now }
@@ -24,14 +24,14 @@ pub fn parse_pid(text: &str) -> Option<Pid>
     Pid::new(u16::try_from(number).ok()?)
 }
 
-// What stands behind the `0x` that a text begins with.
+// Returns the text after a leading `0x`.
 fn behind_0x(text: &str) -> Option<&str>
     ensures { option_map (λ x. x.now) result ≡ behind_0x text.now }
 {
     text.strip_prefix("0x")
 }
 
-// The number that one to eight hexadecimal digits are.
+// Parses one to eight hexadecimal digits.
 #[tactic(auto, unfolding(crate::specs::PesTexts::number_of_hex_digits))]
 fn parse_hex_digits(text: &str) -> Option<u64>
     ensures value { result ≡ number_of_hex_digits text.now }
@@ -44,14 +44,14 @@ fn parse_hex_digits(text: &str) -> Option<u64>
     u64::from_str_radix(text, 16).ok()
 }
 
-// Whether all bytes are hexadecimal digits.
+// Returns whether all bytes are hexadecimal digits.
 fn are_hex_digits(bytes: &[u8]) -> bool
     ensures { result ≡ list_all is_ascii_hexdigit bytes.now }
 {
     bytes.iter().all(|byte| byte.is_ascii_hexdigit())
 }
 
-/// The packet size that a text is: `188`, `192` or `204`, and nothing else.
+/// Parses a packet size: `188`, `192` or `204`, and nothing else.
 #[tactic(auto, unfolding(crate::specs::PesTexts::packet_size_of_text))]
 pub fn parse_packet_size(text: &str) -> Option<PacketSize>
     ensures { result ≡ packet_size_of_text text.now }
@@ -64,10 +64,10 @@ pub fn parse_packet_size(text: &str) -> Option<PacketSize>
     }
 }
 
-/// The pieces that a text asks for: `I-J`, the numbers of the first and of the last, each of one to
+/// Parses a range of PES packets: `I-J`, the numbers of the first and of the last, each of one to
 /// ten decimal digits and I at most J; or `I-`, to the end of the file.
 ///
-/// `None` for any other text.
+/// Returns `None` for any other text.
 #[tactic(auto, unfolding(crate::specs::PesTexts::range_of_text))]
 pub fn parse_range(text: &str) -> Option<PieceRange>
     ensures { result ≡ range_of_text text.now }
@@ -81,7 +81,7 @@ pub fn parse_range(text: &str) -> Option<PieceRange>
     PieceRange::new(first, Some(last))
 }
 
-// What stands before the first dash of a text, and behind it.
+// Returns the texts before and after the first dash.
 fn around_dash(text: &str) -> Option<(&str, &str)>
     ensures { option_map (λ x. (x.0.now, x.1.now)) result ≡ around_dash text.now }
 {

@@ -1,4 +1,4 @@
-//! The arguments of each command, read as a request.
+//! Reads the arguments of each command as a request.
 ghost use Rattle.clap.specs.Words.{found_of, rows_of};
 ghost use Rattle.sub_words.specs.Requests.{IsReadExactly, IsReadGivenMemory, asked_in, check_asked};
 ghost use Rattle.sub_words.specs.Requests.{extract_asked, listen_asked, normal_asked, packet_asked};
@@ -15,12 +15,12 @@ use std::alloc::Global;
 use stl_rows::National;
 use sub_request::{Listening, Request, TransportStream, UsageFault};
 
-/// Reads the arguments of a command by its name.
+/// Reads the arguments of a command, given its name.
 ///
 /// # Errors
 ///
-/// The first fault of the arguments by the program's own rules, or `Memory` where memory ran out
-/// before that was known: `listen` alone takes memory.
+/// Returns the first fault of the arguments by the program's own rules, or `Memory` if memory ran
+/// out before that was known: only `listen` needs memory.
 #[tactic(auto, using(crate::proofs::CommandLemmas::read_exactly))]
 pub fn read_command<'a>(
     alloc: Global,
@@ -138,7 +138,7 @@ fn read_check<'a>(matches: &ArgMatches<'a>) -> Result<Request<'a>, UsageFault>
 fn read_listen<'a>(alloc: Global, matches: &ArgMatches<'a>) -> Result<Request<'a>, UsageFault>
     ensures { IsReadGivenMemory (listen_asked (rows_of (found_of matches.now))) result }
 {
-    // The repeat bound is not looked at.
+    // The repeat bound is not used.
     let plain = options_at(matches, Some(1))?;
     let options = allowing_at(matches, plain)?;
     let pes = match pes_at(matches) {

@@ -1,4 +1,4 @@
-//! TIME and the receiver of `listen` as people write them.
+//! TIME and the receiver of `listen` as users write them.
 ghost use Rattle.std.specs.Prelude.{◌≡◌, ◌+◌, ◌<◌, ◌≤◌, IfSome, length};
 ghost use Rattle.stl_file.specs.TimeCode.{day};
 ghost use Rattle.sub_words.specs.Texts.{frame_of_text, receiver_of_text, two_digits_at};
@@ -6,7 +6,7 @@ ghost use Rattle.sub_words.specs.Texts.{frame_of_text, receiver_of_text, two_dig
 use stl_file::TimeCode;
 use sub_request::ReceiverKind;
 
-/// The receiver that a text names: `blank`, `keep`, `drop` or `anew`.
+/// Parses a receiver: `blank`, `keep`, `drop` or `anew`.
 #[tactic(auto, unfolding(crate::specs::Texts::receiver_of_text))]
 pub fn parse_receiver(text: &str) -> Option<ReceiverKind>
     ensures { result ≡ receiver_of_text text.now }
@@ -20,9 +20,9 @@ pub fn parse_receiver(text: &str) -> Option<ReceiverKind>
     }
 }
 
-/// The frame of the day that a text names: `HH:MM:SS:FF`, two digits each, at 25 frames a second.
+/// Parses a frame of the day: `HH:MM:SS:FF`, two digits each, at 25 frames a second.
 ///
-/// `None` for any other text.
+/// Returns `None` for any other text.
 #[tactic(auto, unfolding(crate::specs::Texts::frame_of_text))]
 pub fn parse_time(text: &str) -> Option<u32>
     ensures value { result ≡ frame_of_text text.now }
@@ -40,7 +40,7 @@ pub fn parse_time(text: &str) -> Option<u32>
     Some(time.frame())
 }
 
-// The number of two decimal digits that stand at a place.
+// Returns the value of two decimal digits at a place.
 #[tactic(auto, unfolding(crate::specs::Texts::two_digits_at))]
 fn two_digits_at(text: &[u8], place: usize) -> Option<u8>
     requires { place + 2 ≤ length text.now }

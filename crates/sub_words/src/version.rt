@@ -1,9 +1,9 @@
-//! Words that ask for the version.
+//! Arguments that request the version.
 ghost use Rattle.std.specs.Prelude.{◌≡◌};
 ghost use Rattle.sub_words.specs.Commands.{texts_of};
 ghost use Rattle.sub_words.specs.Version as specs;
 
-/// Whether words ask for the version: a word for it stands alone behind the program's name.
+/// Returns whether arguments request the version: a word for it is alone after the program's name.
 #[tactic(auto, unfolding(crate::specs::Version::asks_version))]
 pub fn asks_version(words: &[&str]) -> bool
     ensures { result ≡ specs.asks_version (texts_of words.now) }
@@ -14,7 +14,7 @@ pub fn asks_version(words: &[&str]) -> bool
     }
 }
 
-// Whether a word is `--version` or `-V`.
+// Returns whether a word is `--version` or `-V`.
 fn is_version_word(word: &str) -> bool
     ensures { result ≡ specs.is_version_word word.now }
 {

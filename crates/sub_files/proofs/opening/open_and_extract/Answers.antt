@@ -1,4 +1,4 @@
--- The input is not opened: one call. Else the calls for the output: creates.
+-- If the input can't be opened, one call; otherwise the calls for the output: creates.
 use Rattle.std.proofs.Common.{◌∷◌, [], None, Some, refl}
 use Rattle.sub_files.specs.FileCalls.FileCall.{Open}
 use Rattle.sub_files.specs.declared.opening.Opened.TheVariants.{Extract}

@@ -1,4 +1,4 @@
--- The command with the rules that are left is the whole command.
+-- With the remaining rules it is the whole command.
 use Rattle.std.proofs.Common.{◌≡◌, drop, false, map}
 use Rattle.std.specs.List.{fold}
 use Rattle.clap.specs.Words.{app_of, with_rule}

@@ -1,4 +1,4 @@
--- A command that has another name: those behind it decide.
+-- A command with another name: those after it decide.
 use Rattle.std.proofs.Common.{◌∙◌, sym}
 use Rattle.std.specs.Str.{bytes_eq}
 use Rattle.sub_words.proofs.CommandLemmas.{any_more}

@@ -1,4 +1,4 @@
--- No command so far has this name, so what is left decides.
+-- No command so far has this name, so the others decide.
 use Rattle.std.proofs.Common.{◌≡◌, drop}
 use Rattle.std.specs.List.{list_any}
 use Rattle.std.specs.Str.{bytes_eq}

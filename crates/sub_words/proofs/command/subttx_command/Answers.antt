@@ -1,4 +1,4 @@
--- The program before its commands, with one command more, and with all.
+-- The program before its commands, with one more command, and with all.
 use Rattle.std.proofs.Common.{◌∙◌, ap, rules}
 use Rattle.clap.specs.Words.{app_of, with_subcommand}
 use Rattle.sub_words.specs.Commands.{subttx_app, with_command}

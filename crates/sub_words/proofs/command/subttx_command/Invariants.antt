@@ -1,4 +1,4 @@
--- The program with the commands that are left is the whole program.
+-- With the remaining commands it is the whole program.
 use Rattle.std.proofs.Common.{◌≡◌, drop, map}
 use Rattle.std.specs.List.{fold}
 use Rattle.clap.specs.Words.{app_of}

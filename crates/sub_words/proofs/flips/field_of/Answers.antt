@@ -1,4 +1,4 @@
--- The parts that a text is split into are those between the colons.
+-- The text is split at the colons.
 use Rattle.std.proofs.Common.{lit<}
 use Rattle.std.proofs.lemmas.Iterator.Consumers.{nth_from_yields_List}
 use Rattle.std.proofs.lemmas.Iterator.Splits.{YieldsList-from_str_split}

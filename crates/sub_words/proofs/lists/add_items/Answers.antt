@@ -1,4 +1,4 @@
--- The items with one text more, by whether it says one, and with all.
+-- The items with one more text, whether it is an item or not, and with all.
 use Rattle.std.proofs.Common.{◌≡◌, ◌∙◌, ◌+◌, ◌<◌, ◌≤◌, ℕ, Bool, true, false, List, ◌∷◌, Option}
 use Rattle.std.proofs.Common.{Some, None, drop, get_or, length, map, subst, sym}
 use Rattle.std.proofs.lemmas.List.{at_drop_all, at_drop_more}

@@ -1,4 +1,4 @@
--- The items so far, and those of the texts that are left, are those of all texts.
+-- The items so far and those of the remaining texts are those of all texts.
 use Rattle.std.proofs.Common.{◌≡◌, drop, map}
 use Rattle.sub_words.specs.Texts.{items_after}
 use Rattle.sub_words.proofs.lists.add_items.Given as goal

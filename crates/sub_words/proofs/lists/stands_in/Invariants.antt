@@ -1,4 +1,4 @@
--- None of the items so far is the same, so what is left decides.
+-- None of the items so far is the same, so the others decide.
 use Rattle.std.proofs.Common.{◌≡◌, drop}
 use Rattle.std.specs.List.{list_any}
 use Rattle.sub_words.proofs.lists.stands_in.Given as goal

@@ -1,4 +1,4 @@
--- The parts that a text is split into are those between the commas.
+-- The text is split at the commas.
 use Rattle.std.proofs.Common.{lit<}
 use Rattle.std.proofs.lemmas.Iterator.Consumers.{map_from_collect}
 use Rattle.std.proofs.lemmas.Iterator.Splits.{YieldsList-from_str_split}

@@ -1,4 +1,4 @@
--- A parse of the program's command is exact; by command_in-parsed, has_subcommand-parsed,
+-- Parsing the program's command line is exact; by command_in-parsed, has_subcommand-parsed,
 -- refusals-parsed and IsFaultOfCommand-refused.
 use Rattle.std.proofs.Common.{◌∙◌}
 use Rattle.sub_words.specs.Commands.{texts_of}
