@@ -1,7 +1,14 @@
-"""What --measure makes of what was held and sent: delays of cues, and each part of a recording."""
+"""What --measure makes of what was held and sent: delays of cues, and each part of a recording.
+
+The gate measures the programmes of some inserters, chosen by their seeds. From dev/,
+`python3 -m developing.tests.test_cli_measured PROGRAM FIRST LAST` measures those of other seeds,
+and prints how many profiles refuse none of what they were measured on.
+"""
 from __future__ import annotations
 
 import itertools
+import random
+import sys
 from collections import Counter
 
 from developing.pes import packet
@@ -15,10 +22,10 @@ from subtitles.request.commands import CommandWords
 from subtitles.stream.gaps import repeats_in
 from subtitles.stream.packets import Packets
 from subtitles.stream.receiver import BLANK_PAGE, Timeline
-from .bench import Case
+from .bench import BENCH, Case
 from .judged import judged
 from .parts import asked_for
-from .planted import INSERTERS, LATE, Inserter, Programme
+from .planted import INSERTERS, LATE, QUIET, Inserter, Programme
 from .sent import ORIGIN, PAGE, apart, joined, programme, sendings, times
 from .test_judging_reasons import KEEPING_HEADER
 
@@ -116,6 +123,16 @@ class Cues(Case):
                             most + 1 in (*begins, *ends)) and sum(
                                 "z" in line for line in lines) == len(some) - 1 and
                     "whose letters were never sent: y" in lines, found)
+        late = [Delays(Counter([0]), Counter([0]), [], [])]
+        for some, off, wanted in (
+                (late, (0, 100), ""), (late, (4, 100), ""), ([], (4, 100), ""),
+                (late, (5, 100), "--within 1|--late 0:1/0:1"), ([], (5, 100), "--within 1"),
+                ([Delays(Counter(), Counter([0]), [], [])], (5, 100), "--within 1"),
+                ([Delays(Counter([3]), Counter([0]), [], [])], (50, 100),
+                 "--within 3|--late 3:1/0:1")):
+            found = [*late_found(some, [], off)]
+            self.check(f"{len(some)} recordings, {off} off", "|".join(filter(None, (
+                finding.words for finding in found))), wanted)
         names = [f"n{at}" for at in range(NAMED + 2)]
         for count, end in ((0, None), (NAMED, ""), (NAMED + 1, ", and 1 more"),
                            (NAMED + 2, ", and 2 more")):
@@ -185,6 +202,7 @@ class Parts(Case):
                       len(found.paces) == 2 and len(found.sendings) == 24, found)
 
 
+SEEDS = 20  # in the gate
 ACCEPTED = "# By this profile none of these recordings is refused."
 
 
@@ -203,16 +221,39 @@ class Profiles(Case):
 
     def test_accepts_what_it_was_measured_on(self) -> None:
         """Each recording, with its clock; or it says which it does not."""
-        for at, inserter in enumerate(INSERTERS[::13]):
-            made = [Programme(self, 10 * at + number, inserter) for number in (0, 1)]
-            lines, paths = self.profile(*made)
-            refused = [line for line in lines if " is not accepted. " in line]
-            self.check(f"{inserter.name}: last line", lines[-1] == ACCEPTED, not refused)
-            for one, path in zip(made, paths):
-                found = judged(self, one.stl, path, "--profile", self.path("profile"), "--origin",
-                               "0")
-                self.check(f"{inserter.name}: {found.verdict.sentence}", found.word == "accepted",
-                           not any(path in line for line in refused))
+        for seed in range(SEEDS):
+            self.measure(seed)
+
+    def measure(self, seed: int) -> bool:
+        """Measure one or two programmes of an inserter, and judge them by the profile; return
+        whether it refuses none."""
+        chance = random.Random(seed)
+        inserter = chance.choice(INSERTERS)
+        made = [Programme(self, 10 * seed + number, inserter)
+                for number in range(chance.choice((1, 2)))]
+        lines, paths = self.profile(*made)
+        refused = [line for line in lines if " is not accepted. " in line]
+        name = f"{seed}, {inserter.name}"
+        self.check(f"{name}: last line", lines[-1] == ACCEPTED, not refused)
+        for one, path in zip(made, paths):
+            found = judged(self, one.stl, path, "--profile", self.path("profile"), "--origin", "0")
+            self.check(f"{name}: {found.verdict.sentence}", found.word == "accepted",
+                       not any(path in line for line in refused))
+        return not refused
+
+    def test_two_pes_packets_a_frame(self) -> None:
+        """Half of the PTS are off their frames, which is how the site sends; one alone is not."""
+        made = [Programme(self, number, Inserter("two a frame", each=2)) for number in (0, 1)]
+        lines, _ = self.profile(*made)
+        self.check("accepted", ("--within 1" in lines, lines[-1]), (True, ACCEPTED))
+        single = Programme(self, 2, Inserter("one a frame"))
+        sent = single.sent()
+        sent[QUIET] = (sent[QUIET][0] + 7, sent[QUIET][1])
+        done = self.tool("qc", "--measure", single.stl, self.write("one.pes", joined(sent)),
+                         "--origin", "0", "-p", self.bench.program)
+        self.check("one alone", [line.partition(" PTS ")[2] for line in done.out.decode(
+            ).splitlines() if line.startswith("# within: of ")],
+            ["1 are off their frames, which this refuses (61)"])
 
     def test_names_what_is_not_usual(self) -> None:
         """One subtitle of forty is late: it is named, widens nothing, and is refused."""
@@ -239,3 +280,16 @@ class Profiles(Case):
         self.check("profile", [line in lines for line in ("--option german", "--keeping")],
                    [True, True])
         self.check("accepted", lines[-1], ACCEPTED)
+
+
+def main(program: str, first: int, last: int) -> None:
+    """Measures programmes, and prints how many profiles accept them all."""
+    BENCH.chosen = program
+    case = Profiles("test_accepts_what_it_was_measured_on")
+    case.setUp()
+    good = sum(case.measure(seed) for seed in range(first, last))
+    print(f"{good} of {last - first} profiles refuse none of what they were measured on")
+
+
+if __name__ == "__main__":
+    main(sys.argv[1], int(sys.argv[2]), int(sys.argv[3]))

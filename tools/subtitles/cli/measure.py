@@ -12,7 +12,7 @@ from ..clock.start import TCP
 from ..common.command_line import (
     Lateness, MOST_WITHIN, Stop, counted, late_text, quoted, say, version)
 from ..common.files import first_bytes, temporary_folder
-from ..common.times import FRAMES_OF_A_DAY, Span, time_of
+from ..common.times import FRAMES_OF_A_DAY, Span, TICKS, ticks_after, time_of
 from ..formats.layout import (
     PLAIN, Refused, drawn, layout_of, layout_text, letters_of_text, letters_on, page_rows)
 from ..formats.stl import Subtitle
@@ -193,13 +193,19 @@ def ended(held: Timeline, subtitle: Subtitle, letters: bytes, first: int, limit:
                if letters_on(held.pages[number]) == letters)
 
 
-def late_found(several: Sequence[Delays], without: Sequence[str]) -> Iterator[Finding]:
+def late_found(several: Sequence[Delays], without: Sequence[str],
+               off_frame: tuple[int, int] = (0, 0)) -> Iterator[Finding]:
     """The bound, and the shares of each delay, of the recordings whose clock is given; `without`
-    are the others."""
-    lines = [f"within, late: no clock is given of {name} (--origin, --start), so nobody knows how "
-             "late its cues are" for name in without]
+    are the others. `off_frame`: how many PTS are off their frames, and how many there are: if that
+    is usual, the bound is one frame at least."""
+    off, count = off_frame
+    least = int(off * UNUSUAL >= count > 0)
+    lines = [f"within: of {count} PTS {off} are off their frames, which "
+             f"{'--within 1 accepts' if least else 'this refuses (61)'}"] * (off > 0)
+    lines += [f"within, late: no clock is given of {name} (--origin, --start), so nobody knows how "
+              "late its cues are" for name in without]
     if not several:
-        yield Finding("", lines)
+        yield Finding("--within 1" if least else "", lines)
         return
     begins, ends = collections.Counter[int](), collections.Counter[int]()
     for delays in several:
@@ -211,15 +217,17 @@ def late_found(several: Sequence[Delays], without: Sequence[str]) -> Iterator[Fi
         name for one in several for name in one.early])
     lines += named_lines("whose letters were never sent", [
         name for one in several for name in one.unseen])
-    longest = max([*begins, *ends], default=0)
+    longest = max([*begins, *ends, least])
     lines += named_lines("later than is usual, which this refuses", [
         words for one in several for delay, words in one.late if delay > longest])
     if longest > MOST_WITHIN:
         lines.append(f"within is {MOST_WITHIN} frames at most")
-    if not begins or not ends or not longest or longest > MOST_WITHIN:
+    if not longest or longest > MOST_WITHIN or not (least or begins and ends):
         yield Finding("", lines)
         return
     yield Finding(f"--within {longest}", lines)
+    if not begins or not ends:
+        return
     shares = Lateness(*(dict(sorted(counts.items())) for counts in (begins, ends)))
     yield Finding(f"--late {late_text(shares)}", [])
 
@@ -403,6 +411,7 @@ class Measured(NamedTuple):
     is_alone: bool
     options: set[str]
     sendings: Sequence[Sending]
+    off_frame: tuple[int, int]  # PTS that are off their frames, of how many
     option: str = "english"  # by which its letters were read
 
 
@@ -517,7 +526,9 @@ def of_pair(pair: Pair) -> Measured:
          sum(count for counts in headers for header, count in counts.items() if keeps(header))),
         not any(control_words(header, word) for counts in headers for header in counts),
         sent_options,
-        [sending for both in sent for sending in sendings_of(request.stl, *both, option)])
+        [sending for both in sent for sending in sendings_of(request.stl, *both, option)],
+        (sum(ticks_after(part.origin or 0, pts) % TICKS > 0 for part in parts
+             for pts in part.pts()), sum(len(part.pts()) for part in parts)))
 
 
 def cut_of_part(programme: PartSearch, part: Part) -> Part:
@@ -577,7 +588,9 @@ def profile_lines(requests: Sequence[Request], recordings: Sequence[Measured]) -
         *late_found([delays for one, is_known in zip(recordings, are_known) if is_known
                      for delays in one.delays],
                     [request.recording or "" for request, is_known in zip(requests, are_known)
-                     if not is_known]),
+                     if not is_known],
+                    (sum(one.off_frame[0] for one in recordings),
+                     sum(one.off_frame[1] for one in recordings))),
         keeping_of(sum(count for count, _ in counts), sum(count for _, count in counts),
                    all(one.is_alone for one in recordings)),
         layout_found([sending for one in recordings for sending in one.sendings],
