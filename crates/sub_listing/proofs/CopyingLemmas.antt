@@ -1,4 +1,4 @@
--- What is copied of bytes: a piece that begins them, and bytes that no piece begins. Main lemmas:
+-- Copying bytes: a PES packet at their beginning, and bytes that begin none. Main lemmas:
 -- piece_copied, rest_stays, more_copied.
 use Rattle.std.proofs.Common.{◌≡◌, ◌∙◌, ap, sym, subst, arith, ℕ, ◌+◌, ◌<◌, ◌≤◌, ◌++◌, List}
 use Rattle.std.proofs.Common.{[], Bool, Option, Some, None, Ok, length, take, drop}
@@ -23,7 +23,7 @@ use Rattle.sub_io.proofs.DeviceLemmas.{AppendsPrefix-first, AppendsPrefix-second
 use Rattle.sub_listing.specs.Copying.{CopiesNext, HasCopied}
 use Rattle.sub_listing.specs.Extracting.{refusal_at}
 
--- Bytes that were taken from the front of others.
+-- Bytes that were read from the beginning of others.
 pub record IsFrontOf (b front : List ℕ) (left : Option (List ℕ)) : Type 0 where
   pub same : take (length front) b ≡ front
   pub left_is : left ≡ Some (drop (length front) b)
@@ -36,7 +36,7 @@ pub front_taken : (b front : List ℕ) (left : Option (List ℕ))
 front_taken b front left taken =
     grind (arith, nat_tests, length-append, take-append_seam, drop-append_seam)
 
--- What a buffer took of the front of bytes.
+-- What a buffer got from the beginning of bytes.
 pub room_taken : (b room : List ℕ) (n : ℕ) (left : Option (List ℕ))
     → n ≤ length room
     → Consumes (Some b) left (take n room)
@@ -44,13 +44,13 @@ pub room_taken : (b room : List ℕ) (n : ℕ) (left : Option (List ℕ))
     × (IsAtEnd left → length b ≡ n)
 room_taken b room n left fits taken = grind (arith, nat_tests, front_taken, length-take-le)
 
--- ---- what comes next of bytes
+-- ---- the next part of the bytes
 
--- A piece fits into the room. For `take`.
+-- A PES packet fits into the room. For `take`.
 pub piece_fits : (p : List ℕ) → IsPiece p → length p ≤ 1656
 piece_fits p is = (piece_sized p is).2
 
--- A piece that was taken of these bytes was written.
+-- A PES packet that was read from these bytes was written.
 pub piece_copied : (bytes p : List ℕ) (told left old new : Option (List ℕ)) (is_a_mark : Bool)
     → told ≡ Some bytes
     → IsPiece p
@@ -107,7 +107,7 @@ refused_rest : (b : List ℕ) (f : PesFault) → 0 < length b → rest_fault b �
 unfolding refusal_at
 refused_rest b f some is = grind (arith, nat_tests)
 
--- No piece begins them: they are all there.
+-- They begin no PES packet, and are all there.
 pub rest_stays : (bytes : List ℕ) (told left behind : Option (List ℕ)) (f : PesFault)
     → told ≡ Some bytes
     → Keeps told left
@@ -130,7 +130,7 @@ rest_stays bytes told left behind f is kept rest = (
 
 -- ---- what was copied so far
 
--- So many bytes at least were copied of these.
+-- At least so many of the bytes were copied.
 pub record HasCopiedSome
     (bytes : List ℕ) (left old new : Option (List ℕ)) (least : ℕ) : Type 0 where
   pub read : ℕ
@@ -184,7 +184,7 @@ pub prefix_copied : (bytes : List ℕ) (left old mid : Option (List ℕ)) (least
     → AppendsPrefix old mid bytes
 prefix_copied bytes left old mid least some = (some.read, some.within, some.copied.written)
 
--- Of more of them the file took a part.
+-- The file has a part of the next ones.
 pub cut_copied : (bytes room : List ℕ) (left next old mid new : Option (List ℕ)) (least n : ℕ)
     → HasCopiedSome bytes left old mid least
     → Consumes left next (take n room)

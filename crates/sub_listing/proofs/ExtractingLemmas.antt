@@ -1,4 +1,4 @@
--- Pieces that are copied one after another. Main lemmas: next_copied, pieces_given, rest_refused.
+-- Copying PES packets one after another. Main lemmas: next_copied, pieces_given, rest_refused.
 use Rattle.std.proofs.lemmas.Bool.Decides.{nat_tests}
 use Rattle.std.proofs.Common.{◌≡◌, ◌∙◌, ap, refl, sym, subst, arith, ℕ, zero, suc, ◌+◌, ◌<◌, ◌≤◌}
 use Rattle.std.proofs.Common.{◌++◌, List, [], Option, Some, None, length, take, drop}
@@ -26,7 +26,7 @@ marks_one : (n : ℕ) (b : List ℕ) (size : ℕ) → piece_size b ≡ Some size
 unfolding count_marks
 marks_one n b size e = rw e refl
 
--- One piece more, behind k others.
+-- One more PES packet, after k others.
 pub record OneMore (k : ℕ) (b : List ℕ) (size : ℕ) : Type 0 where
   pub behind : behind_pieces (suc k) b ≡ drop size (behind_pieces k b)
   pub first : first_pieces (suc k) b ≡ first_pieces k b ++ take size (behind_pieces k b)
@@ -78,7 +78,7 @@ one_more (suc k) b size e =
               rw same (omega (arith, one, before, others));
         }
 
--- All bytes are the pieces and what follows them.
+-- The bytes are the PES packets followed by the rest.
 pub split_pieces : (k : ℕ) (b : List ℕ)
     → count_pieces k b ≡ k
     → first_pieces k b ++ behind_pieces k b ≡ b
@@ -100,7 +100,7 @@ split_pieces (suc k) b all =
         ∙ ap (λ l. take s b ++ l) rest
         ∙ take-append-drop s b)
 
--- There are no more pieces than bytes.
+-- There are no more PES packets than bytes.
 pub few_pieces : (k : ℕ) (b : List ℕ) → count_pieces k b ≤ length b
 unfolding count_pieces
 few_pieces zero b = omega arith
@@ -119,7 +119,7 @@ few_pieces (suc k) b = go (piece_size b) refl (λ s. few_pieces k (drop s b))
         let rest = others s in
         omega (arith, here, large, within, less, rest)
 
--- ---- pieces that were copied
+-- ---- PES packets that were copied
 
 -- None was.
 pub no_pieces : (bytes : List ℕ) (told old : Option (List ℕ))
@@ -157,7 +157,7 @@ next_copied bytes left next old mid new k gaps more size so_far is copied counte
           ∙ sym one.marks;
     })
 
--- A part of what follows them was written after them.
+-- A part of the rest was written after them.
 pub part_copied : (bytes : List ℕ) (left old mid new : Option (List ℕ)) (k gaps : ℕ)
     → HasCopiedPieces bytes left old mid k gaps
     → AppendsPrefix mid new (behind_pieces k bytes)
@@ -167,7 +167,7 @@ part_copied bytes left old mid new k gaps so_far part =
     (AppendsPrefix-second old mid new (first_pieces k bytes) (behind_pieces k bytes)
     so_far.written part)
 
--- All that follows them was.
+-- All of the rest was.
 pub whole_copied : (bytes : List ℕ) (left old mid new : Option (List ℕ)) (k gaps : ℕ)
     → HasCopiedPieces bytes left old mid k gaps
     → Appends mid new (behind_pieces k bytes)
@@ -205,7 +205,7 @@ pub none_given : (bytes : List ℕ) (left old mid new : Option (List ℕ)) (k ga
 unfolding behind_pieces first_pieces
 none_given bytes left old mid new k gaps so_far none kept is = grind (arith, nat_tests, append-nil)
 
--- What follows them is refused, and was written.
+-- The rest is refused, and was written.
 pub rest_refused : (bytes : List ℕ) (left old mid new : Option (List ℕ)) (k gaps : ℕ) (f : PesFault)
     → HasCopiedPieces bytes left old mid k gaps
     → refusal_at (behind_pieces k bytes) ≡ Some f
@@ -223,7 +223,7 @@ rest_refused bytes left old mid new k gaps f so_far is rest =
       refused = λ few. is;
     }
 
--- There are more than are counted to.
+-- There are more than can be counted.
 pub too_many : (bytes : List ℕ) (left old mid : Option (List ℕ)) (k gaps : ℕ) (f : PesFault)
     → HasCopiedPieces bytes left old mid k gaps
     → k ≡ most_pieces
@@ -241,14 +241,14 @@ too_many bytes left old mid k gaps f so_far is =
       refused = λ less. absurd (omega (arith, large, less));
     }
 
--- The source failed behind them: nothing was written after them.
+-- The source failed after them: nothing was written after them.
 pub cut_behind : (bytes : List ℕ) (left old mid new : Option (List ℕ)) (k gaps : ℕ)
     → HasCopiedPieces bytes left old mid k gaps
     → Keeps mid new
     → AreCut bytes old new k
 cut_behind bytes left old mid new k gaps so_far kept = grind (arith, nat_tests)
 
--- It failed in what follows them, which no piece begins.
+-- It failed in the rest, which begins no PES packet.
 pub cut_in_rest : (bytes : List ℕ) (left old mid new : Option (List ℕ)) (k gaps : ℕ) (f : PesFault)
     → HasCopiedPieces bytes left old mid k gaps
     → refusal_at (behind_pieces k bytes) ≡ Some f
@@ -261,7 +261,7 @@ cut_in_rest bytes left old mid new k gaps f so_far is part = record {
   rest = inr (f, is, part);
 }
 
--- Storing leaves what was taken as it is.
+-- Storing does not change what was written.
 pub extracted-stored : (known old mid new : Option (List ℕ)) (e : Extracted)
     → Extracts known old mid (Ok e)
     → Keeps mid new
@@ -275,7 +275,7 @@ extracted-stored known old mid new e given kept = λ bytes is.
       written = Appends-kept _ _ _ _ g.written kept;
     }
 
--- Where it is not stored, that is a prefix of the whole.
+-- If it is not stored, that is a prefix.
 pub extracted-lost : (known old mid new : Option (List ℕ)) (e : Extracted)
     → Extracts known old mid (Ok e)
     → Keeps mid new

@@ -21,9 +21,9 @@ use Rattle.sub_listing.specs.FaultLine.{counted_from}
 use Rattle.sub_listing.specs.declared.status.Status.{Status}
 use Rattle.sub_listing.specs.declared.status.Status.TheVariants.{Fault}
 
--- ---- a source that keeps what it tells
+-- ---- a source whose known bytes stay
 
--- What it told it tells then.
+-- Its bytes are the same afterwards.
 pub known_kept : (old mid : Option (List ℕ)) (bytes : List ℕ)
     → Keeps old mid
     → old ≡ Some bytes
@@ -32,7 +32,7 @@ known_kept None mid bytes kept told = cc
 known_kept (Some x) None bytes kept told = absurd kept
 known_kept (Some x) (Some y) bytes kept told = cc
 
--- What is taken of it then is taken of it.
+-- What is consumed afterwards is consumed from the start.
 pub consumed_kept : (old mid new : Option (List ℕ)) (bytes : List ℕ)
     → Keeps old mid
     → Consumes mid new bytes
@@ -41,7 +41,7 @@ consumed_kept None mid new bytes kept taken = tt
 consumed_kept (Some x) None new bytes kept taken = absurd kept
 consumed_kept (Some x) (Some y) new bytes kept taken = rw (sym kept) taken
 
--- Nothing was taken of one that keeps what it tells.
+-- Nothing of it was consumed.
 pub consumed_none : (old new : Option (List ℕ)) → Keeps old new → Consumes old new []
 consumed_none None new kept = tt
 consumed_none (Some x) None kept = absurd kept
@@ -65,7 +65,7 @@ refused_kept : (old mid new : Option (List ℕ)) (f : PesFault)
     → TakesRefused old new f
 refused_kept old mid new f kept t = grind (arith, nat_tests, consumed_kept)
 
--- PES packets that are taken of it then are taken of it.
+-- PES packets consumed afterwards are consumed from the start.
 pub packets_kept : (n : ℕ) (old mid new : Option (List ℕ))
     → Keeps old mid
     → TakesPackets n mid new
@@ -84,7 +84,7 @@ pub fails_piece_kept : (n : ℕ) (old mid new : Option (List ℕ))
     → FailsAtPiece n old new
 fails_piece_kept n old mid new kept f = grind (arith, nat_tests, consumed_kept)
 
--- ---- a source that failed before anything was taken
+-- ---- a source that failed before anything was consumed
 
 pub fails_within_first : (old new : Option (List ℕ)) → Keeps old new → FailsWithin old new
 fails_within_first old new kept = grind (arith, nat_tests, consumed_none)
@@ -95,7 +95,7 @@ fails_first_packet old new kept = grind (arith, nat_tests, consumed_none, fails_
 pub fails_first_piece : (old new : Option (List ℕ)) → Keeps old new → FailsAtPiece 0 old new
 fails_first_piece old new kept = grind (arith, nat_tests, consumed_none, fails_within_first)
 
--- ---- what is listed
+-- ---- the listing
 
 reads_kept : (failed : Bool) (old mid : Option (List ℕ)) (o : PesOutcome) (left : Option (List ℕ))
     → Keeps old mid
@@ -106,7 +106,7 @@ reads_kept failed old mid (fails f) left kept reads =
     grind (arith, nat_tests, within_kept, refused_kept)
 reads_kept failed old mid (gives v more) left kept reads = grind (arith, nat_tests, packet_kept)
 
--- PES packets were listed once the first was found. For `list_packets`.
+-- PES packets were listed after the first was found. For `list_packets`.
 pub prints_found : (first : FirstNumber) (number : ℕ) (old mid left : Option (List ℕ))
     (old_count mid_count new_count : ℕ) (out : SinkCall) (status : Status)
     → ((n : ℕ) → first.known ≡ Some n → number ≡ n)

@@ -12,7 +12,7 @@ pub risen_fails : (old new : ℕ) (fails : Bool)
 risen_fails old new true risen counted = refl
 risen_fails old new false risen counted = absurd (omega (arith, risen, counted))
 
--- The text that was put is that line.
+-- The text that was written is that line.
 pub last_alone : {K : Type 0} (contents : K → Option (List ℕ)) (held : K → ℕ)
     (IsPush : K → List ℕ → Option ℕ → K → Type 0) (before new : K) (text put : List ℕ)
     → IsAlone (held before) text

@@ -1,4 +1,4 @@
--- A listing that is printed piece after piece. Main lemmas: front-more, front-end, front-cut,
+-- A listing that is printed one part after another. Main lemmas: front-more, front-end, front-cut,
 -- gives-next, gives-last.
 use Rattle.std.proofs.lemmas.Bool.Decides.{nat_tests}
 use Rattle.std.proofs.Common.{◌≡◌, ap, refl, sym, subst, arith, ℕ, ◌+◌, ◌<◌, ◌≤◌, List, []}
@@ -39,8 +39,8 @@ use Rattle.sub_listing.specs.declared.status.Status.TheVariants.{Fault}
 
 -- ---- lines after lines
 
--- What was printed since the sink held `old` is the front of each listing that goes on with what
--- may be listed now.
+-- What was printed since the sink had `old` is the beginning of each listing that is still
+-- possible.
 pub record IsFront
     (Before After : IsListed)
     (told left old now : Option (List ℕ))
@@ -70,7 +70,7 @@ followed-twice first second more =
     ap (λ (t : List ℕ). let l : Listing = record { text = t; status = more.status } in l)
     (sym (append_assoc first second more.text))
 
--- What was printed stays where lines are handed on. For `list`.
+-- What was printed stays when lines are flushed. For `list`.
 pub front-kept :
     (Before After : IsListed)
     (told left old now new : Option (List ℕ))
@@ -79,11 +79,11 @@ pub front-kept :
     → IsFront Before After told left old new
 front-kept Before After told left old now new i kept = grind (arith, nat_tests)
 
--- The count of a source's failures, where the sink failed. For `list`.
+-- The count of a source's failures, if the sink failed. For `list`.
 pub counts-fault : (old new : ℕ) (failed : Bool) → RisesIf old failed new → Counts old Fault new
 counts-fault old new failed risen = grind (arith, nat_tests)
 
--- The count of a source's failures, where the sink did not fail.
+-- The count of a source's failures, if the sink did not fail.
 pub counts-status : (old new : ℕ) (status : Status) → RisesIf old (has_failed (Some status)) new
     → Counts old status new
 counts-status old new status risen = grind (arith, nat_tests)
@@ -163,7 +163,7 @@ front-cut Before At After source out left now text (Some status) i gives p risen
   printed = inr (risen, AppendsPrefix-second out.old now out.new i.text text i.printed p, refl);
 }
 
--- Lines were cut, since the sink failed as the lines before were handed on. For `list`.
+-- Lines were cut, since the sink failed when earlier lines were flushed. For `list`.
 pub front-stopped :
     (Before At : IsListed) (source : SourceCall) (out : SinkCall) (left now : Option (List ℕ))
     → IsFront Before At source.known left out.old now
@@ -187,7 +187,7 @@ front-stopped Before At source out left now i cut kept risen counted = record {
   );
 }
 
--- Something is listed where a sink failed.
+-- There is a listing if the sink failed.
 pub lists-some :
     (O : Type 0) (listing_of : O → Listing) (given : List ℕ → O)
     (Takes : Bool → Option (List ℕ) → O → Option (List ℕ) → Type 0) (told left : Option (List ℕ))
@@ -212,7 +212,7 @@ lists-some O listing_of given Takes (Some b) left o = (
   },
 )
 
--- A piece was read, and what is given from here on comes after it. For the listers.
+-- A part was read, and the next ones come after it. For the listers.
 pub gives-next :
     (O : Type 0) (before after : O → Listing) (given given' : List ℕ → O)
     (Takes Takes' : Bool → Option (List ℕ) → O → Option (List ℕ) → Type 0)
@@ -243,7 +243,7 @@ gives-last O listing_of given Takes told left o text failed line is exact taken 
 
 -- ---- PES packets
 
--- A PES packet was read, and what is read after it is listed then. For `PacketLister`.
+-- A PES packet was read, and what is read after it is listed afterwards. For `PacketLister`.
 pub gives-packet :
     (first index : ℕ) (v : PesValue) (told left : Option (List ℕ)) (text : List ℕ)
     → index ≤ most_packets
@@ -266,7 +266,7 @@ gives-packet first index v told left text few tells lines =
 
 -- ---- subtitles
 
--- One block or more were taken.
+-- At least one block was read.
 rises : (from to : ℕ) (blocks : List (List ℕ))
     → EndsKept blocks
     → from + length blocks ≡ to
@@ -274,18 +274,18 @@ rises : (from to : ℕ) (blocks : List (List ℕ))
 rises from to [] kept counted = absurd kept
 rises from to (b ∷ blocks) kept counted = omega arith
 
--- A subtitle takes a block or more. For `SubtitleLister`.
+-- A subtitle has at least one block. For `SubtitleLister`.
 pub block-rises : (from to : ℕ) (old new : Option (List ℕ)) (s : SubtitleValue)
     → TakesSubtitle from to old new s
     → from < to
 block-rises from to old new s t = rises from to t.blocks t.ends t.counted
 
--- The fault of the source alone ends a listing in a fault.
+-- Only a failed source ends a listing in a fault.
 pub kind_by-failed : (b : Bool) → has_failed (Some (status_of (kind_by b))) ≡ b
 kind_by-failed true = refl
 kind_by-failed false = refl
 
--- The GSI block was read, and what its reader gives comes then. For `SubtitleLister`.
+-- The GSI block was read, and what its reader gives follows. For `SubtitleLister`.
 pub gives-opened :
     (count : ℕ) (r : ReaderValue) (told left : Option (List ℕ))
     → r.block ≡ 0

@@ -21,7 +21,7 @@ use Rattle.sub_listing.specs.declared.normal.InputFault.TheVariants as input
 
 -- ---- what was written
 
--- A file whose first bytes are a file is one.
+-- A file whose first bytes are a complete file is one.
 first-is_file : (s : List ℕ) (ts : List SubtitleValue)
     → IsFile (take most_read s) (take gsi_size (take most_read s)) ts
     → IsFile s (take gsi_size s) ts
@@ -29,7 +29,7 @@ first-is_file s ts is =
     file_sound whole s ts
     (ap subtitles_of (sym (outcome_of-first s)) ∙ (file_complete whole _ _ ts is).1)
 
--- The bytes that are read decide what all of them do.
+-- The bytes that are read decide the result for all of them.
 pub answers_first : (s read : List ℕ) (old new : Option (List ℕ)) (answer : Result ℕ NormalFault)
     → read ≡ take most_read s
     → NormalAnswers read old new answer
@@ -59,7 +59,7 @@ answers_first s read old new answer first answers =
 
 -- ---- reading the input
 
--- The next piece goes after those before it.
+-- The next part follows those before it.
 pub Consumes-next : (x y z : Option (List ℕ)) (n : ℕ) (xs ps vs : List ℕ)
     → vs ≡ xs ++ take n ps
     → Consumes x y xs
@@ -94,7 +94,7 @@ taken-at_end x y z n xs ps none p q end few =
         sym (same_Some b bytes e) ∙ p ∙ ap (λ l. xs ++ l) end ∙ append-nil xs in
         sym (ap (take most_read) all ∙ take_all most_read xs few)
 
--- The bytes that were taken, where no more are read.
+-- The bytes that were read, if no more are.
 pub taken-to_most : (x y : Option (List ℕ)) (xs : List ℕ)
     → Consumes x y xs
     → length xs ≡ most_read
@@ -105,7 +105,7 @@ taken-to_most (Some b) (Some ys) xs p size bytes e =
     let all : bytes ≡ xs ++ ys = sym (same_Some b bytes e) ∙ p in
     sym (ap (take most_read) all ∙ take_at xs ys most_read size)
 
--- Memory is wanted for a piece that was taken.
+-- Memory is needed for a part that was read.
 pub memory-wanted : (x y z : Option (List ℕ)) (n : ℕ) (xs ps : List ℕ)
     → n ≤ length ps
     → n ≢ 0

@@ -1,4 +1,4 @@
--- What a printer does that was told several events; main lemma: prints_all.
+-- A printer that was told several events; main lemma: prints_all.
 use Rattle.std.proofs.Common.{◌≡◌, ◌∙◌, ap, refl, sym, subst, arith, ℕ, ◌+◌, ◌<◌, ◌≤◌, ◌||◌}
 use Rattle.std.proofs.Common.{not, List, [], ◌∷◌, ◌++◌, map, Bool, true, false, append_assoc, drop}
 use Rattle.std.proofs.Common.{take, inl, inr}
@@ -22,12 +22,10 @@ use Rattle.sub_listing.specs.FaultLine.{place_text}
 use Rattle.sub_listing.specs.Printer.{PrinterValue, PrintsEvent, PrintsEvents, StaysPrinted}
 use Rattle.sub_listing.specs.Printer.{HandsOnLines, can_fail, counted}
 
--- More refusals after some.
 counted-twice : (r m n : ℕ) → counted (counted r m) n ≡ counted r (m + n)
 unfolding counted
 counted-twice r m n = grind (arith, nat_tests)
 
--- No refusal more.
 pub counted-none : (r : ℕ) → r ≤ most_counted → counted r 0 ≡ r
 unfolding counted
 counted-none r few = grind (arith, nat_tests)
@@ -36,7 +34,7 @@ pub counted-few : (r m : ℕ) → counted r m ≤ most_counted
 unfolding counted
 counted-few r m = grind (arith, nat_tests)
 
--- What a printer does that was told nothing.
+-- A printer that was told nothing.
 prints-none : (p : PrinterValue) → p.failed ≡ false → p.refused ≤ most_counted
     → PrintsEvents p [] p
 prints-none p goes few = record {
@@ -48,7 +46,7 @@ prints-none p goes few = record {
   cut_count = λ failing. absurd (true≢false (sym failing ∙ goes));
 }
 
--- One event, after which the sink has not failed, and others after it.
+-- One event, after which the sink has not failed, followed by others.
 prints-more : (a b c : PrinterValue) (e : Event) (events : List Event)
     → PrintsEvent a e b
     → b.failed ≡ false
@@ -95,7 +93,7 @@ event_lines-append first (x ∷ xs) ys =
     ap (λ (l : List ℕ). event_line first x ++ l) (event_lines-append first xs ys)
     ∙ sym (append_assoc (event_line first x) (event_lines first xs) (event_lines first ys))
 
--- Where the sink failed, more events might have followed.
+-- If the sink failed, more events might have followed.
 pub prints-prefix : (a b : PrinterValue) (events more : List Event)
     → b.failed ≡ true
     → PrintsEvents a events b
@@ -112,12 +110,11 @@ prints-prefix a b events more failing prints = record {
   cut_count = λ fails. prints.cut_count failing;
 }
 
--- Refusals of some events and of others.
 refusals-append : (xs ys : List Event) → refusals (xs ++ ys) ≡ refusals xs + refusals ys
 refusals-append [] ys = omega arith
 refusals-append (x ∷ xs) ys = let rest = refusals-append xs ys in omega (arith, rest)
 
--- Events, after which the sink has not failed, and others after them. For `sub_answer`.
+-- Events, after which the sink has not failed, followed by others. For `sub_answer`.
 pub prints-two : (a b c : PrinterValue) (xs ys : List Event)
     → PrintsEvents a xs b
     → b.failed ≡ false
@@ -148,7 +145,7 @@ prints-two a b c xs ys some goes more =
 
 -- ---- lines of the subtitle file
 
--- No PES packet stands in them.
+-- They contain no PES packet.
 place-same : (n m block : ℕ) (kind : LoadFaultKind)
     → place_text n (load_place kind block) ≡ place_text m (load_place kind block)
 place-same n m block (load.Row f) = refl
@@ -161,13 +158,13 @@ lines-same n m (f ∷ fs) =
     rw (place-same n m f.block f.kind)
     (ap (λ (l : List ℕ). event_line m (subtitle_event f) ++ l) (lines-same n m fs))
 
--- So they are printed whichever number the first PES packet has. For `sub_answer`.
+-- So they are the same whichever number the first PES packet has. For `sub_answer`.
 pub prints-renumbered : (n : ℕ) (a b : PrinterValue) (fs : List LoadFault)
     → PrintsEvents a (subtitle_events fs) b
     → PrintsEvents (record a { first = n }) (subtitle_events fs) (record b { first = n })
 prints-renumbered n a b fs prints = grind (arith, nat_tests, lines-same)
 
--- A printer that has failed has printed a list's events where it has printed its first ones.
+-- A printer that has failed has printed the events of a list if it has printed its first ones.
 pub prints-taken : {A : Type 0} (event : A → Event) (a b : PrinterValue) (n : ℕ) (items : List A)
     → b.failed ≡ true
     → PrintsEvents a (map event (take n items)) b
@@ -179,7 +176,7 @@ prints-taken event a b n items failing prints =
     subst (λ (es : List Event). PrintsEvents a es b) whole
     (prints-prefix a b (map event (take n items)) (map event (drop n items)) failing prints)
 
--- What stays as each thing is told stays as all are. For `tell_every_fault`.
+-- What stays the same at each event stays the same at all. For `tell_every_fault`.
 same-in_turn : {A D N : Type 0} (IsTold : D → A → D → Type 0) (name : D → N)
     (one : (s t : D) (x : A) → IsTold s x t → name t ≡ name s) (old new : D) (items : List A)
     → TellsInTurn IsTold old new items
@@ -198,7 +195,7 @@ same_all IsTold name one old new some =
 module _ {A D : Type 0} (IsTold : D → A → D → Type 0) (value : D → PrinterValue)
     (event : A → Event)
     (one : (s t : D) (x : A) → IsTold s x t → PrintsEvent (value s) (event x) (value t)) where
-  -- Nothing is told to one whose sink failed.
+  -- Nothing is told to a printer whose sink failed.
   last_told : (mid new : D) (items : List A) → TellsInTurn IsTold mid new items
       → (value mid).failed ≡ true
       → (items ≡ []) × (new ≡ mid)
@@ -206,7 +203,7 @@ module _ {A D : Type 0} (IsTold : D → A → D → Type 0) (value : D → Print
   last_told mid new (y ∷ ys) (next, second, others) failing =
       absurd (true≢false (sym failing ∙ (one mid next y second).goes_on))
 
-  -- One thing and then others.
+  -- One event followed by others.
   step : (old mid new : D) (x : A) (xs : List A) (b : Bool) → (value mid).failed ≡ b
       → PrintsEvent (value old) (event x) (value mid)
       → TellsInTurn IsTold mid new xs
@@ -240,7 +237,6 @@ module _ {A D : Type 0} (IsTold : D → A → D → Type 0) (value : D → Print
       → PrintsEvents (value old) (map event items) (value new)
   prints_all old new items goes few told = in_turn old new items goes few told.in_turn
 
--- An event is told as it is.
 map-same : (events : List Event) → map (λ (e : Event). e) events ≡ events
 map-same [] = refl
 map-same (e ∷ events) = ap (λ (es : List Event). e ∷ es) (map-same events)
@@ -252,7 +248,7 @@ pub as_told : (a b : PrinterValue) (events : List Event)
 as_told a b events prints =
     subst (λ (es : List Event). PrintsEvents a es b) (map-same events) prints
 
--- A device that has not failed, and whose count is as it was, has not said stop.
+-- A device that has not failed, and whose count is unchanged, has not said stop.
 pub still_goes : (failed : Bool) (old new : ℕ)
     → old < 0xFFFF_FFFF_FFFF_FFFF
     → failed ≡ false
@@ -270,13 +266,13 @@ pub cannot_fail : (failed b : Bool) → ((failed || b) ≡ true → ⊥) → fai
 cannot_fail true b holds = absurd (holds refl)
 cannot_fail false b holds = refl
 
--- ---- lines that are handed on
+-- ---- flushed lines
 
--- Nothing was handed on.
+-- Nothing was flushed.
 pub stays-none : (a : PrinterValue) → StaysPrinted a a
 stays-none a = grind (arith, nat_tests)
 
--- One that has said stop, and had not failed, has failed as lines were handed on.
+-- One that has said stop, and had not failed, failed when lines were flushed.
 pub stopped_fails : (a b : PrinterValue) (is : Bool) → b.failed ≡ is
     → a.failed ≡ false
     → a.count < 0xFFFF_FFFF_FFFF_FFFF
@@ -285,7 +281,7 @@ pub stopped_fails : (a b : PrinterValue) (is : Bool) → b.failed ≡ is
     → b.failed ≡ true
 stopped_fails a b is h1 goes room stays stopped = grind (arith, nat_tests, still_goes)
 
--- Whether it has failed says then whether it could.
+-- Then whether it has failed says whether flushing was possible.
 failed_as : (a b : PrinterValue) (ok : Bool)
     → a.failed ≡ false
     → a.count < 0xFFFF_FFFF_FFFF_FFFF
@@ -294,7 +290,7 @@ failed_as : (a b : PrinterValue) (ok : Bool)
 failed_as a b true goes room on = cannot_fail _ _ (λ is. true≢false (sym is ∙ on.stopped))
 failed_as a b false goes room on = stopped_fails a b b.failed refl goes room on.stays on.stopped
 
--- What stays where a printer is to hand on what waits. For the reading of the next PES packet.
+-- What stays the same when a printer flushes. For reading the next PES packet.
 module _ {P N : Type 0} (name : P → N) (value : P → PrinterValue) (is_waiting : P → Bool)
     (IsHandedOn : P → Bool → P → Type 0) (s t : P) (ok : Bool)
     (call : HandsOnIfWaiting is_waiting IsHandedOn s ok t)

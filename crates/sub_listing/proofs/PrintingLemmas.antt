@@ -1,5 +1,4 @@
--- What is known of a listing that was printed, or of which a sink that failed has a prefix;
--- and of a count.
+-- A listing that was printed, or of which a sink that failed has a prefix; and a count.
 use Rattle.std.proofs.Common.{◌≡◌, ◌≢◌, ℕ, ◌+◌, arith, inl, inr, refl, Bool, true, false}
 use Rattle.std.proofs.Common.{if◌then◌else◌}
 use Rattle.std.specs.Io.KnownBytes.{Appends}
@@ -8,7 +7,7 @@ use Rattle.sub_listing.specs.Listing.{Listing, PrintsOrFails}
 use Rattle.sub_listing.specs.declared.status.Status.{Status}
 use Rattle.sub_listing.specs.declared.status.Status.TheVariants.{Fault}
 
--- Where the sink did not fail, the text was printed whole and gives the status.
+-- If the sink did not fail, the text was printed completely and gives the status.
 pub printed-whole : (out : SinkCall) (listing : Listing) (status : Status)
     → PrintsOrFails out listing status
     → out.new_count ≡ out.old_count

@@ -1,5 +1,5 @@
--- What one step of copying does: a piece is taken, and put into a file. Private functions alone
--- cite this.
+-- One step of copying: a PES packet is read and written to a file. Only contracts of private
+-- functions use it.
 use Rattle.std.specs.Prelude.{◌≡◌, ℕ, ◌<◌, List, [], Bool, true, false, length, take, drop}
 use Rattle.std.specs.Prelude.{Option, Some, Result, Ok, Err}
 use Rattle.std.specs.Io.KnownBytes.{Appends, Keeps}
@@ -12,7 +12,7 @@ use Rattle.sub_listing.specs.Extracting.{begins_with_mark, count_marks, most_pie
 use Rattle.sub_listing.specs.declared.copying.CopyFault.{CopyFault}
 use Rattle.sub_listing.specs.declared.copying.CopyFault.TheVariants as fault
 
--- The device that gives the pieces failed.
+-- The device that gives the PES packets failed.
 abbrev pub is_copy_read : CopyFault → Bool
 is_copy_read fault.Read = true
 is_copy_read fault.Write = false
@@ -22,17 +22,17 @@ abbrev pub is_copy_write : CopyFault → Bool
 is_copy_write fault.Read = false
 is_copy_write fault.Write = true
 
--- A piece was copied.
+-- A PES packet was copied.
 abbrev pub is_piece : {A : Type 0} → Came A → Bool
 is_piece (Piece answer) = true
 is_piece _ = false
 
--- What no piece begins is told as a source that failed: that is never so.
+-- Unreadable bytes would be reported as a failed source, which never happens.
 abbrev pub tells_read : {A : Type 0} → Came A → Bool
 tells_read (Rest f) = is_read f
 tells_read _ = false
 
--- The first so many of these bytes were taken, and the file has taken them.
+-- The first `read` bytes were consumed, and the file has them.
 pub record HasCopied
     (bytes : List ℕ) (left old new : Option (List ℕ)) (read : ℕ) : Type 0 where
   pub left_is : left ≡ Some (drop read bytes)
@@ -51,14 +51,14 @@ CopiesNext bytes left old new (Ok (Rest f)) =
 CopiesNext bytes left old new (Err fault.Read) = Keeps old new
 CopiesNext bytes left old new (Err fault.Write) = AppendsPrefix old new bytes
 
--- What was copied of bytes that are copied to their end.
+-- What was copied when copying to the end of the bytes.
 abbrev pub CopiesRest :
     List ℕ → Option (List ℕ) → Option (List ℕ) → Result (Unit {0}) CopyFault → Type 0
 CopiesRest bytes old new (Ok u) =
     AppendsPrefix old new bytes × (length bytes < most_pieces → Appends old new bytes)
 CopiesRest bytes old new (Err f) = AppendsPrefix old new bytes
 
--- So many pieces were copied of these bytes, so many marks among them.
+-- So many PES packets were copied, `gaps` gap markers among them.
 pub record HasCopiedPieces
     (bytes : List ℕ) (left old new : Option (List ℕ)) (pieces gaps : ℕ) : Type 0 where
   pub left_is : left ≡ Some (behind_pieces pieces bytes)

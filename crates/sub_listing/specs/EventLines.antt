@@ -1,5 +1,5 @@
--- What `check --all` prints of each event: a line. The first PES packet that is read has the number
--- `first` in its file.
+-- The line that `check --all` prints for each event. The first PES packet that is read has the
+-- number `first` in its file.
 use Rattle.std.specs.Prelude.{ℕ, ◌+◌, List, [], ◌∷◌, ◌++◌, codes, map}
 use Rattle.stl_rows.specs.declared.fault.LoadFault.{LoadFault}
 use Rattle.sub_rules.specs.Fault.{check_code, place_of, rule_code}
@@ -12,17 +12,17 @@ use Rattle.sub_listing.specs.Faults.{check_line}
 use Rattle.sub_listing.specs.FaultLine.{clock_text, code_text, frame_text, line_of, place_text}
 use Rattle.sub_listing.specs.FaultLine.{counted_from}
 
--- A rule stood broken up to this frame, and does so no more.
+-- A rule was broken up to this frame, and is no longer.
 abbrev pub ended_line : EndRule → ℕ → List ℕ
 ended_line rule frame =
     codes "ended " ++ code_text (rule_code rule) ++ frame_text frame ++ codes "\n"
 
--- PES packets were passed over up to the one that this fault names.
+-- PES packets were skipped up to the one that this fault names.
 abbrev pub passed_line : ℕ → CheckFault → List ℕ
 passed_line first f =
     codes "ended " ++ code_text (check_code f) ++ place_text first (place_of f) ++ codes "\n"
 
--- These frames may be trusted, the first and the last one too.
+-- These frames are trusted, the first and the last one included.
 abbrev pub trusted_line : ℕ → ℕ → List ℕ
 trusted_line from to =
     codes "trusted frames " ++ clock_text from ++ codes " " ++ clock_text to ++ codes "\n"
@@ -39,14 +39,14 @@ abbrev pub event_lines : ℕ → List Event → List ℕ
 event_lines first [] = []
 event_lines first (e ∷ events) = event_line first e ++ event_lines first events
 
--- Whether an event is a refusal: 1, or 0 where it is none.
+-- 1 if the event is a fault, otherwise 0.
 abbrev pub refusal : Event → ℕ
 refusal (Told f) = 1
 refusal (Ended rule frame) = 0
 refusal (PassedUntil f) = 0
 refusal (Trusted from to) = 0
 
--- How many of these are refusals.
+-- The number of faults among the events.
 abbrev pub refusals : List Event → ℕ
 refusals [] = 0
 refusals (e ∷ events) = refusal e + refusals events
@@ -59,6 +59,6 @@ subtitle_event f = Told (Subtitles f)
 abbrev pub subtitle_events : List LoadFault → List Event
 subtitle_events faults = map subtitle_event faults
 
--- The greatest number that is counted to.
+-- The greatest number that is counted.
 abbrev pub most_counted : ℕ
 most_counted = 0xFFFF_FFFF_FFFF_FFFF

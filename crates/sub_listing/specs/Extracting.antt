@@ -1,4 +1,4 @@
--- What `extract` writes and tells of the bytes that a source gives: PES packets and marks, one
+-- What `extract` writes and reports for the bytes of a source: PES packets and gap markers, one
 -- after another, and what follows them.
 use Rattle.std.specs.Prelude.{◌≡◌, ℕ, zero, suc, ◌+◌, ◌<◌, ◌==◌, ◌&&◌, Bool}
 use Rattle.std.specs.Prelude.{true, false, List, [], ◌++◌, codes, decimal, length, take, drop}
@@ -27,36 +27,35 @@ use Rattle.sub_listing.specs.declared.fault_line.Kind.TheVariants as kind
 use Rattle.sub_listing.specs.declared.fault_line.FaultLine.{FaultLine}
 use Rattle.sub_listing.specs.declared.status.Status.{Status}
 
--- ---- what the bytes are
+-- ---- the bytes
 
--- The piece of this size that begins bytes is a mark: 184 bytes, of which all from byte 6 on are
--- FF.
+-- The first `size` bytes are a gap marker: 184 bytes, all FF from byte 6 on.
 abbrev pub begins_with_mark : ℕ → List ℕ → Bool
 begins_with_mark size b = (size == payload_size) && is_filled (drop 6 (take size b))
 
--- How many of the first n pieces are marks.
+-- How many of the first n PES packets are gap markers.
 unfoldable pub count_marks : ℕ → List ℕ → ℕ
 count_marks zero b = 0
 count_marks (suc n) b =
     by_piece (piece_size b)
     (λ size. (if begins_with_mark size b then 1 else 0) + count_marks n (drop size b)) 0
 
--- Why no piece begins bytes, where there are any.
+-- Why the bytes begin no PES packet, if there are any.
 unfoldable pub refusal_at : List ℕ → Option PesFault
 refusal_at b = if length b == 0 then None else rest_fault b
 
--- The greatest number that is counted to.
+-- The greatest number that is counted.
 abbrev pub most_pieces : ℕ
 most_pieces = 0xFFFF_FFFF_FFFF_FFFF
 
--- ---- what is written
+-- ---- the written bytes
 
 -- The source failed.
 abbrev pub is_extract_read : ExtractFault → Bool
 is_extract_read (Read pes) = true
 is_extract_read _ = false
 
--- What is no PES packet is told as a source that failed: that is never so.
+-- What is no PES packet would be reported as a failed source, which never happens.
 abbrev pub tells_refused_read : ExtractFault → Bool
 tells_refused_read (Refused f pes) = is_read f
 tells_refused_read _ = false
@@ -66,8 +65,7 @@ abbrev pub is_extract_write : ExtractFault → Bool
 is_extract_write Write = true
 is_extract_write _ = false
 
--- The bytes fall into pieces, `gaps` marks among them: so many are given, and the file has taken
--- all bytes.
+-- The bytes are `pes` PES packets, `gaps` of them gap markers, and the file has all bytes.
 pub record AreGiven (bytes : List ℕ) (old new : Option (List ℕ)) (pes gaps : ℕ) : Type 0 where
   pub pieces : count_pieces pes bytes ≡ pes
   pub whole : behind_pieces pes bytes ≡ []
@@ -75,8 +73,8 @@ pub record AreGiven (bytes : List ℕ) (old new : Option (List ℕ)) (pes gaps :
   pub some : 0 < pes
   pub written : Appends old new bytes
 
--- Behind so many pieces the bytes are refused for this fault, and the file has taken all bytes; or
--- there are more of them than are counted to, and it has taken some.
+-- After `pes` PES packets the bytes are refused for this fault, and the file has all bytes; or
+-- there are more PES packets than can be counted, and it has some.
 pub record AreRefused
     (bytes : List ℕ) (old new : Option (List ℕ)) (f : PesFault) (pes : ℕ) : Type 0 where
   pub pieces : count_pieces pes bytes ≡ pes
@@ -85,8 +83,8 @@ pub record AreRefused
   pub refused :
       length bytes < most_pieces → refusal_at (behind_pieces pes bytes) ≡ Some f
 
--- The source failed behind so many pieces of the bytes. The file has taken these, and nothing of
--- what follows them but where no piece begins that.
+-- The source failed after `pes` PES packets of the bytes. The file has these, and nothing of what
+-- follows unless that begins no PES packet.
 pub record AreCut (bytes : List ℕ) (old new : Option (List ℕ)) (pes : ℕ) : Type 0 where
   pub pieces : count_pieces pes bytes ≡ pes
   pub behind : Option (List ℕ)
@@ -96,8 +94,7 @@ pub record AreCut (bytes : List ℕ) (old new : Option (List ℕ)) (pes : ℕ) :
       ⊎ ((f : PesFault) × (refusal_at (behind_pieces pes bytes) ≡ Some f)
       × AppendsPrefix behind new (behind_pieces pes bytes))
 
--- What the file has taken of the bytes that the source told, and the answer. Where the file failed,
--- it is a prefix of them.
+-- The bytes that the file has, and the result. If the file failed, it has a prefix.
 abbrev pub Extracts :
     Option (List ℕ) → Option (List ℕ) → Option (List ℕ) → Result Extracted ExtractFault → Type 0
 Extracts known old new (Ok e) = IfKnown known (λ bytes. AreGiven bytes old new e.pes e.gaps)
@@ -106,31 +103,31 @@ Extracts known old new (Err (Refused f n)) = IfKnown known (λ bytes. AreRefused
 Extracts known old new (Err (Read n)) = IfKnown known (λ bytes. AreCut bytes old new n)
 Extracts known old new (Err Write) = IfKnown known (AppendsPrefix old new)
 
--- ---- what is printed
+-- ---- the output
 
--- How many PES packets and marks were given, and how many of them are marks.
+-- The number of PES packets, gap markers included, and how many of them are gap markers.
 abbrev pub written_line : Extracted → List ℕ
 written_line e =
     codes "written " ++ decimal e.pes ++ codes " pes " ++ decimal e.gaps ++ codes " gaps\n"
 
--- What is told of a fault: that the source failed, or what is no PES packet, at the PES packet that
--- was read.
+-- The line of a fault: a failed source, or what is no PES packet, at the PES packet that was being
+-- read.
 abbrev pub extract_line : ExtractFault → FaultLine
 extract_line (Read n) = counted_from n (check_line (check.Pes 0 pes.Read))
 extract_line Write = line_as kind.Fault (pes_code pes.Write) Nowhere
 extract_line Empty = check_line check.Empty
 extract_line (Refused f n) = counted_from n (check_line (check.Pes 0 f))
 
--- What is printed.
+-- The output.
 abbrev pub extract_listing : Result Extracted ExtractFault → Listing
 extract_listing (Ok e) = done (written_line e)
 extract_listing (Err f) = fault_listing (extract_line f)
 
--- A file was written of what a source gave, and its line was printed.
+-- A file was written from a source, and its line was printed.
 pub record EndsExtract (source : SourceCall) (file out : SinkCall) (status : Status) : Type 0 where
   pub answer : Result Extracted ExtractFault
   pub extracts : Extracts source.known file.old file.new answer
-  -- The devices fail where the answer says so, and nowhere else.
+  -- The devices fail exactly if the result says so.
   pub source_count : RisesIf source.old_count (failed is_extract_read answer) source.new_count
   pub file_count : RisesIf file.old_count (failed is_extract_write answer) file.new_count
   pub printed : PrintsOrFails out (extract_listing answer) status

@@ -1,6 +1,6 @@
--- What is told of a fault, in one line that ends with a newline (own): whether the input is
--- refused, a device or memory failed, or the words are no request; number and name; the place. The
--- status follows from it.
+-- The line of a fault, which ends with a newline (own): whether the input is refused, a device or
+-- memory failed, or the arguments make no request; number and name; the place. The status follows
+-- from it.
 use Rattle.std.specs.Prelude.{ℕ, ◌%◌, List, [], ◌++◌, codes, decimal}
 use Rattle.sub_io.specs.FaultCode.{FaultCodeValue}
 use Rattle.stl_file.specs.TimeCode.{day}
@@ -13,21 +13,21 @@ use Rattle.sub_listing.specs.declared.fault_line.FaultLine.{FaultLine}
 use Rattle.sub_rules.specs.declared.fault_place.FaultPlace.{FaultPlace}
 use Rattle.sub_rules.specs.declared.fault_place.FaultPlace.TheVariants as place
 
--- What is told of a fault with this code. PES packets are counted from 0.
+-- The line of a fault with this code. PES packets are counted from 0.
 abbrev pub line_as : Kind → FaultCodeValue → FaultPlace → FaultLine
 line_as k c p = record { kind = k; code = c; place = p; first = 0 }
 
--- The same where the first PES packet that is read has this number in its file.
+-- The same if the first PES packet that is read has this number in its file.
 abbrev pub counted_from : ℕ → FaultLine → FaultLine
 counted_from first t = record t { first = first }
 
--- What the line begins with.
+-- The beginning of the line.
 abbrev pub kind_text : Kind → List ℕ
 kind_text kind.Refused = codes "refused "
 kind_text kind.Fault = codes "fault "
 kind_text kind.Usage = codes "usage "
 
--- The time of a frame of the day. Past a day the clock begins anew; no event of a file names such a
+-- The time of a frame of the day. After a day it starts again; no event of a file names such a
 -- frame.
 abbrev pub clock_text : ℕ → List ℕ
 clock_text frame = time_text (frame % day)
@@ -36,7 +36,7 @@ clock_text frame = time_text (frame % day)
 abbrev pub frame_text : ℕ → List ℕ
 frame_text frame = codes " frame " ++ clock_text frame
 
--- The place, where the first PES packet that is read has this number in its file.
+-- The place, if the first PES packet that is read has this number in its file.
 abbrev pub place_text : ℕ → FaultPlace → List ℕ
 place_text first place.Nowhere = []
 place_text first (place.Pes pes) = codes " pes " ++ decimal (number_in_file first pes)
@@ -57,7 +57,7 @@ code_text code = decimal code.number ++ codes " " ++ code.name
 abbrev pub line_of : FaultLine → List ℕ
 line_of t = kind_text t.kind ++ code_text t.code ++ place_text t.first t.place ++ codes "\n"
 
--- The status that goes with it.
+-- The status that belongs to it.
 abbrev pub status_of : Kind → Status
 status_of kind.Refused = status.Refused
 status_of kind.Fault = status.Fault

@@ -1,5 +1,5 @@
--- What is told of each fault: a failed device and want of memory are faults, wrong words are wrong
--- usage, and all else is refused (own).
+-- The line of each fault: a failed device and want of memory are faults, wrong arguments are wrong
+-- usage, and everything else is refused (own).
 use Rattle.std.specs.Prelude.{ℕ, Bool, codes, if◌then◌else◌}
 use Rattle.sub_io.specs.FaultCode.{FaultCodeValue, fault_code}
 use Rattle.stl_file.specs.Fault.{is_file_read, normal_code, stl_code}
@@ -27,7 +27,7 @@ use Rattle.sub_request.specs.declared.request.UsageFault.TheVariants as usage
 
 -- ---- files
 
--- What the line about a failure of a device or of memory begins with, or that about a refusal.
+-- The beginning of the line, for a failure of a device or of memory, or for a refusal.
 abbrev pub kind_by : Bool → Kind
 kind_by fails = if fails then kind.Fault else kind.Refused
 
@@ -35,26 +35,26 @@ kind_by fails = if fails then kind.Fault else kind.Refused
 abbrev pub check_line : CheckFault → FaultLine
 check_line f = line_as (kind_by (is_failure f)) (check_code f) (place_of f)
 
--- A fault of loading a subtitle file, at a TTI block. One of a text names its place in it too.
+-- A fault of loading a subtitle file, at a TTI block. A fault of a text also names its place in it.
 abbrev pub load_line : LoadFaultKind → ℕ → FaultLine
 load_line f block = check_line (check.Subtitles (record { kind = f; block = block }))
 
--- A fault of a subtitle file that is read, at a TTI block.
+-- A fault of a subtitle file that is listed, at a TTI block.
 abbrev pub stl_line : StlFault → ℕ → FaultLine
 stl_line f block = line_as (kind_by (is_file_read f)) (stl_code f) (place.Block block)
 
 -- ---- one packet
 
--- The number and the name of a fault of a packet (own).
+-- The number and name of a fault of a packet (own).
 abbrev pub packet_code : PacketFault → FaultCodeValue
 packet_code packet.BadAddress = fault_code 3 (codes "BadAddress")
 packet_code packet.BadHeader = fault_code 4 (codes "BadHeader")
 
--- A fault of a packet: it has no place.
+-- A fault of a packet; it has no place.
 abbrev pub packet_line : PacketFault → FaultLine
 packet_line f = line_as kind.Refused (packet_code f) place.Nowhere
 
--- ---- words
+-- ---- arguments
 
 -- A file that can't be opened and want of memory are faults; the others are wrong usage.
 abbrev pub usage_kind : UsageFault → Kind
@@ -62,7 +62,7 @@ usage_kind usage.Open = kind.Fault
 usage_kind usage.Memory = kind.Fault
 usage_kind _ = kind.Usage
 
--- A fault of the words, or of the program itself: it has no place.
+-- A fault of the arguments, or of the program itself; it has no place.
 abbrev pub usage_line : UsageFault → FaultLine
 usage_line f = line_as (usage_kind f) (usage_code f) place.Nowhere
 

@@ -1,31 +1,30 @@
--- From which number PES packets are counted where they are told: the one that the first of them has
--- in its file.
+-- The number from which PES packets are counted in reports: that of the first one in its file.
 use Rattle.std.specs.Prelude.{◌≡◌, ◌⊎◌, ℕ, ◌+◌, ◌≤◌, Option, Some}
 use Rattle.std.specs.Io.KnownBytes.{Keeps}
 use Rattle.sub_listing.specs.DeviceCall.{SinkCall, SourceCall}
 use Rattle.sub_listing.specs.Listing.{IsListed, PrintsListing}
 use Rattle.sub_listing.specs.declared.status.Status.{Status}
 
--- The number that the first PES packet which a source gives has in its file, before a call and
--- after it, where the source tells its bytes; and how many of the file it has passed over after it.
+-- The number in its file of the first PES packet that a source gives, before and after a call, if
+-- it is known; and how many PES packets were skipped afterwards.
 pub record FirstNumber : Type 0 where
   pub known : Option ℕ
   pub left : Option ℕ
   pub passed : ℕ
 
--- In a call, by what such a source tells of them.
+-- The same for a call of such a source.
 abbrev pub first_number : {S : Type 0} → (S → Option ℕ) → (S → ℕ) → S → S → FirstNumber
 first_number number passed old new =
     record { known = number old; left = number new; passed = passed new }
 
--- The source failed, and nothing of what it gives was taken.
+-- The source failed, and nothing of it was consumed.
 abbrev pub FailsUntouched : SourceCall → Type 0
 FailsUntouched source =
     (source.new_count ≡ source.old_count + 1) × Keeps source.known source.left
 
--- PES packets are counted from this number, where the source tells which one of its file its first
--- one is: from that; or the source failed before it was found, and the number is that of the one at
--- which it did, behind those that it has passed over.
+-- PES packets are counted from this number: that of the first one in its file, if it is known; or
+-- the source failed before it was found, at the PES packet with this number, after those that were
+-- skipped.
 abbrev pub StartsAt : FirstNumber → SourceCall → ℕ → Type 0
 StartsAt first source number =
     (n : ℕ)
@@ -33,7 +32,7 @@ StartsAt first source number =
     → (number ≡ n)
     ⊎ ((number ≤ n) × (number ≡ first.passed) × (first.left ≡ Some n) × FailsUntouched source)
 
--- A source was read and listed whose PES packets are counted from such a number.
+-- A source was listed with PES packets counted from such a number.
 pub record PrintsFrom
     (ListsFrom : ℕ → IsListed) (first : FirstNumber) (source : SourceCall) (out : SinkCall)
     (status : Status)

@@ -1,4 +1,4 @@
--- How the program is used, as `--help` prints it (own).
+-- The text that `--help` prints (own).
 use Rattle.std.specs.Prelude.{ℕ, List, ◌++◌, codes}
 
 -- Its lines.

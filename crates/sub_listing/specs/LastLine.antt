@@ -1,11 +1,12 @@
--- What a sink holds back where the source of a listing failed: the line that says so, alone.
+-- The output that is not flushed if the source of a listing failed: only the line that reports
+-- this.
 use Rattle.std.specs.Prelude.{◌≡◌, ℕ, Bool, List, Option}
 use Rattle.sub_io.specs.Calls.{PutsByPushes}
 use Rattle.sub_io.specs.Device.{AppendsPrefix}
 use Rattle.sub_listing.specs.FaultLine.{line_of}
 use Rattle.sub_listing.specs.declared.fault_line.FaultLine.{FaultLine}
 
--- Bytes were put, and nothing was done beside. Where `ok` is false the sink failed, and has a
+-- These bytes were written, and nothing else was done. If `ok` is false the sink failed, and has a
 -- prefix of them.
 pub record PutsLine
     {K : Type 0} (contents : K → Option (List ℕ)) (IsPush : K → List ℕ → Option ℕ → K → Type 0)
@@ -14,7 +15,7 @@ pub record PutsLine
   pub calls : PutsByPushes IsPush old line ok new
   pub bytes : AppendsPrefix (contents old) (contents new) line
 
--- All that was printed before the last line was handed on, and since then this line alone was put.
+-- Everything before the last line was flushed, and since then only this line was written.
 pub record HoldsLastLine
     {K : Type 0} (contents : K → Option (List ℕ)) (held : K → ℕ)
     (IsPush : K → List ℕ → Option ℕ → K → Type 0) (new : K) : Type 0 where
@@ -23,7 +24,7 @@ pub record HoldsLastLine
   pub told : FaultLine
   pub line : PutsLine contents IsPush before (line_of told) new
 
--- These are the last line of a listing, and nothing is held back before it.
+-- This is the last line of a listing, and everything before it was flushed.
 pub record IsAlone (held : ℕ) (text : List ℕ) : Type 0 where
   pub settled : held ≡ 0
   pub told : FaultLine

@@ -9,11 +9,11 @@ use Rattle.ttx_pes.specs.DataUnit.{UnitValue}
 use Rattle.stl_file.specs.Gsi.{five_digits}
 use Rattle.stl_file.specs.Subtitle.{SubtitleValue}
 
--- The character of a cell's code: the codes 20 to 7E as ASCII, any other as a full stop.
+-- The character of a cell's code: codes 20 to 7E as ASCII, any other as a full stop.
 abbrev pub glyph : ℕ → ℕ
 glyph code = if nat_le 0x20 code && nat_le code 0x7E then code else 0x2E
 
--- The character of a text byte: that of its code, or `?` where its parity is even.
+-- The character of a text byte: that of its code, or `?` if its parity is even.
 abbrev pub text_glyph : ℕ → ℕ
 text_glyph byte = if is_odd byte then glyph (code_of byte) else 0x3F
 
@@ -34,11 +34,11 @@ abbrev pub address_line : ℕ → ℕ → List ℕ
 address_line magazine packet_number = codes "magazine " ++ decimal (shown_magazine magazine)
     ++ codes " packet " ++ decimal packet_number ++ codes "\n"
 
--- A control bit's name after a space, where the bit is set.
+-- The name of a control bit after a space, if the bit is set.
 abbrev pub marked : Bool → List ℕ → List ℕ
 marked bit name = if bit then name else []
 
--- The control bits that are set, rising, each after a space.
+-- The control bits that are set, in rising order, each after a space.
 abbrev pub control_names : Header → List ℕ
 control_names h = marked (c4 h) (codes " C4") ++ marked (c5 h) (codes " C5")
     ++ marked (c6 h) (codes " C6") ++ marked (c7 h) (codes " C7") ++ marked (c8 h) (codes " C8")
@@ -46,12 +46,12 @@ control_names h = marked (c4 h) (codes " C4") ++ marked (c5 h) (codes " C5")
     ++ marked (c11 h) (codes " C11") ++ marked (c12 h) (codes " C12")
     ++ marked (c13 h) (codes " C13") ++ marked (c14 h) (codes " C14")
 
--- The names of the control bits that are set, or ` none` where no bit is.
+-- The names of the control bits that are set, or ` none`.
 abbrev pub control_list : Header → List ℕ
 control_list h =
     if length (control_names h) == 0 then codes " none" else control_names h
 
--- What a page header says: page number and subcode in hexadecimal, and the control bits.
+-- The contents of a page header: page number and subcode in hexadecimal, and the control bits.
 abbrev pub header_line : Header → List ℕ
 header_line h = codes "page " ++ hex_two h.page ++ codes " subcode "
     ++ hex_two (h.subcode / 256) ++ hex_two (h.subcode % 256)
@@ -61,9 +61,9 @@ header_line h = codes "page " ++ hex_two h.page ++ codes " subcode "
 abbrev pub text_line : List ℕ → List ℕ
 text_line bytes = codes "text |" ++ map text_glyph bytes ++ codes "|\n"
 
--- The number that a PES packet has in its file, counted from 0: `index` is its number among those
--- that are read, of which the first has the number `first`. The greatest number that is printed
--- stands for any above it too.
+-- The number of a PES packet in its file, counted from 0: `index` is its number among those that
+-- are read, of which the first has the number `first`. The greatest number that is printed stands
+-- for any above it, too.
 unfoldable pub number_in_file : ℕ → ℕ → ℕ
 number_in_file first index = min (first + index) 0xFFFF_FFFF_FFFF_FFFF
 
@@ -72,7 +72,7 @@ abbrev pub pes_line : ℕ → ℕ → List ℕ
 pes_line number pts = codes "pes " ++ decimal number ++ codes " pts " ++ decimal pts ++ codes "\n"
 
 -- A Teletext unit: its number in its PES packet from 0, data_unit_id, the field, line_offset, and
--- the packet's 42 bytes, not mirrored.
+-- the packet's 42 bytes in the bit order of Teletext.
 abbrev pub unit_line : ℕ → UnitValue → List ℕ
 unit_line number u = codes "unit " ++ decimal number ++ codes " id 0" ++ decimal u.id
     ++ codes " field " ++ decimal u.field ++ codes " line " ++ decimal u.line ++ codes " "
@@ -87,7 +87,7 @@ unfoldable pub time_text : ℕ → List ℕ
 time_text frame = two_digits (frame / 90000) ++ codes ":" ++ two_digits ((frame / 1500) % 60)
     ++ codes ":" ++ two_digits ((frame / 25) % 60) ++ codes ":" ++ two_digits (frame % 25)
 
--- The joined text of a subtitle in hexadecimal, or a hyphen where it is empty (own).
+-- The joined text of a subtitle in hexadecimal, or a hyphen if it is empty (own).
 unfoldable pub text_digits : List ℕ → List ℕ
 text_digits text = if length text == 0 then codes "-" else encode_lower text
 

@@ -1,4 +1,4 @@
--- What the commands print, whole, and how they end.
+-- The complete output of the commands, and how they end.
 use Rattle.std.specs.Prelude.{◌≡◌, ◌≢◌, ◌⊎◌, ℕ, ◌+◌, ◌==◌, Bool, true, false, nat_le, List, ◌++◌}
 use Rattle.std.specs.Prelude.{drop, Option, Some, None, option_map, if◌then◌else◌}
 use Rattle.ttx_packet.specs.PacketAddress.{address, address_pair}
@@ -16,20 +16,20 @@ use Rattle.sub_listing.specs.declared.status.Status.{Status}
 use Rattle.sub_listing.specs.declared.status.Status.TheVariants.{Done, Refused, Fault}
 use Rattle.sub_listing.specs.declared.fault_line.FaultLine.{FaultLine}
 
--- A text and the status that goes with it where all of it was printed.
+-- A text, and the status if all of it was printed.
 pub record Listing : Type 0 where
   pub text : List ℕ
   pub status : Status
 
--- A text that is all that was asked for.
+-- A text that is the complete answer.
 abbrev pub done : List ℕ → Listing
 done text = record { text = text; status = Done }
 
--- The line of what is told of a fault.
+-- The line of a fault.
 abbrev pub fault_listing : FaultLine → Listing
 fault_listing t = record { text = line_of t; status = status_of t.kind }
 
--- Lines, and what follows them.
+-- Lines before a listing.
 abbrev pub followed : List ℕ → Listing → Listing
 followed text more = record { text = text ++ more.text; status = more.status }
 
@@ -47,14 +47,14 @@ row_listing magazine packet_number packet = if nat_le packet_number 24
     then done (address_line magazine packet_number ++ text_line (drop 2 packet))
     else done (address_line magazine packet_number)
 
--- What is listed of a packet, by the magazine and the packet number that it has.
+-- The listing of a packet, given its magazine and packet number.
 abbrev pub addressed_listing : Option (ℕ × ℕ) → List ℕ → Listing
 addressed_listing None packet = fault_listing (packet_line BadAddress)
 addressed_listing (Some a) packet = if a.1 == 0
     then header_listing a.0 packet (header packet)
     else row_listing a.0 a.1 packet
 
--- What `packet` prints of the 42 bytes of a packet.
+-- What `packet` prints for the 42 bytes of a packet.
 abbrev pub packet_listing : List ℕ → Listing
 packet_listing packet = addressed_listing (option_map address_pair (address packet)) packet
 
@@ -66,19 +66,20 @@ exit_code Done = 0
 exit_code Refused = 1
 exit_code Fault = 2
 
--- The source failed, where a listing ends so. It has no end where the sink failed before it.
+-- The listing ends because the source failed. It has no end if the sink failed before.
 abbrev pub has_failed : Option Status → Bool
 has_failed (Some Fault) = true
 has_failed _ = false
 
--- What may be listed of a source, by what it tells before and after and how the listing ends.
+-- The listings that are possible for a source, given its bytes before and after and how the listing
+-- ends.
 abbrev pub IsListed : Type 1
 IsListed = Option (List ℕ) → Option (List ℕ) → Option Status → Listing → Type 0
 
--- ---- what was printed
+-- ---- the printed text
 
--- All of the listing was printed, and its status is given; or the sink failed once, has a prefix of
--- the text, and the status is `Fault`.
+-- All of the listing was printed, and its status is returned; or the sink failed once, has a prefix
+-- of the text, and the status is `Fault`.
 unfoldable pub PrintsOrFails : SinkCall → Listing → Status → Type 0
 PrintsOrFails out listing status =
     ((out.new_count ≡ out.old_count) × Appends out.old out.new listing.text
@@ -86,10 +87,9 @@ PrintsOrFails out listing status =
     ⊎ ((out.new_count ≡ out.old_count + 1) × AppendsPrefix out.old out.new listing.text
     × (status ≡ Fault))
 
--- The outcome of reading a source is listed: where the source tells its bytes and did not fail,
--- these decide the outcome; where it was read to the end of the listing or failed, what was taken
--- of it does, also where it tells nothing. The source is known by the bytes that it told before and
--- tells after.
+-- The outcome of reading a source is listed. If the bytes of the source are known and it did not
+-- fail, they decide the outcome; if it was read to the end of the listing or failed, the consumed
+-- bytes do, whether they are known or not.
 pub record Lists
     {Outcome : Type 0} (listing_of : Outcome → Listing) (given : List ℕ → Outcome)
     (Takes : Bool → Option (List ℕ) → Outcome → Option (List ℕ) → Type 0)
@@ -100,8 +100,8 @@ pub record Lists
   pub exact : IfKnown known (λ bytes. has_failed ending ≡ false → outcome ≡ given bytes)
   pub taken : ending ≢ None → Takes (has_failed ending) known outcome left
 
--- A source was read and listed, whether it failed or not, and the listing was printed, or a sink
--- that failed has a prefix of it.
+-- A source was listed, whether it failed or not, and the listing was printed, or a sink that failed
+-- has a prefix of it.
 pub record PrintsListing
     (Lists : IsListed) (source : SourceCall) (out : SinkCall) (status : Status)
     : Type 0 where
@@ -112,8 +112,8 @@ pub record PrintsListing
   pub cut : ending ≡ None → out.new_count ≢ out.old_count
   pub printed : PrintsOrFails out listing status
 
--- One piece of a listing was read and its lines made: whatever is listed from here on is listed
--- after them, and something is; or they end the listing.
+-- One part of a listing was read and its lines were made: each listing from here on comes after
+-- them, and there is one; or they end the listing.
 abbrev pub Gives : IsListed → IsListed
     → Option (List ℕ) → Option (List ℕ) → List ℕ → Option Status → Type 0
 Gives Before After known left text None =
@@ -123,6 +123,6 @@ Gives Before After known left text None =
 Gives Before After known left text (Some status) =
     Before known left (Some status) (record { text = text; status = status })
 
--- A piece was not read whole, since the sink had failed: what is listed then has no end.
+-- A part was not read completely, since the sink had failed: the listing then has no end.
 abbrev pub IsCut : IsListed → Option (List ℕ) → Option (List ℕ) → Type 0
 IsCut Lists known left = (more : Listing) × Lists known left None more

@@ -1,4 +1,4 @@
--- What `packets` prints of a file of PES packets.
+-- What `packets` prints for a file of PES packets.
 use Rattle.std.specs.Prelude.{ℕ, ◌+◌, List, [], ◌∷◌, ◌++◌, codes, decimal}
 use Rattle.ttx_pes.specs.DataUnit.{UnitValue}
 use Rattle.ttx_pes.specs.Outcome.{PesOutcome, ReadsPackets, ends, fails, gives, outcome_after}
@@ -14,18 +14,18 @@ abbrev pub unit_lines : ℕ → List UnitValue → List ℕ
 unit_lines number [] = []
 unit_lines number (u ∷ units) = unit_line number u ++ unit_lines (number + 1) units
 
--- The lines of a PES packet, which has this number in its file, and of its units.
+-- The lines of a PES packet with this number in its file, and of its units.
 abbrev pub frame_lines : ℕ → PesValue → List ℕ
 frame_lines number v = pes_line number v.pts ++ unit_lines 0 v.units
 
 -- What is printed after `index` PES packets: each of them in turn, and at the end how many were
--- listed. The first of all that are read has the number `first` in its file.
+-- listed. The first that is read has the number `first` in its file.
 abbrev pub pes_listing : ℕ → ℕ → PesOutcome → Listing
 pes_listing first index ends = done (decimal index ++ codes " pes\n")
 pes_listing first index (fails f) = fault_listing (counted_from first (check_line (Pes index f)))
 pes_listing first index (gives v more) =
     followed (frame_lines (number_in_file first index) v) (pes_listing first (index + 1) more)
 
--- PES packets are listed of which the first has this number in its file.
+-- PES packets are listed, of which the first has this number in its file.
 abbrev pub ListsPackets : ℕ → IsListed
 ListsPackets first = Lists (pes_listing first 0) (outcome_after 0) ReadsPackets

@@ -1,4 +1,4 @@
--- What a device does that prints a line for each event. Private functions alone cite this.
+-- A device that prints a line for each event. Only contracts of private functions use it.
 use Rattle.std.specs.Prelude.{◌≡◌, ◌≢◌, ◌||◌, not, ℕ, ◌+◌, min, nat_lt, Bool, true, false, List}
 use Rattle.std.specs.Prelude.{Option}
 use Rattle.std.specs.Io.KnownBytes.{Appends, Keeps}
@@ -6,9 +6,8 @@ use Rattle.sub_io.specs.Device.{AppendsPrefix}
 use Rattle.sub_rules.specs.declared.event.Event.{Event}
 use Rattle.sub_listing.specs.EventLines.{event_line, event_lines, most_counted, refusal, refusals}
 
--- The device: what its sink has taken, where it tells that, and how often it has failed; how many
--- refusals were counted; whether the sink failed while it printed; the number that the first PES
--- packet that is read has in its file.
+-- The device: the contents of its sink, if known, and its count of failures; how many faults were
+-- counted; whether the sink failed while printing; the number of the first PES packet in its file.
 pub record PrinterValue : Type 0 where
   pub contents : Option (List ℕ)
   pub count : ℕ
@@ -16,7 +15,7 @@ pub record PrinterValue : Type 0 where
   pub failed : Bool
   pub first : ℕ
 
--- The device by its parts.
+-- The device from its parts.
 abbrev pub printer_value : Option (List ℕ) → ℕ → ℕ → Bool → ℕ → PrinterValue
 printer_value contents count refused failed first = record {
   contents = contents;
@@ -30,11 +29,11 @@ printer_value contents count refused failed first = record {
 abbrev pub can_fail : ℕ → Bool
 can_fail count = nat_lt count 0xFFFF_FFFF_FFFF_FFFF
 
--- The count after more refusals: the greatest number stands for any above it too.
+-- The count after more faults: the greatest number stands for any above it, too.
 unfoldable pub counted : ℕ → ℕ → ℕ
 counted refused more = min (refused + more) most_counted
 
--- It was told an event, the sink having failed at none before. Its line was put and a refusal
+-- It was told an event, and the sink had not failed before. The line was written and a fault
 -- counted; or the sink failed once, and has a prefix of the line.
 pub record PrintsEvent (old : PrinterValue) (event : Event) (new : PrinterValue) : Type 0 where
   pub goes_on : old.failed ≡ false
@@ -46,8 +45,8 @@ pub record PrintsEvent (old : PrinterValue) (event : Event) (new : PrinterValue)
       new.failed ≡ true → AppendsPrefix old.contents new.contents (event_line old.first event)
   pub cut_count : new.failed ≡ true → new.count ≡ old.count + 1
 
--- Events were told, one after another, to a printer that has not failed: all their lines were put,
--- or a prefix of them.
+-- It was told events, one after another, and had not failed: all their lines were written, or a
+-- prefix of them.
 pub record PrintsEvents (old : PrinterValue) (events : List Event) (new : PrinterValue) : Type 0
   where
     pub counts_from : new.first ≡ old.first
@@ -60,7 +59,7 @@ pub record PrintsEvents (old : PrinterValue) (events : List Event) (new : Printe
         → AppendsPrefix old.contents new.contents (event_lines old.first events)
     pub cut_count : new.failed ≡ true → new.count ≡ old.count + 1
 
--- Whatever was handed on, what was printed stays. Where it could not be, the sink failed once.
+-- Flushing keeps what was printed. If it was not possible, the sink failed once.
 pub record StaysPrinted (old new : PrinterValue) : Type 0 where
   pub kept : Keeps old.contents new.contents
   pub refused : new.refused ≡ old.refused
@@ -68,7 +67,7 @@ pub record StaysPrinted (old new : PrinterValue) : Type 0 where
   pub same : new.failed ≡ old.failed → new.count ≡ old.count
   pub risen : new.failed ≢ old.failed → (new.failed ≡ true) × (new.count ≡ old.count + 1)
 
--- It was to hand on the lines that its sink holds back, and did so where `ok`.
+-- It was asked to flush its sink, and did so if `ok`.
 pub record HandsOnLines (old : PrinterValue) (ok : Bool) (new : PrinterValue) : Type 0 where
   pub stays : StaysPrinted old new
   pub stopped : (new.failed || not (can_fail new.count)) ≡ not ok

@@ -1,4 +1,4 @@
--- What `show` prints of a subtitle file.
+-- What `show` prints for a subtitle file.
 use Rattle.std.specs.Io.KnownBytes.{Consumes}
 use Rattle.std.specs.Prelude.{◌≡◌, ◌⊎◌, ℕ, ◌+◌, ◌<◌, List, codes, decimal, ◌++◌, length, Option}
 use Rattle.std.specs.Prelude.{Bool, true, false, None, Some, ◌-◌, ◌≤◌}
@@ -15,9 +15,8 @@ use Rattle.sub_listing.specs.Faults.{stl_line}
 use Rattle.sub_listing.specs.Lines.{subtitle_line}
 use Rattle.sub_listing.specs.Listing.{IsListed, Lists, Listing, done, followed, fault_listing}
 
--- These subtitles were taken of a source, `from` blocks after the GSI block, and then blocks that
--- are passed over; or there is no file of what comes then. Where the source failed, it failed at
--- this block.
+-- These subtitles were read from a source, `from` blocks after the GSI block, followed by skipped
+-- blocks; or what follows is no file. If the source failed, it failed at this block.
 abbrev pub ReadsSubtitles : Bool → ℕ → Option (List ℕ) → Outcome → Option (List ℕ) → Type 0
 ReadsSubtitles failed from known ends left =
     (failed ≡ false) × (to : ℕ) × TakesPassed from to known left
@@ -29,7 +28,7 @@ ReadsSubtitles failed from known (gives s block more) left =
     (behind : Option (List ℕ)) × TakesSubtitle from block known behind s
     × ReadsSubtitles failed block behind more left
 
--- No GSI block was read: the source failed in it, or no file begins so.
+-- No GSI block was read: the source failed in it, or no file begins like this.
 pub record ReadsNoGsi (failed : Bool) (known : Option (List ℕ)) (outcome : Outcome)
     (left : Option (List ℕ)) : Type 0 where
   pub fault : StlFault
@@ -57,14 +56,14 @@ subtitles_listing count (gives s block more) =
 abbrev pub ListsSubtitles : IsListed
 ListsSubtitles = Lists (subtitles_listing 0) outcome_of ReadsFile
 
--- What is listed after `count` subtitles, by the reader after the GSI block, or where there is none
+-- What is listed after `count` subtitles, by the reader after the GSI block, or if there is none
 -- yet.
 abbrev pub ListsFrom : Option ReaderValue → ℕ → IsListed
 ListsFrom None count = Lists (subtitles_listing count) outcome_of ReadsFile
 ListsFrom (Some r) count =
     Lists (subtitles_listing count) (outcome_left r) (λ failed. ReadsSubtitles failed r.block)
 
--- The reader has not come to the end, and met no fault.
+-- The reader is not at the end, and has met no fault.
 abbrev pub IsReady : Option ReaderValue → ℕ → Type 0
 IsReady None count = count ≡ 0
 IsReady (Some r) count = (r.progress ≡ Reading) × (count ≤ r.block) × (r.block ≤ most_blocks)

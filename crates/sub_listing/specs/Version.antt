@@ -1,4 +1,4 @@
--- The name and the version of the program, as `--version` prints them (own).
+-- The name and version of the program, as `--version` prints them (own).
 use Rattle.std.specs.Prelude.{ℕ, List, codes}
 
 -- Its line.

@@ -1,4 +1,4 @@
--- What the commands that write a file do: what the file has, and what is printed of it.
+-- The commands that write a file: the contents of the file, and the output.
 use Rattle.std.specs.Prelude.{◌≡◌, ◌≢◌, ◌<◌, ℕ, List, [], ◌++◌, codes, decimal, length, Bool, true}
 use Rattle.std.specs.Prelude.{false, Option, Result, Ok, Err, IsOkAnd}
 use Rattle.std.specs.Io.KnownBytes.{Appends, Consumes, Keeps}
@@ -27,9 +27,9 @@ use Rattle.sub_listing.specs.declared.writing.WriteFault.TheVariants as write
 use Rattle.sub_listing.specs.DeviceCall.{SinkCall, SourceCall}
 use Rattle.sub_listing.specs.declared.status.Status.{Status}
 
--- ---- how the work ends, before its line is printed
+-- ---- the result of the work, before its line is printed
 
--- The source failed, of the input of `normal`.
+-- The source of `normal` failed.
 abbrev pub is_input_read : InputFault → Bool
 is_input_read (input.Read block) = true
 is_input_read input.Memory = false
@@ -46,18 +46,18 @@ is_file_failure (write.Normal f) = is_normal_write f
 is_file_failure (write.Plan f) = is_plan_write f
 is_file_failure _ = false
 
--- What is printed: how many things are in the file, or what is told of the fault.
+-- The output: how many items are in the file, or the fault.
 abbrev pub work_listing : List ℕ → Result ℕ WriteFault → Listing
 work_listing things (Ok count) = done (codes "written " ++ decimal count ++ things)
 work_listing things (Err f) = fault_listing (write_line f)
 
--- What the bytes of the input decide by what the file had and has, and what the input tells before
--- and after decides where it failed.
+-- The file before and after, and the result, given the bytes of the input; and the place of a
+-- failed read, given the input before and after.
 abbrev pub Work : Type 1
 Work = Option (List ℕ) → Option (List ℕ) → Option (List ℕ) → Option (List ℕ)
     → Result ℕ WriteFault → Type 0
 
--- The work of a command that writes a file has this answer, the number of things in it or a fault,
+-- The work of a command that writes a file has this result, the number of items in it or a fault,
 -- and its line was printed.
 pub record EndsWork
     (input : SourceCall) (file out : SinkCall) (status : Status)
@@ -65,15 +65,15 @@ pub record EndsWork
     : Type 0 where
   pub answer : Result ℕ WriteFault
   pub works : HasWorked input.known input.left file.old file.new answer
-  -- The devices fail where the answer says so, and nowhere else.
+  -- The devices fail exactly if the result says so.
   pub input_count : RisesIf input.old_count (failed is_input_failure answer) input.new_count
   pub file_count : RisesIf file.old_count (failed is_file_failure answer) file.new_count
   pub printed : PrintsOrFails out (work_listing things answer) status
 
 -- ---- `schedule`
 
--- The file has the schedule of a programme, and this is the number of its transmissions; or a
--- prefix of it, where the file failed; or nothing, where there are no subtitles.
+-- The file has the schedule of a programme, and this is the number of its page transmissions; or a
+-- prefix of it, if the file failed; or nothing, if there are no subtitles.
 abbrev pub WritesSchedule :
     ProgrammeValue → OptionsValue → Bool → Option (List ℕ) → Option (List ℕ)
     → Result ℕ PlanFault → Type 0
@@ -86,8 +86,8 @@ WritesSchedule programme o serial old new (Err Write) =
 WritesSchedule programme o serial old new (Err NoSubtitles) =
     Keeps old new × (programme.records ≡ [])
 
--- The schedule of the programme that the input gives; or nothing, where it gives none: then it is
--- told why, and at which block where the source failed.
+-- The schedule of the input's programme. If there is none, nothing is written and the reason is
+-- reported, with the block if the source failed.
 abbrev pub Schedules : Drawing → OptionsValue → Bool → Work
 Schedules drawing o serial known left old new (Ok count) =
     IfKnown known (λ bytes. IsOkAnd (loaded drawing bytes) (λ programme.
@@ -101,7 +101,7 @@ Schedules drawing o serial known left old new (Err (write.Load f)) =
     × Keeps old new
 Schedules drawing o serial known left old new answer = ⊥
 
--- Want of memory is printed, with the last block of a subtitle that the file gives.
+-- Want of memory is reported with the last block of a subtitle that the file has.
 abbrev pub PrintsMemory :
     Drawing → Option (List ℕ) → Option (List ℕ) → Option (List ℕ) → Type 0
 PrintsMemory drawing known old new =
@@ -114,16 +114,16 @@ PrintsMemory drawing known old new =
 abbrev pub most_read : ℕ
 most_read = 12800897
 
--- The source failed at a byte of this block, after the bytes that were taken; or memory was
--- refused, which is wanted only for bytes that were taken.
+-- The source failed at a byte of this block, after the consumed bytes; or an allocation was
+-- refused, which is needed only for consumed bytes.
 abbrev pub TellsRead : Option (List ℕ) → Option (List ℕ) → InputFault → Type 0
 TellsRead old new (input.Read block) =
     (bytes : List ℕ) × Consumes old new bytes × (block ≡ block_of_byte (length bytes))
 TellsRead old new input.Memory =
     (bytes : List ℕ) × Consumes old new bytes × (0 < length bytes)
 
--- The file has the normal form of the input, or a prefix of it where it failed; or nothing, where
--- the input is refused or was not read.
+-- The file has the normal form of the input, or a prefix of it if it failed; or nothing, if the
+-- input is refused or was not read.
 abbrev pub Normalizes : Work
 Normalizes known left old new (Ok count) =
     IfKnown known (λ bytes. NormalAnswers bytes old new (Ok count))

@@ -1,4 +1,4 @@
-//! Copies pieces into a file, each as soon as it has come, and bytes that no piece begins.
+//! Copies PES packets to a file, each as soon as it has come, and bytes that begin no PES packet.
 ghost use Rattle.std.specs.Prelude.{◌≡◌, Err, IfOk, OnErr, OnOk, false, length, true};
 ghost use Rattle.std.specs.Io.KnownBytes.{Appends};
 ghost use Rattle.sub_io.specs.Device.{AppendsPrefix, CanFail, CountsIf, failed};
@@ -12,19 +12,19 @@ use std::marker::Model;
 use sub_io::{Flush, put_all};
 use ttx_pes::{Came, Pieces, REST_ROOM, TakePiece, is_mark};
 
-// Room for the longest piece.
+// Room for the longest PES packet.
 const PIECE_ROOM: usize = 1656;
 
 /// Which device failed.
 #[derive(Clone, Copy)]
 pub enum CopyFault {
-    /// The one that gives the pieces.
+    /// The one that gives the PES packets.
     Read,
     /// The file.
     Write,
 }
 
-/// The bytes of the piece that was taken last. Contracts see them as a list.
+/// The bytes of the PES packet that was read last. In contracts its value is a list.
 #[derive(Drop)]
 pub struct TakenPiece {
     room: [u8; PIECE_ROOM],
@@ -42,7 +42,7 @@ impl Model for TakenPiece {
 }
 
 impl TakenPiece {
-    /// None was.
+    /// Returns an empty value.
     pub fn new() -> Self {
         TakenPiece {
             room: [0; PIECE_ROOM],
@@ -50,7 +50,7 @@ impl TakenPiece {
         }
     }
 
-    // The bytes.
+    // Returns the bytes.
     fn bytes(&self) -> &[u8]
         ensures { result.now ≡ self.now }
     {
@@ -60,7 +60,7 @@ impl TakenPiece {
 }
 
 impl TakePiece for TakenPiece {
-    // Whether it is a mark.
+    // Whether it is a gap marker.
     type Answer = bool;
 
     ghost is_take = { λ old piece answer new. (new ≡ piece) × (answer ≡ is_mark piece) };
@@ -74,7 +74,7 @@ impl TakePiece for TakenPiece {
     }
 }
 
-// Puts bytes into a file, and has it hand them on.
+// Writes bytes to a file and flushes it.
 fn put_and_hand_on<F: Flush>(file: &mut F, bytes: &[u8]) -> Result<(), CopyFault>
     requires { CanFail (F.failure_count file.old) }
     ensures ok { OnOk result (Appends (F.contents file.old) (F.contents file.new) bytes.now) }
@@ -93,12 +93,12 @@ fn put_and_hand_on<F: Flush>(file: &mut F, bytes: &[u8]) -> Result<(), CopyFault
     }
 }
 
-/// Copies the next piece, if one comes, by way of `piece`, and has the file hand it on.
+/// Copies the next PES packet, if there is one, through `piece`, and flushes the file.
 ///
 /// # Errors
 ///
-/// `Read` where the device of the pieces failed: then nothing was copied. `Write` where the file
-/// failed, and has a prefix of the piece.
+/// Returns `Read` if the device of the PES packets failed; nothing was copied then. Returns `Write`
+/// if the file failed, which has a prefix of the PES packet.
 pub fn copy_next<P: Pieces, F: Flush>(
     pieces: &mut P,
     file: &mut F,
@@ -134,12 +134,13 @@ pub fn copy_next<P: Pieces, F: Flush>(
     }
 }
 
-/// Copies all that is left, once it was told that no piece begins it, and has the file hand it on
-/// as it comes. At most 2^64 - 1 times bytes are read.
+/// Copies all remaining bytes after it turned out that they begin no PES packet, and flushes the
+/// file as they come. Reads at most 2^64 - 1 times.
 ///
 /// # Errors
 ///
-/// `Read` where the device of the pieces failed, `Write` where the file did: a prefix was copied.
+/// Returns `Read` if the device of the PES packets failed, `Write` if the file did. A prefix was
+/// copied.
 pub fn copy_rest<P: Pieces, F: Flush>(pieces: &mut P, file: &mut F) -> Result<(), CopyFault>
     requires rest { P.is_rest pieces.old ≡ true }
     requires pieces { CanFail (P.failure_count pieces.old) }

@@ -22,39 +22,39 @@ use ttx_pes::{Came, PesFault, Pieces};
 /// What was written.
 #[derive(Clone, Copy)]
 pub struct Extracted {
-    /// PES packets and marks.
+    /// The number of PES packets, gap markers included.
     pub pes: u64,
-    /// How many of them are marks.
+    /// How many of them are gap markers.
     pub gaps: u64,
 }
 
-/// Why what was written is no file of PES packets, or not all of it.
+/// Why what was written is no file of PES packets, or only a part of it.
 #[derive(Clone, Copy)]
 pub enum ExtractFault {
-    /// The device that gives the pieces failed.
+    /// The device that gives the PES packets failed.
     Read {
-        /// How many PES packets and marks had been given.
+        /// How many PES packets, gap markers included, came before.
         pes: u64,
     },
     /// The file failed.
     Write,
-    /// Nothing was given.
+    /// There was no PES packet.
     Empty,
     /// What follows is no PES packet.
     Refused {
-        /// Why.
+        /// The reason.
         fault: PesFault,
-        /// How many PES packets and marks had been given.
+        /// How many PES packets, gap markers included, came before.
         pes: u64,
     },
 }
 
-/// Writes pieces one after another, PES packets and marks where they are those of a PID of a
-/// recording (ISO/IEC 13818-1; `RecordingPieces` of `mpeg_ts`), and prints how many there are, and
-/// how many of them are marks; or why what was written is no file of PES packets.
+/// Writes PES packets one after another, with gap markers if they are those of a PID of a recording
+/// (ISO/IEC 13818-1; `RecordingPieces` of `mpeg_ts`), and prints their number, and how many of them
+/// are gap markers; or why what was written is no file of PES packets.
 ///
-/// Each is handed on as soon as it has come, and the line comes once the system has stored the
-/// file. Bytes that no piece begins are written too. `Fault` where a device failed.
+/// Each is flushed as soon as it has come, and the line is printed after the system has stored the
+/// file. Bytes that begin no PES packet are written, too. Returns `Fault` if a device failed.
 pub fn extract_packets<P: Pieces, F: Close, K: Sink>(
     pieces: &mut P,
     file: &mut F,
@@ -76,8 +76,8 @@ pub fn extract_packets<P: Pieces, F: Close, K: Sink>(
         < P.failure_count pieces.new + F.failure_count file.new + K.failure_count out.new }
     ensures held { result ≡ Status.Done → F.held file.new ≡ 0 }
     ensures stored { result ≡ Status.Done → F.is_stored file.new ≡ true }
-    // Where a device may be asked, all that was written before is handed on: each such call may
-    // fail, and where one did nothing is held back.
+    // Before a device may be asked, which may fail, everything is flushed. So if it failed, nothing
+    // is held back.
     ensures followed { F.held file.old ≡ 0
         → P.failure_count pieces.old < P.failure_count pieces.new
         → F.held file.new ≡ 0 }
@@ -94,7 +94,7 @@ pub fn extract_packets<P: Pieces, F: Close, K: Sink>(
     }
 }
 
-// Copies all pieces, and has the file stored.
+// Copies all PES packets, and stores the file.
 fn write_pieces<P: Pieces, F: Close>(
     pieces: &mut P,
     file: &mut F,
@@ -123,7 +123,7 @@ fn write_pieces<P: Pieces, F: Close>(
     }
 }
 
-// Copies all pieces, and what follows them.
+// Copies all PES packets, and what follows them.
 fn copy_pieces<P: Pieces, F: Flush>(pieces: &mut P, file: &mut F) -> Result<Extracted, ExtractFault>
     requires pieces { CanFail (P.failure_count pieces.old) }
     requires file { CanFail (F.failure_count file.old) }
@@ -165,7 +165,7 @@ fn copy_pieces<P: Pieces, F: Flush>(pieces: &mut P, file: &mut F) -> Result<Extr
     })
 }
 
-// One more where a piece is a mark.
+// Returns the number of gap markers after one more PES packet.
 fn counted(gaps: u64, is_mark: bool) -> u64
     requires { gaps < u64.MAX }
     ensures { result ≡ gaps + (if is_mark then 1 else 0) }
@@ -173,7 +173,7 @@ fn counted(gaps: u64, is_mark: bool) -> u64
     if is_mark { gaps + 1 } else { gaps }
 }
 
-// What is told of a fault.
+// Returns the line of a fault.
 fn line_of_extract(fault: ExtractFault) -> FaultLine
     ensures { result ≡ extract_line fault }
 {
@@ -185,7 +185,7 @@ fn line_of_extract(fault: ExtractFault) -> FaultLine
     }
 }
 
-// What is told of a fault of the PES packet that has this number.
+// Returns the line of a fault of the PES packet with this number.
 fn line_at_pes(fault: PesFault, pes: u64) -> FaultLine
     ensures { result ≡ counted_from pes (check_line (Pes 0 fault)) }
 {

@@ -1,4 +1,4 @@
-//! What is told of a fault: one line, from which the status follows.
+//! The line of a fault, from which the status follows.
 ghost use Rattle.std.specs.Prelude.{◌≡◌};
 ghost use Rattle.sub_listing.specs.FaultLine.{status_of, counted_from};
 
@@ -6,32 +6,32 @@ use crate::status::Status;
 use sub_io::FaultCode;
 use sub_rules::FaultPlace;
 
-/// What a line about a fault begins with.
+/// The beginning of the line.
 #[derive(Clone, Copy)]
 pub enum Kind {
     /// The input is refused.
     Refused,
     /// A device failed, memory ran out, or a file can't be opened.
     Fault,
-    /// The words are no request.
+    /// The arguments make no request.
     Usage,
 }
 
-/// What is told of a fault.
+/// The contents of the line of a fault.
 #[derive(Drop)]
 pub struct FaultLine {
-    /// What the line begins with.
+    /// The beginning of the line.
     pub kind: Kind,
-    /// The number and the name of the fault.
+    /// The number and name of the fault.
     pub code: FaultCode,
-    /// Where it is.
+    /// The place.
     pub place: FaultPlace,
-    /// The number that the first PES packet that is read has in its file, counted from 0.
+    /// The number in its file of the first PES packet that is read, counted from 0.
     pub first: u64,
 }
 
 impl FaultLine {
-    /// The same where the first PES packet that is read has this number in its file.
+    /// Returns the line if the first PES packet that is read has this number in its file.
     pub fn counted_from(self, first: u64) -> FaultLine
         ensures { result ≡ counted_from first self }
     {
@@ -49,7 +49,7 @@ impl FaultLine {
         }
     }
 
-    /// The status that goes with the line.
+    /// Returns the status that belongs to the line.
     pub fn status(&self) -> Status
         ensures { result ≡ status_of self.now.kind }
     {

@@ -1,4 +1,4 @@
-//! What is told of each fault.
+//! Makes the line of each fault.
 ghost use Rattle.std.specs.Prelude.{◌≡◌};
 ghost use Rattle.ttx_pes.specs.Fault.{pes_code};
 ghost use Rattle.ttx_pes.specs.declared.fault.PesFault.TheVariants.{Read, Write};
@@ -20,8 +20,8 @@ use sub_request::UsageFault;
 use sub_rules::{CheckFault, FaultPlace};
 use ttx_pes::{FailedAt, PesFault};
 
-/// A fault of a subtitle file that is read, with the TTI block that it names: a refusal, but for
-/// the failure of the source.
+/// Returns the line for a fault of a subtitle file that is listed, at a TTI block: a refusal,
+/// unless the source failed.
 pub fn line_of_stl(fault: StlFault, block: u32) -> FaultLine
     ensures { result ≡ stl_line fault block }
 {
@@ -37,7 +37,8 @@ pub fn line_of_stl(fault: StlFault, block: u32) -> FaultLine
     }
 }
 
-/// A fault of a pair of files: a refusal, but for the failure of a device and want of memory.
+/// Returns the line for a fault of a pair of files: a refusal, unless a device failed or memory ran
+/// out.
 pub fn line_of_check(fault: CheckFault) -> FaultLine
     ensures { result ≡ check_line fault }
 {
@@ -60,7 +61,7 @@ pub fn line_of_check(fault: CheckFault) -> FaultLine
     }
 }
 
-/// The failure of a source before the first PES packet that is read was found.
+/// Returns the line for a source that failed before the first PES packet was found.
 pub fn line_of_failed_read(at: FailedAt) -> FaultLine
     ensures { result ≡ counted_from at.pes (check_line (Pes 0 Read)) }
 {
@@ -71,21 +72,21 @@ pub fn line_of_failed_read(at: FailedAt) -> FaultLine
     line_of_check(fault).counted_from(at.pes)
 }
 
-/// The failure of a file of PES packets that is written.
+/// Returns the line for a file of PES packets that failed while it was written.
 pub fn line_of_file_write() -> FaultLine
     ensures { result ≡ line_as Kind.Fault (pes_code Write) Nowhere }
 {
     nowhere(Kind::Fault, PesFault::Write.code())
 }
 
-/// A fault of a packet.
+/// Returns the line for a fault of a packet.
 pub fn line_of_packet(fault: PacketFault) -> FaultLine
     ensures { result ≡ packet_line fault }
 {
     nowhere(Kind::Refused, fault.code())
 }
 
-/// A fault of a file that is not written.
+/// Returns the line for a file that is not written.
 pub fn line_of_write(fault: WriteFault) -> FaultLine
     ensures { result ≡ write_line fault }
 {
@@ -105,7 +106,7 @@ pub fn line_of_write(fault: WriteFault) -> FaultLine
     }
 }
 
-/// A fault of the words, or of the program itself.
+/// Returns the line for a fault of the arguments, or of the program itself.
 pub fn line_of_usage(fault: &UsageFault) -> FaultLine
     ensures { result ≡ usage_line fault.now }
 {
@@ -116,7 +117,7 @@ pub fn line_of_usage(fault: &UsageFault) -> FaultLine
     nowhere(kind, fault.code())
 }
 
-// What is told of a fault that has no place.
+// Returns the line for a fault without a place.
 fn nowhere(kind: Kind, code: FaultCode) -> FaultLine
     ensures { result ≡ line_as kind code Nowhere }
 {

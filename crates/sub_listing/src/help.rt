@@ -1,4 +1,4 @@
-//! `--help`: how the program is used.
+//! `--help`: explains how to use the program.
 ghost use Rattle.std.specs.Prelude.{◌≡◌, ◌+◌};
 ghost use Rattle.sub_listing.specs.DeviceCall.{CanFail, CountsFault, sink_call};
 ghost use Rattle.sub_listing.specs.Help.{help_text};
@@ -8,7 +8,7 @@ use crate::printing::print_done;
 use crate::status::Status;
 use sub_io::Sink;
 
-// What the script `subttx` prints too.
+// The script `subttx` prints the same.
 #[rattlefmt::skip]
 const HELP: &[u8] = b"usage: subttx COMMAND FILES [options]
 

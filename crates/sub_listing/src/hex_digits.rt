@@ -1,16 +1,16 @@
-//! Lower case hexadecimal digits of 16 bytes at once, a byte in each lane of a vector.
+//! Converts 16 bytes at once to lower case hexadecimal digits, one byte in each lane of a vector.
 //!
-//! A half of a byte is the place of its digit in a table of 16. The digits of the upper halves and
-//! those of the lower ones then take turns.
+//! A half of a byte is the index of its digit in a table of 16. The digits of the upper and lower
+//! halves are then interleaved.
 ghost use Rattle.std.specs.Prelude.{◌≡◌, ◌/◌, ◌%◌, map, slice_index};
 ghost use Rattle.hex.specs.Hex.{encode_lower, lower_digits};
 
 use std::simd::prelude::*;
 
-/// The digits by the number that they stand for.
+/// The digits by value.
 const DIGITS: [u8; 16] = *b"0123456789abcdef";
 
-// The first digit of each byte, that of its upper half.
+// Returns the first digit of each byte, that of its upper half.
 #[inline(always)]
 fn first_digits(bytes: u8x16) -> u8x16
     ensures { result ≡ map (λ b. slice_index lower_digits (b / 16)) bytes }
@@ -18,7 +18,7 @@ fn first_digits(bytes: u8x16) -> u8x16
     u8x16::from_array(DIGITS).swizzle_dyn(bytes >> u8x16::splat(4))
 }
 
-// The second digit of each byte, that of its lower half.
+// Returns the second digit of each byte, that of its lower half.
 #[inline(always)]
 fn second_digits(bytes: u8x16) -> u8x16
     ensures { result ≡ map (λ b. slice_index lower_digits (b % 16)) bytes }
@@ -26,7 +26,7 @@ fn second_digits(bytes: u8x16) -> u8x16
     u8x16::from_array(DIGITS).swizzle_dyn(bytes & u8x16::splat(15))
 }
 
-/// The 32 digits of 16 bytes.
+/// Returns the 32 digits of 16 bytes.
 #[inline(always)]
 pub fn digits_of_block(block: &[u8; 16]) -> [u8; 32]
     ensures { result ≡ encode_lower block.now }

@@ -1,8 +1,8 @@
-//! What is printed and written without a checker: lines, what is told of each fault, and the
-//! commands that show a packet, list a file, write one or write what a recording carries.
+//! Output that needs no checker: lines, the reports of faults, and the commands that show a packet,
+//! list a file, write one, or write what a recording carries.
 //!
-//! Stands on `sub_request` and `sub_rules`; `sub_answer` gives each request to its command, and
-//! prints what the checker and a receiver tell by what stands here.
+//! Uses `sub_request` and `sub_rules`. `sub_answer` passes each request to its command, and uses
+//! this crate to print the reports of the checker and of a receiver.
 //!
 //! ```text
 //! list_subtitles(&mut stl, &mut out) // Status::Done

@@ -1,7 +1,7 @@
-//! Makers of the lines that the program prints.
+//! Makes the lines that the program prints.
 //!
-//! A text is made in memory first and put into a device at once. Each maker appends to an
-//! `ArrayVec` that has room: the constants below say how much, and that it is enough is proved
+//! A text is made in memory first and written to a device at once. Each function appends to an
+//! `ArrayVec` with enough room: the constants below say how much, and that it suffices is proved
 //! here.
 ghost use Rattle.std.specs.Prelude.{◌≡◌, ◌+◌, ◌%◌, ◌≤◌, ◌<◌, ◌++◌, length, decimal};
 ghost use Rattle.arrayvec.specs.ArrayVec.{array_vec_len};
@@ -33,7 +33,7 @@ const CODE_ROOM: usize = NUMBER_ROOM + 17;
 /// Room for the place of a fault.
 const PLACE_ROOM: usize = 80;
 
-/// Room for one line: the longest, `refused 72 Content` with its cell, has 117 bytes at most.
+/// Room for one line: the longest, `refused 72 Content` with its cell, has at most 117 bytes.
 pub const LINE_ROOM: usize = 128;
 
 /// One line.
@@ -58,7 +58,7 @@ pub fn push_decimal<const N: usize>(line: &mut ArrayVec<u8, N>, number: u64)
     push_text(line, digits.format(number).as_bytes());
 }
 
-/// Appends a number in decimal after the word for it.
+/// Appends a number in decimal after a word.
 pub fn push_number<const N: usize>(line: &mut ArrayVec<u8, N>, word: &[u8], number: u64)
     requires { array_vec_len line.old + length word.now + NUMBER_ROOM ≤ N }
     ensures items { line.new.items ≡ line.old.items ++ word.now ++ decimal number }
@@ -68,8 +68,8 @@ pub fn push_number<const N: usize>(line: &mut ArrayVec<u8, N>, word: &[u8], numb
     push_decimal(line, number);
 }
 
-/// The number that a PES packet has in its file, where the first one that is read has the number
-/// `first`. The greatest number stands for any above it too.
+/// Returns the number of a PES packet in its file, if the first one that is read has the number
+/// `first`. The greatest number stands for any above it, too.
 #[tactic(auto, unfolding(crate::specs::Lines::number_in_file))]
 pub fn number_in_file(first: u64, index: u32) -> u64
     ensures { result ≡ number_in_file first index }
@@ -86,7 +86,7 @@ pub fn push_lower_hex<const N: usize>(line: &mut ArrayVec<u8, N>, bytes: &[u8; 4
     let (blocks, _) = bytes.as_chunks::<16>();
     push_text(line, &digits_of_block(&blocks[0]));
     push_text(line, &digits_of_block(&blocks[1]));
-    // The last ten bytes stand at the end of a block that begins six bytes before them.
+    // The last ten bytes are at the end of a block that begins six bytes before them.
     push_text(line, &digits_of_block(bytes.last_chunk().unwrap())[12..]);
 }
 
@@ -117,7 +117,7 @@ pub fn push_time<const N: usize>(line: &mut ArrayVec<u8, N>, time: TimeCode)
     push_two_digits(line, frames);
 }
 
-/// Appends the text of a subtitle as lower case hexadecimal digits, or a hyphen where it is empty.
+/// Appends the text of a subtitle as lower case hexadecimal digits, or a hyphen if it is empty.
 #[tactic(auto, unfolding(crate::specs::Lines::text_digits))]
 pub fn push_text_digits<const N: usize>(line: &mut ArrayVec<u8, N>, text: &[u8])
     requires few { length text.now ≤ 1008 }
@@ -134,7 +134,7 @@ pub fn push_text_digits<const N: usize>(line: &mut ArrayVec<u8, N>, text: &[u8])
     push_text(line, digits);
 }
 
-/// The character of a cell's code.
+/// Returns the character of a cell's code.
 pub fn glyph(code: u8) -> u8
     ensures { result ≡ glyph code }
 {
@@ -145,7 +145,7 @@ pub fn glyph(code: u8) -> u8
     }
 }
 
-/// Appends the line of what is told of a fault.
+/// Appends the line of a fault.
 pub fn push_fault_line<const N: usize>(line: &mut ArrayVec<u8, N>, told: &FaultLine)
     requires { array_vec_len line.old + LINE_ROOM ≤ N }
     ensures { line.new.items ≡ line.old.items ++ line_of told.now }
@@ -160,9 +160,8 @@ pub fn push_fault_line<const N: usize>(line: &mut ArrayVec<u8, N>, told: &FaultL
     push_text(line, b"\n");
 }
 
-/// Appends the line of an event: of a fault that is told, of a rule that stood broken up to a
-/// frame, or of frames that may be trusted. The first PES packet that is read has the number
-/// `first` in its file.
+/// Appends the line of an event: of a fault, of a rule that was broken up to a frame, or of trusted
+/// frames. The first PES packet that is read has the number `first` in its file.
 pub fn push_event<const N: usize>(line: &mut ArrayVec<u8, N>, event: Event, first: u64)
     requires { array_vec_len line.old + LINE_ROOM ≤ N }
     ensures { line.new.items ≡ line.old.items ++ event_line first event }
@@ -175,7 +174,7 @@ pub fn push_event<const N: usize>(line: &mut ArrayVec<u8, N>, event: Event, firs
     }
 }
 
-// Appends the line of a rule that stood broken up to a frame.
+// Appends the line of a rule that was broken up to a frame.
 fn push_ended<const N: usize>(line: &mut ArrayVec<u8, N>, rule: EndRule, frame: u32)
     requires { array_vec_len line.old + LINE_ROOM ≤ N }
     ensures { line.new.items ≡ line.old.items ++ ended_line rule frame }
@@ -186,7 +185,7 @@ fn push_ended<const N: usize>(line: &mut ArrayVec<u8, N>, rule: EndRule, frame: 
     push_text(line, b"\n");
 }
 
-// Appends the line of PES packets that were passed over up to the one that the fault names.
+// Appends the line of PES packets that were skipped up to the one that the fault names.
 fn push_passed<const N: usize>(line: &mut ArrayVec<u8, N>, fault: CheckFault, first: u64)
     requires { array_vec_len line.old + LINE_ROOM ≤ N }
     ensures { line.new.items ≡ line.old.items ++ passed_line first fault }
@@ -197,7 +196,7 @@ fn push_passed<const N: usize>(line: &mut ArrayVec<u8, N>, fault: CheckFault, fi
     push_text(line, b"\n");
 }
 
-// Appends the line of frames that may be trusted.
+// Appends the line of trusted frames.
 fn push_trusted<const N: usize>(line: &mut ArrayVec<u8, N>, from: u32, to: u32)
     requires { array_vec_len line.old + LINE_ROOM ≤ N }
     ensures { line.new.items ≡ line.old.items ++ trusted_line from to }
@@ -220,8 +219,7 @@ fn push_code<const N: usize>(line: &mut ArrayVec<u8, N>, code: &FaultCode)
     push_text(line, code.name().as_bytes());
 }
 
-// Appends the place of a fault, where the first PES packet that is read has this number in its
-// file.
+// Appends the place of a fault, if the first PES packet that is read has this number in its file.
 fn push_place<const N: usize>(line: &mut ArrayVec<u8, N>, place: FaultPlace, first: u64)
     requires { array_vec_len line.old + PLACE_ROOM ≤ N }
     ensures items { line.new.items ≡ line.old.items ++ place_text first place }
@@ -264,6 +262,6 @@ fn push_clock<const N: usize>(line: &mut ArrayVec<u8, N>, frame: u32)
     ensures items { line.new.items ≡ line.old.items ++ time_text (frame % day) }
     ensures len { array_vec_len line.new ≡ array_vec_len line.old + 11 }
 {
-    // Each frame of a day has one PES packet at most.
+    // Each frame of a day has at most one PES packet.
     push_time(line, TimeCode::of_frame(frame % MOST_PACKETS));
 }

@@ -1,4 +1,4 @@
-//! How a file is listed: what is read of it is printed, one piece after the other.
+//! Lists a file: reads it one part after another, and prints the lines of each.
 ghost use Rattle.std.specs.Prelude.{◌≡◌, ℕ, ◌+◌, ◌<◌, ◌≤◌, ◌++◌, [], None, Some, decimal, length};
 ghost use Rattle.std.specs.Prelude.{Bool, List, Option, false, true};
 ghost use Rattle.std.specs.Borrow.{GName};
@@ -23,38 +23,38 @@ pub const LINES_ROOM: usize = 7168;
 /// The lines of one of them.
 pub type Text = ArrayVec<u8, LINES_ROOM>;
 
-/// Reads what is listed of an input, a source or one that gives pieces, and makes its lines.
+/// Reads an input, a source or PES packets, and makes the lines of its parts.
 pub trait Lister<I> {
-    /// It has not come to the end, and met no fault.
+    /// It is not at the end, and has met no fault.
     ghost ready: { Self → Type 0 };
 
-    /// How many pieces it can still give at most.
+    /// How many parts it can still give at most.
     ghost pieces: { Self → ℕ };
 
-    /// What may be listed from here on.
+    /// The listings that are possible from here on.
     ghost lists: { Self → IsListed };
 
-    /// Its lines are followed while the source goes on: they are handed on before what is read of a
-    /// source that may have to wait.
+    /// Its lines can be followed while the source goes on: they are flushed before a read that may
+    /// block.
     ghost is_followed: { Bool };
 
-    // The bytes that are still to come of such an input, where they are known.
+    // The bytes of such an input that are still to come, if they are known.
     ghost known: { I → Option (List ℕ) };
 
-    // Those that its device has still to give.
+    // Those that its device still has.
     ghost left: { I → Option (List ℕ) };
 
     // How many calls of its device have failed.
     ghost failure_count: { I → ℕ };
 
-    // By which references it holds its device, the outermost first.
+    // The references through which it has its device, the outermost first.
     ghost device: { I → List GName };
 
-    /// Makes the lines of the next piece. `None` where another may follow, else how the listing
-    /// ends.
+    /// Makes the lines of the next part. Returns `None` if another may follow, otherwise how the
+    /// listing ends.
     ///
-    /// The printer may hand on the lines before it, so that they are seen before the source has to
-    /// wait. Where it can't, its sink failed, and what is read and made is of no use.
+    /// It may flush the printer before, so that earlier lines are seen before the source has to
+    /// wait. If that fails, the sink has failed, and the new lines are of no use.
     fn next<K: Flush>(
         &mut self,
         input: &mut I,
@@ -92,9 +92,9 @@ pub trait Lister<I> {
             → IsAlone (K.held printer.new.out.now) text.new.items };
 }
 
-/// Lists a file, one piece after the other as they are read.
+/// Lists a file, one part after another.
 ///
-/// Lines before a refusal stay. One piece is kept at a time, and its lines are put at once.
+/// Lines before a refusal stay. One part is kept at a time, and its lines are written at once.
 pub fn list<I, L: Lister<I>, K: Flush>(lister: &mut L, input: &mut I, out: &mut K) -> Status
     requires ready { L.ready lister.old }
     requires input { CanFail (L.failure_count input.old) }
@@ -123,7 +123,7 @@ pub fn list<I, L: Lister<I>, K: Flush>(lister: &mut L, input: &mut I, out: &mut 
     list_to(lister, input, &mut printer)
 }
 
-// Prints the lines of all that a lister gives, by a printer.
+// Prints the lines of a lister through a printer.
 fn list_to<I, L: Lister<I>, K: Flush>(
     lister: &mut L,
     input: &mut I,
@@ -176,7 +176,7 @@ pub fn end_with(text: &mut Text, told: &FaultLine) -> Option<Status>
     Some(told.status())
 }
 
-/// Ends a listing with the number of things that were listed.
+/// Ends a listing with the number of items that were listed.
 pub fn end_at(text: &mut Text, count: u32, things: &[u8]) -> Option<Status>
     requires empty { text.old.items ≡ [] }
     requires few { length things.now ≤ 32 }

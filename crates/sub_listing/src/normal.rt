@@ -16,10 +16,10 @@ use stl_file::{NormalFault, normal};
 use sub_io::{Close, Sink, Source};
 
 /// One byte more than the longest subtitle file has: a GSI block and 99,999 TTI blocks. No byte
-/// after it can change the answer.
+/// after it can change the result.
 const MOST_READ: usize = 12_800_897;
 
-/// Bytes that one pull asks for at most.
+/// The maximum number of bytes of one pull.
 const PULL_ROOM: usize = 4096;
 
 /// Why the input was not read.
@@ -30,15 +30,15 @@ pub enum InputFault {
         /// The block.
         block: u32,
     },
-    /// Memory was refused.
+    /// An allocation was refused.
     Memory,
 }
 
 /// Writes the normal form of a subtitle file (own), and prints how many subtitles it has, or why
 /// there is none.
 ///
-/// The input is read to its end before anything is written, and the line comes once the system has
-/// stored the file. `Fault` where a device failed or memory ran out.
+/// The input is read to its end before anything is written, and the line is printed after the
+/// system has stored the file. Returns `Fault` if a device failed or memory ran out.
 pub fn write_normal<S: Source, F: Close, K: Sink>(
     alloc: Global,
     input: &mut S,
@@ -86,7 +86,7 @@ impl Work for NormalWork {
     }
 }
 
-// Writes the normal form of the file that has these first bytes, and has it stored.
+// Writes the normal form of the file that begins with these bytes, and stores it.
 fn put_normal<F: Close>(bytes: &[u8], file: &mut F) -> Result<u32, NormalFault>
     requires { CanFail (F.failure_count file.old) }
     ensures answer { (s : List ℕ) → bytes.now ≡ take most_read s
@@ -104,12 +104,13 @@ fn put_normal<F: Close>(bytes: &[u8], file: &mut F) -> Result<u32, NormalFault>
     }
 }
 
-/// Reads the input of `normal` to its end, or as far as its bytes can change the answer, into any
-/// memory, so that a test can refuse a growth.
+/// Reads the input of `normal` to its end, or as far as its bytes can change the result. Works with
+/// any allocator, so that a test can refuse an allocation.
 ///
 /// # Errors
 ///
-/// `Read` with the block of the byte that was asked for, or `Memory` where a growth was refused.
+/// Returns `Read` with the block of the byte that was being read, or `Memory` if an allocation was
+/// refused.
 pub fn read_input<A: Allocator + Drop, S: Source>(
     alloc: A,
     input: &mut S,
@@ -140,8 +141,8 @@ pub fn read_input<A: Allocator + Drop, S: Source>(
     Ok(bytes)
 }
 
-// The block of the byte that stands after `len` bytes: 0 up to 1024 of them, and then one more for
-// each 128.
+// Returns the block of the byte after `len` bytes: 0 up to 1024 of them, and then one more for each
+// 128.
 fn block_of_byte(len: usize) -> u32
     requires { len < most_read }
     ensures { result ≡ block_of_byte len }

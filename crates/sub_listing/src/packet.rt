@@ -28,7 +28,7 @@ const HEADER_ROOM: usize = 80;
 // Room for the line of 40 text bytes.
 const TEXT_ROOM: usize = 48;
 
-// Room for all that is printed of one packet.
+// Room for all the output of one packet.
 const PACKET_ROOM: usize = 256;
 
 const _: () = prove!(ADDRESS_ROOM + HEADER_ROOM + TEXT_ROOM <= PACKET_ROOM);
@@ -40,14 +40,14 @@ const HEX_DIGITS: [u8; 16] = *b"0123456789ABCDEF";
 /// Why a packet is not shown.
 #[derive(Clone, Copy)]
 pub enum PacketFault {
-    /// One of the two address bytes is two bits or more away from each Hamming 8/4 code word.
+    /// One of the two address bytes differs from each Hamming 8/4 code word in two or more bits.
     BadAddress,
-    /// One of the eight coded bytes of a page header is.
+    /// One of the eight coded bytes of a page header does.
     BadHeader,
 }
 
 impl PacketFault {
-    /// The number and the name by which the fault is told (own).
+    /// Returns the number and name of the fault in reports (own).
     pub fn code(self) -> FaultCode
         ensures { result ≡ packet_code self }
     {
@@ -60,7 +60,7 @@ impl PacketFault {
 
 /// Prints the address of a packet, its header and its text (EN 300 706, packets X/0 to X/31).
 ///
-/// Refuses a packet that has no address, or whose header means nothing.
+/// Refuses a packet whose address or header can't be decoded.
 pub fn show_packet<K: Sink>(bytes: &[u8; 42], out: &mut K) -> Status
     requires { CanFail (K.failure_count out.old) }
     ensures printed { PrintsOrFails (sink_call K.contents K.failure_count out.old out.new)
@@ -75,7 +75,7 @@ pub fn show_packet<K: Sink>(bytes: &[u8; 42], out: &mut K) -> Status
     }
 }
 
-// Appends what is printed of a packet.
+// Appends the output of a packet.
 fn push_packet(text: &mut Text, packet: &Packet) -> Result<(), PacketFault>
     requires { text.old.items ≡ [] }
     ensures ok { OnOk result (packet_listing packet.now ≡ done text.new.items) }
@@ -110,7 +110,7 @@ fn push_address(line: &mut Text, magazine: u8, packet_number: u8)
     push_text(line, b"\n");
 }
 
-// Appends what a page header says as a line.
+// Appends the contents of a page header as a line.
 fn push_header(line: &mut Text, header: &Header)
     requires { array_vec_len line.old + HEADER_ROOM ≤ PACKET_ROOM }
     ensures items { line.new.items ≡ line.old.items ++ header_line header.now }
@@ -182,7 +182,7 @@ fn push_text_line(line: &mut Text, bytes: &[u8])
 {
     push_text(line, b"text |");
     for byte in bytes {
-        // A byte of even parity means nothing.
+        // A byte of even parity has no code.
         line.push(if is_odd(*byte) {
             glyph(*byte % 128)
         } else {

@@ -25,10 +25,10 @@ use sub_io::{Flush, Stopped};
 use sub_rules::CheckFault;
 use ttx_pes::{Compared, ComparingReader, MOST_UNITS, NumberedPieces, Pieces, Unit, hand_on_first};
 
-/// Lists PES packets of a file (EN 300 472), one after another as they are read, each by its number
-/// in the file; and then how many were listed, or why it is refused.
+/// Lists the PES packets of a file (EN 300 472), each by its number in the file, and then how many
+/// were listed, or why the file is refused.
 ///
-/// Lines before a refusal stay. `Fault` where a device failed.
+/// Lines before a refusal stay. Returns `Fault` if a device failed.
 pub fn list_packets<P: NumberedPieces, K: Flush>(pieces: &mut P, out: &mut K) -> Status
     requires pieces { CanFail (P.failure_count pieces.old) }
     requires out { CanFail (K.failure_count out.old) }
@@ -42,8 +42,8 @@ pub fn list_packets<P: NumberedPieces, K: Flush>(pieces: &mut P, out: &mut K) ->
     ensures fault { result ≡ Status.Fault
         → P.failure_count pieces.old + K.failure_count out.old
         < P.failure_count pieces.new + K.failure_count out.new }
-    // Where a device may be asked, all that was printed before is handed on: each such call may
-    // fail, and where one did the line of its failure alone may be held back.
+    // Before a device may be asked, which may fail, everything is flushed. So if it failed, only
+    // the line of its failure may be held back.
     ensures followed { K.held out.old ≡ 0
         → P.failure_count pieces.old < P.failure_count pieces.new
         → HoldsLastLine K.contents K.held K.is_push out.new }
@@ -54,7 +54,7 @@ pub fn list_packets<P: NumberedPieces, K: Flush>(pieces: &mut P, out: &mut K) ->
     }
 }
 
-/// What makes the lines of PES packets.
+/// Makes the lines of PES packets.
 #[derive(Drop)]
 pub struct PacketLister {
     reader: ComparingReader,
@@ -63,7 +63,7 @@ pub struct PacketLister {
 }
 
 impl PacketLister {
-    /// A lister at the first PES packet that is listed, which has this number in its file.
+    /// Returns a lister at the first PES packet to be listed, which has this number in its file.
     pub fn new(first: u64) -> PacketLister
         ensures start { result.index ≡ 0 }
         ensures first { result.first ≡ first }
@@ -132,7 +132,7 @@ impl<P: Pieces> Lister<P> for PacketLister {
     }
 }
 
-// Where a device may be asked for the next PES packet, the lines before it are handed on first.
+// Flushes earlier lines if a device may be asked for the next PES packet.
 fn hand_on_lines<P: Pieces, K: Flush>(
     pieces: &P,
     printer: &mut Printer<'_, K>,
@@ -159,10 +159,10 @@ const PES_LINE: usize = 64;
 // Room for the line of a Teletext unit.
 const UNIT_LINE: usize = 192;
 
-// A piece has room for the lines of a PES packet and of all its units.
+// A part has room for the lines of a PES packet and of all its units.
 const _: () = prove!(PES_LINE + MOST_UNITS * UNIT_LINE <= LINES_ROOM);
 
-// Appends the lines of a PES packet, which has this number in its file, and of its Teletext units.
+// Appends the lines of a PES packet with this number in its file, and of its Teletext units.
 fn push_frame(text: &mut Text, number: u64, reader: &ComparingReader)
     requires { text.old.items ≡ [] }
     ensures { text.new.items ≡ frame_lines number reader.now.frame }
@@ -176,7 +176,7 @@ fn push_frame(text: &mut Text, number: u64, reader: &ComparingReader)
     }
 }
 
-// Appends the line of a Teletext unit: its fields, and its packet in Teletext's own order of bits.
+// Appends the line of a Teletext unit: its fields, and its packet in the bit order of Teletext.
 fn push_unit(text: &mut Text, number: usize, unit: &Unit)
     requires { array_vec_len text.old + UNIT_LINE ≤ LINES_ROOM }
     ensures items { text.new.items ≡ text.old.items ++ unit_line number unit.now }

@@ -1,4 +1,4 @@
-//! A device that prints a line for each event that it is told.
+//! A device that prints a line for each event.
 ghost use Rattle.std.specs.Prelude.{◌≡◌, ◌||◌, OnErr, OnOk, false, is_err, is_ok, not, true};
 ghost use Rattle.std.proofs.Common.{◌∙◌};
 ghost use Rattle.std.specs.Io.KnownBytes.{Appends};
@@ -14,29 +14,29 @@ use stl_rows::LoadFault;
 use sub_io::{Audience, Flush, Live, LiveAudience, Sink, Stopped, put_all};
 use sub_rules::{CheckFault, Event};
 
-/// Prints the line of each event that it is told, at once, and counts the refusals.
+/// Prints the line of each event at once, and counts the faults.
 ///
-/// It says stop where its sink failed: that has a prefix of the line.
+/// It says stop if its sink failed, which has a prefix of the line then.
 #[derive(Drop)]
 pub struct Printer<'a, K> {
-    /// Where the lines go.
+    /// The sink of the lines.
     pub out: &'a mut K,
-    /// How many refusals it was told; the greatest number stands for itself and for any above it.
+    /// How many faults were counted; the greatest number stands for any above it, too.
     pub refused: u64,
     /// The sink failed.
     pub failed: bool,
-    /// Lines were put that the sink may hold back.
+    /// Lines were written that the sink may hold back.
     pub waiting: bool,
-    /// The number that the first PES packet that is read has in its file, counted from 0.
+    /// The number in its file of the first PES packet that is read, counted from 0.
     pub first: u64,
 }
 
 impl<'a, K: Flush> Printer<'a, K> {
-    /// Has the sink hand on the lines that it holds back.
+    /// Flushes the sink.
     ///
     /// # Errors
     ///
-    /// `Stopped` where the sink fails, or has failed before.
+    /// Returns `Stopped` if the sink fails, or has failed before.
     fn flush(&mut self) -> Result<(), Stopped>
         ensures same { self.new.out.ghost_name ≡ self.old.out.ghost_name }
         ensures lines { HandsOnLines
@@ -61,11 +61,11 @@ impl<'a, K: Flush> Printer<'a, K> {
 }
 
 impl<'a, K: Sink> Printer<'a, K> {
-    /// Puts lines.
+    /// Writes lines.
     ///
     /// # Errors
     ///
-    /// `Stopped` where the sink failed: it has a prefix of them.
+    /// Returns `Stopped` if the sink failed, which has a prefix of them.
     pub fn put(&mut self, lines: &[u8]) -> Result<(), Stopped>
         requires { CanFail (K.failure_count self.old.out.now) }
         ensures same { self.new.out.ghost_name ≡ self.old.out.ghost_name }
@@ -80,7 +80,7 @@ impl<'a, K: Sink> Printer<'a, K> {
         ensures failed { OnOk result (self.new.failed ≡ self.old.failed) }
         ensures stopped { OnErr result (self.new.failed ≡ true) }
         ensures line { PutsLine K.contents K.is_push self.old.out.now lines.now self.new.out.now }
-        // Else a live list would keep its lines until the sink is full.
+        // Otherwise a live list would keep its lines until the sink is full.
         ensures waits { self.new.waiting ≡ true }
     {
         self.waiting = true;
@@ -93,7 +93,7 @@ impl<'a, K: Sink> Printer<'a, K> {
         }
     }
 
-    // Puts the line of an event, and counts it where it is a refusal.
+    // Writes the line of an event, and counts it if it is a fault.
     fn print(&mut self, event: Event) -> Result<(), Stopped>
         requires goes_on { self.old.failed ≡ false }
         requires count { CanFail (K.failure_count self.old.out.now) }
@@ -113,7 +113,7 @@ impl<'a, K: Sink> Printer<'a, K> {
         Ok(())
     }
 
-    // Counts an event where it is a refusal.
+    // Counts an event if it is a fault.
     #[tactic(auto, unfolding(crate::specs::Printer::counted))]
     fn count(&mut self, event: Event)
         ensures { self.new ≡ record self.old {
@@ -124,7 +124,7 @@ impl<'a, K: Sink> Printer<'a, K> {
     }
 }
 
-// 1 for a refusal, and 0 for any other event.
+// Returns 1 for a fault, and 0 for any other event.
 fn refusal(event: Event) -> u64
     ensures { result ≡ refusal event }
 {
@@ -149,7 +149,7 @@ impl<K: Flush> Audience<Event> for Printer<'_, K> {
     ///
     /// # Errors
     ///
-    /// `Stopped` where the sink failed: it has a prefix of the line.
+    /// Returns `Stopped` if the sink failed, which has a prefix of the line.
     fn tell(&mut self, item: Event) -> Result<(), Stopped> {
         self.print(item)
     }
@@ -171,7 +171,7 @@ impl<K: Flush> Audience<LoadFault> for Printer<'_, K> {
     ///
     /// # Errors
     ///
-    /// `Stopped` where the sink failed: it has a prefix of the line.
+    /// Returns `Stopped` if the sink failed, which has a prefix of the line.
     fn tell(&mut self, item: LoadFault) -> Result<(), Stopped> {
         self.print(Event::Told(CheckFault::Subtitles(item)))
     }
@@ -190,16 +190,16 @@ impl<K: Flush> Live for Printer<'_, K> {
         t.first)
         × (s.waiting ≡ true → t.waiting ≡ false → K.held t.out.now ≡ 0) };
 
-    /// Where lines were put since the sink handed on what it held back.
+    /// Returns whether lines were written since the sink was last flushed.
     fn waits(&self) -> bool {
         self.waiting
     }
 
-    /// Has the sink hand on the lines that it holds back.
+    /// Flushes the sink.
     ///
     /// # Errors
     ///
-    /// `Stopped` where the sink fails, or has failed before.
+    /// Returns `Stopped` if the sink fails, or has failed before.
     fn hand_on(&mut self) -> Result<(), Stopped> {
         self.flush()
     }

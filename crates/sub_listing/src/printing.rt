@@ -1,4 +1,4 @@
-//! The last text that a command prints, and its status.
+//! Prints the last text of a command, and returns its status.
 ghost use Rattle.std.specs.Prelude.{◌≡◌, ◌≢◌, ◌+◌, List, ℕ};
 ghost use Rattle.sub_listing.specs.DeviceCall.{CanFail, CountsFault, sink_call};
 ghost use Rattle.sub_listing.specs.LastLine.{PutsLine};
@@ -10,9 +10,9 @@ use crate::lines::{Line, push_fault_line};
 use crate::status::Status;
 use sub_io::{Sink, put_all};
 
-/// Puts a text that is all that was asked for: `Done`.
+/// Prints a text that is the complete answer, and returns `Done`.
 ///
-/// `Fault` where the sink fails: then it has a prefix of the text.
+/// Returns `Fault` if the sink fails, which has a prefix of the text then.
 #[tactic(auto, unfolding(crate::specs::Listing::PrintsOrFails))]
 pub fn print_done<K: Sink>(text: &[u8], out: &mut K) -> Status
     requires { CanFail (K.failure_count out.old) }
@@ -28,9 +28,9 @@ pub fn print_done<K: Sink>(text: &[u8], out: &mut K) -> Status
     }
 }
 
-/// Puts the line of what is told of a fault, and gives the status that goes with it.
+/// Prints the line of a fault, and returns the status that belongs to it.
 ///
-/// `Fault` where the sink fails: then it has a prefix of the line.
+/// Returns `Fault` if the sink fails, which has a prefix of the line then.
 #[tactic(auto, unfolding(crate::specs::Listing::PrintsOrFails))]
 pub fn print_fault_line<K: Sink>(told: &FaultLine, out: &mut K) -> Status
     requires { CanFail (K.failure_count out.old) }

@@ -14,11 +14,11 @@ use stl_rows::{Drawing, Layout, National, Programme, load};
 use sub_io::{Close, Sink, Source};
 use sub_plan::{Options, PlanFault, schedule};
 
-/// Writes the schedule of a subtitle file, one PES packet for each sending (EN 300 472), and prints
-/// how many there are, or why there is none.
+/// Writes the schedule of a subtitle file, one PES packet for each page transmission (EN 300 472),
+/// and prints how many there are, or why there is none.
 ///
-/// The input is read to its end before anything is written, and the line comes once the system has
-/// stored the file. `Fault` where a device failed or memory ran out.
+/// The input is read to its end before anything is written, and the line is printed after the
+/// system has stored the file. Returns `Fault` if a device failed or memory ran out.
 pub fn write_schedule<S: Source, F: Close, K: Sink>(
     alloc: Global,
     drawing: Drawing,
@@ -65,11 +65,11 @@ pub struct ScheduleWork<'a> {
     pub options: &'a Options,
     /// Whether the headers are those of serial mode.
     pub serial: bool,
-    /// The national option by which the text is read.
+    /// The national option of the text.
     pub national: National,
     /// How the text is drawn.
     pub layout: Layout,
-    /// What of the subtitle file is taken.
+    /// The part of the subtitle file that is used.
     pub scope: Scope,
 }
 
@@ -92,7 +92,7 @@ impl<'a> Work for ScheduleWork<'a> {
     }
 }
 
-// Writes the schedule of a programme, and has it stored.
+// Writes the schedule of a programme, and stores it.
 fn put_schedule<F: Close>(
     programme: &Programme,
     options: &Options,

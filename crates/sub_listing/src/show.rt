@@ -13,10 +13,10 @@ use crate::status::Status;
 use stl_file::{StlReader, Subtitle, five_digits_of};
 use sub_io::{Flush, Source};
 
-/// Lists the subtitles of a file (EBU Tech 3264), one after another as they are read, and then how
-/// many there are, or why it is refused.
+/// Lists the subtitles of a file (EBU Tech 3264), and then how many there are, or why the file is
+/// refused.
 ///
-/// Lines before a refusal stay. `Fault` where a device failed.
+/// Lines before a refusal stay. Returns `Fault` if a device failed.
 pub fn list_subtitles<S: Source, K: Flush>(source: &mut S, out: &mut K) -> Status
     requires source { CanFail (S.failure_count source.old) }
     requires out { CanFail (K.failure_count out.old) }
@@ -32,16 +32,16 @@ pub fn list_subtitles<S: Source, K: Flush>(source: &mut S, out: &mut K) -> Statu
     list(&mut SubtitleLister::new(), source, out)
 }
 
-/// What makes the lines of subtitles.
+/// Makes the lines of subtitles.
 #[derive(Drop)]
 pub struct SubtitleLister {
-    // There is none before the GSI block is read, which is the first piece, without a line.
+    // `None` before the GSI block is read, which is the first part, without a line.
     reader: Option<StlReader>,
     count: u32,
 }
 
 impl SubtitleLister {
-    /// A lister at the start of a file.
+    /// Returns a lister at the start of a file.
     pub fn new() -> SubtitleLister
         ensures reader { result.reader ≡ None }
         ensures count { result.count ≡ 0 }

@@ -1,4 +1,4 @@
-//! What is printed of a receiver with a screen.
+//! Prints the state of a receiver with a screen.
 ghost use Rattle.std.specs.Prelude.{◌≡◌, IfSome, ◌+◌, ◌*◌, ◌≤◌, ◌<◌, ◌++◌, ◌==◌};
 ghost use Rattle.std.specs.List.{list_all};
 ghost use Rattle.arrayvec.specs.ArrayVec.{array_vec_len};
@@ -34,8 +34,8 @@ type Rows = ArrayVec<u8, ROWS_ROOM>;
 
 type Text = ArrayVec<u8, STATE_ROOM>;
 
-/// Prints what a receiver has heard, and the page that it holds; where complete pages are asked
-/// for, the one that is on its screen.
+/// Prints whether a receiver has received its page, and the page or, if complete pages are
+/// required, its screen.
 pub fn print_state<R: Receiver, K: Sink>(
     receiver: &R,
     screen: &Option<Page>,
@@ -64,7 +64,7 @@ pub fn print_state<R: Receiver, K: Sink>(
     print_done(text.as_slice(), out)
 }
 
-// Appends the lines of the page that a receiver holds, or of its screen.
+// Appends the lines of a receiver's page, or of its screen.
 fn push_seen<R: Receiver>(text: &mut Text, receiver: &R, screen: &Option<Page>, asks_complete: bool)
     requires { array_vec_len text.old + ROWS_ROOM ≤ STATE_ROOM }
     ensures items { text.new.items ≡ text.old.items
@@ -79,7 +79,7 @@ fn push_seen<R: Receiver>(text: &mut Text, receiver: &R, screen: &Option<Page>, 
     }
 }
 
-// Appends the lines of the rows of a page that hold a cell other than a space.
+// Appends the lines of the rows of a page with a cell other than a space.
 fn push_page(text: &mut Text, page: &Page)
     requires { array_vec_len text.old + ROWS_ROOM ≤ STATE_ROOM }
     ensures items { text.new.items ≡ text.old.items ++ page_text page.now }
@@ -96,7 +96,7 @@ fn push_page(text: &mut Text, page: &Page)
     }
 }
 
-// Appends the line of a row, if it holds a cell other than a space.
+// Appends the line of a row, if it has a cell other than a space.
 fn push_row(rows: &mut Rows, row: u8, cells: &[u8; 40])
     requires { array_vec_len rows.old + ROW_ROOM ≤ ROWS_ROOM }
     ensures items { rows.new.items ≡ rows.old.items ++ row_text row cells.now }
@@ -114,7 +114,7 @@ fn push_row(rows: &mut Rows, row: u8, cells: &[u8; 40])
     push_text(rows, b"|\n");
 }
 
-// Whether all cells are spaces.
+// Returns whether all cells are spaces.
 fn is_blank(cells: &[u8; 40]) -> bool
     ensures { result ≡ list_all (λ c. c == space) cells.now }
 {

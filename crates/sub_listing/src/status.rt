@@ -9,12 +9,12 @@ pub enum Status {
     Done,
     /// Refused, with the reason on a line: 1.
     Refused,
-    /// Words that are no request, want of memory, or a device that failed: 2.
+    /// Arguments that make no request, want of memory, or a device that failed: 2.
     Fault,
 }
 
 impl Status {
-    /// The status as the number that the system gets.
+    /// Returns the status as the number that the system gets.
     pub fn code(self) -> u8
         ensures { result ≡ exit_code self }
     {

@@ -1,4 +1,4 @@
-//! How a file is written: the work is done, and the line that tells of it is printed.
+//! Writes a file and prints the line about it.
 ghost use Rattle.std.specs.Prelude.{◌≡◌, ◌≤◌, OnOk, length, true};
 ghost use Rattle.sub_io.specs.Device.{CountsIf, failed};
 ghost use Rattle.sub_listing.specs.Writing.{EndsWork, is_file_failure, is_input_failure};
@@ -16,7 +16,7 @@ use stl_rows::LoadFault;
 use sub_io::{Close, Sink, Source};
 use sub_plan::PlanFault;
 
-/// Why a file is not written whole.
+/// Why a file is not written, or only a part of it.
 #[derive(Clone, Copy)]
 pub enum WriteFault {
     /// The input of `normal` was not read.
@@ -31,10 +31,10 @@ pub enum WriteFault {
 
 /// The work of a command that writes a file.
 pub trait Work {
-    /// What the file has and what is answered, by what the input tells before and after.
+    /// The file and the result, given the input before and after.
     ghost works: { Self → writing.Work };
 
-    /// Does the work, and answers how many things were written. The input is read to its end before
+    /// Does the work, and returns how many items were written. The input is read to its end before
     /// anything is written, and then the file is stored.
     fn work<S: Source, F: Close>(
         &self,
@@ -54,8 +54,8 @@ pub trait Work {
         ensures stored { OnOk result (F.is_stored file.new ≡ true) };
 }
 
-/// Does the work of a command, and prints the line of it: the number of things that were written,
-/// or the fault.
+/// Does the work of a command, and prints its line: the number of items that were written, or the
+/// fault.
 pub fn write<W: Work, S: Source, F: Close, K: Sink>(
     alloc: Global,
     work: &W,

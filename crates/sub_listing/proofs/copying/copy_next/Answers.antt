@@ -1,4 +1,4 @@
--- What was copied, by what came: piece_copied, part_of_piece, none_left, rest_stays.
+-- What was copied, case by case: piece_copied, part_of_piece, none_left, rest_stays.
 use Rattle.std.proofs.Common.{refl, rules}
 use Rattle.std.specs.Io.KnownBytes.{Appends}
 use Rattle.sub_io.specs.Device.{AppendsPrefix}

@@ -1,4 +1,4 @@
--- The pieces so far and one more: no_pieces, next_copied; and how it ended: pieces_given,
+-- The PES packets so far and one more: no_pieces, next_copied; and how it ended: pieces_given,
 -- none_given, rest_refused, cut_behind, cut_in_rest, part_copied, too_many.
 use Rattle.std.proofs.Common.{arith, rules}
 use Rattle.sub_listing.proofs.ExtractingLemmas.{cut_behind, cut_in_rest, next_copied, no_pieces}

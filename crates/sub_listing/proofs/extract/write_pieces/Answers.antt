@@ -1,4 +1,4 @@
--- Storing leaves what was taken as it is: of all bytes where it is stored, and else of a prefix.
+-- Storing does not change what was written: all bytes if it is stored, otherwise a prefix.
 use Rattle.sub_listing.proofs.ExtractingLemmas.{extracted-stored, extracted-lost}
 use Rattle.sub_listing.proofs.extract.write_pieces.Goals as goal
 

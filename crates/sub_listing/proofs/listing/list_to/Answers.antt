@@ -1,5 +1,5 @@
--- The lines of one piece more, the last ones, and those at which the sink failed: front-more,
--- front-end, front-cut, front-stopped; lines that were handed on before: front-kept.
+-- The lines of one more part, the last ones, and those at which the sink failed: front-more,
+-- front-end, front-cut, front-stopped; lines that were flushed before: front-kept.
 use Rattle.std.proofs.Common.{◌∙◌, ◌+◌, ap, arith, if◌then◌else◌, refl, subst, sym, Some, ℕ}
 use Rattle.std.proofs.lemmas.Bool.{true≢false}
 use Rattle.std.specs.Io.KnownBytes.{Appends}
@@ -23,7 +23,7 @@ pieces-init g c = record {
   front = front-none _ _ _;
 }
 
--- ---- the sink failed as lines were handed on
+-- ---- the sink failed when lines were flushed
 
 pub returns-then-printer-clause-out_count : goal.returns-then-printer-clause-out_count
 returns-then-printer-clause-out_count g c =
@@ -74,7 +74,7 @@ returns-then-printer-clause-fault g c = λ _.
     let source = before.source in
     omega (arith, risen, same, out, source)
 
--- ---- the sink failed at the lines of a piece
+-- ---- the sink failed at the lines of a part
 
 pub returns-in-Err-clause-listing : goal.returns-in-Err-clause-listing
 returns-in-Err-clause-listing g c =
@@ -180,7 +180,7 @@ returns-in-Some-clause-fault g c = λ is.
     let source = before.source in
     omega (arith, out, put, counted, source)
 
--- ---- one piece more
+-- ---- one more part
 
 pub pieces-preserved : goal.pieces-preserved
 pieces-preserved g c =

@@ -1,4 +1,4 @@
--- No device has failed, and what was printed is the front of what may be listed.
+-- No device has failed, and what was printed is the beginning of each possible listing.
 use Rattle.std.proofs.Common.{◌≡◌, false}
 use Rattle.sub_listing.proofs.ListingLemmas.{IsFront}
 use Rattle.sub_listing.proofs.listing.list_to.Given as goal

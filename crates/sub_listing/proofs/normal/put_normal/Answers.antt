@@ -1,4 +1,4 @@
--- The first bytes decide it, answers_first, and storing leaves what was taken as it is.
+-- The first bytes decide it, answers_first, and storing does not change what was written.
 use Rattle.std.proofs.Common.{Ok, Err}
 use Rattle.std.proofs.KnownBytes.{Appends-kept}
 use Rattle.sub_io.proofs.DeviceLemmas.{AppendsPrefix-whole}

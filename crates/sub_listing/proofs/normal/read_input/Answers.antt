@@ -1,4 +1,4 @@
--- Each pull puts its piece after those before it; what was taken is told at the end.
+-- Each pull appends its part to those before it.
 use Rattle.std.proofs.Common.{rules}
 use Rattle.sub_listing.proofs.NormalLemmas.{Consumes-next, block-at, memory-wanted, taken-at_end}
 use Rattle.sub_listing.proofs.NormalLemmas.{taken-to_most}

@@ -1,4 +1,4 @@
--- What stays where lines are handed on: handed_same, handed_stays, handed_failed.
+-- What stays the same when lines are flushed: handed_same, handed_stays, handed_failed.
 use Rattle.std.proofs.Common.{◌≡◌, ◌∙◌, ℕ, Bool, List, Option, false, refl, true}
 use Rattle.sub_io.proofs.HandingOnLemmas.{not_ok}
 use Rattle.sub_listing.proofs.PrinterLemmas.{handed_failed, handed_same, handed_stays}
@@ -10,7 +10,7 @@ abbrev value_of : {K : Type 0} → (K → Option (List ℕ)) → (K → ℕ) →
 value_of contents count p =
     printer_value (contents p.out.now) (count p.out.now) p.refused p.failed p.first
 
--- How it stands after it was to hand on.
+-- The state after flushing was requested.
 abbrev IsHandedOn : {K : Type 0} → (K → Option (List ℕ)) → (K → ℕ) → (K → ℕ)
     → Printer K → Bool → Printer K → Type 0
 IsHandedOn contents count held s ok t = (t.out.ghost_name ≡ s.out.ghost_name)

@@ -1,4 +1,4 @@
--- What is listed once the first PES packet was found, or the device failed before: prints_found,
+-- The listing after the first PES packet was found, or if the device failed before: prints_found,
 -- prints_failed.
 use Rattle.std.proofs.Common.{◌≡◌, ◌+◌, arith}
 use Rattle.sub_listing.specs.DeviceCall.{read_call}

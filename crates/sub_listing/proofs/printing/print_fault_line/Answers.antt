@@ -1,4 +1,4 @@
--- The line that was put, and nothing beside: by AppendsPrefix-whole.
+-- Exactly this line was written: by AppendsPrefix-whole.
 use Rattle.std.proofs.Common.{◌≡◌, rules, subst, true}
 use Rattle.std.specs.Io.KnownBytes.{Appends}
 use Rattle.sub_io.proofs.DeviceLemmas.{AppendsPrefix-whole}

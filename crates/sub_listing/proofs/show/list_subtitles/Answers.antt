@@ -1,4 +1,4 @@
--- What is listed from the start of a file.
+-- The listing from the start of a file.
 use Rattle.sub_listing.proofs.show.list_subtitles.Goals as goal
 
 pub returns-clause-listing : goal.returns-clause-listing

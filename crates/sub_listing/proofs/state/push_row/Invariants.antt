@@ -1,4 +1,4 @@
--- So far the characters of the cells up to the one at hand were appended.
+-- The characters of the cells before the current one were appended.
 use Rattle.std.proofs.Common.{◌≡◌, ◌++◌, ◌+◌, map, take}
 use Rattle.arrayvec.specs.ArrayVec.{array_vec_len}
 use Rattle.sub_listing.specs.Lines.{glyph}

@@ -1,4 +1,4 @@
--- The lines of one PES packet more, and the last ones: gives-packet, gives-last,
+-- The lines of one more PES packet, and the last ones: gives-packet, gives-last,
 -- outcome_after-next.
 use Rattle.std.proofs.Common.{◌≡◌, ◌∙◌, refl, rules, sym, Err, None, Ok, Some, false}
 use Rattle.ttx_pes.specs.Fault.{is_read}

@@ -1,5 +1,5 @@
--- The GSI block, the line of one subtitle more, and the last one: gives-opened, gives-next,
--- gives-last; a subtitle takes a block or more, block-rises.
+-- The GSI block, the line of one more subtitle, and the last one: gives-opened, gives-next,
+-- gives-last; a subtitle has at least one block, block-rises.
 use Rattle.std.proofs.Common.{◌≡◌, ◌∙◌, ◌+◌, ap, arith, refl, rules, sym, None, Some, false}
 use Rattle.stl_file.specs.Fault.{is_file_read}
 use Rattle.stl_file.specs.Reader.{outcome_left}
