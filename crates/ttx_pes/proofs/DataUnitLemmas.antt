@@ -1,5 +1,5 @@
--- A data unit that is read is one of the grammar, and the other way round. Main lemmas:
--- units_sound, units_complete.
+-- Data units that are read match the grammar, and vice versa. Main lemmas: units_sound,
+-- units_complete.
 use Rattle.std.proofs.Common.{rules, ◌≡◌, ℕ, zero, suc, ◌+◌, ◌-◌, ◌*◌, ◌/◌, ◌%◌, ◌<◌, ◌≤◌, true}
 use Rattle.std.proofs.Common.{cond, eqb, List, [], ◌∷◌, ◌++◌, length, take, get_or, drop, map}
 use Rattle.std.proofs.Common.{Option, Some, Ok, refl, sym, ap, ◌∙◌, append_assoc, arith, inl, inr}
@@ -29,12 +29,12 @@ AreBytes-take n b h i = grind (arith, nat_tests, cases_lt, get_or-take, get_or_p
 pub AreBytes-drop : (n : ℕ) (b : List ℕ) → AreBytes b → AreBytes (drop n b)
 AreBytes-drop n b h i = rw get_or-drop (h (n + i))
 
--- The n bytes from a place on, one by one, and those after them.
+-- n bytes from a place on, written out one by one, and those after them.
 abbrev pub spelled_from : ℕ → ℕ → List ℕ → List ℕ
 spelled_from zero i b = drop i b
 spelled_from (suc n) i b = get_or b i 0 ∷ spelled_from n (suc i) b
 
--- A list by its first bytes.
+-- A list with its first bytes written out.
 pub list_of_bytes : (n i : ℕ) (b : List ℕ) → i + n ≤ length b → drop i b ≡ spelled_from n i b
 list_of_bytes zero i b le = grind (arith, nat_tests)
 list_of_bytes (suc n) i b le =
@@ -47,7 +47,7 @@ pub mirror_fits : (b : ℕ) → b < 256 → mirror b < 256
 unfolding mirror
 mirror_fits b lt = omega arith
 
--- Bytes that are mirrored twice are the bytes.
+-- Mirroring bytes twice gives the same bytes.
 pub mirrored_twice : (p : List ℕ) → AreBytes p → map mirror (map mirror p) ≡ p
 mirrored_twice [] h = refl
 mirrored_twice (x ∷ p) h =
@@ -63,18 +63,18 @@ mirrored_fit (x ∷ p) h (suc i) = mirrored_fit p (λ k. h (suc k)) i
 
 -- ---- a data unit
 
--- The two numbers of data units with Teletext.
+-- The data_unit_id of data units with Teletext.
 pub is_teletext_id : (id : ℕ) → is_teletext id ≡ true → (2 ≤ id) × (id ≤ 3)
 is_teletext_id id e = grind (arith, nat_tests)
 
--- The third byte of a unit, made again of its parts.
+-- The third byte of a unit, reassembled from its parts.
 field_bit : (b : ℕ)
     → b < 256
     → (64 * (b / 64) + 32 * (2 - cond (eqb ((b / 32) % 2) 1) 1 2) + b % 32 ≡ b)
     × (1 ≤ cond (eqb ((b / 32) % 2) 1) 1 2) × (cond (eqb ((b / 32) % 2) 1) 1 2 ≤ 2)
 field_bit b lt = grind (arith, nat_tests)
 
--- A data unit that is read is one of the grammar.
+-- A data unit that is read matches the grammar.
 pub unit_sound : (b : List ℕ) (u : Option UnitValue)
     → length b ≡ 46
     → AreBytes b
@@ -96,7 +96,7 @@ unit_sound b u len fit e = elim (cases_Bool (is_teletext (get_or b 0 0))) [
       })
 ]
 
--- Units with those numbers are read.
+-- Units with these numbers are read.
 teletext_id_is : (id : ℕ) → 2 ≤ id → id ≤ 3 → is_teletext id ≡ true
 teletext_id_is id lo hi = grind (arith, nat_tests)
 
@@ -118,19 +118,19 @@ unit_complete u b h =
 
 -- ---- data units one after another
 
--- What a data unit adds.
+-- The effect of a data unit.
 pub record Adds (front us : List UnitValue) (u : Option UnitValue) : Type 0 where
   pub is : us ≡ front ++ option_to_list u
   pub rises : (more : List UnitValue) → AreInLineOrder (last_place 0 us) more
       → AreInLineOrder (last_place 0 front) (option_to_list u ++ more)
 
--- What is read after the units so far keeps the order.
+-- A unit is added only if it keeps the order.
 with_unit_adds : (front us : List UnitValue) (u : Option UnitValue)
     → with_unit front u ≡ Ok us
     → Adds front us u
 with_unit_adds front us u e = grind (arith, nat_tests, Ok-injective, append-nil, last_place-push)
 
--- Data units that are read are those of the grammar, in order: for a value that is read.
+-- Data units that are read match the grammar, in order: for a value that is read.
 pub units_sound : (n : ℕ) (front us : List UnitValue) (b : List ℕ)
     → length b ≡ 46 * n
     → AreBytes b
@@ -154,7 +154,7 @@ units_sound (suc n) front us b len fit e =
       adds.rises r.0 r.3,
     )
 
--- A unit that keeps the order is taken.
+-- A unit that keeps the order is added.
 with_unit_takes : (front others : List UnitValue) (u : Option UnitValue)
     → AreInLineOrder (last_place 0 front) (option_to_list u ++ others)
     → (with_unit front u ≡ Ok (front ++ option_to_list u))
@@ -179,7 +179,7 @@ units_complete (suc n) front more b (u, others, first, rest, held, after, us-is,
 
 -- ---- the loop over data units
 
--- The next data unit of those that are left.
+-- The next of the remaining data units.
 pub units_next : (count i : ℕ) (front : List UnitValue) (b : List ℕ)
     → i < count
     → units_at (count - i) front b

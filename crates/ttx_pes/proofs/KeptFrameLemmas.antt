@@ -1,5 +1,5 @@
--- What is known of a packet by its header and its data field: of one whose units are read,
--- known_anew, and of one whose data field is that of a packet before, known_again.
+-- Facts about a packet from its header and its data field: with newly read units, known_anew, or
+-- with the data field of the packet before, known_again.
 use Rattle.std.proofs.lemmas.Bool.Decides.{nat_tests}
 use Rattle.std.proofs.Common.{◌≡◌, ℕ, ◌/◌, ◌<◌, List, ◌+◌, ◌%◌, ◌≤◌, ◌++◌, [], length, drop}
 use Rattle.std.proofs.Common.{false, take, Ok, Err, refl, sym, ap, subst, arith, length-drop}
@@ -27,7 +27,7 @@ value_refused b field t f e same bad =
     let there = rw (same, drop-drop 1 39 b) at bad in
     rw (e, there) refl
 
--- What is read of the bytes of a packet from byte 6 on is a value that a packet carries.
+-- A value that is read from a packet's bytes from byte 6 on is valid.
 value_kept : (body : List ℕ) (v : PesValue)
     → length body + 6 ≤ 1656
     → (length body + 6) % 184 ≡ 0
@@ -47,12 +47,12 @@ pub record IsBody (body : List ℕ) : Type 0 where
   pub long : 184 ≤ length body + 6
   pub fit : AreBytes body
 
--- What is known of a packet by these bytes.
+-- The facts about a packet, from these bytes.
 pub record IsKnown (body : List ℕ) (h : RoomValue) : Type 0 where
   pub value : value_at body ≡ Ok (room_frame (drop 39 body) h)
   pub known : IsInRoom (drop 39 body) h
 
--- Where the units of its data field are read.
+-- With newly read units of its data field.
 pub known_anew : (body field : List ℕ) (h : RoomValue)
     → IsBody body
     → pts_at body ≡ Ok h.pts
@@ -79,7 +79,7 @@ known_anew body field h is time same count within all read =
       };
     }
 
--- Where it is that of a packet of which this is known.
+-- With the data field of a packet for which the facts are known.
 pub known_again : (body field before : List ℕ) (old h : RoomValue)
     → IsBody body
     → pts_at body ≡ Ok h.pts
@@ -96,7 +96,7 @@ known_again body field before old h is time same kept known count places =
     known_anew body field h is time same (there.count ∙ sym count) (rw places there.within)
     (rw places there.all) (rw places (there.units some))
 
--- The data field in a packet's room, by the packet's bytes from byte 6 on. For `other_field`.
+-- The data field in a packet's buffer, from the packet's bytes from byte 6 on. For `other_field`.
 pub field_of_body : (size count : ℕ) (room body : List ℕ)
     → body ≡ drop 6 (take size room)
     → count + 39 ≡ length body
@@ -110,21 +110,21 @@ field_of_body size count room body is all long fits =
     sym (ap (drop 39) is ∙ drop-drop 39 6 (take size room)
     ∙ ap (λ n. drop 45 (take n room)) (sym sum) ∙ drop-take 45 count room)
 
--- What is known of no packet is so of an empty data field. For a `KeptFrame` without one.
+-- The facts about no packet hold for an empty data field. For a `KeptFrame` without one.
 pub none_known : IsInRoom [] no_packet
 unfolding units_at
 none_known = grind (arith, nat_tests, no_places)
 
--- ---- a piece that is kept
+-- ---- a packet that is stored
 
--- What is kept of a packet that stands in front of the room.
+-- The stored value of a packet at the front of the buffer.
 abbrev pub kept_in : RoomValue → List ℕ → KeptValue
 kept_in h room = record {
   frame = room_frame (field_in h.count room) h;
   data_field = field_in h.count room;
 }
 
--- Another, which was put in the room.
+-- A different packet, which was copied to the buffer.
 pub other_field : (new : RoomValue) (room piece body : List ℕ)
     → body ≡ drop 6 piece
     → take (length piece) room ≡ piece

@@ -1,5 +1,5 @@
--- Bytes that a source lends, taken pull by pull: lent-more. Where they hold a packet, its size is
--- that of the bytes that are taken first: lent_rest.
+-- Lent bytes that are taken in several pulls: lent-more. If they contain a packet, its size is read
+-- from the first bytes taken: lent_rest.
 use Rattle.std.proofs.Common.{◌≡◌, ◌≢◌, ℕ, ◌+◌, ◌<◌, ◌≤◌, List, [], ◌++◌, length, take, Some, ap}
 use Rattle.std.proofs.Common.{◌∙◌, Bool, Ok, Result, arith, false, length-append}
 use Rattle.std.proofs.Common.{length-take, length-take-le, sym, true}
@@ -11,7 +11,7 @@ use Rattle.ttx_pes.specs.LentPacket.{NothingWaits, are_all_of, holds_packet}
 use Rattle.ttx_pes.specs.declared.fault.PesFault.{PesFault}
 use Rattle.ttx_pes.specs.Reading.{size_at}
 
--- While fewer were taken than were held and lent, some are lent still.
+-- While fewer bytes were taken than were buffered and lent, some are still lent.
 some_left : (held lent left room : List ℕ) (least at : ℕ)
     → held ++ lent ≡ take at room ++ left
     → at < least
@@ -28,7 +28,7 @@ some_left held lent left room least at whole below within many none =
       length-take-le at room within,
     )
 
--- One pull more. For `fill_on`.
+-- One more pull. For `fill_on`.
 pub lent-more : (held lent left rest room to : List ℕ) (least at k n : ℕ)
     → held ++ lent ≡ take at room ++ left
     → (left ≢ [] → left ≡ take n to ++ rest)
@@ -47,7 +47,7 @@ pub lent_head : (lent : List ℕ) → holds_packet lent ≡ true → 6 ≤ lengt
 unfolding holds_packet
 lent_head lent holds = grind (arith, nat_tests)
 
--- Where its size was read of the bytes that were taken, the rest of it is lent still. For
+-- After the size was read from the bytes taken, the rest of the packet is still lent. For
 -- `read_piece`.
 pub lent_rest : (lent left room : List ℕ) (got size : ℕ)
     → holds_packet lent ≡ true
@@ -60,7 +60,7 @@ unfolding holds_packet
 lent_rest lent left room got size h1 h2 h3 h4 h5 =
     grind (arith, nat_tests, length-take-le, length-append)
 
--- Bytes hold a packet where fewer at their front do.
+-- Bytes contain a packet if a prefix of them does.
 all_of_more : (r : Result ℕ PesFault) (m n : ℕ) → m ≤ n → are_all_of m r ≡ true
     → are_all_of n r ≡ true
 all_of_more r m n h1 h2 = grind (arith, nat_tests)
@@ -82,7 +82,7 @@ held_holds held lent begins holds =
     all_of_more _ _ _ long (rw first at all) in
     grind (arith, nat_tests)
 
--- What `holds_packet` answers.
+-- The result of `holds_packet`.
 pub holds_none : (bytes : List ℕ) → length bytes < 6 → false ≡ holds_packet bytes
 unfolding holds_packet
 holds_none bytes few = grind (arith, nat_tests)
@@ -94,8 +94,7 @@ pub holds_read : (bytes : List ℕ) (r : Result ℕ PesFault)
 unfolding holds_packet
 holds_read bytes r many is = grind (arith, nat_tests)
 
--- Where the read of a packet failed, nothing was waiting. For `tell_pieces` and the lister of
--- `packets`.
+-- If reading a packet failed, no report was pending. For `tell_pieces` and the lister of `packets`.
 pub waits_not : (is_waiting fails ready : Bool)
     → NothingWaits is_waiting ready
     → (ready ≡ true → fails ≡ false)

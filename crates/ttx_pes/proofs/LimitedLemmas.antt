@@ -1,4 +1,4 @@
--- Pieces, so many at most: came_limited; and those that are passed over: passed_one, passed_stop.
+-- A limited number of packets: came_limited; and skipped ones: passed_one, passed_stop.
 use Rattle.std.proofs.Common.{◌≡◌, ℕ, zero, suc, ◌+◌, ◌-◌, ◌*◌, ◌≤◌, ◌<◌, List, [], ◌++◌, true}
 use Rattle.std.proofs.Common.{false, length, take, drop, Option, Some, None, Result, Ok, Err, refl}
 use Rattle.std.proofs.Common.{sym, ap, ◌∙◌, subst, inl, inr, arith, append_assoc, length-append}
@@ -28,7 +28,8 @@ Keeps-refl : (a : Option (List ℕ)) → Keeps a a
 Keeps-refl None = tt
 Keeps-refl (Some x) = refl
 
--- A piece tells its size, whatever follows it. (RangeLemmas has it, private.)
+-- A packet has the size in its length field, whatever follows it. (Also in RangeLemmas, where it is
+-- private.)
 pub piece_is : (p rest : List ℕ) → IsPiece p → piece_size (p ++ rest) ≡ Some (length p)
 unfolding stated_piece
 piece_is p rest h =
@@ -49,14 +50,14 @@ piece_is p rest h =
     ) refl in
     whole (p ++ rest) (length p) (told ∙ ap Some (sym long)) (omega (arith, size))
 
--- A piece, where one more may come.
+-- A packet under a limit of at least one.
 front_limited : (n : ℕ) (p rest : List ℕ) → IsPiece p
     → limited (Some (suc n)) (p ++ rest) ≡ p ++ limited (Some n) rest
 front_limited n p rest is =
     first_one n (p ++ rest) (length p) (piece_is p rest is)
     ∙ rw (take_at p rest (length p) refl, drop_at p rest (length p) refl) refl
 
--- Why no piece begins bytes, where none does.
+-- Why bytes begin no packet, if they begin none.
 no_size : (count : ℕ) (r : Result ℕ PesFault) (f : PesFault) → fault_of_size count r ≡ Some f
     → if_whole count (result_ok r) ≡ None
 no_size count (Ok size) f e = grind (arith, nat_tests)
@@ -71,7 +72,7 @@ rest_size b f e = elim (cases_lt (length b) 6) [
       rw (long) (no_size (length b) (size_at (take 6 b)) f (rw (long) at e))
 ]
 
--- Which is told of all that was to come.
+-- This is known about all remaining bytes.
 pub rest_told : (old behind : Option (List ℕ)) (f : PesFault) → IsRest old behind f
     → IfKnown old (λ all. rest_fault all ≡ Some f)
 rest_told None behind f r all told = absurd cc
@@ -80,7 +81,7 @@ rest_told (Some x) (Some y) f r all told =
     let same : x ≡ all = cc in
     ap rest_fault (sym same ∙ r.consumed) ∙ r.shows.all y (λ end. end)
 
--- No piece.
+-- Without a packet the limit changes nothing.
 rest_limited : (n : ℕ) (b : List ℕ) → piece_size b ≡ None → limited (Some (suc n)) b ≡ b
 rest_limited n b none = first_none (suc n) b (omega arith) none
 
@@ -88,7 +89,7 @@ pub nil_size : piece_size [] ≡ None
 unfolding piece_size stated_piece
 nil_size = refl
 
--- ---- by what is told
+-- ---- known bytes
 
 Keeps-map : (f : List ℕ → List ℕ) (old new : Option (List ℕ)) → Keeps old new
     → Keeps (option_map f old) (option_map f new)
@@ -96,7 +97,7 @@ Keeps-map f None new k = tt
 Keeps-map f (Some x) None k = absurd k
 Keeps-map f (Some x) (Some y) k = ap f k
 
--- No more may come.
+-- The limit is reached.
 over_end : (told : Option (List ℕ)) → IsAtEnd (option_map (limited (Some 0)) told)
 unfolding first_pieces
 over_end None = tt
@@ -113,7 +114,7 @@ module _ {T A : Type 0} (E : Type 0) (is_take : T → List ℕ → A → T → T
   over_limited (Some zero) told behind over =
       (Keeps-map (limited (Some 0)) told told (Keeps-refl told), refl, over_end told, refl)
 
--- A piece came.
+-- A packet came.
 piece_limited : (n : ℕ) (old new : Option (List ℕ)) (p : List ℕ)
     → IsPiece p
     → Consumes old new p
@@ -128,7 +129,7 @@ end_limited : (n : ℕ) (old : Option (List ℕ)) → IsAtEnd old
 end_limited n None end = tt
 end_limited n (Some x) end = ap (limited (Some (suc n))) end ∙ rest_limited n [] nil_size
 
--- No piece began: all that follows was to come.
+-- No packet begins the bytes, so all that follow count.
 rest_kept : (n : ℕ) (old new : Option (List ℕ)) (f : PesFault)
     → IfKnown old (λ all. rest_fault all ≡ Some f)
     → Keeps old new
@@ -144,7 +145,7 @@ rest_same n None f none = refl
 rest_same n (Some x) f none =
     ap (λ (b : List ℕ). Some b) (rest_limited n x (rest_size x f (none x refl)))
 
--- What comes, where one more may come.
+-- What comes under a limit of at least one.
 module _ {T A : Type 0} (E : Type 0) (is_take : T → List ℕ → A → T → Type 0) (before after : T)
     (old new behind : Option (List ℕ))
   where
@@ -177,7 +178,7 @@ module _ {T A : Type 0} (E : Type 0) (is_take : T → List ℕ → A → T → T
       on.2,
     )
 
--- ---- what is told
+-- ---- known bytes after a packet
 
 front_of : (mid new : Option (List ℕ)) (b p : List ℕ) → mid ≡ Some b → Consumes mid new p
     → (rest : List ℕ) × (new ≡ Some rest) × (b ≡ p ++ rest)
@@ -194,7 +195,7 @@ at_end : (mid : Option (List ℕ)) (b : List ℕ) → IsAtEnd mid → mid ≡ So
 at_end None b end told = absurd cc
 at_end (Some x) b end told = cc
 
--- ---- pieces that are passed over
+-- ---- skipped packets
 
 pub passed_one : (n k : ℕ) (old mid new : Option (List ℕ)) (p : List ℕ) → k < n
     → HasPassed n k old mid
@@ -223,14 +224,14 @@ passed_one n k old mid new p more so_far is took b told =
       omega (arith, sum, count),
     )
 
--- Nothing more was passed over.
+-- No further packet was skipped.
 pub passed_kept : (n k : ℕ) (old mid new : Option (List ℕ)) → HasPassed n k old mid
     → Keeps mid new
     → HasPassed n k old new
 passed_kept n k old mid new so_far kept b told =
     let at = so_far b told in (at.0, kept_told mid new at.0 at.1 kept, at.2, at.3)
 
--- None is left.
+-- No packet is left.
 passed_end : (n k : ℕ) (old mid new : Option (List ℕ))
     → HasPassed n k old mid
     → Keeps mid new
@@ -245,7 +246,7 @@ passed_end n k old mid new so_far kept none b told =
       omega (arith, count, zero_more),
     )
 
--- All were passed over.
+-- All were skipped.
 pub passed_all : (n k : ℕ) (old new : Option (List ℕ)) → n ≤ k
     → HasPassed n k old new
     → Passes n old new k
@@ -258,7 +259,7 @@ passed_all n k old new all so_far b told =
       omega (arith, count),
     )
 
--- Where no piece came.
+-- If no packet came.
 module _ {T A : Type 0} (E : Type 0) (is_take : T → List ℕ → A → T → Type 0) (before after : T)
     (n k : ℕ) (old mid new behind : Option (List ℕ))
   where

@@ -1,4 +1,4 @@
--- The order of lines, one unit on, and that numbered packets keep it. Main lemma:
+-- The line order with one more unit, and that numbered packets keep it. Main lemma:
 -- numbered_is_value.
 use Rattle.std.proofs.Common.{rules, ◌≡◌, ℕ, ◌+◌, ◌<◌, ◌≤◌, true, false, cond, eqb, ltb, List, []}
 use Rattle.std.proofs.Common.{◌∷◌, ◌++◌, length, get_or, drop, map, refl, append_assoc, arith}
@@ -12,14 +12,14 @@ use Rattle.ttx_pes.specs.Laws.{LawOfNumberedFrame}
 use Rattle.ttx_pes.specs.LineOrder.{line_order_place, last_place, stands_after, AreInLineOrder}
 use Rattle.ttx_pes.specs.LineOrder.{numbered_units, numbered_unit, numbered_place}
 
--- The last place after one more unit.
+-- The last place, with one more unit.
 pub last_place-push : (last : ℕ) (us : List UnitValue) (u : UnitValue)
     → last_place last (us ++ u ∷ []) ≡ cond (eqb u.line 0) (last_place last us) (line_order_place u)
 last_place-push last [] u = refl
 last_place-push last (t ∷ us) u =
     last_place-push (cond (eqb t.line 0) last (line_order_place t)) us u
 
--- The order goes on by a unit that stands after it.
+-- A unit that may follow the last place keeps the order.
 pub AreInLineOrder-push : (last : ℕ) (us : List UnitValue) (u : UnitValue)
     → AreInLineOrder last us
     → stands_after (last_place last us) u ≡ true
@@ -28,7 +28,7 @@ AreInLineOrder-push last [] u h e = (e, tt)
 AreInLineOrder-push last (t ∷ us) u h e =
     (h.0, AreInLineOrder-push (cond (eqb t.line 0) last (line_order_place t)) us u h.1 e)
 
--- One more unit among units.
+-- One more unit.
 pub units-push : (us : List UnitValue) (u : UnitValue)
     → AllByRecursion IsUnit us
     → IsUnit u
@@ -36,14 +36,14 @@ pub units-push : (us : List UnitValue) (u : UnitValue)
 units-push [] u h w = (w, tt)
 units-push (t ∷ us) u h w = (h.0, units-push us u h.1 w)
 
--- For a frame that takes a unit.
+-- For a frame to which a unit is added.
 pub ruleset order = (last_place-push, AreInLineOrder-push, units-push)
 
--- The places of numbers rise.
+-- The places of consecutive numbers rise.
 place_rises : (i : ℕ) → numbered_place i < numbered_place (i + 1)
 place_rises i = grind (arith, nat_tests)
 
--- The loop of frame_of, one packet on: those that are left come after it.
+-- One more packet in the loop of frame_of: the remaining units come after it.
 pub numbered_more : (i : ℕ) (ps : List (List ℕ)) (p : List ℕ) (us all : List UnitValue)
     → i < length ps
     → p ≡ get_or ps i p
@@ -51,7 +51,7 @@ pub numbered_more : (i : ℕ) (ps : List (List ℕ)) (p : List ℕ) (us all : Li
     → (us ++ numbered_unit i p ∷ []) ++ numbered_units (i + 1) (drop (i + 1) ps) ≡ all
 numbered_more i ps p us all lt is e = grind (arith, nat_tests, append_assoc, drop_more)
 
--- The last place after a numbered unit: the next number may stand there.
+-- After a numbered unit, the next number may follow.
 pub last_numbered : (i : ℕ) (u : UnitValue) (us : List UnitValue)
     → eqb u.line 0 ≡ false
     → line_order_place u ≡ numbered_place i
@@ -71,17 +71,16 @@ length-numbered_units : (i : ℕ) (ps : List (List ℕ)) → length (numbered_un
 length-numbered_units i [] = refl
 length-numbered_units i (p ∷ ps) = grind (arith, nat_tests, length-numbered_units (i + 1) ps)
 
--- What is known of one numbered unit.
+-- Facts about one numbered unit.
 record IsNumbered (i : ℕ) (p : List ℕ) : Type 0 where
   pub unit : IsUnit (numbered_unit i p)
   pub line : eqb (numbered_unit i p).line 0 ≡ false
   pub place : line_order_place (numbered_unit i p) ≡ numbered_place i
 
--- One numbered unit.
 numbered_one : (i : ℕ) (p : List ℕ) → i < 32 → IsPacket p → IsNumbered i p
 numbered_one i p lt h = grind (arith, nat_tests)
 
--- All numbered units are units.
+-- All numbered units are valid units.
 numbered_each : (i : ℕ) (ps : List (List ℕ)) → i + length ps ≤ 32 → AllByRecursion IsPacket ps
     → AllByRecursion IsUnit (numbered_units i ps)
 numbered_each i [] lt h = tt
@@ -89,7 +88,7 @@ numbered_each i (p ∷ ps) lt h =
     let few : i + 1 + length ps ≤ 32 = omega arith in
     ((numbered_one i p (omega arith) h.0).unit, numbered_each (i + 1) ps few h.1)
 
--- Numbered units stand in order.
+-- Numbered units are in order.
 numbered_order : (i last : ℕ) (ps : List (List ℕ)) → i + length ps ≤ 32 → AllByRecursion IsPacket ps
     → last < numbered_place i
     → AreInLineOrder last (numbered_units i ps)
@@ -103,7 +102,7 @@ numbered_order i last (p ∷ ps) few h lt =
     rw (one.line, stands)
     (refl, numbered_order (i + 1) (line_order_place (numbered_unit i p)) ps next h.1 rises)
 
--- Packets that are sent as one frame make a value that a frame can hold: the law.
+-- The law of packets that are sent as one frame.
 pub numbered_is_value : LawOfNumberedFrame
 numbered_is_value pts ps lt few h =
     search (rules, length-numbered_units, numbered_each, numbered_order, packets-numbered_units)

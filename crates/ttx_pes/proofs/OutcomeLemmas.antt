@@ -1,4 +1,4 @@
--- What comes of PES packets is the next answer and what comes then: outcome_after-next.
+-- The result for a file is its next answer, followed by the rest: outcome_after-next.
 use Rattle.std.proofs.Common.{◌≡◌, ℕ, ◌+◌, ◌≤◌, List, Option, Some, None, Result, Ok, Err}
 use Rattle.std.proofs.Common.{ap, ◌∙◌, arith}
 use Rattle.std.proofs.lemmas.Bool.Decides.{nat_tests}
@@ -9,26 +9,26 @@ use Rattle.ttx_pes.specs.Pieces.{PiecesValue, behind_piece, piece_then, pieces_a
 use Rattle.ttx_pes.specs.Reading.{answer_at, most_packets, rest_after}
 use Rattle.ttx_pes.proofs.PieceListLemmas.{behind_packet, pieces_after-next}
 
--- What a reader answers, and after a packet what comes then.
+-- A reader's answer, and after a packet the following ones.
 abbrev pub answer_then : Result (Option PesValue) PesFault → PesOutcome → PesOutcome
 answer_then (Ok (Some v)) more = gives v more
 answer_then (Ok None) more = ends
 answer_then (Err f) more = fails f
 
--- Up to the first piece that is refused.
+-- The result up to the first rejected packet.
 until_then : (answer : Result (Option PesValue) PesFault) (more : PiecesValue)
     → until_refused (piece_then answer more).pieces (piece_then answer more).left
     ≡ answer_then answer (until_refused more.pieces more.left)
 until_then answer more = grind (arith, nat_tests)
 
--- After a packet the same bytes are left as after a piece.
+-- After a valid packet, both definitions leave the same bytes.
 same_rest : (given : ℕ) (bytes : List ℕ) (answer : Result (Option PesValue) PesFault)
     → answer_at given bytes ≡ answer
     → answer_then answer (outcome_after (given + 1) (behind_piece bytes))
     ≡ answer_then answer (outcome_after (given + 1) (rest_after bytes))
 same_rest given bytes answer h1 = grind (arith, nat_tests, behind_packet)
 
--- What the bytes that are left after `given` PES packets give, by the next answer.
+-- The result after `given` PES packets, by the next answer.
 pub outcome_after-next : (given : ℕ) (bytes : List ℕ) (answer : Result (Option PesValue) PesFault)
     → given ≤ most_packets
     → answer_at given bytes ≡ answer

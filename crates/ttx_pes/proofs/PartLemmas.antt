@@ -1,5 +1,5 @@
--- Some of the pieces that another gives: what passing over others leaves of them, part_passed and
--- part_failed; and what comes then, advances_kept.
+-- A range of packets: the effect of skipping those before it, part_passed and part_failed; and the
+-- packets that follow, advances_kept.
 use Rattle.std.proofs.Common.{◌≡◌, ℕ, zero, suc, ◌+◌, List, Option, Some, None}
 use Rattle.std.proofs.Common.{refl, ap, ◌∙◌, arith}
 use Rattle.std.specs.Prelude.{option_map}
@@ -15,7 +15,7 @@ part_of zero left None = refl
 part_of zero left (Some x) = refl
 part_of (suc n) left told = refl
 
--- The pieces of a range are those behind the ones before it, so many at most. For `new`.
+-- A range has the packets after those before it, up to a limit. For `new`.
 limited_behind_is : (m : Option ℕ) (n : ℕ) (told : Option (List ℕ))
     → limited_known m (option_map (behind_pieces n) told)
     ≡ option_map (λ b. limited m (behind_pieces n b)) told
@@ -37,7 +37,7 @@ unfolding first_index
 number_is r None = refl
 number_is r (Some x) = ap (λ (n : ℕ). Some n) (omega arith)
 
--- None is to be passed over.
+-- No packet has to be skipped.
 pub number_none : (a : AheadValue) (m : ℕ) (told : Option (List ℕ))
     → a.to_pass ≡ 0
     → part_number a told ≡ Some m

@@ -1,5 +1,5 @@
--- The fields of a header that are read are those of the grammar, and the other way round. Main
--- lemmas: body_sound, body_complete.
+-- Header fields that are read match the grammar, and vice versa. Main lemmas: body_sound,
+-- body_complete.
 use Rattle.std.proofs.Common.{rules, ◌≡◌, ℕ, ◌-◌, ◌*◌, ◌/◌, ◌%◌, ◌^◌, ◌<◌, ◌≤◌, List, [], ◌∷◌, ◌++◌}
 use Rattle.std.proofs.Common.{length, get_or, take, drop, Ok, refl, sym, ap, ◌∙◌, append_assoc}
 use Rattle.std.proofs.Common.{◌+◌, arith, nat_eq, subst, length-append, length-take, length-drop}
@@ -17,7 +17,7 @@ use Rattle.sub_io.proofs.ReadingLemmas.{step_gave, Ok-injective, given_as}
 
 -- ---- the first six bytes
 
--- Six bytes whose size is read are those of the grammar.
+-- Six bytes whose size is read match the grammar.
 pub head_sound : (b : List ℕ) (size : ℕ) → length b ≡ 6 → AreBytes b → size_at b ≡ Ok size
     → (n : ℕ) × (1 ≤ n) × (n ≤ 9) × (size ≡ 184 * n)
     × (b ≡ 0 ∷ 0 ∷ 1 ∷ 189 ∷ bytes_high_first 2 (184 * n - 6))
@@ -33,7 +33,7 @@ head_sound b size len fit e =
     let is-low : get_or b 5 0 ≡ (184 * (size / 184) - 6) % 256 = omega arith in
     (size / 184, omega arith, omega arith, omega arith, parts ∙ cc)
 
--- The six bytes of the grammar give their size.
+-- The size is read from six bytes of the grammar.
 pub head_complete : (n : ℕ)
     → 1 ≤ n
     → n ≤ 9
@@ -41,7 +41,7 @@ pub head_complete : (n : ℕ)
 unfolding size_at
 head_complete n lo hi = grind (arith, nat_tests)
 
--- The start by its word. For `is_start`.
+-- The start as a word. For `is_start`.
 pub start_word : (b : List ℕ)
     → ((i : ℕ) → get_or b i 0 < 256)
     → nat_eq (get_or b 0 0 + 256 * (get_or b 1 0 + 256 * (get_or b 2 0
@@ -51,11 +51,11 @@ start_word b h1 = grind (arith, nat_tests)
 
 -- ---- the bytes after them
 
--- The first six bytes of a packet, before its body.
+-- The first six bytes of a packet.
 abbrev pub six_of : ℕ → List ℕ
 six_of n = packet_start ++ bytes_high_first 2 (packet_length n)
 
--- The fields of the header, as they are read.
+-- The header fields as they are read.
 record Header (b : List ℕ) (t : ℕ) : Type 0 where
   pub flagged : get_or b 0 0 / 16 ≡ 8
   pub pts_alone : get_or b 1 0 / 64 ≡ 2
@@ -65,12 +65,12 @@ record Header (b : List ℕ) (t : ℕ) : Type 0 where
   pub ebu : get_or b 39 0 / 16 ≡ 1
   pub value : pts_bits b ≡ t
 
--- The tests that a PTS went through.
+-- A PTS that is read has passed these tests.
 header_sound : (b : List ℕ) (t : ℕ) → pts_at b ≡ Ok t → Header b t
 unfolding pts_at
 header_sound b t e = grind (arith, nat_tests)
 
--- The PTS, read and written: it has 33 bits.
+-- A PTS that is read is the one that is written: it has 33 bits.
 pts_sound : (b : List ℕ) (t : ℕ)
     → AreBytes b
     → Header b t
@@ -79,15 +79,15 @@ pts_sound : (b : List ℕ) (t : ℕ)
     × (t < 2 ^ 33)
 pts_sound b t fit h = grind (arith, nat_tests)
 
--- A list in its parts, where 31 bytes are passed over.
+-- A list in parts, with 31 bytes skipped.
 parted : (b : List ℕ) → 40 ≤ length b → drop 8 b ≡ take 31 (drop 8 b) ++ (get_or b 39 0 ∷ drop 40 b)
 parted b le = grind (arith, nat_tests, drop-drop 31 8 b, drop_more, take-append-drop 31 (drop 8 b))
 
--- A value of its parts.
+-- The value with these parts.
 abbrev pub value_with : ℕ → List UnitValue → PesValue
 value_with t us = record { pts = t; units = us }
 
--- A body that is read is that of a packet of the grammar.
+-- A body that is read belongs to a packet of the grammar.
 pub body_sound : (n : ℕ) (b : List ℕ) (v : PesValue)
     → 1 ≤ n
     → n ≤ 9
@@ -138,7 +138,7 @@ pub frame_made : (b : List ℕ) (t n : ℕ) (us : List UnitValue)
 unfolding value_at
 frame_made b t n us e count eu = rw (e, count, eu) refl
 
--- The body of a packet of the grammar, which stands after the first six bytes.
+-- The body of a packet of the grammar, after the first six bytes.
 unfoldable pub body_of : (v : PesValue) (p : List ℕ) → IsPesPacket v p → List ℕ
 body_of v p h =
     (h.flags ∷ h.pts_dts_flags ∷ 36 ∷ [])
@@ -149,13 +149,13 @@ pub packet_of_body : (v : PesValue) (p : List ℕ) (h : IsPesPacket v p)
 unfolding body_of
 packet_of_body v p h = h.bytes
 
--- The header of the grammar gives its PTS.
+-- The PTS is read from a header of the grammar.
 header_complete : (v : PesValue) (p : List ℕ) (h : IsPesPacket v p)
     → pts_at (body_of v p h) ≡ Ok v.pts
 unfolding pts_at body_of
 header_complete v p h = grind (arith, nat_tests, get_or_at, given_as)
 
--- It is read.
+-- The body of a packet of the grammar is read.
 pub body_complete : (v : PesValue) (p : List ℕ) (h : IsPesPacket v p)
     → (value_at (body_of v p h) ≡ Ok v) × (length (body_of v p h) ≡ 184 * h.n - 6)
 unfolding body_of

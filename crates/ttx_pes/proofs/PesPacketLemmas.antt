@@ -1,4 +1,4 @@
--- The canonical packet is a packet of its value, and what is made of a frame is it. Main lemmas:
+-- The canonical packet is a valid packet of its value, and the writer writes it. Main lemmas:
 -- canonical_is_packet, refill-pts, spelled.
 use Rattle.std.proofs.Common.{List, Some, [], ap, append_assoc, arith, length, lit<, refl, suc}
 use Rattle.std.proofs.Common.{drop, take, zero, ℕ, ◌*◌, ◌++◌, ◌+◌, ◌-◌, ◌/◌, ◌∷◌, ◌≡◌, ◌≤◌, ◌<◌}
@@ -13,7 +13,6 @@ use Rattle.ttx_pes.specs.Laws.{LawOfCanonicalPacket, LawOfPacketValue}
 use Rattle.ttx_pes.specs.PesPacket.{PesValue, canonical_packet, pes_packet_header, payloads_for}
 use Rattle.ttx_pes.specs.PesPacket.{pts_bytes, repeated}
 
--- A stuffing unit is passed over.
 stuffing_is_passed : IsPassedUnit stuffing_unit
 stuffing_is_passed = grind (arith, nat_tests)
 
@@ -22,7 +21,7 @@ pub stuffing_units : (n : ℕ) → AreDataUnits n [] (repeated n stuffing_unit)
 stuffing_units zero = (refl, refl)
 stuffing_units (suc n) = grind (arith, nat_tests, stuffing_is_passed, stuffing_units n)
 
--- Units and stuffing units that are written are data units of the grammar.
+-- Written units and stuffing units are data units of the grammar.
 pub written_units : (us : List UnitValue) (n : ℕ)
     → AllByRecursion IsUnit us
     → AreDataUnits (length us + n) us (flat_map teletext_unit us ++ repeated n stuffing_unit)
@@ -42,7 +41,7 @@ written_units (u ∷ us) n h =
     let more : suc (length us + n) ≡ suc (length us) + n = omega arith in
     grind (arith, nat_tests)
 
--- The canonical packet is a packet of its value: the law.
+-- The law of the canonical packet.
 pub canonical_is_packet : LawOfCanonicalPacket
 unfolding canonical_packet payloads_for pes_packet_header
 canonical_is_packet v h =
@@ -72,7 +71,7 @@ pub has_room_for_pts : (v : PesValue) → 14 ≤ length (canonical_packet v)
 unfolding canonical_packet pes_packet_header
 has_room_for_pts v = omega arith
 
--- With the five bytes of another PTS it is that of the other PTS. For `RepeatedPacket`.
+-- With the five bytes of another PTS it is the canonical packet for that PTS. For `RepeatedPacket`.
 pub refill-pts : (v : PesValue) (pts : ℕ) (bytes : List ℕ)
     → bytes ≡ canonical_packet v
     → refill (length bytes) bytes (take 9 bytes ++ (pts_bytes pts ++ drop 14 bytes))
@@ -86,7 +85,7 @@ refill-pts v pts bytes is =
     (ap (λ rest. pes_packet_header n pts ++ rest)
     (take-append_seam units (drop (length units) units)))
 
--- The loop over stuffing units, one on: those that are left come after it.
+-- One more stuffing unit in the loop: the remaining ones come after it.
 pub stuffed_more : (count i : ℕ) (out all : List ℕ)
     → i < count
     → out ++ repeated (count - i) stuffing_unit ≡ all
@@ -95,7 +94,7 @@ stuffed_more count i out all lt e =
     let next : count - i ≡ suc (count - (i + 1)) = omega arith in
     grind (arith, nat_tests, append_assoc)
 
--- What packet_of has made is the canonical packet.
+-- packet_of returns the canonical packet.
 pub spelled : (v : PesValue) (us : List UnitValue) (pts : ℕ) (out base head : List ℕ) (n i j : ℕ)
     → us ≡ v.units
     → pts ≡ v.pts
@@ -112,17 +111,16 @@ spelled v us pts out base head n i j same pts-same e f le h k done =
 
 -- ---- the value of a packet
 
--- What n data units hold: n units at most.
+-- The units of n data units: at most n.
 record Holds (n : ℕ) (units : List UnitValue) : Type 0 where
   pub few : length units ≤ n
   pub each : AllByRecursion IsUnit units
 
--- N data units hold n units at most.
 units_hold : (n : ℕ) (units : List UnitValue) (b : List ℕ) → AreDataUnits n units b → Holds n units
 units_hold zero units b h = rw h.0 (record { few = omega arith; each = tt })
 units_hold (suc n) units b u = grind (arith, nat_tests, units_hold n)
 
--- The value of a packet is one that a frame can hold: the law.
+-- The law of packet values.
 pub value_of_packet : LawOfPacketValue
 value_of_packet v b h = grind (arith, nat_tests, units_hold)
 

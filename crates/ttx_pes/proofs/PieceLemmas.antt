@@ -1,4 +1,4 @@
--- Pieces of bytes, as a reader takes them. Main lemma: taken_piece.
+-- Packets as a reader consumes them. Main lemma: taken_piece.
 use Rattle.std.proofs.Common.{◌≡◌, ◌≤◌, ℕ, List, [], ◌++◌, length, take, drop, Option, Ok, Err}
 use Rattle.std.proofs.Common.{refl, sym, ap, ◌∙◌, arith, length-take}
 use Rattle.std.proofs.lemmas.List.{append-nil, take-append-drop}
@@ -11,7 +11,7 @@ use Rattle.ttx_pes.proofs.DataUnitLemmas.{AreBytes-take}
 use Rattle.ttx_pes.proofs.PesHeaderLemmas.{head_sound}
 use Rattle.ttx_pes.proofs.TakingLemmas.{settles_as}
 
--- Bytes of the size that they tell are a piece.
+-- Bytes with the size in their length field are a packet.
 pub sized_piece : (b : List ℕ)
     → AreBytes b
     → 6 ≤ length b
@@ -28,7 +28,7 @@ sized_piece b fit long e =
       long = h.3;
     }
 
--- The piece that was taken where its fault is answered. For `PieceTellingLemmas`.
+-- A packet whose fault is returned was consumed. For `PieceTellingLemmas`.
 pub taken_piece : (old new : Option (List ℕ)) (taken body : List ℕ) (f : PesFault)
     → Settles old new taken (value_at (drop 6 taken))
     → body ≡ drop 6 taken

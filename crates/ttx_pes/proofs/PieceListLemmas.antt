@@ -1,4 +1,4 @@
--- Bytes fall into pieces as they are read one by one. Main lemma: falls_into.
+-- Bytes split into packets as they are read one by one. Main lemma: falls_into.
 use Rattle.std.proofs.Common.{◌≡◌, ◌≢◌, ℕ, zero, suc, ◌+◌, ◌-◌, ◌<◌, ◌≤◌, ◌⊎◌, true}
 use Rattle.std.proofs.Common.{false, List, [], ◌∷◌, ◌++◌, length, take, drop, Option, Some, None}
 use Rattle.std.proofs.Common.{Result, Ok, Err, refl, sym, ap, subst, ◌∙◌, append_assoc, arith, inl}
@@ -29,21 +29,21 @@ use Rattle.ttx_pes.proofs.ReadingLemmas.{rest_after-packet, sound_from}
 use Rattle.ttx_pes.proofs.ReaderLemmas.{left}
 use Rattle.sub_io.proofs.ReadingLemmas.{Ok-injective, step_gave}
 
--- ---- the faults of a piece
+-- ---- faults of a complete packet
 
--- What is wrong in a header.
+-- Faults of a header.
 pts_fault : (b : List ℕ) (f : PesFault) → pts_at b ≡ Err f → is_of_piece f ≡ true
 unfolding pts_at
 pts_fault b f e = grind (arith, nat_tests)
 
--- What is wrong in a data unit.
+-- Faults of a data unit.
 unit_fault : (units : List UnitValue) (b : List ℕ) (f : PesFault)
     → unit_at units b ≡ Err f
     → is_of_piece f ≡ true
 unfolding unit_at teletext_at
 unit_fault units b f e = grind (arith, nat_tests)
 
--- What is wrong in data units.
+-- Faults of several data units.
 units_fault : (n : ℕ) (units : List UnitValue) (b : List ℕ) (f : PesFault)
     → units_at n units b ≡ Err f
     → is_of_piece f ≡ true
@@ -58,19 +58,19 @@ units_fault (suc n) units b f e = elim (answer_cases (unit_at units (take 46 b))
       (bad ∙ sym (ap (λ r. r >>= λ us. units_at n us (drop 46 b)) bad) ∙ e)
 ]
 
--- What is wrong in a packet behind its length field.
+-- Faults of a packet after its length field.
 value_fault : (b : List ℕ) (f : PesFault) → value_at b ≡ Err f → is_of_piece f ≡ true
 unfolding value_at
 value_fault b f h1 = grind (arith, nat_tests, units_fault, pts_fault)
 
--- A wrong start or length is no fault of a piece.
+-- A wrong start or length is no fault of a complete packet.
 size_fault : (b : List ℕ) (f : PesFault) → size_at b ≡ Err f → is_of_piece f ≡ false
 unfolding size_at
 size_fault b f e = grind (arith, nat_tests)
 
--- ---- the piece at the front
+-- ---- the packet at the front
 
--- A piece in front of bytes tells its size.
+-- The size of a packet at the front of bytes is read.
 record Tells (p more : List ℕ) : Type 0 where
   pub sized : size_at (take 6 (p ++ more)) ≡ Ok (length p)
   pub some : 184 ≤ length p
@@ -78,7 +78,7 @@ record Tells (p more : List ℕ) : Type 0 where
 states_size : (p more : List ℕ) → IsPiece p → Tells p more
 states_size p more h1 = grind (arith, nat_tests, head_complete)
 
--- The size that is read is the one that is told.
+-- The size that is read is the one in the length field.
 size_is : (b : List ℕ) (size : ℕ)
     → 6 ≤ length b
     → size_at (take 6 b) ≡ Ok size
@@ -86,7 +86,7 @@ size_is : (b : List ℕ) (size : ℕ)
 unfolding size_at
 size_is b size long e = grind (arith, nat_tests, get_or-take)
 
--- A piece stands in front of these bytes, and this is what is read of it.
+-- A packet is at the front of these bytes, and this is read from it.
 record StandsInFront (b : List ℕ) (size : ℕ) : Type 0 where
   pub told : stated_size b ≡ size
   pub six : 6 ≤ length b
@@ -98,7 +98,7 @@ record StandsInFront (b : List ℕ) (size : ℕ) : Type 0 where
   pub alone :
       packet_at (take size b) ≡ (value_at (take (size - 6) (drop 6 b)) >>= λ v. Ok (v, []))
 
--- No piece does, by this fault.
+-- No packet is at the front, for this fault.
 record StandsNone (b : List ℕ) (f : PesFault) : Type 0 where
   pub read : packet_at b ≡ Err f
   pub kind : is_of_piece f ≡ false
@@ -133,7 +133,7 @@ stands_in_front b size fit six e le =
           ∙ packet_parts (take 6 b) body [] size head e lo len;
     }
 
--- Whether one does.
+-- One of both is the case.
 front_cases : (b : List ℕ) → AreBytes b
     → ((size : ℕ) × StandsInFront b size) ⊎ ((f : PesFault) × StandsNone b f)
 front_cases b fit = elim (cases_lt (length b) 6) [
@@ -178,9 +178,9 @@ front_cases b fit = elim (cases_lt (length b) 6) [
   ]
 ]
 
--- ---- all pieces
+-- ---- all packets
 
--- What the bytes that are left after `given` pieces fall into.
+-- The bytes after `given` packets split into these.
 record Falls (given : ℕ) (bytes : List ℕ) (value : PiecesValue) : Type 0 where
   pub packets : List (List ℕ)
   pub rest : List ℕ
@@ -196,7 +196,7 @@ record Falls (given : ℕ) (bytes : List ℕ) (value : PiecesValue) : Type 0 whe
       → length others ≤ length packets
   pub left_is : (n : ℕ) → n ≡ given + length packets → answer_at n rest ≡ answer_left value.left
 
--- No piece of them is taken.
+-- No packet is read.
 falls_none : (given : ℕ) (bytes : List ℕ) (left : Option PesFault)
     → given ≤ most_packets
     → answer_at given bytes ≡ answer_left left
@@ -223,7 +223,7 @@ falls_none given bytes left few is none = record {
         absurd (none p (concat others ++ more) each.0 (omega arith)
         (parts ∙ append_assoc p (concat others) more))
 
--- The first of them is taken, and then others.
+-- The first packet is read, then others.
 falls_more : (given size : ℕ) (bytes : List ℕ) (piece : Result PesValue PesFault)
     (more_pieces : PiecesValue)
     → given < most_packets
@@ -259,7 +259,7 @@ falls_more given size bytes piece more_pieces below s is h = record {
         let fewer = h.longest others more each.1 (omega arith) rest in
         omega arith
 
--- The next answer decides.
+-- The next answer determines the rest.
 next_piece : (room given : ℕ) (bytes : List ℕ) (r : Result (Option PesValue) PesFault)
     (value : PiecesValue)
     → answer_at given bytes ≡ r
@@ -268,7 +268,7 @@ next_piece : (room given : ℕ) (bytes : List ℕ) (r : Result (Option PesValue)
 unfolding pieces_from
 next_piece room given bytes r value e is = rw e is
 
--- The bytes that are left fall into the pieces that are read.
+-- The remaining bytes split into the packets that are read.
 falls_from : (room given : ℕ) (bytes : List ℕ)
     → AreBytes bytes
     → given + room ≡ most_packets
@@ -320,17 +320,17 @@ falls_from (suc room) given (x ∷ b) fit e =
           ]
     ]
 
--- Before the first of them.
+-- From the first packet on.
 all_fall : (bytes : List ℕ) (value : PiecesValue) → Falls 0 bytes value → FallInto bytes value
 all_fall bytes value h1 = grind (arith, nat_tests)
 
--- The bytes of a file fall into the pieces that are read: the law.
+-- The law of packets.
 pub falls_into : LawOfPieces
 falls_into bytes fit = all_fall bytes _ (falls_from most_packets 0 bytes fit refl)
 
--- ---- one piece on
+-- ---- one more packet
 
--- The next piece, by those that may still come.
+-- The next packet, by how many may still come.
 pieces_from-room : (room given : ℕ) (bytes : List ℕ)
     → given + room ≡ most_packets
     → pieces_from room given bytes
@@ -338,7 +338,7 @@ pieces_from-room : (room given : ℕ) (bytes : List ℕ)
 unfolding pieces_from answer_at
 pieces_from-room room given bytes e = grind (arith, nat_tests)
 
--- What the bytes give after `given` pieces, by the next answer.
+-- The packets after `given` packets, by the next answer.
 pub pieces_after-next : (given : ℕ) (bytes : List ℕ)
     (answer : Result (Option PesValue) PesFault)
     → given ≤ most_packets
@@ -347,7 +347,7 @@ pub pieces_after-next : (given : ℕ) (bytes : List ℕ)
     ≡ piece_then answer (pieces_after (given + 1) (behind_piece bytes))
 pieces_after-next given bytes answer few is = grind (arith, nat_tests, pieces_from-room)
 
--- Where no packet is read, none is answered.
+-- If no packet is read, none is returned.
 no_answer : (given : ℕ) (bytes : List ℕ) (f : PesFault) (v : PesValue)
     → packet_at bytes ≡ Err f
     → answer_at given bytes ≡ Ok (Some v)
@@ -355,7 +355,7 @@ no_answer : (given : ℕ) (bytes : List ℕ) (f : PesFault) (v : PesValue)
 unfolding answer_at
 no_answer given bytes f v h1 h2 = grind (arith, nat_tests)
 
--- What is left behind a packet that is read.
+-- The bytes left after a packet that is read.
 behind_read : (b : List ℕ) (p : PesValue × List ℕ)
     → packet_at b ≡ Ok p
     → rest_after b ≡ behind_piece b
@@ -376,7 +376,7 @@ behind_read b p e = elim (cases_lt (length b) 6) [
   ]
 ]
 
--- What is left behind a PES packet is left behind a piece.
+-- After a valid packet, both definitions leave the same bytes.
 pub behind_packet : (given : ℕ) (bytes : List ℕ) (v : PesValue)
     → answer_at given bytes ≡ Ok (Some v)
     → rest_after bytes ≡ behind_piece bytes
@@ -385,7 +385,7 @@ behind_packet given bytes v e = elim (answer_cases (packet_at bytes)) [
   | inl (p, read) ↦ behind_read bytes p read
 ]
 
--- What was taken where the fault of a piece is answered is all of it.
+-- If the fault of a complete packet is returned, all of it was consumed.
 pub behind_taken : (old new : Option (List ℕ)) (bytes : List ℕ) (f : PesFault)
     → TakesPiece old new f
     → old ≡ Some bytes

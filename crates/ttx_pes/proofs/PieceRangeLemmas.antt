@@ -1,5 +1,5 @@
--- Pieces of a range, one by one: what begins bytes, piece_stated; and what is passed over, counted
--- and cut off where a piece begins them or none does.
+-- The packets of a range, one by one: the packet at the front of bytes, piece_stated; and skipping,
+-- counting and limiting, with and without a packet at the front.
 use Rattle.std.proofs.Common.{◌≡◌, ℕ, zero, suc, ◌<◌, ◌≤◌, List, ◌++◌, length, take, drop}
 use Rattle.std.proofs.Common.{Some, None, Result, Ok, Err, refl, sym, ap, ◌∙◌, cond, inl, inr}
 use Rattle.std.proofs.Common.{arith}
@@ -11,25 +11,25 @@ use Rattle.ttx_pes.specs.PieceRange.{piece_size, stated_piece}
 use Rattle.ttx_pes.specs.Reading.{size_at}
 use Rattle.ttx_pes.specs.declared.fault.PesFault.{PesFault}
 
--- A piece that is whole begins the bytes that tell its size.
+-- A packet is at the front of bytes that are at least as many as its length field says.
 pub whole : (b : List ℕ) (size : ℕ) → stated_piece b ≡ Some size → size ≤ length b
     → piece_size b ≡ Some size
 unfolding piece_size
 whole b size e le = rw (e, le-leb size (length b) le) refl
 
--- A size that is told counts six bytes before those of the length field.
+-- The size includes the six bytes up to the length field.
 size_counts : (h : List ℕ) (size : ℕ) → size_at h ≡ Ok size → 6 ≤ size
 unfolding size_at
 size_counts h size e = grind (arith, nat_tests)
 
--- The size of a piece that is whole.
+-- The size of a complete packet.
 whole_stated : (count size : ℕ) (r : Result ℕ PesFault)
     → if_whole count (result_ok r) ≡ Some size
     → (r ≡ Ok size) × (size ≤ count)
 whole_stated count size (Err f) e = absurd cc
 whole_stated count size (Ok told) e = grind (arith, nat_tests)
 
--- What begins bytes is told by their first six, and is whole.
+-- The packet at the front of bytes is complete, and has the size in their first six.
 pub piece_stated : (b : List ℕ) (size : ℕ)
     → piece_size b ≡ Some size
     → (6 ≤ size) × (size_at (take 6 b) ≡ Ok size) × (size ≤ length b)
@@ -44,7 +44,7 @@ piece_stated b size e = elim (cases_lt (length b) 6) [
       (size_counts (take 6 b) size told.0, told.0, told.1)
 ]
 
--- Where no piece begins bytes, none is passed over, counted or cut off.
+-- Without a packet at the front, nothing is skipped, counted or cut off.
 pub behind_none : (n : ℕ) (b : List ℕ) → piece_size b ≡ None → behind_pieces n b ≡ b
 unfolding behind_pieces
 behind_none zero b e = refl
@@ -60,7 +60,7 @@ unfolding first_pieces
 first_none zero b lt e = absurd (omega arith)
 first_none (suc n) b lt e = rw e refl
 
--- Where one does it is the first of them.
+-- With a packet at the front, it is the first.
 pub behind_one : (n : ℕ) (b : List ℕ) (size : ℕ) → piece_size b ≡ Some size
     → behind_pieces (suc n) b ≡ behind_pieces n (drop size b)
 unfolding behind_pieces

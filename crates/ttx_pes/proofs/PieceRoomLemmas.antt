@@ -1,4 +1,4 @@
--- What was read for one piece of a source: whole, cut, none. Main lemmas: read_whole,
+-- The bytes that were read for one packet: complete, truncated, none. Main lemmas: read_whole,
 -- taken_whole.
 use Rattle.std.proofs.Common.{◌≡◌, ℕ, ◌%◌, ◌<◌, ◌≤◌, List, [], ◌∷◌, ◌++◌, length, take}
 use Rattle.std.proofs.Common.{Option, Some, None, Result, Ok, Err, refl, sym, ap, ◌∙◌, subst, arith}
@@ -28,7 +28,7 @@ use Rattle.ttx_pes.proofs.PieceLemmas.{sized_piece}
 use Rattle.ttx_pes.proofs.PesHeaderLemmas.{head_complete, six_of}
 use Rattle.ttx_pes.proofs.ReadingLemmas.{packet_cut, packet_short, packet_size}
 
--- ---- why no piece begins bytes
+-- ---- bytes that begin no packet
 
 pub rest_short : (b : List ℕ) → length b < 6 → rest_fault b ≡ Some fault.Truncated
 unfolding rest_fault
@@ -45,7 +45,7 @@ pub rest_cut : (b : List ℕ) (size : ℕ) → 6 ≤ length b → size_at (take 
 unfolding rest_fault
 rest_cut b size le e lt = rw (le-ltb (length b) 6 le, e, lt-ltb (length b) size lt) refl
 
--- Where six bytes tell the size, there are fewer.
+-- There are fewer bytes than the size in the first six.
 few_of_size : (count size : ℕ) → IsSome (fault_of_size count (Ok size)) → count < size
 few_of_size count size some = grind (arith, nat_tests)
 
@@ -56,7 +56,7 @@ unfolding rest_fault
 rest_few b size some le e =
     few_of_size (length b) size (rw (le-ltb (length b) 6 le, e) at some)
 
--- ---- that bytes that were read show it
+-- ---- bytes that show this
 
 pub show_short : (new : Option (List ℕ)) (b : List ℕ) → 0 < length b → length b < 6 → IsAtEnd new
     → ShowRest new b fault.Truncated
@@ -87,7 +87,7 @@ show_cut new b size le e lt end = record {
       ap rest_fault (ap (λ l. b ++ l) (none end) ∙ append-nil b) ∙ rest_cut b size le e lt;
 }
 
--- ---- what is told
+-- ---- known bytes
 
 pub held_is : (held : List ℕ) (told : Option (List ℕ)) → held_then held told
     ≡ prepend_known held told
@@ -95,7 +95,7 @@ held_is [] None = refl
 held_is [] (Some x) = refl
 held_is (x ∷ held) told = refl
 
--- What was read in two steps.
+-- Bytes that were read in two steps.
 pub read_on : (old mid new : Option (List ℕ)) (b more : List ℕ) → Consumes old mid b
     → Consumes (prepend_known b mid) new more
     → Consumes old new more
@@ -104,9 +104,9 @@ read_on (Some x) None new b more c d = absurd c
 read_on (Some x) (Some y) None b more c d = absurd d
 read_on (Some x) (Some y) (Some z) b more c d = c ∙ d
 
--- ---- a piece
+-- ---- a packet
 
--- Its size.
+-- The size of a packet.
 pub piece_sized : (p : List ℕ) → IsPiece p
     → (size_at (take 6 p) ≡ Ok (length p))
     × (184 ≤ length p) × (length p ≤ 1656) × (length p % 184 ≡ 0)
@@ -123,7 +123,7 @@ piece_sized p h =
       omega (arith, long),
     )
 
--- What is read of bytes that no piece begins.
+-- Reading bytes that begin no packet.
 packet_by : (b : List ℕ) (f : PesFault) (r : Result ℕ PesFault) → size_at (take 6 b) ≡ r
     → 6 ≤ length b
     → fault_of_size (length b) r ≡ Some f
@@ -146,7 +146,7 @@ rest_packet b f e = elim (cases_lt (length b) 6) [
   | inr le ↦ packet_by b f (size_at (take 6 b)) refl le (rw (le-ltb (length b) 6 le) at e)
 ]
 
--- ---- what is held then
+-- ---- the buffer afterwards
 
 some_of : (o : Option PesFault) (f : PesFault) → o ≡ Some f → IsSome o
 some_of o f e = subst IsSome (sym e) refl
@@ -196,7 +196,7 @@ module _ {E : Type 0} (old new : Option (List ℕ)) (b : List ℕ) (r : Result (
     read_whole x is =
         subst (λ (y : Result (Came (Unit {0})) E). AreRead new b y) is reads.are_read
 
--- The bytes that are held before the second pull are not more than the size that they tell.
+-- Before the second pull, the buffer has no more bytes than the size in them.
 pub got_few : (held got size : ℕ)
     → (held ≤ 184 → got ≤ 184)
     → (6 ≤ held → got ≡ held)
@@ -208,7 +208,7 @@ got_few held got size bound none few le = elim (cases_lt held 6) [
   | inr six ↦ omega (arith, none six, few six)
 ]
 
--- ---- what came
+-- ---- results
 
 module _ {T A : Type 0} (is_take : T → List ℕ → A → T → Type 0) (taker : T)
     (held b : List ℕ) (old new : Option (List ℕ))
@@ -230,7 +230,7 @@ module _ {T A : Type 0} (is_take : T → List ℕ → A → T → Type 0) (taker
       takes = takes;
     }
 
--- ---- a piece that is lent
+-- ---- a packet that is lent
 
 pub lent_piece : (bytes : List ℕ) (size : ℕ) → AreBytes bytes → 184 ≤ size → size ≤ length bytes
     → size_at (take 6 bytes) ≡ Ok size

@@ -1,4 +1,4 @@
--- What a reader tells of what came: tells_none, tells_rest, tells_kept.
+-- A reader's answer for what came next: tells_none, tells_rest, tells_kept.
 use Rattle.std.proofs.Common.{◌≡◌, ◌≢◌, ℕ, List, [], ◌++◌, length, take, drop, Option, None}
 use Rattle.std.proofs.Common.{Some, Bool, true, false, Result, Ok, Err, refl, sym, subst, ◌∙◌}
 use Rattle.std.proofs.Common.{arith, inl, inr}
@@ -26,9 +26,9 @@ use Rattle.ttx_pes.proofs.PieceRoomLemmas.{piece_sized, rest_packet, rest_short}
 use Rattle.ttx_pes.proofs.TakingLemmas.{settled_field, settles_as, tells_end}
 use Rattle.ttx_pes.proofs.TakingLemmas.{tells_settled, tells_too_many, whole_settles}
 
--- ---- which faults
+-- ---- kinds of faults
 
--- A fault of the format, of none of a piece, and of no device.
+-- A fault of the format, but neither of a complete packet nor of a device.
 abbrev pub IsOfRest : PesFault → Type 0
 IsOfRest f = (is_format_fault f ≡ true) × (is_of_piece f ≡ false) × (is_read f ≡ false)
 
@@ -49,7 +49,7 @@ fault_kind count b (Ok size) f is e =
     subst IsOfRest (cut_fault count size f e) (refl, refl, refl)
 fault_kind count b (Err g) f is e = subst IsOfRest (same_Some _ _ e) (size_kind b g is)
 
--- That is the fault of bytes that no piece begins.
+-- The fault of bytes that begin no packet is of this kind.
 pub rest_kind : (b : List ℕ) (f : PesFault) → rest_fault b ≡ Some f → IsOfRest f
 unfolding rest_fault
 rest_kind b f e = elim (cases_lt (length b) 6) [
@@ -64,7 +64,7 @@ pub shown_kind : (old left : Option (List ℕ)) (f : PesFault) → IsRest old le
 shown_kind old left f r =
     rest_kind (r.bytes ++ []) f (r.shows.all [] (λ end. refl))
 
--- ---- what came
+-- ---- results
 
 module _ {T A : Type 0} (E : Type 0) (is_take : T → List ℕ → A → T → Type 0)
     (old new left : Option (List ℕ)) (before after : T) (came : Came A)
@@ -76,7 +76,7 @@ module _ {T A : Type 0} (E : Type 0) (is_take : T → List ℕ → A → T → T
         subst (λ (c : Came A).
         Advances old new left is_take before after (let r : Result (Came A) E = Ok c in r)) is on
 
--- ---- where no piece came
+-- ---- without a packet
 
 pub tells_none : (given : ℕ) (old new left : Option (List ℕ))
     → Keeps old new
@@ -99,7 +99,7 @@ tells_rest given old left f ne r =
     } in
     tells_settled given old left r.bytes (Err f) settles ne tt (shown_kind old left f r).0
 
--- More than a day has frames.
+-- More packets than a day has frames.
 pub tells_rest_more : (given : ℕ) (old left : Option (List ℕ)) (f : PesFault)
     → given ≡ most_packets
     → IsRest old left f
@@ -107,7 +107,7 @@ pub tells_rest_more : (given : ℕ) (old left : Option (List ℕ)) (f : PesFault
 tells_rest_more given old left f full r =
     tells_too_many given old left r.bytes r.consumed r.shows.some full
 
--- ---- where one came
+-- ---- with a packet
 
 settles_piece : (old new : Option (List ℕ)) (p : List ℕ) → IsPiece p → Consumes old new p
     → Settles old new p (value_at (drop 6 p))
@@ -130,7 +130,7 @@ module _ {T A : Type 0} (is_take : T → List ℕ → A → T → Type 0) (given
 module _ (given : ℕ) (old new left : Option (List ℕ)) (before after : KeptValue)
     (ne : given ≢ most_packets)
   where
-    -- It is a PES packet.
+    -- The packet is valid.
     pub tells_kept : (same : Bool)
         → TakesPieceBy KeepsPiece old new before (let r : Result Bool PesFault = Ok same in r) after
         → left ≡ new
@@ -148,7 +148,7 @@ module _ (given : ℕ) (old new left : Option (List ℕ)) (before after : KeptVa
               (t.takes.field ∙ sym (drop-drop 39 6 p)),
         )
 
-    -- It is none.
+    -- The packet is invalid.
     pub tells_refused : (f : PesFault)
         → TakesPieceBy KeepsPiece old new before (let r : Result Bool PesFault = Err f in r) after
         → left ≡ new
@@ -167,7 +167,7 @@ module _ (given : ℕ) (old new left : Option (List ℕ)) (before after : KeptVa
 module _ (given : ℕ) (old new left : Option (List ℕ)) (before after : PesValue)
     (ne : given ≢ most_packets)
   where
-    -- Its value was read.
+    -- The value of the packet was read.
     pub tells_read :
         TakesPieceBy ReadsValue old new before (let r : Result (Unit {0}) PesFault = Ok tt in r)
         after

@@ -1,4 +1,4 @@
--- A range of a file that falls into pieces. Main lemma: ranges.
+-- A range of a file that splits into packets. Main lemma: ranges.
 use Rattle.std.proofs.lemmas.Bool.Decides.{nat_tests}
 use Rattle.std.proofs.Common.{◌≡◌, ℕ, zero, suc, ◌+◌, ◌-◌, ◌*◌, ◌≤◌, List, [], ◌∷◌, ◌++◌, cond}
 use Rattle.std.proofs.Common.{length, take, drop, Option, Some, None, Ok, refl, sym, ap, ◌∙◌, arith}
@@ -22,9 +22,9 @@ use Rattle.ttx_pes.proofs.PieceLemmas.{sized_piece}
 use Rattle.ttx_pes.proofs.PieceRangeLemmas.{behind_none, behind_one, count_none, count_one}
 use Rattle.ttx_pes.proofs.PieceRangeLemmas.{first_none, first_one, piece_stated, whole}
 
--- ---- one piece
+-- ---- one packet
 
--- A piece tells its size, whatever follows it.
+-- A packet has the size in its length field, whatever follows it.
 piece_is : (p rest : List ℕ) → IsPiece p → piece_size (p ++ rest) ≡ Some (length p)
 unfolding stated_piece
 piece_is p rest h =
@@ -45,7 +45,7 @@ piece_is p rest h =
     ) refl in
     whole (p ++ rest) (length p) (told ∙ ap Some (sym long)) (omega (arith, size))
 
--- What is told to be a piece is one.
+-- Bytes with the size of a packet are one.
 piece_of_size : (b : List ℕ) (size : ℕ)
     → AreBytes b
     → piece_size b ≡ Some size
@@ -57,7 +57,7 @@ piece_of_size b size fit e =
     sized_piece (take size b) (AreBytes-take size b fit) (omega (arith, len, told.0))
     (ap size_at head ∙ told.1 ∙ ap Ok (sym len))
 
--- No piece begins the rest.
+-- The rest begins no packet.
 rest_is : (rest : List ℕ) → AreBytes rest → BeginsNoPiece rest → piece_size rest ≡ None
 rest_is rest fit none = by_size (piece_size rest) refl
   where
@@ -67,14 +67,13 @@ rest_is rest fit none = by_size (piece_size rest) refl
         absurd (none (take size rest) (drop size rest) (piece_of_size rest size fit e)
         (sym (take-append-drop size rest)))
 
--- ---- many
+-- ---- several packets
 
--- One more on both sides.
 leb_suc : (a b : ℕ) → leb (suc a) (suc b) ≡ leb a b
 leb_suc a b = grind (arith, nat_tests, lt-leb, le-leb)
 
 module _ (rest : List ℕ) (end : piece_size rest ≡ None) where
-  -- The bytes behind the first of them.
+  -- The bytes after the first n of them.
   behind_all : (n : ℕ) (ps : List (List ℕ))
       → AllByRecursion IsPiece ps
       → behind_pieces n (concat ps ++ rest) ≡ concat (drop n ps) ++ rest
@@ -88,7 +87,7 @@ module _ (rest : List ℕ) (end : piece_size rest ≡ None) where
       ∙ ap (behind_pieces n) (drop_at p (concat ps ++ rest) (length p) refl)
       ∙ behind_all n ps each.1
 
-  -- How many of the first there are.
+  -- How many of the first n exist.
   count_all : (n : ℕ) (ps : List (List ℕ))
       → AllByRecursion IsPiece ps
       → count_pieces n (concat ps ++ rest) ≡ min n (length ps)
@@ -103,7 +102,7 @@ module _ (rest : List ℕ) (end : piece_size rest ≡ None) where
       ∙ ap (λ b. suc (count_pieces n b)) (drop_at p (concat ps ++ rest) (length p) refl)
       ∙ omega (arith, more)
 
-  -- The first of them.
+  -- The first n of them.
   first_all : (n : ℕ) (ps : List (List ℕ))
       → AllByRecursion IsPiece ps
       → first_pieces n (concat ps ++ rest)
@@ -124,7 +123,7 @@ module _ (rest : List ℕ) (end : piece_size rest ≡ None) where
         (first_all n ps each.1),
       )
 
--- Pieces behind others are pieces.
+-- The packets after the first n are packets.
 each_behind : (n : ℕ) (ps : List (List ℕ))
     → AllByRecursion IsPiece ps
     → AllByRecursion IsPiece (drop n ps)
@@ -132,13 +131,13 @@ each_behind zero ps each = each
 each_behind (suc n) [] each = each
 each_behind (suc n) (p ∷ ps) each = each_behind n ps each.1
 
--- The last one is there where more stand behind the first than up to it.
+-- The last packet of the range exists exactly if the file has enough packets.
 last_there : (first last count : ℕ)
     → first ≤ last
     → leb (last + 1 - first) (count - first) ≡ ltb last count
 last_there first last count h1 = grind (arith, nat_tests, le-leb, lt-ltb, lt-leb, le-ltb)
 
--- Both: the law.
+-- The law of ranges.
 pub ranges : LawOfRanges
 unfolding in_range first_index
 ranges first None ps rest le each fit none =

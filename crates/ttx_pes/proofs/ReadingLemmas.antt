@@ -18,20 +18,20 @@ use Rattle.ttx_pes.proofs.PesHeaderLemmas.{head_sound, packet_of_body, six_of}
 use Rattle.ttx_pes.proofs.PesPacketLemmas.{canonical_is_packet}
 use Rattle.sub_io.proofs.ReadingLemmas.{step_gave, Ok-injective}
 
--- What an answer is.
+-- A result is a value or a fault.
 pub answer_cases : {A : Type 0} (r : Result A PesFault)
     → ((x : A) × (r ≡ Ok x)) ⊎ ((e : PesFault) × (r ≡ Err e))
 answer_cases (Ok x) = inl (x, refl)
 answer_cases (Err e) = inr (e, refl)
 
--- ---- what is answered
+-- ---- answers
 
--- The answer after the most packets.
+-- After the maximum number of packets.
 pub answer_full : (b : List ℕ) → 0 < length b → answer_at most_packets b ≡ Err fault.TooMany
 unfolding answer_at
 answer_full b h = grind (arith, nat_tests)
 
--- The answer before them is what is read of the packet.
+-- Before that, the answer is the result of reading the packet.
 pub answer_packet : (given : ℕ) (b : List ℕ) (r : Result (PesValue × List ℕ) PesFault)
     → 0 < length b
     → given ≢ most_packets
@@ -62,7 +62,7 @@ pub packet_cut : (b : List ℕ) (size : ℕ)
 unfolding packet_at
 packet_cut b size h e lt = rw (le-ltb (length b) 6 h, e, lt-ltb (length b) size lt) refl
 
--- The packet is there.
+-- The packet is complete.
 pub packet_whole : (b : List ℕ) (size : ℕ)
     → 6 ≤ length b
     → size_at (take 6 b) ≡ Ok size
@@ -71,7 +71,7 @@ pub packet_whole : (b : List ℕ) (size : ℕ)
 unfolding packet_at
 packet_whole b size h e le = rw (le-ltb (length b) 6 h, e, le-ltb (length b) size le) refl
 
--- A packet in its two parts, with bytes after it.
+-- A packet in two parts, followed by other bytes.
 pub packet_parts : (head body rest : List ℕ) (size : ℕ)
     → length head ≡ 6
     → size_at head ≡ Ok size
@@ -89,7 +89,7 @@ packet_parts head body rest size six e le len =
     packet_whole all size (omega arith) (ap size_at front ∙ e) (omega arith)
     ∙ rw (back, middle, after) refl
 
--- The answer where a packet is read.
+-- The answer if a packet is read.
 pub answer_of_packet : (given : ℕ) (b : List ℕ) (v : PesValue) (rest : List ℕ)
     → given ≢ most_packets
     → packet_at b ≡ Ok (v, rest)
@@ -97,7 +97,7 @@ pub answer_of_packet : (given : ℕ) (b : List ℕ) (v : PesValue) (rest : List 
 unfolding packet_at
 answer_of_packet given b v rest ne e = grind (arith, nat_tests, answer_packet)
 
--- A packet of the grammar is read, whatever follows: the law.
+-- The law of reading: a packet of the grammar is read, whatever follows.
 pub packet_is_read : LawOfReading
 packet_is_read v b rest h =
     let body = body_of v b h in
@@ -110,11 +110,11 @@ packet_is_read v b rest h =
     (let lo = h.size.0 in omega arith) c.1
     ∙ rw c.0 refl
 
--- What is read of a packet.
+-- The result of reading a packet.
 abbrev ValueAndRest : Type 0
 ValueAndRest = PesValue × List ℕ
 
--- A packet of the grammar, from the pieces that were read.
+-- A packet of the grammar, from the parts that were read.
 pub sound_from : (b : List ℕ) (size : ℕ) (v : PesValue)
     → AreBytes b
     → size_at (take 6 b) ≡ Ok size
@@ -130,7 +130,7 @@ sound_from b size v fit e long le ev =
     rw (parts, h.4) (body_sound h.0 body v h.1 h.2 len
     (AreBytes-take (size - 6) (drop 6 b) (AreBytes-drop 6 b fit)) ev)
 
--- What is read is a packet of the grammar: the law.
+-- The law of the grammar: bytes that are read are a packet of it.
 pub read_is_packet : LawOfGrammar
 read_is_packet v b rest fit e = elim (cases_lt (length b) 6) [
   | inl short ↦ let told = packet_short b short in absurd cc
@@ -154,7 +154,7 @@ read_is_packet v b rest fit e = elim (cases_lt (length b) 6) [
 
 -- ---- the laws
 
--- Two packets that begin one list are one: the law.
+-- The law of one value: two packets that begin the same list are the same.
 pub one_value : LawOfOneValue
 one_value a b x y v w p q e =
     let same =
@@ -162,16 +162,17 @@ one_value a b x y v w p q e =
     ∙ packet_is_read w b y q) in
     grind (arith, nat_tests, Ok-injective, packet_is_read, append_cancel_right)
 
--- ---- what was written
+-- ---- written packets
 
--- What is left after a packet.
+-- The bytes left after a packet.
 pub rest_after-packet : (v : PesValue) (b rest : List ℕ)
     → packet_at b ≡ Ok (v, rest)
     → rest_after b ≡ rest
 unfolding rest_after
 rest_after-packet v b rest e = rw e refl
 
--- The canonical packet and more bytes are read as the value, and the more bytes are left: the law.
+-- The law of reading back: the canonical packet and more bytes are read as the value, and the other
+-- bytes are left.
 pub written_is_read : LawOfReadingBack
 written_is_read given v rest ne h =
     let b = canonical_packet v ++ rest in

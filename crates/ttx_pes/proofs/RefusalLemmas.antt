@@ -1,5 +1,4 @@
--- Which refusal bytes get: that of the first question in which they fail. Main lemma:
--- refusal_by_questions.
+-- The fault of bytes is that of the first check that they fail. Main lemma: refusal_by_questions.
 use Rattle.std.proofs.Common.{rules, ◌≡◌, ℕ, zero, suc, ◌+◌, ◌-◌, ◌*◌, ◌/◌, ◌%◌, ◌<◌, ◌≤◌, true}
 use Rattle.std.proofs.Common.{false, cond, not, ltb, List, [], ◌∷◌, ◌++◌, length, get_or, map}
 use Rattle.std.proofs.Common.{None, Some}
@@ -24,13 +23,13 @@ use Rattle.ttx_pes.proofs.QuestionLemmas.{size_is_right, stated_units, tests, te
 use Rattle.ttx_pes.proofs.QuestionLemmas.{unit_byte, unit_place, units_tests}
 use Rattle.ttx_pes.proofs.ReadingLemmas.{answer_cases, packet_is_read, read_is_packet}
 
--- ---- what is tested
+-- ---- the tests
 
--- A test that held: the first number is not below the other.
+-- A test that holds: the first number is not below the other.
 not_below : (m n : ℕ) → not (ltb m n) ≡ true → n ≤ m
 not_below m n h = grind (arith, nat_tests)
 
--- The bytes tell the size of a packet.
+-- The size of a packet in the length field.
 stated_count : (b : List ℕ)
     → size_is_right b ≡ true
     → (n : ℕ) × (1 ≤ n) × (n ≤ 9) × (stated_size b ≡ 184 * n)
@@ -38,7 +37,7 @@ stated_count b h =
     let parts : (stated_size b % 184 ≡ 0) × (stated_size b ≤ 1656) = grind (arith, nat_tests) in
     (stated_size b / 184, omega arith, omega arith, omega arith)
 
--- Bytes that are read hold all their tests, and those that hold them are read.
+-- Bytes that are read pass all their tests, and bytes that pass them are read.
 held_if_read : (b : List ℕ) (r : PesValue × List ℕ)
     → packet_at b ≡ Ok r
     → (j : ℕ) → get_or (tests b (stated_units b)) j true ≡ true
@@ -60,9 +59,9 @@ read_if_held b all =
       | inl none ↦ let nothing = none.1 in grind (arith, nat_tests, answer_cases (packet_at b))
     ]
 
--- ---- bytes that agree hold the same tests
+-- ---- bytes that agree pass the same tests
 
--- The question that asks for a byte of data unit k.
+-- The check that concerns a byte of data unit k.
 unit_asker : (k i : ℕ) → i < 4 → asker (unit_place k i) ≡ get_or unit_askers i 114 + 3 * k
 unit_asker k i lt =
     let place = unit_place k i in
@@ -70,7 +69,7 @@ unit_asker k i lt =
     let unit : (place - 46) / 46 ≡ k = omega arith in
     get_or_past header_askers place _ (omega arith) ∙ rw (rest, unit) refl
 
--- What agrees before a question agrees before an earlier one.
+-- Bytes that agree before a check agree before an earlier one.
 agree_below : (i j : ℕ) (b c : List ℕ) → j ≤ i → AgreeBefore i b c → AgreeBefore j b c
 agree_below i j b c le h = grind (arith, nat_tests)
 
@@ -94,7 +93,7 @@ same_units (suc n) k before (suc zero) b c h long = grind (arith, nat_tests, sam
 same_units (suc n) k before j b c h long =
     grind (arith, nat_tests, same_byte, agree_below, same_units n (suc k))
 
--- A test that bytes and a packet of n data units agree up to.
+-- A test up to which bytes and a packet of n data units agree.
 same_test : (j m n : ℕ) (b c : List ℕ)
     → AgreeBefore (suc j) b c
     → (2 < j → m ≡ n)
@@ -114,9 +113,9 @@ same_test (suc (suc (suc (suc (suc (suc (suc (suc zero)))))))) m n b c h count l
 same_test (suc (suc (suc (suc (suc (suc (suc (suc (suc j))))))))) m n b c h count long all =
     grind (arith, nat_tests, same_units, agree_below)
 
--- ---- a packet that agrees before a question
+-- ---- a packet that agrees before a check
 
--- A byte of a packet of n payloads that holds nothing: its data units are no Teletext.
+-- A byte of a blank packet of n payloads: its data units are no Teletext.
 abbrev blank_header : ℕ → List ℕ
 blank_header n =
     packet_start ++ (bytes_high_first 2 (packet_length n) ++ (0x80 ∷ 0x80 ∷ 0x24 ∷ pts_bytes 0))
@@ -124,15 +123,16 @@ blank_header n =
 abbrev blank : ℕ → ℕ → ℕ
 blank n i = get_or (blank_header n) i (get_or (0x10 ∷ 0x2C ∷ []) ((i - 46) % 46) 0)
 
--- In a data unit.
+-- A byte of its data units.
 blank_unit : (n k i : ℕ) → i < 4 → blank n (unit_place k i) ≡ get_or (0x10 ∷ 0x2C ∷ []) i 0
 blank_unit n k i lt = grind (arith, nat_tests, unit_place, get_or_past)
 
--- The bytes that are asked for before a question, and those of the blank packet.
+-- The bytes that concern earlier checks, and otherwise those of the blank packet.
 abbrev mixed : ℕ → ℕ → List ℕ → ℕ → ℕ
 mixed n q b i = cond (ltb (asker i) q) (get_or b i 0) (blank n i) % 256
 
--- Where the tests of these bytes before a question hold, and n payloads are told if that was asked.
+-- The tests of these bytes before a check hold, and n is the number of payloads if that was
+-- checked.
 module _ (b : List ℕ) (fit : AreBytes b) (q n : ℕ) (lo : 1 ≤ n) (hi : n ≤ 9)
     (told : 2 < q → stated_size b ≡ 184 * n)
     (held : HoldBelow (tests b (stated_units b)) q) where
@@ -149,15 +149,15 @@ module _ (b : List ℕ) (fit : AreBytes b) (q n : ℕ) (lo : 1 ≤ n) (hi : n �
   made_fits : AreBytes made
   made_fits i = grind (arith, nat_tests, cases_lt, made_byte, get_or_past, length-made)
 
-  -- A byte that is asked for before.
+  -- A byte that concerns an earlier check.
   kept_byte : (i : ℕ) → asker i < q → i < 184 * n → get_or made i 0 ≡ get_or b i 0
   kept_byte i less lt = grind (arith, nat_tests, made_byte, lt-ltb)
 
-  -- One that is not.
+  -- Any other byte.
   blank_byte : (i : ℕ) → q ≤ asker i → i < 184 * n → get_or made i 0 ≡ blank n i % 256
   blank_byte i le lt = made_byte i lt ∙ rw (le-ltb (asker i) q le) refl
 
-  -- Packets that begin it agree with the bytes before the question.
+  -- Packets at its front agree with the bytes before the check.
   made_agrees : (c rest : List ℕ) → made ≡ c ++ rest → AgreeBefore q b c
   made_agrees c rest parts =
       let len : 184 * n ≡ length c + length rest = search (rules, length-made, length-append) in
@@ -170,11 +170,11 @@ module _ (b : List ℕ) (fit : AreBytes b) (q n : ℕ) (lo : 1 ≤ n) (hi : n �
         same = grind (arith, nat_tests, kept_byte, get_or_append_left);
       }
 
-  -- It tells its size.
+  -- Its length field is correct.
   told-made : stated_size made ≡ 184 * n
   told-made = grind (arith, nat_tests, cases_lt, kept_byte, blank_byte)
 
-  -- The tests of its data units from number k on hold where these are blank.
+  -- The tests of its data units from number k on hold if these are blank.
   blank_units : (m k before j : ℕ)
       → q ≤ 9 + 3 * k + j
       → k + m ≤ 4 * n - 1
@@ -191,7 +191,7 @@ module _ (b : List ℕ) (fit : AreBytes b) (q n : ℕ) (lo : 1 ≤ n) (hi : n �
   blank_units (suc m) k before (suc (suc (suc j))) le few =
       blank_units m (suc k) _ j (omega arith) (omega arith)
 
-  -- Those from the question on hold.
+  -- The tests from the check on hold.
   blank_tests : (j : ℕ) → q ≤ j → get_or (tests made (4 * n - 1)) j true ≡ true
   blank_tests zero le = rw (le-ltb (length made) 6 (omega (arith, length-made))) refl
   blank_tests (suc zero) le = grind (arith, nat_tests, blank_byte)
@@ -205,7 +205,7 @@ module _ (b : List ℕ) (fit : AreBytes b) (q n : ℕ) (lo : 1 ≤ n) (hi : n �
   blank_tests (suc (suc (suc (suc (suc (suc (suc (suc (suc j))))))))) le =
       blank_units (4 * n - 1) 0 0 j (omega arith) (omega arith)
 
-  -- All hold.
+  -- All tests hold.
   made_held : (j : ℕ) → get_or (tests made (stated_units made)) j true ≡ true
   made_held j =
       let size = told-made in
@@ -221,14 +221,14 @@ module _ (b : List ℕ) (fit : AreBytes b) (q n : ℕ) (lo : 1 ≤ n) (hi : n �
             ∙ held j less
       ])
 
-  -- Such a packet of the grammar.
+  -- So such a packet of the grammar exists.
   agreeing : (v : PesValue) × (p : List ℕ) × IsPesPacket v p × AgreeBefore q b p
   agreeing =
       let read = read_if_held made made_held in
       let found = read_is_packet read.0.0 made read.0.1 made_fits read.1 in
       (read.0.0, found.0, found.1, made_agrees found.0 read.0.1 found.2)
 
--- How many payloads such a packet has.
+-- The number of payloads of such a packet.
 payloads : (b : List ℕ) (q : ℕ)
     → HoldBelow (tests b (stated_units b)) q
     → (n : ℕ) × (1 ≤ n) × (n ≤ 9) × (2 < q → stated_size b ≡ 184 * n)
@@ -237,7 +237,7 @@ payloads b q held = elim (cases_lt 2 q) [
   | inl more ↦ let t = stated_count b (held 2 more) in (t.0, t.1, t.2, λ _. t.3)
 ]
 
--- A packet that agrees with the bytes up to a test that fails: there is none.
+-- No packet agrees with the bytes up to a test that fails.
 none_agrees : (b : List ℕ) (q : ℕ) (v : PesValue) (p : List ℕ)
     → get_or (tests b (stated_units b)) q true ≡ false
     → IsPesPacket v p
@@ -254,7 +254,7 @@ none_agrees b q v p wrong h agree =
     let yes = all q in
     absurd cc
 
--- Where no packet is read, the fault is that of the first question in which the bytes fail.
+-- If no packet is read, the fault is that of the first check that the bytes fail.
 refused_first : (b : List ℕ) (f : PesFault)
     → AreBytes b
     → packet_at b ≡ Err f
@@ -282,7 +282,7 @@ refused_first b f fit e =
           )
     ]
 
--- Where a question fails first no packet is read, since it would agree: so it is refused.
+-- If bytes fail a check, no packet is read, since it would agree with them.
 refused_there : (b : List ℕ) (q : ℕ)
     → AreBytes b
     → FailFirst q b
@@ -300,6 +300,6 @@ refused_there b q fit h = elim (answer_cases (packet_at b)) [
       }))
 ]
 
--- Both: the law.
+-- The law of refusal.
 pub refusal_by_questions : LawOfRefusal
 refusal_by_questions b fit = (λ f e. refused_first b f fit e, λ q h. refused_there b q fit h)

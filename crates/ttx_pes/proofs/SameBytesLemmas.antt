@@ -1,4 +1,4 @@
--- Slices compared in blocks: same_block for one, four_same for one of four, same_more_long for the
+-- Slices compared in blocks: same_block for one, four_same for four of them, same_more_long for the
 -- next, same_whole at the end; payload_same for the data field of one payload.
 use Rattle.std.proofs.Common.{◌≡◌, ◌↔◌, ℕ, ◌+◌, ◌*◌, ◌≤◌, ◌^◌, ◌%◌, ◌-◌, Bool, true, List, []}
 use Rattle.std.proofs.Common.{◌∷◌, ◌++◌, map, length, take, drop, cond, nat_eq, refl, sym, ap}
@@ -12,7 +12,7 @@ use lib.Lanes.{zip2, mask_l, top, chunk}
 use lib.Seq.{take-add}
 use Rattle.ttx_packet.proofs.BlockLemmas.{block_at, block_of}
 
--- Whether two bytes differ.
+-- Two bytes differ.
 abbrev pub differ : ℕ → ℕ → Bool
 differ x y = not (nat_eq x y)
 
@@ -21,13 +21,13 @@ none_differ : (a : List ℕ) → mask_l (zip2 differ a a) ≡ 0
 none_differ [] = refl
 none_differ (x ∷ a) = grind (arith, nat_tests, none_differ a)
 
--- Where no byte differs, the lists are the same.
+-- If no byte differs, the lists are the same.
 same_from_none : (a b : List ℕ) → length a ≡ length b → mask_l (zip2 differ a b) ≡ 0 → a ≡ b
 same_from_none [] [] l e = refl
 same_from_none [] (y ∷ b) l e = absurd (omega arith)
 same_from_none (x ∷ a) b l e = grind (arith, nat_tests, same_from_none a)
 
--- A mask without a bit says that two blocks are the same. For `is_same_block`.
+-- Two blocks are the same if the mask is 0. For `is_same_block`.
 pub same_block : (n : ℕ) (a b : List ℕ)
     → n ≤ 64
     → length a ≡ n
@@ -42,14 +42,14 @@ same_block n a b few la lb =
     ap (λ m. mask_l m % 2 ^ 64) (tops_compared w8 differ a b) ∙ mask_l-mod _ 64 size in
     grind (arith, nat_tests, same_from_none, eqb-true, eq-eqb, none_differ)
 
--- A block more.
+-- One more block.
 more : (n at : ℕ) (a b : List ℕ)
     → take at a ≡ take at b
     → chunk at n a ≡ chunk at n b
     → take (at + n) a ≡ take (at + n) b
 more n at a b front block = grind (arith, nat_tests, take-add at n a, take-add at n b)
 
--- A block of 256 more. For `is_same_by_long_blocks`.
+-- One more block of 256. For `is_same_by_long_blocks`.
 pub same_more_long : (a b : List ℕ) (i : ℕ)
     → take (256 * i) a ≡ take (256 * i) b
     → chunk (256 * i) 256 a ≡ chunk (256 * i) 256 b
@@ -58,7 +58,7 @@ same_more_long a b i front block =
     let e : 256 * i + 256 ≡ 256 * (i + 1) = omega arith in
     rw (← e) (more 256 (256 * i) a b front block)
 
--- Blocks up to a place, and all from a place that is not after it.
+-- Blocks up to a place, and everything from an earlier place on.
 pub same_whole : (a b : List ℕ) (m n : ℕ)
     → m ≤ n
     → take n a ≡ take n b

@@ -1,4 +1,4 @@
--- A piece that is the packet before, sent again: what is known of it, sent_again.
+-- A packet that repeats the one before: facts about it, sent_again.
 use Rattle.std.proofs.Common.{◌≡◌, ℕ, ◌+◌, ◌%◌, ◌≤◌, List, length, drop, Ok, refl, sym, ap, subst}
 use Rattle.std.proofs.Common.{◌∙◌, arith, length-drop}
 use Rattle.std.proofs.lemmas.List.{drop-drop}
@@ -8,7 +8,7 @@ use Rattle.ttx_pes.specs.Taking.{RoomValue, IsFieldSize, IsInRoom, IsSentAgain, 
 use Rattle.ttx_pes.proofs.DataUnitLemmas.{AreBytes-drop}
 use Rattle.ttx_pes.proofs.KeptFrameLemmas.{IsBody, known_again}
 
--- What is known of it, by its header and its data field. For `pts_again`.
+-- The facts about it, from its header and its data field. For `pts_again`.
 pub sent_again : (piece before body field : List ℕ) (h : RoomValue) (t : ℕ)
     → AreBytes piece
     → IsInRoom before h

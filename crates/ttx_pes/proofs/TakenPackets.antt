@@ -1,4 +1,4 @@
--- PES packets that are taken one after the other, for loops over a reader: takes-more.
+-- PES packets that are consumed in order, for loops over a reader: takes-more.
 use Rattle.std.proofs.Common.{◌≡◌, ℕ, ◌+◌, List, [], ◌∷◌, ◌++◌, Option, arith, length-append}
 use Rattle.std.proofs.lemmas.Bool.Decides.{nat_tests}
 use Rattle.std.proofs.lemmas.List.{append-nil}
@@ -8,7 +8,7 @@ use Rattle.std.proofs.KnownBytes.{Consumes-trans}
 use Rattle.ttx_pes.specs.PesPacket.{PesValue, IsPesPacket}
 use Rattle.ttx_pes.specs.Reader.{TakesPackets, TakesPesPacket}
 
--- One packet after packets.
+-- One more packet.
 each-more : (packets : List (List ℕ)) (b : List ℕ)
     → AllByRecursion (λ x. (v : PesValue) × IsPesPacket v x) packets
     → (v : PesValue) × IsPesPacket v b
@@ -16,7 +16,7 @@ each-more : (packets : List (List ℕ)) (b : List ℕ)
 each-more [] b h p = (p, tt)
 each-more (x ∷ packets) b h p = (h.0, each-more packets b h.1 p)
 
--- One more was.
+-- One more packet was consumed.
 pub takes-more : (n : ℕ) (old mid new : Option (List ℕ)) (v : PesValue)
     → TakesPackets n old mid
     → TakesPesPacket mid new v

@@ -1,5 +1,5 @@
--- What the bytes that were taken of a packet settle, NAME_settles, what is known by that,
--- settled_NAME, and what a reader then tells, tells_NAME.
+-- What the bytes consumed of a packet determine, NAME_settles, what follows from that,
+-- settled_NAME, and the reader's answer, tells_NAME.
 use Rattle.std.proofs.Common.{◌≡◌, ◌≢◌, ℕ, ◌<◌, ◌≤◌, List, [], length, take, drop, Option, None}
 use Rattle.std.proofs.Common.{Some, Result, Ok, Err, refl, sym, ap, subst, ◌∙◌, append_assoc, arith}
 use Rattle.std.proofs.Common.{length-append, length-take, length-drop, true}
@@ -21,9 +21,9 @@ use Rattle.ttx_pes.proofs.ReadingLemmas.{answer_full, answer_packet}
 use Rattle.ttx_pes.proofs.ReadingLemmas.{packet_parts, read_is_packet}
 use Rattle.ttx_pes.proofs.ReaderLemmas.{left, nothing, packet_left, value_in}
 
--- ---- where no packet is taken
+-- ---- without a packet
 
--- The end of the source, where no byte was taken.
+-- The end of the source, with no byte consumed.
 none_taken : (old new : Option (List ℕ)) (bytes taken : List ℕ)
     → Consumes old new taken
     → old ≡ Some bytes
@@ -33,7 +33,7 @@ none_taken : (old new : Option (List ℕ)) (bytes taken : List ℕ)
 unfolding rest_after packet_at
 none_taken old new bytes taken h told none end = grind (arith, nat_tests, left)
 
--- A byte after the most packets.
+-- Bytes after the maximum number of packets.
 too_many : (given : ℕ) (old new : Option (List ℕ)) (bytes taken : List ℕ)
     → Consumes old new taken
     → old ≡ Some bytes
@@ -43,9 +43,9 @@ too_many : (given : ℕ) (old new : Option (List ℕ)) (bytes taken : List ℕ)
 too_many given old new bytes taken h told some full =
     grind (arith, nat_tests, left, answer_full, length-append)
 
--- ---- what the bytes that were taken settle
+-- ---- what the bytes consumed determine
 
--- The whole packet is there: its value, or its first fault.
+-- The packet is complete: its value, or its first fault.
 pub whole_settles : (old new : Option (List ℕ)) (taken : List ℕ)
     → Consumes old new taken
     → 6 ≤ length taken
@@ -55,7 +55,7 @@ whole_settles old new taken h le sized =
     let six = length-take 6 taken in let others = length-drop 6 taken in
     grind (arith, nat_tests, take-append-drop 6 taken, append_assoc, packet_parts)
 
--- What was read of the packet's bytes from byte 6 on settles what was taken.
+-- The result of reading the packet's bytes from byte 6 on.
 pub settles_as : (old new : Option (List ℕ)) (taken body : List ℕ) (r : Result PesValue PesFault)
     → Settles old new taken (value_at (drop 6 taken))
     → body ≡ drop 6 taken
@@ -63,14 +63,14 @@ pub settles_as : (old new : Option (List ℕ)) (taken body : List ℕ) (r : Resu
     → Settles old new taken r
 settles_as old new taken body r h same e = grind (arith, nat_tests)
 
--- ---- what is known by it
+-- ---- what follows from that
 
--- The answer, by what was read of the packet.
+-- The answer, from the result of reading the packet.
 answered : (r : Result PesValue PesFault) (rest : List ℕ)
     → ((r >>= λ v. Ok (v, rest)) >>= value_in) ≡ (r >>= λ v. Ok (Some v))
 answered r rest = grind (arith, nat_tests)
 
--- The answer of a source that tells its bytes.
+-- The answer if the source's bytes are known.
 pub settled_answer : (given : ℕ) (old new : Option (List ℕ)) (taken bytes : List ℕ)
     (r : Result PesValue PesFault)
     → Settles old new taken r
@@ -80,13 +80,13 @@ pub settled_answer : (given : ℕ) (old new : Option (List ℕ)) (taken bytes : 
 settled_answer given old new taken bytes r h ne told =
     grind (arith, nat_tests, left, answer_packet, length-append, answered)
 
--- A fault: the bytes that were taken are refused for it, also where they are not told.
+-- A fault: the bytes consumed are rejected for it, even if the source's bytes are not known.
 pub settled_refusal : (old new : Option (List ℕ)) (taken : List ℕ) (f : PesFault)
     → Settles old new taken (Err f)
     → TakesRefused old new f
 settled_refusal old new taken f h = grind (arith, nat_tests, append-nil taken)
 
--- A value: the bytes that were taken are a packet of it.
+-- A value: the bytes consumed are a valid packet with it.
 abbrev pub settled_packet : (old new : Option (List ℕ)) (taken : List ℕ) (v : PesValue)
     → Settles old new taken (Ok v)
     → AreBytes taken
@@ -100,7 +100,7 @@ settled_packet old new taken v h fit =
       consumed = h.consumed;
     }
 
--- A value that is settled, with its data field, bytes 39 on of the body. For `PieceTellingLemmas`.
+-- A value with its data field, from byte 39 of the body on. For `PieceTellingLemmas`.
 pub settled_field : (old new : Option (List ℕ)) (taken body field : List ℕ) (v : PesValue)
     → Settles old new taken (Ok v)
     → AreBytes taken
@@ -112,7 +112,7 @@ settled_field old new taken body field v h fit same is = record {
   field_is = is ∙ ap (drop 39) same ∙ drop-drop 39 6 taken;
 }
 
--- What the first six bytes tell stays where more were taken after them. For `read_piece`.
+-- The size in the first six bytes stays the same after more bytes were read. For `read_piece`.
 pub size_kept : (got n : ℕ) (old new six : List ℕ) (r : Result ℕ PesFault)
     → 6 ≤ got
     → got ≤ n
@@ -125,9 +125,9 @@ size_kept got n old new six r le more kept is told =
     ∙ take-take 6 got old le ∙ sym is)
     ∙ told
 
--- ---- what is told of it
+-- ---- the reader's answer
 
--- The end of the source, where no byte was taken.
+-- The end of the source, with no byte consumed.
 pub tells_end : (given : ℕ) (old new : Option (List ℕ)) (taken : List ℕ)
     → Consumes old new taken
     → taken ≡ []
@@ -135,7 +135,7 @@ pub tells_end : (given : ℕ) (old new : Option (List ℕ)) (taken : List ℕ)
     → TellsPacket (Reading given) old new (Ok None)
 tells_end given old new taken h none end = grind (arith, nat_tests, none_taken, nothing)
 
--- A byte after the most packets.
+-- Bytes after the maximum number of packets.
 pub tells_too_many : (given : ℕ) (old new : Option (List ℕ)) (taken : List ℕ)
     → Consumes old new taken
     → 0 < length taken
@@ -143,7 +143,7 @@ pub tells_too_many : (given : ℕ) (old new : Option (List ℕ)) (taken : List �
     → TellsPacket (Reading given) old new (Err fault.TooMany)
 tells_too_many given old new taken h some full = grind (arith, nat_tests, too_many)
 
--- What the bytes that were taken settle.
+-- The bytes consumed determine the answer.
 pub tells_settled : (given : ℕ) (old new : Option (List ℕ)) (taken : List ℕ)
     (r : Result PesValue PesFault)
     → Settles old new taken r

@@ -1,4 +1,4 @@
--- What is told of what came: by PieceTellingLemmas.
+-- The answer for each result: by PieceTellingLemmas.
 use Rattle.std.proofs.Common.{◌∙◌, Bool, Err, Ok, Result, false, rules, sym, true}
 use Rattle.std.proofs.lemmas.Bool.{true≢false}
 use Rattle.sub_io.specs.declared.source.Failed.{Failed}

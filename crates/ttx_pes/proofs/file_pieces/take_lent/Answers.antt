@@ -1,4 +1,4 @@
--- A piece that is lent whole, which is passed over: by PieceRoomLemmas.
+-- A packet that is lent completely, and skipped: by PieceRoomLemmas.
 use Rattle.std.proofs.Common.{arith, subst, sym}
 use Rattle.std.specs.Io.KnownBytes.{Consumes}
 use Rattle.sub_io.proofs.DeviceLemmas.{Consumes-passed}

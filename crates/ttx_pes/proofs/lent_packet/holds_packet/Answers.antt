@@ -1,4 +1,4 @@
--- What its first six bytes say is what their definition reads: holds_read.
+-- The result agrees with the definition for the first six bytes: holds_read.
 use Rattle.std.proofs.Common.{◌≡◌, ◌≤◌, ◌∙◌, Err, Ok, ap, length, rules, take}
 use Rattle.ttx_pes.specs.Reading.{size_at}
 use Rattle.ttx_pes.proofs.LentPacketLemmas.{holds_read}

@@ -1,4 +1,4 @@
--- One piece more, or none: by LimitedLemmas.
+-- One more packet, or none: by LimitedLemmas.
 use Rattle.std.proofs.Common.{◌∙◌, arith}
 use Rattle.sub_io.specs.declared.source.Failed.{Failed}
 use Rattle.ttx_pes.proofs.LimitedLemmas.{passed_all, passed_one, passed_stop}

@@ -1,4 +1,4 @@
--- So many were passed over.
+-- So many were skipped.
 use Rattle.std.proofs.Common.{◌≡◌, ◌-◌, ◌≤◌}
 use Rattle.ttx_pes.specs.Advancing.{HasPassed}
 use Rattle.ttx_pes.proofs.passing.pass_pieces.Given as goal

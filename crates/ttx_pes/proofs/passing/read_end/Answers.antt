@@ -1,4 +1,4 @@
--- More than a day has frames: by PieceTellingLemmas.
+-- More packets than a day has frames: by PieceTellingLemmas.
 use Rattle.ttx_pes.proofs.PieceTellingLemmas.{tells_none, tells_piece_more, tells_rest_more}
 use Rattle.ttx_pes.proofs.passing.read_end.Goals as goal
 

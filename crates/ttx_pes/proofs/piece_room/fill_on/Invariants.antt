@@ -1,4 +1,4 @@
--- The room holds the bytes that were taken behind those that were held, and no pull has failed.
+-- The buffer has the bytes read after those that were there before, and no pull has failed.
 use Rattle.std.proofs.Common.{◌+◌, ◌-◌, ◌≡◌, ◌≤◌, ◌++◌, length, take}
 use Rattle.std.specs.Io.KnownBytes.{Consumes, prepend_known}
 use Rattle.ttx_pes.proofs.piece_room.fill_on.Given as goal

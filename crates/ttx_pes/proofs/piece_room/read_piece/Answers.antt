@@ -1,4 +1,4 @@
--- What was read for the piece, at each return: by PieceRoomLemmas.
+-- The bytes read for the packet, at each return: by PieceRoomLemmas.
 use Rattle.std.proofs.Common.{◌≡◌, ◌∙◌, ℕ, ◌++◌, Ok, ap, arith, inl, inr, refl, rules, sym, take}
 use Rattle.std.proofs.lemmas.Bool.{true≢false}
 use Rattle.std.proofs.lemmas.List.{length-take-le}

@@ -1,4 +1,4 @@
--- What is told of what came: by PieceTellingLemmas.
+-- The answer for each result: by PieceTellingLemmas.
 use Rattle.std.proofs.Common.{Err, Ok, Result, rules}
 use Rattle.sub_io.specs.declared.source.Failed.{Failed}
 use Rattle.ttx_pes.specs.declared.fault.PesFault.{PesFault}

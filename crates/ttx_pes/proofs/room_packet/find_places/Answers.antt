@@ -1,4 +1,4 @@
--- The units of a data field with the heads of the one that is kept: by places_alike.
+-- The units of a data field with the same heads as the stored one: by places_alike.
 use Rattle.std.proofs.Common.{◌≡◌, length, arith, rules}
 use Rattle.ttx_pes.specs.Taking.{AreSameHeads}
 use Rattle.ttx_pes.proofs.HeadLemmas.{places_alike}

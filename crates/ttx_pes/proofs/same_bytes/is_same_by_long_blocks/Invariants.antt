@@ -1,4 +1,4 @@
--- The blocks before this one are the same.
+-- The earlier blocks are the same.
 use Rattle.std.proofs.Common.{◌≡◌, ◌*◌, take}
 use Rattle.ttx_pes.proofs.same_bytes.is_same_by_long_blocks.Given as goal
 

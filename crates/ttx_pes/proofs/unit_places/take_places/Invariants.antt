@@ -1,4 +1,4 @@
--- The units so far, and those of the data units that are left.
+-- The units so far, and those of the remaining data units.
 use Rattle.std.proofs.Common.{◌≡◌, ◌≤◌, ◌<◌, ◌+◌, ◌-◌, ◌*◌, ◌++◌, [], length, drop}
 use Rattle.ttx_pes.specs.LineOrder.{last_place}
 use Rattle.ttx_pes.specs.Reading.{units_at}

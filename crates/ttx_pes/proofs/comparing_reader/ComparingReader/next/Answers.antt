@@ -1,4 +1,4 @@
--- The data field of what was taken.
+-- The data field of the packet that was consumed.
 use Rattle.std.proofs.Common.{refl}
 use Rattle.ttx_pes.proofs.comparing_reader.ComparingReader.next.Goals as goal
 

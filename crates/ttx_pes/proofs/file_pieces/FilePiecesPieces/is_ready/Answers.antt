@@ -1,4 +1,4 @@
--- Bytes that are lent hold the next piece where those at their front do.
+-- Lent bytes contain the next packet if a prefix of them does.
 use Rattle.std.proofs.Common.{◌∙◌, sym}
 use Rattle.ttx_pes.proofs.LentPacketLemmas.{held_holds}
 use Rattle.ttx_pes.proofs.PieceRoomLemmas.{lends_is}

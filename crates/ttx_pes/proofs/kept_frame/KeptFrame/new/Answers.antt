@@ -1,4 +1,4 @@
--- No packet is known.
+-- There is no packet.
 use Rattle.ttx_pes.proofs.KeptFrameLemmas.{none_known}
 use Rattle.ttx_pes.proofs.kept_frame.KeptFrame.new.Goals as goal
 

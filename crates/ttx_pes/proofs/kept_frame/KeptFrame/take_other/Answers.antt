@@ -1,4 +1,4 @@
--- What is kept of a piece, in the room: by KeptFrameLemmas.
+-- The packet that is stored in the buffer: by KeptFrameLemmas.
 use Rattle.std.proofs.Common.{◌∙◌, Bool, false, Ok, Result, arith, subst, sym}
 use Rattle.std.proofs.lemmas.Bool.{true≢false}
 use Rattle.ttx_pes.specs.Taking.{KeepsPiece, KeptValue}

@@ -1,4 +1,4 @@
--- What comes, so many pieces at most: by LimitedLemmas.
+-- The next packet under a limit: by LimitedLemmas.
 use Rattle.std.proofs.Common.{◌∙◌, ℕ, Option, Result, Ok, subst, sym}
 use Rattle.sub_io.specs.declared.source.Failed.{Failed}
 use Rattle.ttx_pes.specs.Advancing.{Advances, limited_behind, limited_known}

@@ -1,4 +1,4 @@
--- None is to be passed over: number_none.
+-- No packet has to be skipped: number_none.
 use Rattle.std.proofs.Common.{◌∙◌, sym}
 use Rattle.ttx_pes.proofs.PartLemmas.{number_none}
 use Rattle.ttx_pes.proofs.part_of_pieces.PartOfPieces.pass_others.Goals as goal

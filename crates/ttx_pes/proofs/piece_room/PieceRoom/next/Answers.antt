@@ -1,4 +1,4 @@
--- What is held behind what came, and what a taker took: by PieceRoomLemmas.
+-- The buffer after each result, and the taker's answer: by PieceRoomLemmas.
 use Rattle.std.proofs.Common.{List, [], ℕ, arith, refl, rules, subst, sym, take}
 use Rattle.std.specs.Io.KnownBytes.{Consumes, prepend_known}
 use Rattle.ttx_pes.proofs.DataUnitLemmas.{AreBytes-take}

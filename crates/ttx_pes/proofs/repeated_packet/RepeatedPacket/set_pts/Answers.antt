@@ -1,4 +1,4 @@
--- The bytes with another PTS are those of the other packet: refill-pts.
+-- The bytes with another PTS are the packet with that PTS: refill-pts.
 use Rattle.ttx_pes.proofs.PesPacketLemmas.{has_room_for_pts, refill-pts}
 use Rattle.ttx_pes.proofs.repeated_packet.RepeatedPacket.set_pts.Goals as goal
 

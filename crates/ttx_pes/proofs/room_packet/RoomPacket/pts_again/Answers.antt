@@ -1,4 +1,4 @@
--- What is known of the packet that is sent again: sent_again.
+-- The facts about a packet that is repeated: sent_again.
 use Rattle.std.proofs.Common.{◌∙◌, arith, rules}
 use Rattle.sub_io.specs.Reading.{AreBytes}
 use Rattle.ttx_pes.proofs.SentAgainLemmas.{sent_again}

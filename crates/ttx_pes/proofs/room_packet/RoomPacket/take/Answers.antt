@@ -1,4 +1,4 @@
--- What is known of a packet by its header and its data field: known_anew, known_again.
+-- The facts about a packet from its header and its data field: known_anew, known_again.
 use Rattle.std.proofs.Common.{ap, ◌≡◌, arith, refl, rules}
 use Rattle.std.proofs.lemmas.Result.{err_from_is_err_and}
 use Rattle.ttx_pes.specs.Taking.{RoomValue}
