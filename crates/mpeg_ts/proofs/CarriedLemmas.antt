@@ -1,4 +1,4 @@
--- What a recording gives, read step by step, is what the packets of the PID carry: carried_given.
+-- Reading a recording step by step returns what the packets of the PID carry: carried_given.
 use Rattle.std.proofs.Common.{◌≡◌, ℕ, zero, suc, ◌+◌, ◌≤◌, ◌<◌, List, [], ◌∷◌, ◌++◌, length, drop}
 use Rattle.std.proofs.Common.{Bool, true, false, Option, None, refl, sym, ap, ◌∙◌, subst}
 use Rattle.std.proofs.Common.{arith}
@@ -47,7 +47,7 @@ items_whole distance in_step (suc room) bytes =
     (λ skips. subst AreWhole (sym (items_skipped distance in_step room bytes long skips))
     (items_whole distance false room (drop 1 bytes))))
 
--- The last of the reasons why a packet is wrong.
+-- The last condition for an unusable packet.
 last_reason : (x y a h n : Bool)
     → (x || y || (a && h && n)) ≡ false
     → a ≡ true
@@ -55,7 +55,7 @@ last_reason : (x y a h n : Bool)
     → n ≡ false
 last_reason x y a h n h1 h2 h3 = grind (arith, nat_tests)
 
--- The payload of a packet that is not wrong has bytes.
+-- The payload of a usable packet is not empty.
 payload_some : (p : List ℕ)
     → length p ≡ 188
     → is_wrong p ≡ false
@@ -85,7 +85,7 @@ notes_sound distance number run (Skipped ∷ more) whole =
 
 -- ---- from the start
 
--- Before the first PES packet a gap gives nothing.
+-- A gap before the first PES packet has no marker.
 no_mark_yet : (b : Bool) (more : List PartOutcome)
     → mark_where (b && false) ++ give (given_after b given.Nothing) more
     ≡ give given.Nothing more
@@ -100,7 +100,7 @@ no_packet_yet : (wrong : Bool)
 unfolding with_marks
 no_packet_yet wrong = grind (arith, nat_tests)
 
--- What good packets give from the start is what their parts give.
+-- From the start, the good packets yield the bytes of their parts.
 joined_start : (wrong : Bool) (goods : List GoodPacket)
     → FirstIsCut goods
     → HavePayloads goods
@@ -118,7 +118,7 @@ joined_start wrong (g ∷ more) cut all =
     ∙ sym (ap (give given.Nothing) (outcomes-from wrong (part_of g) more))
     ∙ sym (with_marks-nothing false (outcomes wrong (parts (g ∷ more)))))
 
--- All that a recording gives, read from its start, is what the packets of the PID carry.
+-- Reading a recording from its start returns what the packets of the PID carry.
 pub carried_given : (number distance : ℕ) (recording : List ℕ)
     → given_of (start_of_stream number distance) recording ≡ carried number distance recording
 unfolding stream_gives carried
@@ -139,7 +139,7 @@ carried_given number distance recording =
     ∙ joined_start good.wrong_behind good.packets (first_is_cut since all refl)
     (good_payloads since all sound)
 
--- The same, where the source tells its bytes.
+-- The same, if the source's bytes are known.
 pub carried_known : (number distance : ℕ) (told : Option (List ℕ))
     → still_given (start_of_stream number distance) told
     ≡ option_map (carried number distance) told

@@ -1,4 +1,4 @@
--- What was given of a recording is what the bytes carry that were taken of it; main lemmas:
+-- The bytes returned for a recording are those in the bytes consumed from it; main lemmas:
 -- gives_then, failed_read, next_gives.
 use Rattle.std.proofs.Common.{◌≡◌, ℕ, List, [], ◌++◌, take, Option, Some, None, sym, ap, ◌∙◌}
 use Rattle.std.proofs.Common.{append_assoc, subst}
@@ -16,7 +16,7 @@ use Rattle.mpeg_ts.proofs.CarriedLemmas.{carried_given}
 use Rattle.mpeg_ts.proofs.StreamLemmas.{given_front}
 use Rattle.mpeg_ts.proofs.TakenBytesLemmas.{takes_on}
 
--- Some were given, and then others.
+-- The output of two calls in a row.
 pub gives_then : (u v w : StreamValue) (before mid after : Option (List ℕ))
     → GivesOn u v before mid
     → GivesOn v w mid after
@@ -39,8 +39,8 @@ gives_then u v w before mid after first then = record {
         ∙ ap (λ (l : List ℕ). ys ++ l) (alike more)
         ∙ sym (append_assoc ys zs (given_of w more)))
 
--- What was given from the start of a recording is what the bytes carry that were taken, where these
--- give no more.
+-- From the start of a recording, the bytes returned are those in the bytes consumed, if these yield
+-- no more.
 carried_taken : (number distance : ℕ) (v : StreamValue) (bytes given : List ℕ)
     → ((more : List ℕ)
     → given_of (start_of_stream number distance) (bytes ++ more) ≡ given ++ given_of v more)
@@ -53,7 +53,7 @@ carried_taken number distance v bytes given same none =
     ∙ ap (λ (l : List ℕ). given ++ l) none
     ∙ append-nil given
 
--- So the recording carries that, and then what is left.
+-- So the recording carries these bytes, followed by the rest.
 carried_left : (number distance : ℕ) (v : StreamValue) (all taken rest given : List ℕ)
     → all ≡ taken ++ rest
     → ((more : List ℕ)
@@ -67,8 +67,8 @@ carried_left number distance v all taken rest given is same none =
     ∙ ap (λ (l : List ℕ). l ++ given_of v rest)
     (sym (carried_taken number distance v taken given same none))
 
--- A read failed within that PES packet of bytes, of which these are left: it did of those before
--- them.
+-- If a read fails within a PES packet, it fails within the same packet of the bytes before the
+-- rest.
 failed_before : (index : ℕ) (all front left : List ℕ)
     → all ≡ front ++ left
     → FailsAtPacket index (Some all) (Some left)
@@ -100,7 +100,7 @@ failed_before index all front left is failed =
       };
     }
 
--- That is told by the bytes that were taken. For `law_of_failed_read`.
+-- The bytes consumed determine this. For `law_of_failed_read`.
 pub failed_read : (number distance : ℕ) (v : StreamValue) (recording rest : List ℕ)
     → GivesOn (start_of_stream number distance) v (Some recording) (Some rest)
     → given_of v [] ≡ []
@@ -124,7 +124,7 @@ failed_read number distance v recording rest on none = told on.given on.takes
 
 -- ---- one call
 
--- What was ready first was given.
+-- The first item that was ready was returned.
 front_gives : (before told : Option (List ℕ)) (u v w : StreamValue) (piece : List ℕ)
     → TakesFront (given_of u) (given_of v) before told
     → v.joining.pending ≡ piece ++ w.joining.pending
@@ -141,7 +141,7 @@ front_gives before told u v w piece takes front same only = record {
     whole : w ≡ record v { joining = record v.joining { pending = w.joining.pending } }
     whole = only ∙ ap (λ (j : JoiningValue). record v { joining = j }) same
 
--- Nothing was.
+-- Nothing was returned.
 nothing_gives : (before told : Option (List ℕ)) (u v w : StreamValue)
     → TakesFront (given_of u) (given_of v) before told
     → w.joining ≡ v.joining
@@ -152,7 +152,7 @@ nothing_gives before told u v w takes same only =
     (sym (only ∙ ap (λ (j : JoiningValue). record v { joining = j }) same))
     (record { given = []; takes = takes })
 
--- What was taken first of what is ready was given, after reading on. For `next`.
+-- After reading on, the first item that is ready was returned. For `next`.
 pub next_gives : (before told : Option (List ℕ)) (u v w : StreamValue) (n : Next)
     → TakesFront (given_of u) (given_of v) before told
     → TakesNext v.joining n w.joining

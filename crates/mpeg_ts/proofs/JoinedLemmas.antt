@@ -1,4 +1,4 @@
--- What is given packet after packet is what the parts give; main lemmas: claims, new_part.
+-- The output of packet after packet is that of the parts; main lemmas: claims, new_part.
 use Rattle.std.proofs.lemmas.Bool.Decides.{nat_tests}
 use Rattle.std.proofs.Common.{◌≡◌, ℕ, List, [], ◌∷◌, ◌++◌, length, take, Bool, true, false}
 use Rattle.std.proofs.Common.{refl, sym, ap, ◌∙◌, subst, arith, append_assoc}
@@ -25,8 +25,8 @@ use Rattle.mpeg_ts.proofs.OutcomeLemmas.{give-gap_where, give-other, give-quiet,
 use Rattle.mpeg_ts.proofs.OutcomeLemmas.{other_with_last, outcome-headless, outcome-unfinished}
 use Rattle.mpeg_ts.proofs.OutcomeLemmas.{quiet_after, tail, tail-whole, up_to-last, whole_found}
 
--- What good packets give one after another, where all that was ready has been given; `wrong` says
--- whether a wrong packet comes behind the last.
+-- The output of good packets in order, after everything that was ready was returned; `wrong`: an
+-- unusable packet follows the last one.
 abbrev pub joined : JoiningValue → Bool → List GoodPacket → List ℕ
 joined v wrong [] = if has_ended v.part then [] else mark_where (wrong && gave_packet v.given)
 joined v wrong (g ∷ more) =
@@ -35,28 +35,28 @@ joined v wrong (g ∷ more) =
     (after_good g.link v g.packet).pending
     ++ joined (handed_over (after_good g.link v g.packet)) wrong more
 
--- Where it has ended nothing comes.
+-- After the end there is no output.
 pub joined-ended : (v : JoiningValue) (wrong : Bool) (goods : List GoodPacket)
     → has_ended v.part ≡ true
     → joined v wrong goods ≡ []
 joined-ended v wrong [] e = rw e refl
 joined-ended v wrong (g ∷ more) e = rw e refl
 
--- What is given of good packets, by how far the part before them has come.
+-- The output of good packets, by the progress of the part before them.
 pub record Claims (wrong : Bool) (goods : List GoodPacket) : Type 0 where
   -- A part that does not begin a PES packet.
   pub headless :
       (v : JoiningValue) (part : Part)
       → part.begins ≡ false
       → joined (record v { part = Headless }) wrong goods ≡ give v.given (tail wrong part goods)
-  -- One whose PES packet is not there whole.
+  -- A part with an incomplete PES packet.
   pub opened :
       (v : JoiningValue) (part : Part)
       → part.begins ≡ true
       → found_in (part_bytes part) ≡ found.Unfinished
       → joined (record v { part = Open; bytes = part_bytes part }) wrong goods
       ≡ give v.given (tail wrong part goods)
-  -- One whose PES packet was given.
+  -- A part whose PES packet was returned.
   pub complete :
       (v : JoiningValue) (excess : Bool)
       → (excess ≡ true → gave_packet v.given ≡ false)
@@ -65,31 +65,31 @@ pub record Claims (wrong : Bool) (goods : List GoodPacket) : Type 0 where
 
 -- ---- a part with bytes
 
--- What an open part gives by what is found in it, and what comes then.
+-- The output of an open part, by its contents, and what follows.
 abbrev pub settled_gives : Found → JoiningValue → Bool → List GoodPacket → List ℕ
 settled_gives f v wrong more =
     (settled_as f v).pending ++ joined (handed_over (settled_as f v)) wrong more
 
--- What a part with those bytes gives, after a gap or not.
+-- The output of a part with these bytes, after a gap or not.
 abbrev pub given_open : Bool → JoiningValue → List ℕ → Bool → List GoodPacket → List ℕ
 given_open gap v bytes wrong more =
     settled_gives (found_in bytes) (with_gap gap (record v { part = Open; bytes = bytes })) wrong
     more
 
--- Behind a PES packet with bytes behind it a mark was given last.
+-- After a PES packet with more bytes, a gap marker was returned last.
 quiet_excess : (excess : Bool)
     → excess ≡ true
     → gave_packet (if excess then given.Mark else given.Packet) ≡ false
 quiet_excess excess h1 = grind (arith, nat_tests)
 
--- The mark behind a PES packet.
+-- The gap marker after a PES packet.
 excess_given : (excess wrong : Bool) (more : List GoodPacket)
     → mark_where excess
     ++ give (if excess then given.Mark else given.Packet) (behind excess wrong more)
     ≡ give given.Packet (behind excess wrong more)
 excess_given excess wrong more = grind (arith, nat_tests, give-excess)
 
--- What a part gives, by what is found in it.
+-- The output of a part, by its contents.
 settle_by : (gap : Bool) (v : JoiningValue) (part : Part) (wrong : Bool) (more : List GoodPacket)
     → HavePayloads more
     → Claims wrong more
@@ -138,7 +138,7 @@ settle_by gap v part wrong more all claims begins last (found.Whole size) e =
     (sym (ap (give (given_after gap v.given))
     (tail-whole wrong part size more all begins w)))
 
--- What a part gives.
+-- The output of a part.
 settle : (gap : Bool) (v : JoiningValue) (part : Part) (wrong : Bool) (more : List GoodPacket)
     → HavePayloads more
     → Claims wrong more
@@ -151,12 +151,12 @@ settle gap v part wrong more h1 h2 h3 h4 = grind (arith, nat_tests, settle_by)
 
 -- ---- a new part
 
--- The only payload of a part is the last.
+-- The only payload of a part is its last.
 up_to-one : (g : GoodPacket) → up_to 6 (part_of g).payloads ≡ part_bytes (part_of g)
 up_to-one g =
     up_to-last 6 [] (payload g.packet) (omega arith) ∙ sym (append-nil (payload g.packet))
 
--- What a new part gives, by whether it begins a PES packet.
+-- The output of a new part, by whether it begins a PES packet.
 new_part_by : (wrong : Bool) (more : List GoodPacket) (v : JoiningValue) (g : GoodPacket)
     → HavePayloads more
     → Claims wrong more
@@ -181,7 +181,7 @@ new_part_by wrong more v g all claims false e =
     ap (λ l. mark_where (gap && gave_packet v.given) ++ l)
     (claims.headless (handed_over state) (part_of g) e)
 
--- What a new part gives.
+-- The output of a new part.
 pub new_part : (wrong : Bool) (more : List GoodPacket) (v : JoiningValue) (g : GoodPacket)
     → HavePayloads more
     → Claims wrong more
@@ -203,13 +203,13 @@ or_true b = grind (arith, nat_tests)
 or_false : (b : Bool) → (b || false) ≡ b
 or_false b = grind (arith, nat_tests)
 
--- Where a mark was given, another gap gives nothing.
+-- After a gap marker, another gap yields nothing.
 give-excess_quiet : (g : Given) (excess : Bool) (rest : List PartOutcome)
     → (excess ≡ true → gave_packet g ≡ false)
     → give g rest ≡ give g (gap_where excess ++ rest)
 give-excess_quiet g excess rest h1 = grind (arith, nat_tests, give-quiet)
 
--- A new part behind one that is not whole, of which a gap comes.
+-- A new part after an incomplete one, which is a gap.
 after_unfinished : (wrong : Bool) (more : List GoodPacket) (part : Part) (h : Given)
     (g : GoodPacket)
     → outcome false part ≡ gap_where true
@@ -218,7 +218,7 @@ after_unfinished : (wrong : Bool) (more : List GoodPacket) (part : Part) (h : Gi
     ≡ give h (outcome false part ++ (gap_where (is_break g.link) ++ tail wrong (part_of g) more))
 after_unfinished wrong more part h g h1 = grind (arith, nat_tests, tail, give, or_true, give-again)
 
--- What good packets give, from any state on.
+-- The output of good packets from any state.
 pub claims : (wrong : Bool) (goods : List GoodPacket) → HavePayloads goods → Claims wrong goods
 claims wrong [] all = record {
   headless = λ v part begins.

@@ -1,5 +1,4 @@
--- What notes give one after another is what the good packets among them give; main lemma:
--- notes_joined.
+-- The output of events in order is that of the good packets among them; main lemma: notes_joined.
 use Rattle.std.proofs.lemmas.Bool.Decides.{nat_tests}
 use Rattle.std.proofs.Common.{◌≡◌, ℕ, ◌<◌, List, [], ◌∷◌, ◌++◌, length, Bool, true, false}
 use Rattle.std.proofs.Common.{Option, Some, None, refl, sym, ap, ◌∙◌, subst, arith, append_assoc}
@@ -27,15 +26,15 @@ use Rattle.mpeg_ts.specs.declared.joining.PartState.TheVariants.{Open}
 use Rattle.mpeg_ts.proofs.JoinedLemmas.{joined, joined-ended, or_true}
 use Rattle.mpeg_ts.proofs.OutcomeLemmas.{HavePayloads, by_bool, quiet_after}
 
--- ---- what is kept of a good packet
+-- ---- the state after a good packet
 
--- It is the last one.
+-- The state stores this packet as the last good one.
 pub record IsLast (v : JoiningValue) (p : List ℕ) : Type 0 where
   pub head : v.header ≡ packet_header p
   pub load : v.last ≡ payload p
   pub jump : v.announced ≡ announces_jump p
 
--- Nothing came since.
+-- Nothing came since then.
 pub record IsFresh (v : JoiningValue) (p : List ℕ) : Type 0 where
   pub is_last : IsLast v p
   pub no_repeat : v.has_repeat ≡ false
@@ -59,18 +58,18 @@ gone_on_fresh : (part : PartState) (v : JoiningValue) (p : List ℕ)
     → IsFresh (gone_on part (remembering v p) (payload p)) p
 gone_on_fresh part v p = grind (arith, nat_tests, grown_fresh)
 
--- After a good packet it is the last one.
+-- A good packet becomes the last good one.
 good_fresh : (link : Link) (v : JoiningValue) (p : List ℕ) → IsFresh (after_good link v p) p
 good_fresh link v p = grind (arith, nat_tests, begun_fresh, gone_on_fresh)
 
--- ---- what came since
+-- ---- events since the last good packet
 
--- What is kept of the last good packet, if there is one.
+-- The state stores the last good packet, if there is one.
 abbrev pub KeepsLast : JoiningValue → Option (List ℕ) → Type 0
 KeepsLast v None = v.last ≡ []
 KeepsLast v (Some q) = IsLast v q × (0 < length (payload q))
 
--- What is kept is what came since the last good packet.
+-- The state agrees with the events since the last good packet.
 pub record Knows (v : JoiningValue) (s : Since) : Type 0 where
   pub repeat : v.has_repeat ≡ s.has_repeat
   pub jump : v.has_jump ≡ s.has_jump
@@ -84,11 +83,11 @@ and_order : (a b c d e : Bool)
     → (not a && (not b && (c && (d && e)))) ≡ ((d && e) && not a && not b && c)
 and_order a b c d e = grind (arith, nat_tests)
 
--- Where the last one fails, all do.
+-- If the last condition fails, the conjunction fails.
 and_last : (a b c d : Bool) → (not a && (not b && (c && (d && false)))) ≡ false
 and_last a b c d = grind (arith, nat_tests)
 
--- No bytes are not some.
+-- The empty list differs from a nonempty one.
 nil_not_some : (xs : List ℕ) → 0 < length xs → bytes_eq [] xs ≡ false
 nil_not_some xs h1 = grind (arith, nat_tests)
 
@@ -101,7 +100,7 @@ repeats_by : (v : JoiningValue) (s : Since) (o : Option (List ℕ)) (p : List �
     → repeats v p ≡ is_repeat_of o s p
 repeats_by v s o p h1 h2 h3 h4 = grind (arith, nat_tests, nil_not_some, and_last, and_order)
 
--- What links a packet to a last one.
+-- The link of a packet to the one before.
 abbrev pub link_by : Bool → Bool → Bool → Link
 link_by lost jumps follows =
     if lost then Break else if jumps then Seam else if follows then Follows else Break
@@ -112,13 +111,13 @@ link_some : (v : JoiningValue) (l p : List ℕ)
     ≡ link_by v.has_break (v.has_jump || announces_jump p) (counter_goes_on v.header p)
 link_some v l p h1 = grind (arith, nat_tests)
 
--- The counter stands in the first four bytes.
+-- The counter is in the first four bytes.
 counter_kept : (v : JoiningValue) (q p : List ℕ)
     → v.header ≡ packet_header q
     → counter_goes_on v.header p ≡ counts_on q p
 counter_kept v q p h1 = grind (arith, nat_tests, get_or-take)
 
--- A packet is linked to the last good one as it is.
+-- Both definitions of the link agree.
 link_same : (v : JoiningValue) (s : Since) (o : Option (List ℕ)) (p : List ℕ)
     → KeepsLast v o
     → v.has_jump ≡ s.has_jump
@@ -126,9 +125,9 @@ link_same : (v : JoiningValue) (s : Since) (o : Option (List ℕ)) (p : List ℕ
     → link_after v v.last p ≡ link_from o s p
 link_same v s o p h1 h2 h3 = grind (arith, nat_tests, link_some, counter_kept)
 
--- ---- the notes
+-- ---- the events
 
--- Each packet that has a payload has bytes in it.
+-- Each payload of a packet is not empty.
 abbrev pub AreSound : List Note → Type 0
 AreSound [] = Unit {0}
 AreSound (Valid p ∷ more) = (has_payload p ≡ true → 0 < length (payload p)) × AreSound more
@@ -160,7 +159,7 @@ good-good : (s : Since) (p : List ℕ) (more : List Note)
 unfolding good_after
 good-good s p more some other = rw (some, other) refl
 
--- What is kept after each.
+-- The state after each event.
 valid-no_payload : (v : JoiningValue) (p : List ℕ)
     → has_payload p ≡ false
     → after_valid v p ≡ record v { has_jump = v.has_jump || announces_jump p }
@@ -181,7 +180,7 @@ valid-good : (v : JoiningValue) (p : List ℕ)
 unfolding after_valid
 valid-good v p some other = rw (some, other) refl
 
--- Two lists are equal where they are so by whether it has ended.
+-- Two lists are equal if they are equal before and after the end.
 step_by : (v : JoiningValue) (n : Note) (more : List Note) (all : List ℕ)
     → (has_ended v.part ≡ true → [] ≡ all)
     → (has_ended v.part ≡ false
@@ -192,27 +191,28 @@ step_by : (v : JoiningValue) (n : Note) (more : List Note) (all : List ℕ)
 unfolding given_later
 step_by v n more all h1 h2 = grind (arith, nat_tests)
 
--- What was noted since the last good packet changes nothing of what good packets give.
+-- Events since the last good packet do not change the output of good packets.
 joined-flags : (v : JoiningValue) (a b c wrong : Bool) (goods : List GoodPacket)
     → joined (handed_over (record v { has_repeat = a; has_jump = b; has_break = c })) wrong goods
     ≡ joined (handed_over v) wrong goods
 joined-flags v a b c wrong [] = refl
 joined-flags v a b c wrong (g ∷ more) = refl
 
--- The end of the notes.
+-- No more events.
 no_note : (ended wrong given : Bool)
     → (wrong ≡ true → given ≡ false)
     → ◌≡◌ {A = List ℕ} [] (if ended then [] else mark_where (wrong && given))
 no_note ended wrong given h1 = grind (arith, nat_tests)
 
--- ---- a wrong packet
+-- ---- an unusable packet
 
--- Something is lost before the first of these good packets, or a wrong packet stands behind none.
+-- Data was lost before the first of these good packets; without good packets, an unusable packet
+-- follows.
 abbrev pub BeginBroken : Bool → List GoodPacket → Type 0
 BeginBroken wrong [] = wrong ≡ true
 BeginBroken wrong (g ∷ more) = g.link ≡ Break
 
--- So it is after a wrong packet behind a good one.
+-- This holds after an unusable packet that follows a good one.
 begin_broken : (s : Since) (q : List ℕ) (all : List Note)
     → s.has_wrong ≡ true
     → s.good ≡ Some q
@@ -234,7 +234,7 @@ begin_broken s q (Valid p ∷ more) wrong good =
       (begin_broken (record s { has_jump = s.has_jump || announces_jump p }) q more wrong good),
     )
 
--- What is ready stands before what comes of a part.
+-- What is ready comes before the output of a part.
 pending_first : (f : Found) (v : JoiningValue) (wrong : Bool) (more : List GoodPacket)
     → (settled_as f (record v { pending = mark })).pending
     ++ joined (handed_over (settled_as f (record v { pending = mark }))) wrong more
@@ -242,7 +242,7 @@ pending_first : (f : Found) (v : JoiningValue) (wrong : Bool) (more : List GoodP
     ++ joined (handed_over (settled_as f (record v { pending = [] }))) wrong more)
 pending_first f v wrong more = grind (arith, nat_tests, append_assoc, joined)
 
--- A part after a break, whether the mark was given before or not.
+-- A part after lost data, whether or not the gap marker was returned before.
 begun_first : (b : Bool) (v : JoiningValue) (p : List ℕ) (wrong : Bool) (more : List GoodPacket)
     → (begun true b (remembering (handed_over (record v { given = given.Packet })) p)
     (payload p)).pending
@@ -264,7 +264,7 @@ begun_first true v p wrong more =
     }) wrong more
 begun_first false v p wrong more = refl
 
--- A good packet after a break.
+-- A good packet after lost data.
 broken_first : (v : JoiningValue) (link : Link) (p : List ℕ) (wrong : Bool) (more : List GoodPacket)
     → link ≡ Break
     → (after_good link (handed_over (record v { given = given.Packet })) p).pending
@@ -281,7 +281,7 @@ broken_first v Break p wrong more is =
     let cut : (begins p || true) ≡ true = or_true (begins p) in
     rw cut (begun_first (begins p) v p wrong more)
 
--- After a wrong packet a mark comes first.
+-- After an unusable packet a gap marker comes first.
 gap_first : (v : JoiningValue) (g : Given) (wrong : Bool) (goods : List GoodPacket)
     → has_ended v.part ≡ false
     → (gave_packet g ≡ true → BeginBroken wrong goods)
@@ -298,9 +298,9 @@ gap_first v given.Packet wrong [] going broken =
 gap_first v given.Packet wrong (g ∷ more) going broken =
     rw going (broken_first v g.link g.packet wrong more (broken refl))
 
--- ---- all notes
+-- ---- all events
 
--- A wrong packet behind no good one comes before any mark.
+-- An unusable packet before any good one has no gap marker.
 after_wrong_broken : (v : JoiningValue) (s : Since) (o : Option (List ℕ)) (all : List Note)
     → s.good ≡ o
     → (s.good ≡ None → gave_packet v.given ≡ false)
@@ -309,13 +309,13 @@ after_wrong_broken : (v : JoiningValue) (s : Since) (o : Option (List ℕ)) (all
     (good_after (record s { has_wrong = true }) all).packets
 after_wrong_broken v s o all h1 h2 h3 = grind (arith, nat_tests, begin_broken)
 
--- The notes give what the good packets among them give.
+-- The output of events is that of the good packets among them.
 abbrev pub Agrees : JoiningValue → Since → List Note → Type 0
 Agrees v s all =
     given_later (handed_over v) all
     ≡ joined (handed_over v) (good_after s all).wrong_behind (good_after s all).packets
 
--- So it is with a packet without a payload before them,
+-- This also holds with a packet without a payload in front,
 agree_no_payload : (v : JoiningValue) (s : Since) (p : List ℕ) (more : List Note)
     → has_payload p ≡ false
     → Agrees (record v { has_jump = v.has_jump || announces_jump p })
@@ -353,7 +353,7 @@ agree_repeat v s p more some again same rest =
     ∙ ap (λ (g : GoodPackets). joined (handed_over v) g.wrong_behind g.packets)
     (sym (good-repeat s p more some same)))
 
--- A good packet where it has not ended.
+-- The next good packet, before the end.
 joined-next : (v : JoiningValue) (wrong : Bool) (g : GoodPacket) (more : List GoodPacket)
     → has_ended v.part ≡ false
     → joined v wrong (g ∷ more)
@@ -383,7 +383,7 @@ agree_good v s p more some other same link rest =
     ∙ ap (λ (g : GoodPackets). joined (handed_over v) g.wrong_behind g.packets)
     (sym (good-good s p more some same)))
 
--- What is kept of the last packet stays.
+-- The last good packet does not change.
 keeps_last : (v w : JoiningValue) (o : Option (List ℕ))
     → w.header ≡ v.header
     → w.last ≡ v.last
@@ -392,7 +392,7 @@ keeps_last : (v w : JoiningValue) (o : Option (List ℕ))
     → KeepsLast w o
 keeps_last v w o h1 h2 h3 h4 = grind (arith, nat_tests)
 
--- What notes give is what the good packets among them give.
+-- The output of events is that of the good packets among them.
 pub notes_joined : (v : JoiningValue) (s : Since) (all : List Note)
     → Knows v s
     → AreSound all
@@ -471,9 +471,9 @@ notes_joined v s (Valid p ∷ more) k sound =
       last = keeps_last v jumped s.good refl refl refl k.last;
     }) sound.1))
 
--- ---- what the good packets are
+-- ---- the good packets
 
--- The first good packet begins a part.
+-- The first good packet starts a part.
 abbrev pub FirstIsCut : List GoodPacket → Type 0
 FirstIsCut [] = Unit {0}
 FirstIsCut (g ∷ more) = is_unlinked g.link ≡ true
@@ -498,7 +498,7 @@ first_is_cut s (Valid p ∷ more) none =
       (first_is_cut (record s { has_jump = s.has_jump || announces_jump p }) more none),
     )
 
--- Each of them has bytes in its payload.
+-- Each of them has a nonempty payload.
 pub good_payloads : (s : Since) (all : List Note)
     → AreSound all
     → HavePayloads (good_after s all).packets

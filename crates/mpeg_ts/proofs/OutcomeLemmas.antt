@@ -1,4 +1,4 @@
--- What parts give, as it is known packet after packet; main lemmas: with_marks-nothing,
+-- The output of parts as it becomes known packet by packet; main lemmas: with_marks-nothing,
 -- outcomes-from, tail-whole, give-other.
 use Rattle.std.proofs.Common.{◌≡◌, ℕ, ◌+◌, ◌-◌, ◌≤◌, ◌<◌, List, [], ◌∷◌, ◌++◌, length, take}
 use Rattle.std.proofs.Common.{Bool, true, false, refl, ap, ◌∙◌, arith, append_assoc}
@@ -21,20 +21,21 @@ use Rattle.mpeg_ts.specs.declared.joining.Given.{Given}
 use Rattle.mpeg_ts.specs.declared.joining.Given.TheVariants as given
 use Rattle.mpeg_ts.specs.declared.joining.Found.TheVariants as found
 
--- A Bool is true or false: the proof of what holds in both cases.
+-- Case distinction on a Bool.
 pub by_bool : {P : Type 0} (b : Bool) → (b ≡ true → P) → (b ≡ false → P) → P
 by_bool b h1 h2 = grind (arith, nat_tests)
 
--- ---- marks
+-- ---- gap markers
 
--- The bytes of outcomes, after what was given before: a mark is given as soon as a gap is known.
+-- The bytes of outcomes after what was returned before: a gap marker is returned as soon as a gap
+-- is known.
 abbrev pub give : Given → List PartOutcome → List ℕ
 give g [] = []
 give g (Gap ∷ more) = mark_where (gave_packet g) ++ give (given_after true g) more
 give g (Pes bytes ∷ more) = bytes ++ give given.Packet more
 give g (Other bytes ∷ more) = bytes
 
--- Behind a PES packet, without a gap and with one.
+-- After a PES packet, without and with a gap.
 marks : (all : List PartOutcome)
     → (with_marks true false all ≡ give given.Packet all)
     × (with_marks true true all ≡ mark ++ give given.Mark all)
@@ -53,34 +54,34 @@ with_marks-nothing gap (Gap ∷ more) = with_marks-nothing true more
 with_marks-nothing gap (Pes b ∷ more) = ap (λ l. b ++ l) (marks more).0
 with_marks-nothing gap (Other b ∷ more) = refl
 
--- After a gap no packet was given last.
+-- After a gap, the last item was no PES packet.
 pub quiet_after : (g : Given) → gave_packet (given_after true g) ≡ false
 quiet_after g = grind (arith, nat_tests)
 
--- Where none was, a gap gives nothing.
+-- If it was none, a gap yields nothing.
 pub give-quiet : (g : Given) (more : List PartOutcome)
     → gave_packet g ≡ false
     → give g (Gap ∷ more) ≡ give g more
 give-quiet g more h1 = grind (arith, nat_tests)
 
--- A gap after a gap gives nothing.
+-- A second gap yields nothing.
 pub give-again : (g : Given) (b : Bool) (more : List PartOutcome)
     → give (given_after true g) (gap_where b ++ more) ≡ give (given_after true g) more
 give-again g b more = grind (arith, nat_tests, give-quiet, quiet_after)
 
--- A gap, where there is one.
+-- A gap, if there is one.
 pub give-gap_where : (g : Given) (b : Bool) (more : List PartOutcome)
     → give g (gap_where b ++ more)
     ≡ mark_where (b && gave_packet g) ++ give (given_after b g) more
 give-gap_where g b more = grind (arith, nat_tests)
 
--- The end behind a part that is not whole.
+-- The end after an incomplete part.
 pub give-end : (g : Given) (wrong : Bool)
     → mark_where (wrong && gave_packet g)
     ≡ give g (gap_where (not (not wrong)) ++ gap_where wrong)
 give-end g wrong = grind (arith, nat_tests, append-nil)
 
--- The end behind a whole part.
+-- The end after a complete part.
 pub give-end_whole : (g : Given) (excess wrong : Bool)
     → (excess ≡ true → gave_packet g ≡ false)
     → mark_where (wrong && gave_packet g) ≡ give g (gap_where excess ++ gap_where wrong)
@@ -88,7 +89,7 @@ give-end_whole g excess wrong h1 = grind (arith, nat_tests, append-nil)
 
 -- ---- parts
 
--- What comes of the open part and of the good packets that follow, but for a gap before it.
+-- The outcomes of the current part and the good packets that follow, without a gap before it.
 abbrev pub tail : Bool → Part → List GoodPacket → List PartOutcome
 tail wrong part [] = outcome (not wrong) part ++ gap_where wrong
 tail wrong part (g ∷ more) =
@@ -96,7 +97,7 @@ tail wrong part (g ∷ more) =
     outcome false part ++ (gap_where (is_break g.link) ++ tail wrong (part_of g) more)
     else tail wrong (with_packet part g) more
 
--- What comes behind the PES packet of a whole part, with bytes behind it or without.
+-- The outcomes after the PES packet of a complete part, with or without more bytes after it.
 abbrev pub behind : Bool → Bool → List GoodPacket → List PartOutcome
 behind excess wrong [] = gap_where excess ++ gap_where wrong
 behind excess wrong (g ∷ more) =
@@ -104,7 +105,7 @@ behind excess wrong (g ∷ more) =
     gap_where excess ++ (gap_where (is_break g.link) ++ tail wrong (part_of g) more)
     else behind true wrong more
 
--- A part before others is not cut off.
+-- The recording does not end within a part that is followed by others.
 not_cut_off : (wrong : Bool) (part : Part) (goods : List GoodPacket)
     → may_be_cut_off wrong (parts_from part goods) ≡ false
 unfolding parts_from
@@ -112,7 +113,7 @@ not_cut_off wrong part [] = grind (arith, nat_tests)
 not_cut_off wrong part (g ∷ more) =
     grind (arith, nat_tests, by_bool, (not_cut_off wrong (with_packet part g) more))
 
--- What comes of parts.
+-- The outcomes of parts.
 pub outcomes-from : (wrong : Bool) (part : Part) (goods : List GoodPacket)
     → outcomes wrong (parts_from part goods)
     ≡ gap_where part.after_break ++ tail wrong part goods
@@ -130,17 +131,17 @@ outcomes-from wrong part (g ∷ more) =
 
 -- ---- the bytes of a part
 
--- Lists joined, with one more behind them.
+-- Joining lists, with one more at the end.
 concat-behind : (ps : List (List ℕ)) (x : List ℕ) → concat (ps ++ x ∷ []) ≡ concat ps ++ x
 concat-behind [] x = grind (arith, nat_tests, append-nil)
 concat-behind (f ∷ ps) x = grind (arith, nat_tests, append_assoc, (concat-behind ps x))
 
--- The bytes of a part with a packet more.
+-- The bytes of a part, with one more packet.
 pub bytes-with : (part : Part) (g : GoodPacket)
     → part_bytes (with_packet part g) ≡ part_bytes part ++ payload g.packet
 bytes-with part g = concat-behind part.payloads (payload g.packet)
 
--- The payloads in which a number is reached, with one more behind them.
+-- The payloads in which a number of bytes is reached, with one more at the end.
 up_to-reached : (c : ℕ) (ps : List (List ℕ)) (x : List ℕ)
     → 0 < c
     → c ≤ length (concat ps)
@@ -154,7 +155,7 @@ up_to-reached c (f ∷ ps) x some le =
     (up_to-reached (c - length f) ps x (omega arith)
     (omega (arith, length-append f (concat ps))))))
 
--- One more payload, before which the number is not reached.
+-- One more payload, if the number is not reached before it.
 pub up_to-last : (c : ℕ) (ps : List (List ℕ)) (x : List ℕ)
     → length (concat ps) < c
     → up_to c (ps ++ x ∷ []) ≡ concat ps ++ x
@@ -169,27 +170,27 @@ up_to-last c (f ∷ ps) x lt =
       (up_to-last (c - length f) ps x (omega (arith, length-append f (concat ps)))),
     )
 
--- ---- what is found in a part
+-- ---- the contents of a part
 
--- A whole PES packet.
+-- A complete PES packet.
 found-whole : (n size : ℕ) (r : Result ℕ PesFault)
     → found_by_size n r ≡ found.Whole size
     → (r ≡ Ok size) × (size ≤ n)
 found-whole n size r h1 = grind (arith, nat_tests, by_bool)
 
--- Another start or length.
+-- A wrong start code or length.
 pub found-other : (n : ℕ) (r : Result ℕ PesFault) (f : PesFault)
     → found_by_size n r ≡ found.Other f
     → r ≡ Err f
 found-other n r f h1 = grind (arith, nat_tests, by_bool)
 
--- Bytes in which a whole PES packet was found.
+-- Bytes that begin with a complete PES packet.
 pub record IsWhole (bytes : List ℕ) (size : ℕ) : Type 0 where
   pub six : 6 ≤ length bytes
   pub sized : size_at (take 6 bytes) ≡ Ok size
   pub within : size ≤ length bytes
 
--- Bytes with another start or length.
+-- Bytes with a wrong start code or length.
 pub record IsOther (bytes : List ℕ) : Type 0 where
   pub six : 6 ≤ length bytes
   pub fault : PesFault
@@ -212,13 +213,13 @@ pub outcome-headless : (cut : Bool) (part : Part)
 unfolding outcome
 outcome-headless cut part headless = rw headless refl
 
--- By the size that the first six bytes say.
+-- By the size in the first six bytes.
 outcome-of_unfinished : (cut : Bool) (part : Part) (r : Result ℕ PesFault)
     → found_by_size (length (part_bytes part)) r ≡ found.Unfinished
     → outcome_of_size cut part r ≡ gap_where (not cut)
 outcome-of_unfinished cut part r h1 = grind (arith, nat_tests, by_bool)
 
--- A part whose PES packet is not there whole.
+-- A part with an incomplete PES packet.
 pub outcome-unfinished : (cut : Bool) (part : Part)
     → part.begins ≡ true
     → found_in (part_bytes part) ≡ found.Unfinished
@@ -226,7 +227,7 @@ pub outcome-unfinished : (cut : Bool) (part : Part)
 unfolding outcome found_in
 outcome-unfinished cut part h1 h2 = grind (arith, nat_tests, by_bool, outcome-of_unfinished)
 
--- A whole part.
+-- A complete part.
 outcome-whole : (cut : Bool) (part : Part) (size : ℕ)
     → part.begins ≡ true
     → IsWhole (part_bytes part) size
@@ -235,7 +236,7 @@ outcome-whole : (cut : Bool) (part : Part) (size : ℕ)
 unfolding outcome
 outcome-whole cut part size h1 h2 = grind (arith, nat_tests)
 
--- A part with another start or length.
+-- A part with a wrong start code or length.
 outcome-other : (cut : Bool) (part : Part)
     → part.begins ≡ true
     → IsOther (part_bytes part)
@@ -243,21 +244,21 @@ outcome-other : (cut : Bool) (part : Part)
 unfolding outcome
 outcome-other cut part h1 h2 = grind (arith, nat_tests)
 
--- ---- what is settled stays so
+-- ---- contents that are final
 
--- Each of these packets has bytes in its payload.
+-- Each of these packets has a nonempty payload.
 abbrev pub HavePayloads : List GoodPacket → Type 0
 HavePayloads [] = Unit {0}
 HavePayloads (g ∷ more) = (0 < length (payload g.packet)) × HavePayloads more
 
--- The first six bytes are the same with more behind them.
+-- The first six bytes do not change if more bytes follow.
 same_six : (bytes more all : List ℕ)
     → all ≡ bytes ++ more
     → 6 ≤ length bytes
     → size_at (take 6 all) ≡ size_at (take 6 bytes)
 same_six bytes more all h1 h2 = grind (arith, nat_tests)
 
--- The PES packet of a whole part is given, whatever follows.
+-- The PES packet of a complete part is returned, whatever follows.
 pub tail-whole : (wrong : Bool) (part : Part) (size : ℕ) (goods : List GoodPacket)
     → HavePayloads goods
     → part.begins ≡ true
@@ -294,7 +295,7 @@ tail-whole wrong part size (g ∷ more) all begins w =
     is_lt : (m n : ℕ) → m < n → nat_lt m n ≡ true
     is_lt m n lt = grind (arith, nat_tests)
 
--- So are the bytes of a part with another start or length.
+-- So are the bytes of a part with a wrong start code or length.
 pub give-other : (g : Given) (wrong : Bool) (part : Part) (goods : List GoodPacket)
     → part.begins ≡ true
     → IsOther (part_bytes part)
@@ -320,7 +321,7 @@ give-other h wrong part (g ∷ more) begins o =
     give-other h wrong (with_packet part g) more begins o2
     ∙ up_to-reached 6 part.payloads p (omega arith) o.six))
 
--- Bytes behind the PES packet are a gap, whatever follows.
+-- Bytes after the PES packet are a gap, whatever follows.
 pub give-excess : (g : Given) (wrong : Bool) (goods : List GoodPacket)
     → give g (behind true wrong goods)
     ≡ mark_where (gave_packet g) ++ give (given_after true g) (behind true wrong goods)
@@ -328,8 +329,8 @@ give-excess h wrong [] = grind (arith, nat_tests, give-quiet, quiet_after)
 give-excess h wrong (g ∷ more) =
     grind (arith, nat_tests, by_bool, give-quiet, quiet_after, (give-excess h wrong more))
 
--- Where a PES packet came to be known as not there whole, and then as another, its first six bytes
--- came with the last payload.
+-- If a PES packet was incomplete and then has a wrong start code or length, its first six bytes
+-- were completed by the last payload.
 pub other_with_last : (bytes more : List ℕ)
     → found_in bytes ≡ found.Unfinished
     → IsOther (bytes ++ more)

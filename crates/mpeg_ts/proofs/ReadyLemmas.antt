@@ -1,5 +1,4 @@
--- What waits to be given; main lemmas: none_waits, packet_found,
--- piece_first, rest_first.
+-- The items that are ready; main lemmas: none_waits, packet_found, piece_first, rest_first.
 use Rattle.std.proofs.lemmas.Bool.Decides.{nat_tests}
 use Rattle.std.proofs.Common.{◌≡◌, ℕ, ◌≤◌, ◌<◌, List, [], ◌++◌, length, take, Ok}
 use Rattle.std.proofs.Common.{refl, sym, ap, ◌∙◌, arith, length-append}
@@ -22,25 +21,24 @@ use Rattle.mpeg_ts.specs.declared.waiting.Waiting.{Waiting}
 use Rattle.mpeg_ts.specs.declared.waiting.Waiting.TheVariants as waiting
 use Rattle.mpeg_ts.proofs.OutcomeLemmas.{by_bool, found-other, whole_found}
 
--- A mark has 184 bytes.
 pub length-mark : length mark ≡ 184
 unfolding mark
 length-mark = refl
 
--- A piece has at least 184 bytes.
+-- A PES packet has at least 184 bytes.
 pub piece_long : (p : List ℕ) → IsPiece p → 184 ≤ length p
 piece_long p h =
     let long = h.long in
     let some = h.size.0 in
     omega (arith, long, some)
 
--- No byte stands in none.
+-- A part of an empty list is empty.
 nothing_in : (xs ys zs : List ℕ) → xs ++ (ys ++ zs) ≡ [] → length ys ≡ 0
 nothing_in xs ys zs e =
     let all : length (xs ++ (ys ++ zs)) ≡ 0 = ap length e in
     omega (arith, all, length-append xs (ys ++ zs), length-append ys zs)
 
--- Where no byte waits, nothing does,
+-- If no byte is ready, no item is.
 pub none_waits : (w : Waiting) (part : PartState) (bytes : List ℕ)
     → WaitsFor w part bytes
     → waiting_bytes w bytes ≡ []
@@ -57,18 +55,18 @@ none_waits (waiting.Rest before fault) part bytes waits none =
     let long = waits.0.0 in
     absurd (omega (arith, all, long, length-append (mark_where before) bytes))
 
--- and the other way round.
+-- The converse.
 pub none_where_nothing : (w : Waiting) (bytes : List ℕ)
     → w ≡ waiting.Nothing
     → waiting_bytes w bytes ≡ []
 none_where_nothing w bytes h1 = grind (arith, nat_tests)
 
--- A size that is told counts six bytes before those of the length field.
+-- The size includes the six bytes up to the length field.
 size_counts : (h : List ℕ) (size : ℕ) → size_at h ≡ Ok size → 6 ≤ size
 unfolding size_at
 size_counts h size e = grind (arith, nat_tests)
 
--- The PES packet that bytes begin with is a piece. For `find_packet`.
+-- The bytes at the front are a PES packet, valid or not. For `find_packet`.
 pub packet_found : (bytes : List ℕ) (size : ℕ)
     → AreBytes bytes
     → found_in bytes ≡ found.Whole size
@@ -83,14 +81,14 @@ packet_found bytes size fit e =
       w.within,
     )
 
--- ---- what is taken
+-- ---- taking items
 
--- Some bytes are not none.
+-- A nonempty list is not empty.
 some_bytes : (l : List ℕ) → 0 < length l → l ≡ [] → ⊥
 some_bytes l some none =
     let zero_long : length l ≡ 0 = ap length none in omega (arith, some, zero_long)
 
--- A piece that was taken, or nothing. For `take_first`.
+-- A PES packet that was taken, or nothing. For `take_first`.
 pub piece_first : (old new : JoiningValue) (n : Next)
     → ((fault : PesFault) → n ≡ next.Rest fault → ⊥)
     → TakesNext old n new
@@ -113,7 +111,7 @@ piece_first old new (next.Packet size) other taken =
       λ none. absurd (some_bytes (take size old.bytes) some (back ∙ none)),
     )
 
--- Bytes that no piece begins are taken whole.
+-- Bytes that begin no packet are taken completely.
 pub rest_first : (old mid new : JoiningValue) (fault : PesFault)
     → TakesNext old (next.Rest fault) mid
     → new ≡ record mid { pending = [] }

@@ -1,5 +1,4 @@
--- The pieces of a recording; main lemmas: end_came, rest_came,
--- piece_came.
+-- The PES packets of a recording; main lemmas: end_came, rest_came, piece_came.
 use Rattle.std.proofs.Common.{◌≡◌, ◌≢◌, ℕ, List, [], ◌++◌, length, take, Option, Some, None}
 use Rattle.std.proofs.Common.{true, refl, sym, ap, ◌∙◌, arith, inl, subst}
 use Rattle.std.proofs.lemmas.Bool.Decides.{nat_tests}
@@ -21,7 +20,7 @@ use Rattle.mpeg_ts.specs.declared.waiting.Next.TheVariants as next
 use Rattle.mpeg_ts.proofs.ReadyLemmas.{length-mark}
 use Rattle.mpeg_ts.proofs.StreamLemmas.{front_consumed, later_ended}
 
--- A mark is a piece.
+-- A gap marker is a PES packet.
 pub mark_piece : IsPiece mark
 unfolding mark
 mark_piece = record {
@@ -32,7 +31,7 @@ mark_piece = record {
   long = length-mark;
 }
 
--- What was ready first was taken, after reading on.
+-- After reading on, the first item that is ready was taken.
 pub piece_taken : (before told : Option (List ℕ)) (u v w : StreamValue) (piece : List ℕ)
     → Keeps (still_given u before) (still_given v told)
     → v.joining.pending ≡ piece ++ w.joining.pending
@@ -53,7 +52,7 @@ piece_taken before told u v w piece keeps front same only =
         → Consumes (still_given u before) (still_given w told) piece
     back p = rw whole p
 
--- Bytes that no piece begins are all that is given.
+-- Bytes that begin no packet are all remaining output.
 rest_given : (v : StreamValue) (bytes : List ℕ)
     → v.joining.pending ≡ v.joining.bytes
     → has_ended v.joining.part ≡ true
@@ -64,7 +63,7 @@ rest_given v bytes all ended =
     ∙ append-nil v.joining.pending
     ∙ all
 
--- No piece begins what is left, after reading on.
+-- After reading on, the remaining bytes begin no packet.
 pub rest_left : (before told : Option (List ℕ)) (u v : StreamValue) (f : PesFault)
     → Keeps (still_given u before) (still_given v told)
     → v.joining.pending ≡ v.joining.bytes
@@ -86,14 +85,14 @@ rest_left before told u v f keeps all refused ended = record {
     read (Some xs) (Some ys) kept =
         sym kept ∙ rest_given v ys all ended ∙ sym (append-nil v.joining.bytes)
 
--- Nothing is given behind them.
+-- Nothing follows them.
 nothing_given : (v : StreamValue) (bytes : List ℕ)
     → has_ended v.joining.part ≡ true
     → given_of (record v { joining = emptied v.joining }) bytes ≡ []
 unfolding stream_gives
 nothing_given v bytes ended = later_ended _ _ ended
 
--- They are taken, and nothing is left. For `read_rest`.
+-- They are consumed, and nothing is left. For `read_rest`.
 pub rest_taken : (told : Option (List ℕ)) (v w : StreamValue)
     → IsAtRest v
     → w ≡ record v { joining = emptied v.joining }
@@ -109,7 +108,7 @@ rest_taken (Some xs) v w rest is =
       none,
     )
 
--- It stays so.
+-- This state is final.
 pub rest_emptied : (v w : StreamValue) → IsAtRest v
     → w ≡ record v { joining = emptied v.joining }
     → IsAtRest w
@@ -117,7 +116,7 @@ rest_emptied v w rest is = subst IsAtRest (sym is) (record { all = refl; ended =
 
 pub ruleset rests = (rest_taken, rest_emptied)
 
--- A read failed, and nothing was taken.
+-- A read failed, and nothing was consumed.
 pub none_taken : (old new : Option (List ℕ)) → Keeps old new → FailsWithin old new
 none_taken old new keeps = record {
   bytes = [];
@@ -130,11 +129,11 @@ none_taken old new keeps = record {
     consumed (Some xs) None kept = absurd kept
     consumed (Some xs) (Some ys) kept = sym kept
 
--- Where something is ready, bytes are.
+-- If an item is ready, it has bytes.
 pub some_ready : (l : List ℕ) → nat_lt 0 (length l) ≡ true → l ≢ []
 some_ready l h1 = λ none. grind (arith, nat_tests)
 
--- After what was taken of what is ready nothing is left, or a piece was taken. For `next`.
+-- After taking an item that is ready, nothing is left, or a PES packet was taken. For `next`.
 module _ (before told : Option (List ℕ)) (u v w : StreamValue)
     (keeps : Keeps (still_given u before) (still_given v told))
     (only : w ≡ record v { joining = w.joining })

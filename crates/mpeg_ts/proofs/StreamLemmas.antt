@@ -1,5 +1,5 @@
--- Reading a recording for one PID: each item leaves what is still to be given as it was; main
--- lemmas: stream_packet, stream_skipped, stream_end.
+-- Reading a recording for one PID: no item changes the output still to come; main lemmas:
+-- stream_packet, stream_skipped, stream_end.
 use Rattle.std.proofs.Common.{◌≡◌, ℕ, zero, suc, ◌+◌, ◌-◌, ◌≤◌, ◌<◌, List, [], ◌∷◌, ◌++◌}
 use Rattle.std.proofs.Common.{length}
 use Rattle.std.proofs.Common.{take, drop, Option, Some, Bool, true, false, refl, sym, ap, ◌∙◌}
@@ -28,14 +28,14 @@ use Rattle.mpeg_ts.proofs.TakenBytesLemmas.{takes_kept, takes_none, takes_on, ta
 
 -- ---- items
 
--- Fewer bytes than a packet has are the end.
+-- Fewer bytes than a packet are the end.
 pub items_end : (distance : ℕ) (in_step : Bool) (room : ℕ) (bytes : List ℕ)
     → length bytes < 188
     → items distance in_step room bytes ≡ []
 unfolding items
 items_end distance in_step room bytes h1 = grind (arith, nat_tests)
 
--- A packet, where there is room for an item more.
+-- A packet, if one more item is allowed.
 pub items_packet : (distance : ℕ) (in_step : Bool) (room : ℕ) (bytes : List ℕ)
     → 188 ≤ length bytes
     → begins_packet distance in_step bytes ≡ true
@@ -44,7 +44,7 @@ pub items_packet : (distance : ℕ) (in_step : Bool) (room : ℕ) (bytes : List 
 unfolding items
 items_packet distance in_step room bytes h1 h2 = grind (arith, nat_tests)
 
--- A byte that is skipped.
+-- A skipped byte.
 pub items_skipped : (distance : ℕ) (in_step : Bool) (room : ℕ) (bytes : List ℕ)
     → 188 ≤ length bytes
     → begins_packet distance in_step bytes ≡ false
@@ -53,11 +53,11 @@ pub items_skipped : (distance : ℕ) (in_step : Bool) (room : ℕ) (bytes : List
 unfolding items
 items_skipped distance in_step room bytes h1 h2 = grind (arith, nat_tests)
 
--- A Bool is true or false: the proof of what holds in both cases.
+-- Case distinction on a Bool.
 pub by_bool : {P : Type 0} (b : Bool) → (b ≡ true → P) → (b ≡ false → P) → P
 by_bool b h1 h2 = grind (arith, nat_tests)
 
--- The number of the bytes is room enough.
+-- The number of bytes bounds the number of items.
 pub items_room : (distance : ℕ) (in_step : Bool) (room : ℕ) (more : ℕ) (bytes : List ℕ)
     → 188 ≤ distance
     → length bytes ≤ room
@@ -92,7 +92,7 @@ all_packet : (distance : ℕ) (in_step : Bool) (bytes : List ℕ)
 all_packet distance in_step bytes h1 h2 h3 =
     grind (arith, nat_tests, items_packet, items_room, length-drop)
 
--- The items of bytes of which the first is skipped.
+-- The items of bytes whose first byte is skipped.
 all_skipped : (distance : ℕ) (in_step : Bool) (bytes : List ℕ)
     → 188 ≤ distance
     → 188 ≤ length bytes
@@ -102,9 +102,9 @@ all_skipped : (distance : ℕ) (in_step : Bool) (bytes : List ℕ)
 all_skipped distance in_step bytes h1 h2 h3 =
     grind (arith, nat_tests, items_skipped, items_room, length-drop)
 
--- ---- what they give
+-- ---- output
 
--- A note and what comes then.
+-- An event, and what follows.
 later_note : (j : JoiningValue) (n : Note) (more : List Note)
     → has_ended j.part ≡ false
     → j.pending ≡ []
@@ -116,12 +116,12 @@ later_note j n more going idle =
     rw going (ap (λ (v : JoiningValue).
     (after_note v n).pending ++ given_later (handed_over (after_note v n)) more) same)
 
--- Nothing comes at the end.
+-- There is no output at the end.
 later_end : (j : JoiningValue) → given_later j [] ≡ []
 unfolding given_later
 later_end j = refl
 
--- Nor where it has ended.
+-- There is no output after `Ended`.
 pub later_ended : (j : JoiningValue) (all : List Note)
     → has_ended j.part ≡ true
     → given_later j all ≡ []
@@ -142,7 +142,7 @@ stream_end distance number run in_step j bytes few idle =
     (items_end distance in_step (length bytes) bytes few)
     ∙ later_end (handed_over j)
 
--- Nothing is given any more.
+-- There is no further output.
 stream_ended : (distance number run : ℕ) (in_step : Bool) (j : JoiningValue) (bytes : List ℕ)
     → has_ended j.part ≡ true
     → j.pending ≡ []
@@ -150,7 +150,7 @@ stream_ended : (distance number run : ℕ) (in_step : Bool) (j : JoiningValue) (
 unfolding stream_gives
 stream_ended distance number run in_step j bytes h1 h2 = grind (arith, nat_tests, later_ended)
 
--- What the notes of a packet give, and what comes then.
+-- The output of the events of a packet, and what follows.
 packet_notes : (distance number : ℕ) (p : List ℕ) (j : JoiningValue) (more : List Note)
     → has_ended j.part ≡ false
     → j.pending ≡ []
@@ -160,7 +160,7 @@ packet_notes : (distance number : ℕ) (p : List ℕ) (j : JoiningValue) (more :
     ++ given_later (handed_over (after_packet number p j)) more
 packet_notes distance number p j more h1 h2 = grind (arith, nat_tests, by_bool, later_note)
 
--- A packet stands next.
+-- The next item is a packet.
 pub stream_packet : (distance number run : ℕ) (in_step : Bool) (j : JoiningValue) (bytes : List ℕ)
     → 188 ≤ distance
     → 188 ≤ length bytes
@@ -180,7 +180,7 @@ stream_packet distance number run in_step j bytes far many begins going idle =
     (all_packet distance in_step bytes far many begins)
     ∙ packet_notes distance number (take packet_size bytes) j more going idle)
 
--- What the notes of a byte that is skipped give, and what comes then.
+-- The output of the events of a skipped byte, and what follows.
 skipped_notes : (distance run : ℕ) (j : JoiningValue) (more : List Note)
     → has_ended j.part ≡ false
     → j.pending ≡ []
@@ -190,7 +190,7 @@ skipped_notes : (distance run : ℕ) (j : JoiningValue) (more : List Note)
     ++ given_later (handed_over (after_skipped distance run j)) more
 skipped_notes distance run j more h1 h2 = grind (arith, nat_tests, by_bool, later_note)
 
--- A byte is skipped.
+-- A skipped byte.
 pub stream_skipped : (distance number run : ℕ) (in_step : Bool) (j : JoiningValue) (bytes : List ℕ)
     → 188 ≤ distance
     → 188 ≤ length bytes
@@ -209,7 +209,7 @@ stream_skipped distance number run in_step j bytes far many skips going idle =
     (all_skipped distance in_step bytes far many skips)
     ∙ skipped_notes distance run j more going idle)
 
--- A byte that is no sync byte, and not the last of a hole.
+-- A byte that is neither a sync byte nor makes the skipped bytes a loss.
 junk_byte : (distance number run : ℕ) (j : JoiningValue) (x : ℕ) (rest : List ℕ)
     → 188 ≤ distance
     → (x ≡ 0x47 → ⊥)
@@ -237,7 +237,7 @@ take-one at [] rest lt = absurd (omega arith)
 take-one zero (x ∷ xs) rest lt = refl
 take-one (suc at) (x ∷ xs) rest lt = ap (λ l. x ∷ l) (take-one at xs rest (omega arith))
 
--- One more of them. For `junk_size`.
+-- One more such byte. For `junk_size`.
 pub junk_passed : (distance number run at : ℕ) (j : JoiningValue) (bytes rest : List ℕ)
     → 188 ≤ distance
     → at < length bytes
@@ -270,20 +270,20 @@ junk_passed distance number run at j bytes rest far within other room going idle
     by_lt m n h1 h2 = by_bool (nat_lt m n)
         (λ lt. h1 (grind (arith, nat_tests))) (λ ge. h2 (grind (arith, nat_tests)))
 
--- ---- the bytes that were taken
+-- ---- the buffered bytes
 
--- Bytes behind a prefix, where the prefix is held.
+-- The bytes after a prefix that is in the buffer.
 pub drop-across : (n : ℕ) (xs ys : List ℕ)
     → drop (n - length xs) (drop n xs ++ ys) ≡ drop n (xs ++ ys)
 drop-across n xs ys = grind (arith, nat_tests, by_bool, drop-append-le, drop_all, drop-append-add)
 
--- The bytes from the next item on, where some of them are held.
+-- The bytes from the next item on, some of them buffered.
 ahead_held : (v : StreamValue) (bytes : List ℕ)
     → v.lead ≤ length v.window.held
     → bytes_ahead v bytes ≡ drop v.lead v.window.held ++ take v.window.left bytes
 ahead_held v bytes le = drop-append-le v.lead v.window.held (take v.window.left bytes) le
 
--- A byte of those that are held.
+-- A buffered byte.
 pub index-append : (i : ℕ) (xs ys : List ℕ)
     → i < length xs
     → slice_index (xs ++ ys) i ≡ slice_index xs i
@@ -291,13 +291,13 @@ index-append i [] ys lt = absurd (omega arith)
 index-append zero (x ∷ xs) ys lt = refl
 index-append (suc i) (x ∷ xs) ys lt = index-append i xs ys (omega arith)
 
--- A byte behind the end.
+-- A byte after the end.
 pub index-behind : (i : ℕ) (xs : List ℕ) → length xs ≤ i → slice_index xs i ≡ 0
 index-behind i [] le = refl
 index-behind zero (x ∷ xs) le = absurd (omega arith)
 index-behind (suc i) (x ∷ xs) le = index-behind i xs (omega arith)
 
--- A byte from the next item on that is held.
+-- A buffered byte from the next item on.
 index-ahead : (v : StreamValue) (bytes : List ℕ) (i : ℕ)
     → v.lead + i < length v.window.held
     → slice_index (bytes_ahead v bytes) i ≡ slice_index (drop v.lead v.window.held) i
@@ -305,7 +305,7 @@ index-ahead v bytes i h1 = grind (arith, nat_tests, ahead_held, index-append, le
 
 -- ---- `need`
 
--- Bytes that were taken are still to be looked at.
+-- Bytes that were read are still to be examined.
 pub given_takes : (x y : Option (List ℕ)) (v : StreamValue) (w : WindowValue)
     → TakesFront (held_and_left v.window) (held_and_left w) x y
     → TakesFront (given_of v) (given_of (record v { window = w })) x y
@@ -314,14 +314,14 @@ given_takes x y v w (takes_bytes _ _ _ _ bytes consumed same) =
     (λ more. ap (λ (l : List ℕ).
     stream_gives v.distance v.number v.run v.in_step v.joining (drop v.lead l)) (same more))
 
--- A byte that is skipped may be the last of a hole, which gives nothing.
+-- A loss yields no output by itself.
 hole_gives : (j : JoiningValue) (more : List Note)
     → given_later (handed_over (record j { has_break = true })) more ≡ []
     → given_later (handed_over j) (Hole ∷ more) ≡ []
 unfolding given_later
 hole_gives j more h1 = grind (arith, nat_tests, by_bool)
 
--- Out of step no packet stands in so few bytes that none can be seen to have another behind it.
+-- Out of step, so few bytes contain no packet, since none is followed by a second sync byte.
 skipped_give : (distance number run room : ℕ) (j : JoiningValue) (bytes : List ℕ)
     → length bytes ≤ distance
     → given_later (handed_over j) (notes distance number run (items distance false room bytes)) ≡ []
@@ -347,7 +347,7 @@ skipped_give distance number run (suc room) j bytes few =
     and_false true = refl
     and_false false = refl
 
--- Bytes that do not tell what stands next give nothing.
+-- Bytes that do not determine the next item yield nothing.
 stream_short : (distance number run : ℕ) (in_step : Bool) (j : JoiningValue) (bytes : List ℕ)
     → length bytes < bytes_needed distance in_step
     → j.pending ≡ []
@@ -356,13 +356,13 @@ unfolding stream_gives
 stream_short distance number run in_step j bytes h1 h2 =
     grind (arith, nat_tests, stream_end, skipped_give)
 
--- At least a packet's bytes are needed. For `step`.
+-- At least the bytes of a packet are needed. For `step`.
 pub needs_packet : (distance : ℕ) (in_step : Bool)
     → 188 ≤ distance
     → 188 ≤ bytes_needed distance in_step
 needs_packet distance in_step h1 = grind (arith, nat_tests)
 
--- Fewer bytes than are needed give nothing.
+-- Fewer bytes than needed yield nothing.
 pub cut_gives : (v : StreamValue)
     → 188 ≤ v.distance
     → v.joining.pending ≡ []
@@ -371,7 +371,7 @@ pub cut_gives : (v : StreamValue)
 cut_gives v h1 h2 h3 =
     grind (arith, nat_tests, stream_short, needs_packet, length-append, length-drop, length-take)
 
--- Where they are not there, nothing is left.
+-- If they are missing, nothing is left.
 pub need_end : (told : Option (List ℕ)) (v : StreamValue)
     → 188 ≤ v.distance
     → v.joining.pending ≡ []
@@ -381,7 +381,7 @@ pub need_end : (told : Option (List ℕ)) (v : StreamValue)
 need_end told v h1 h2 h3 h4 =
     grind (arith, nat_tests, stream_short, needs_packet, length-append, length-drop)
 
--- No byte is asked for behind those that tell what stands next: fewer give nothing.
+-- No byte is read after those that determine the next item, since fewer yield nothing.
 pub need_asks : {D : Type 0} (IsPull : D → ℕ → Option ℕ → D → Type 0) (lent : D → List ℕ)
     (remaining : D → Option (List ℕ)) (v : StreamValue) (w : WindowValue) (before after : D)
     (ok : Bool) (count : ℕ)
@@ -402,7 +402,7 @@ pub ruleset needing = (given_takes, cut_gives, need_end, need_asks)
 
 -- ---- `begins_packet`
 
--- They tell it, whatever follows.
+-- The needed bytes determine it, whatever follows.
 pub begins_known : (v : StreamValue) (bytes : List ℕ)
     → 188 ≤ v.distance
     → v.lead + bytes_needed v.distance v.in_step ≤ length v.window.held
@@ -413,7 +413,7 @@ begins_known v bytes h1 h2 = grind (arith, nat_tests, index-ahead, needs_packet,
 
 -- ---- `advance`
 
--- The bytes from the item after so many on.
+-- The bytes after skipping `count` of them.
 pub ahead_moved : (v w : StreamValue) (count : ℕ) (bytes : List ℕ)
     → w.window.held ≡ drop (v.lead + count) v.window.held
     → w.window.left ≡ v.window.left
@@ -425,7 +425,7 @@ pub ruleset advancing = (ahead_moved, length-drop)
 
 -- ---- `take_packet` and `skip`
 
--- The bytes ahead begin with those that are held.
+-- The bytes ahead begin with the buffered ones.
 take-ahead : (v : StreamValue) (bytes : List ℕ)
     → v.lead + 188 ≤ length v.window.held
     → take 188 (bytes_ahead v bytes) ≡ take 188 (drop v.lead v.window.held)
@@ -434,13 +434,13 @@ take-ahead v bytes there =
     ∙ take-append-le 188 (drop v.lead v.window.held) (take v.window.left bytes)
     (omega (arith, length-drop v.lead v.window.held))
 
--- At least a packet's bytes are ahead.
+-- The bytes ahead contain at least a packet.
 long_ahead : (v : StreamValue) (bytes : List ℕ)
     → v.lead + 188 ≤ length v.window.held
     → 188 ≤ length (bytes_ahead v bytes)
 long_ahead v bytes h1 = grind (arith, nat_tests, length-drop, length-append)
 
--- What is left after a packet.
+-- The output still to come after a packet.
 pub packet_taken : (v w : StreamValue) (bytes : List ℕ)
     → 188 ≤ v.distance
     → v.lead + 188 ≤ length v.window.held
@@ -469,7 +469,7 @@ packet_taken v w bytes far there going idle distance number run step joining ahe
     ∙ stream_packet v.distance v.number v.run v.in_step v.joining (bytes_ahead v bytes) far
     (long_ahead v bytes there) begins going idle
 
--- What is left after a byte that was skipped.
+-- The output still to come after a skipped byte.
 pub byte_skipped : (v w : StreamValue) (bytes : List ℕ)
     → 188 ≤ v.distance
     → v.lead + 188 ≤ length v.window.held
@@ -486,13 +486,13 @@ pub byte_skipped : (v w : StreamValue) (bytes : List ℕ)
 byte_skipped v w bytes h1 h2 h3 h4 h5 h6 h7 h8 h9 h10 h11 =
     grind (arith, nat_tests, stream_skipped, long_ahead)
 
--- A packet of another PID changes nothing that is kept. For `join_packet`.
+-- A packet of another PID does not change the state. For `join_packet`.
 pub other_pid : (v : StreamValue) (p : List ℕ)
     → (pid p ≡ v.number → ⊥)
     → v ≡ record v { joining = after_packet v.number p v.joining }
 other_pid v p h1 = grind (arith, nat_tests)
 
--- What is left after bytes that are held and that no packet begins at. For `skip_on`.
+-- The output still to come after buffered bytes that contain no packet. For `skip_on`.
 pub junk_given : (v w : StreamValue) (count : ℕ) (bytes : List ℕ)
     → count ≤ length v.window.held
     → v.in_step ≡ false
@@ -521,7 +521,7 @@ junk_given v w count bytes h1 h2 h3 h4 h5 h6 h7 h8 h9 h10 h11 h12 =
 
 pub ruleset packets = packet_taken
 
--- A byte that is skipped may end a hole, and no more.
+-- A skipped byte may make a loss, but has no other effect.
 pub skipped_idle : (distance run : ℕ) (j : JoiningValue)
     → (after_skipped distance run j).pending ≡ j.pending
 skipped_idle distance run j = by_bool (run + 1 == hole_size distance)
@@ -538,7 +538,7 @@ pub ruleset junk = (junk_passed, junk_given)
 
 -- ---- `step` and `read_on`
 
--- What is left after an item, where it is known what stands next.
+-- The output still to come after the next item.
 pub item_takes : (before told : Option (List ℕ)) (u v w : StreamValue) (begins : Bool)
     → TakesFront (given_of u) (given_of v) before told
     → ((bytes : List ℕ) → begins_packet v.distance v.in_step (bytes_ahead v bytes) ≡ begins)
@@ -550,7 +550,7 @@ item_takes before told u v w begins takes stands same =
     takes_on (given_of u) (given_of v) (given_of w) before told takes
     (λ more. same more (stands more))
 
--- What was asked for it was asked for what comes then.
+-- Bytes read for the item are also needed for what follows.
 pub item_asks : {D : Type 0} (IsPull : D → ℕ → Option ℕ → D → Type 0) (lent : D → List ℕ)
     (remaining : D → Option (List ℕ)) (u v w : StreamValue) (before after : D) (begins : Bool)
     → Asks IsPull lent remaining (gives_some u) before true (gives_some v) after
@@ -562,7 +562,7 @@ pub item_asks : {D : Type 0} (IsPull : D → ℕ → Option ℕ → D → Type 0
 item_asks IsPull lent remaining u v w before after begins h1 h2 h3 =
     grind (arith, nat_tests, asked_behind)
 
--- Nothing is left where it has ended.
+-- Nothing is left after `Ended`.
 pub none_where_ended : (told : Option (List ℕ)) (v : StreamValue)
     → has_ended v.joining.part ≡ true
     → v.joining.pending ≡ []
@@ -573,9 +573,9 @@ pub ruleset steps = (item_takes, item_asks, asks_on, takes_then)
 
 pub ruleset reads = (none_where_ended, asks_on, asks_none, takes_then, takes_none, takes_kept)
 
--- ---- giving
+-- ---- taking output
 
--- The first of what is ready was given.
+-- The first bytes that are ready were returned.
 pub given_front : (v : StreamValue) (rest got bytes : List ℕ)
     → v.joining.pending ≡ got ++ rest
     → given_of v bytes
@@ -583,7 +583,7 @@ pub given_front : (v : StreamValue) (rest got bytes : List ℕ)
 unfolding stream_gives
 given_front v rest got bytes h1 = grind (arith, nat_tests, append_assoc)
 
--- It was taken from what is still to be given.
+-- They were consumed from the output still to come.
 pub front_consumed : (before told : Option (List ℕ)) (u v : StreamValue) (rest got : List ℕ)
     → Keeps (still_given u before) (still_given v told)
     → v.joining.pending ≡ got ++ rest
@@ -593,7 +593,7 @@ front_consumed before told u v rest got h1 h2 = grind (arith, nat_tests, given_f
 
 -- ---- packets that are lent
 
--- What a stream gives of bytes of which the first were taken, none being held.
+-- The output for bytes of which the first were consumed, with an empty buffer.
 given_behind : (v w : StreamValue) (taken bytes : List ℕ)
     → v.window.held ≡ []
     → length taken ≤ v.window.left
@@ -619,15 +619,14 @@ given_behind v w taken bytes none few gives lead window =
     ∙ ap (λ (l : List ℕ). stream_gives v.distance v.number v.run v.in_step v.joining
     (drop v.lead (l ++ take left (taken ++ bytes)))) (sym none)
 
--- A source lends the bytes that begin what it lends.
+-- The lent bytes are at the front of the remaining ones.
 pub lent_within : (lent all : List ℕ) (count : ℕ)
     → take (length lent) all ≡ lent
     → count ≤ length lent
     → count ≤ length all
 lent_within lent all count h1 h2 = grind (arith, nat_tests, length-take)
 
--- So many bytes were passed over that the source lends: what is left is what it was, where it is
--- given by those behind them.
+-- Skipping lent bytes does not change the output still to come, if the bytes after them yield it.
 pub lent_passed : {D : Type 0} (IsPull : D → ℕ → Option ℕ → D → Type 0) (lent : D → List ℕ)
     (remaining : D → Option (List ℕ)) (v w : StreamValue) (before after : D) (next : List ℕ)
     (count : ℕ)
@@ -685,7 +684,7 @@ unit_passed distance number j unit rest near long sync other going idle =
     not_equal : (m n : ℕ) → (m ≡ n → ⊥) → (m == n) ≡ false
     not_equal m n differ = grind (arith, nat_tests)
 
--- One more of those that bytes begin with. For `place_behind_others`.
+-- One more packet of another PID at the front. For `place_behind_others`.
 pub other_passed : (distance number from at : ℕ) (j : JoiningValue) (bytes rest : List ℕ)
     → 188 ≤ distance
     → at + distance ≤ length bytes
@@ -713,7 +712,7 @@ other_passed distance number from at j bytes rest near within sync other going i
     (sym (append_assoc (take at bytes) unit rest)
     ∙ ap (λ (l : List ℕ). l ++ rest) (sym (take-add at distance bytes)))
 
--- What is left where packets of others were passed over.
+-- The output still to come after packets of other PIDs were skipped.
 pub others_given : (v w : StreamValue) (taken bytes : List ℕ) (count : ℕ)
     → length taken ≡ count
     → v.window.held ≡ []
@@ -732,7 +731,7 @@ pub same_pid : (number : ℕ) (p : List ℕ) (j : JoiningValue)
     → after_packet number p j ≡ after_note j (note_of p)
 same_pid number p j h1 = grind (arith, nat_tests)
 
--- A packet of the PID, and the bytes up to the next.
+-- A packet of the PID, and the bytes up to the next packet.
 unit_taken : (distance number : ℕ) (j : JoiningValue) (unit rest p : List ℕ)
     → 188 ≤ distance
     → length unit ≡ distance
@@ -757,7 +756,7 @@ unit_taken distance number j unit rest p near size packet sync going idle =
     ∙ stream_packet distance number 0 true j (unit ++ rest) near
     (omega (arith, size, length-append unit rest)) begins going idle
 
--- What is left after packets of others and a packet, which were lent.
+-- The output still to come after lent packets of other PIDs and a packet of the PID.
 pub packet_given : (v w : StreamValue) (lent p bytes : List ℕ) (place count : ℕ)
     → count ≡ place + v.distance
     → count ≤ length lent

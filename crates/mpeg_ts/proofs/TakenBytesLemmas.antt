@@ -1,4 +1,4 @@
--- Bytes that were taken of a source, whatever follows them; main lemmas: takes_then, takes_kept.
+-- Bytes that were consumed from a source, whatever follows; main lemmas: takes_then, takes_kept.
 use Rattle.std.proofs.Common.{◌≡◌, ℕ, List, [], ◌++◌, Option, Some, None, refl, sym, ap, ◌∙◌}
 use Rattle.std.proofs.Common.{append_assoc}
 use Rattle.std.proofs.KnownBytes.{Consumes-kept, Consumes-nil, Consumes-trans}
@@ -6,7 +6,7 @@ use Rattle.std.specs.Prelude.{option_map}
 use Rattle.std.specs.Io.KnownBytes.{Keeps}
 use Rattle.mpeg_ts.specs.TakenBytes.{TakesFront, takes_bytes}
 
--- None.
+-- No bytes.
 pub takes_none : (old : List ℕ → List ℕ) (told : Option (List ℕ)) → TakesFront old old told told
 takes_none old told = takes_bytes old old told told [] (Consumes-nil told) (λ more. refl)
 
@@ -18,7 +18,7 @@ takes_failed old before after keeps =
     takes_bytes old old before after []
     (Consumes-kept before before after [] (Consumes-nil before) keeps) (λ more. refl)
 
--- Some, and then others.
+-- Some bytes, then others.
 pub takes_then : (old between new : List ℕ → List ℕ) (before mid after : Option (List ℕ))
     → TakesFront old between before mid
     → TakesFront between new mid after
@@ -32,7 +32,7 @@ takes_then old between new before mid after
     ∙ same (then ++ more)
     ∙ alike more)
 
--- The same is to be given after something else was done.
+-- Another step that does not change the output.
 pub takes_on : (old between new : List ℕ → List ℕ) (before after : Option (List ℕ))
     → TakesFront old between before after
     → ((more : List ℕ) → new more ≡ between more)
@@ -40,7 +40,7 @@ pub takes_on : (old between new : List ℕ → List ℕ) (before after : Option 
 takes_on old between new before after (takes_bytes _ _ _ _ bytes consumed same) alike =
     takes_bytes old new before after bytes consumed (λ more. same more ∙ sym (alike more))
 
--- What a source that tells its bytes has to give gives the same.
+-- If the source's bytes are known, the output still to come is the same.
 pub takes_kept : (old new : List ℕ → List ℕ) (before after : Option (List ℕ))
     → TakesFront old new before after
     → Keeps (option_map old before) (option_map new after)

@@ -1,4 +1,4 @@
--- The bytes that are taken from a source and looked at; main lemmas: window-takes, left_at_end.
+-- The bytes that are read from a source and examined; main lemmas: window-takes, left_at_end.
 use Rattle.std.proofs.lemmas.Bool.Decides.{nat_tests}
 use Rattle.std.proofs.Common.{◌≡◌, ℕ, zero, suc, ◌+◌, ◌<◌, List, ◌++◌, length, take}
 use Rattle.std.proofs.Common.{Option, Some, None, refl, sym, ap, ◌∙◌, arith, append_assoc}
@@ -12,11 +12,11 @@ use Rattle.mpeg_ts.specs.TakenBytes.{TakesFront, takes_bytes}
 use Rattle.mpeg_ts.specs.Window.{AsksUpTo, WindowValue, held_and_left, left_to_take}
 use Rattle.mpeg_ts.proofs.TakenBytesLemmas.{takes_failed, takes_none, takes_then}
 
--- The window with these bytes, and so many to be taken.
+-- The buffer with these bytes, and `left` more that may be read.
 abbrev pub window : List ℕ → ℕ → WindowValue
 window held left = record { held = held; left = left }
 
--- Fewer bytes than there is room for are fewer with those that are held.
+-- Fewer bytes than requested are too few together with the buffered ones.
 asked_few : (held : List ℕ) (left room : ℕ) (is_enough : List ℕ → Bool)
     → ((bytes : List ℕ) → length bytes < length held + room → is_enough bytes ≡ false)
     → (bytes : List ℕ)
@@ -25,7 +25,7 @@ asked_few : (held : List ℕ) (left room : ℕ) (is_enough : List ℕ → Bool)
 asked_few held left room is_enough h1 bytes h2 =
     grind (arith, nat_tests, length-append, length-take)
 
--- A piece of the bytes to come was taken.
+-- A part of the remaining bytes was read.
 pub window-takes : (x y : Option (List ℕ)) (held got : List ℕ) (left less n : ℕ)
     → n ≡ length got
     → less + n ≡ left
@@ -38,7 +38,7 @@ window-takes x y held got left less n long is consumed =
     ∙ ap (λ l. held ++ l) (sym (take-append-add got more less)
     ∙ ap (λ k. take k (got ++ more)) (sym all))))
 
--- Nothing may be taken any more, or nothing is there.
+-- No more may be read, or there are none.
 none_to_take : (n : ℕ) (told : Option (List ℕ))
     → (0 < n → IsAtEnd told)
     → IsAtEnd (option_map (take n) told)
@@ -47,18 +47,18 @@ none_to_take zero (Some b) end = refl
 none_to_take (suc n) None end = tt
 none_to_take (suc n) (Some b) end = ap (take (suc n)) (end (omega arith))
 
--- A pull that gave nothing. For `fill_to`.
+-- A pull that returned nothing. For `fill_to`.
 pub left_at_end : (w : WindowValue) (told : Option (List ℕ)) (room : ℕ)
     → (0 < w.left → 0 < room)
     → (0 < room → IsAtEnd told)
     → IsAtEnd (left_to_take w told)
 left_at_end w told room some end = none_to_take w.left told (λ left. end (some left))
 
--- The question about the bytes from the first that is held on.
+-- The question about the bytes from the first buffered one on.
 abbrev ahead_of : WindowValue → (List ℕ → Bool) → List ℕ → Bool
 ahead_of w is_enough bytes = is_enough (held_and_left w bytes)
 
--- A pull asked for no byte behind those that there is room for,
+-- A pull requested no more bytes than allowed,
 pub window-asked : {D : Type 0} (IsPull : D → ℕ → Option ℕ → D → Type 0) (lent : D → List ℕ)
     (remaining : D → Option (List ℕ)) (before after : D) (held got : List ℕ)
     (left less n asked room : ℕ)
@@ -87,7 +87,7 @@ window-asked IsPull lent remaining before after held got left less n asked room 
         → length got + less ≡ left
     all less n left got long is = omega (arith, long, is)
 
--- also where it failed.
+-- even if it failed.
 pub window-failed : {D : Type 0} (IsPull : D → ℕ → Option ℕ → D → Type 0) (lent : D → List ℕ)
     (remaining : D → Option (List ℕ)) (before after : D) (w v : WindowValue) (asked room : ℕ)
     → IsPull before asked None after
@@ -99,7 +99,7 @@ window-failed IsPull lent remaining before after w v asked room pull whole = rec
       (inr (asked_few w.held w.left room is_enough few)) (rw whole at pull);
 }
 
--- Pulls one after another. For `fill_to`.
+-- Several pulls. For `fill_to`.
 pub window-on : {D : Type 0} (IsPull : D → ℕ → Option ℕ → D → Type 0) (lent : D → List ℕ)
     (remaining : D → Option (List ℕ)) (before mid after : D) (u v w : WindowValue)
     (count less : ℕ) (ok : Bool)
@@ -114,7 +114,7 @@ window-on IsPull lent remaining before mid after u v w count less ok first then 
       (then.asks is_enough (λ bytes short. few bytes (omega (arith, short, le))));
 }
 
--- None.
+-- No pull.
 pub window-none : {D : Type 0} (IsPull : D → ℕ → Option ℕ → D → Type 0) (lent : D → List ℕ)
     (remaining : D → Option (List ℕ)) (source : D) (w : WindowValue) (count : ℕ)
     → AsksUpTo IsPull lent remaining count w source true w source

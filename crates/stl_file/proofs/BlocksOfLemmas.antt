@@ -1,5 +1,5 @@
--- `blocks_of`: the blocks that are written for a subtitle are blocks of it; main lemmas:
--- joined_more, joined_end, blocks_made, blocks_again.
+-- `blocks_of`: the blocks written for a subtitle are blocks of it; main lemmas: joined_more,
+-- joined_end, blocks_made, blocks_again.
 use Rattle.std.proofs.Common.{rules, ◌≡◌, ◌*◌, ℕ, true, List, [], ◌∷◌, ◌++◌, length, refl, ap}
 use Rattle.std.proofs.Common.{append_assoc, arith, length-append, take, drop, zero, suc, ◌+◌, ◌-◌}
 use Rattle.std.proofs.Common.{◌<◌, ◌≤◌, replicate, length-take}
@@ -18,7 +18,7 @@ use Rattle.stl_file.proofs.SubtitleBlocksLemmas.{linked_cons, linked_text, block
 
 -- ---- one block
 
--- A block is its head, a piece of text, and what is left of a field of unused space.
+-- A block is its head, a part of the text, and unused space up to the end.
 pub block_parts : (s : SubtitleValue) (e : ℕ) (piece : List ℕ)
     → block_of s e piece
     ≡ (block_head s e ++ piece) ++ drop (length piece) (replicate 112 unused_space)
@@ -28,7 +28,7 @@ block_parts s e piece = search (rules, drop-replicate, append_assoc)
 -- What `push_block` needs.
 pub ruleset pushed = (append_assoc, block_parts)
 
--- A block that was made has its EBN and its text.
+-- A block that is written has its EBN and its text.
 block_fields : (s : SubtitleValue) (e : ℕ) (piece : List ℕ)
     → has_no_unused piece ≡ true
     → (ebn (block_of s e piece) ≡ e) × (text_of (block_of s e piece) ≡ piece)
@@ -42,16 +42,16 @@ block_belongs : (s : SubtitleValue) (e : ℕ) (piece : List ℕ)
 unfolding block_of
 block_belongs s e piece le = grind (arith, length-append, length-replicate)
 
--- A block that was made begins the subtitle.
+-- A block that is written begins the subtitle.
 block_begins : (s : SubtitleValue) (e : ℕ) (piece : List ℕ)
     → IsSubtitle s
     → Begins s (block_of s e piece)
 unfolding block_of is_time frame_in
 block_begins s e piece h = grind (arith, nat_tests, time_in_range)
 
--- ---- the blocks of a subtitle, as they are written
+-- ---- the blocks of a subtitle as they are written
 
--- A long text has one piece more than what is after its first piece.
+-- A long text has one part more than the rest after its first part.
 pieces_more : (text : List ℕ)
     → 112 < length text
     → full_pieces text ≡ suc (full_pieces (drop 112 text))
@@ -73,7 +73,7 @@ pub joined_end : (s : SubtitleValue) (ebn : ℕ) (text : List ℕ)
 unfolding blocks_from
 joined_end s ebn text le = grind (arith, nat_tests, append-nil)
 
--- How many blocks.
+-- The number of blocks.
 pub blocks_count : (s : SubtitleValue) (full ebn : ℕ) (text : List ℕ)
     → length (blocks_from s full ebn text) ≡ suc full
 unfolding blocks_from
@@ -83,9 +83,9 @@ blocks_count s (suc full) ebn text = ap suc (blocks_count s full (ebn + 1) (drop
 -- What `spell` needs.
 pub ruleset spelled = (append_assoc, length-drop, joined_more, joined_end, blocks_count)
 
--- ---- they are its blocks
+-- ---- they are blocks of the subtitle
 
--- The blocks that are made are linked.
+-- The blocks that are written are linked.
 blocks_linked : (s : SubtitleValue) (full e : ℕ) (text : List ℕ)
     → length text ≤ 112 * suc full
     → e + full ≤ 240
@@ -126,14 +126,14 @@ blocks_begin s (suc full) e text h = (
   (blocks_from s full (e + 1) (drop 112 text), refl, block_begins s e (take 112 text) h),
 )
 
--- The blocks of a subtitle are blocks of it.
+-- The blocks written for a subtitle are blocks of it.
 blocks_made : (s : SubtitleValue) → IsSubtitle s → AreBlocksOf s (blocks_of s)
 blocks_made s h =
     let full = full_pieces s.text in
     let b = blocks_begin s full 0 s.text h in
     grind (arith, nat_tests, blocks_begin, blocks_count, blocks_linked, blocks_text)
 
--- The blocks of a subtitle of a file can be written again, in no more of them.
+-- A subtitle of a file can be written again, in no more blocks.
 pub blocks_again : (s : SubtitleValue) (g : List (List ℕ))
     → AreBlocksOf s g
     → AreBlocksOf s (blocks_of s) × (length (blocks_of s) ≤ length g)

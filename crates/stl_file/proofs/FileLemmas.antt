@@ -1,5 +1,5 @@
--- `IsFile`: a file is what is read, and its first bytes decide that; main lemmas: file_read,
--- one_file, outcome_of-first.
+-- `IsFile`: a file is determined by reading it, and its first bytes suffice; main lemmas:
+-- file_read, one_file, outcome_of-first.
 use Rattle.std.proofs.Common.{◌≡◌, ◌*◌, ℕ, false, List, [], ◌++◌, length, refl, sym, ap, ◌∙◌, arith}
 use Rattle.std.proofs.Common.{length-append, take, drop, None, Result, Ok, Err, subst, ◌+◌}
 use Rattle.std.proofs.Common.{inl, inr, length-take-le, ltb}
@@ -31,7 +31,7 @@ judged_ok : (scope : Scope) (b : List ℕ) (o : Result (List ℕ) StlFault) (ts 
     × (subtitles_of (stopped (findings_from scope 0 None b)) ≡ Ok ts)
 judged_ok scope b o ts e = grind (arith, nat_tests)
 
--- The bytes after a GSI block that is taken.
+-- The bytes after an accepted GSI block.
 pub body_sound : (scope : Scope) (s : List ℕ) (ts : List SubtitleValue)
     → IsGsiFor scope.takes_open (take 1024 s)
     → subtitles_of (stopped (findings_from scope 0 None (drop 1024 s))) ≡ Ok ts
@@ -81,7 +81,7 @@ file_complete scope s g ts h =
           (read_complete scope h.blocks most_blocks ts h.rest),
     )
 
--- A file is what is read.
+-- A file is determined by reading it.
 pub file_read : (scope : Scope) (s g : List ℕ) (ts : List SubtitleValue)
     → IsFileFor scope s g ts
     ↔ ((g ≡ take 1024 s) × (subtitles_of (stopped (findings_for scope s)) ≡ Ok ts))
@@ -98,7 +98,7 @@ pub one_file : (s g h : List ℕ) (ts us : List SubtitleValue)
 one_file s g h ts us a b =
     grind (arith, nat_tests, file_complete whole s g ts a, file_complete whole s h us b)
 
--- What a file gives, by what opening it gives. For `stl_rows`.
+-- The results of a file, after opening it. For `stl_rows`.
 pub findings_for-begun : (scope : Scope) (s : List ℕ) (reader : ResumingValue)
     → begun_at scope s ≡ (let r : Result ResumingValue StlFault = Ok reader in r)
     → findings_for scope s ≡ findings_from scope 0 None (drop 1024 s)
@@ -113,13 +113,13 @@ findings_for-refused scope s fault e = grind (arith, nat_tests)
 
 -- ---- the first bytes
 
--- One byte more than the longest file has decides what a file that was opened gives.
+-- One byte more than the longest file determines the results of an opened file.
 opened-first : (scope : Scope) (r : Result (List ℕ) StlFault) (b : List ℕ)
     → findings_opened scope (take (128 * 99999 + 1) b) r ≡ findings_opened scope b r
 opened-first scope (Err e) b = refl
 opened-first scope (Ok g) b = findings_at-first scope 99999 None b
 
--- One byte more than the longest file has decides what any bytes give.
+-- One byte more than the longest file determines the results of any bytes.
 findings_of-first : (s : List ℕ) → findings_of (take 12800897 s) ≡ findings_of s
 unfolding findings_for gsi_of
 findings_of-first s = elim (cases_lt 12800897 (length s)) [

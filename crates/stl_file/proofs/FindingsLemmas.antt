@@ -1,4 +1,4 @@
--- `findings_at` by cases, the bytes that decide it, and the blocks that it names; main lemmas:
+-- `findings_at` by cases, the bytes that determine it, and the blocks in its results; main lemmas:
 -- findings_block, findings_at-first, finds_from.
 use Rattle.std.proofs.Common.{◌≡◌, ◌*◌, ℕ, List, [], ◌∷◌, ◌++◌, length, refl, arith}
 use Rattle.std.proofs.Common.{length-append, length-take, take, drop, Option, Some, None, Result}
@@ -16,7 +16,7 @@ use Rattle.stl_file.specs.declared.scope.Scope.{Scope}
 
 -- ---- the function by cases
 
--- What no bytes give.
+-- The results without bytes.
 abbrev pub findings_nil : ℕ → Option Begun → Findings
 findings_nil room None = no_more
 findings_nil room (Some begun) = breaks fault.Unfinished (most_blocks - room)
@@ -35,7 +35,7 @@ module _ (scope : Scope) where
   unfolding findings_at
   findings_full begun b h = grind arith
 
-  -- A block that is cut.
+  -- A truncated block.
   pub findings_short : (room : ℕ) (begun : Option Begun) (b : List ℕ)
       → 0 < length b
       → length b < 128
@@ -43,7 +43,7 @@ module _ (scope : Scope) where
   unfolding findings_at
   findings_short room begun b h lt = grind (arith, nat_tests)
 
-  -- A whole block.
+  -- A complete block.
   pub findings_step : (room : ℕ) (begun : Option Begun) (b : List ℕ)
       → 128 ≤ length b
       → findings_at scope (suc room) begun b
@@ -64,9 +64,9 @@ module _ (scope : Scope) where
       rw (e, findings_step next begun (b ++ rest) (omega (arith, length-append b rest)))
       (rw (take_at b rest 128 size, drop_at b rest 128 size) refl)
 
--- ---- the bytes that decide
+-- ---- the bytes that determine the results
 
--- One byte more than `room` blocks have decides what they give.
+-- One byte more than `room` blocks determines the results.
 pub findings_at-first : (scope : Scope) (room : ℕ) (begun : Option Begun) (b : List ℕ)
     → findings_at scope room begun (take (128 * room + 1) b) ≡ findings_at scope room begun b
 findings_at-first scope zero begun b = grind (arith, nat_tests, findings_full)
@@ -84,16 +84,16 @@ findings_at-first scope (suc room) begun b = elim (cases_lt (length b) 128) [
       (simp (findings_at-first scope room)))
 ]
 
--- ---- the blocks that are named
+-- ---- the blocks in the results
 
--- What names no block before the next one names none before this one.
+-- Results from the next block on are results from this block on.
 finds-before : (block : ℕ) (o : Findings) → FindsFrom (block + 1) o → FindsFrom block o
 finds-before block no_more h = tt
 finds-before block (breaks f at) h = grind arith
 finds-before block (finds s at o) h = (grind arith, finds-before block o h.1)
 finds-before block (refuses f at o) h = (grind arith, finds-before block o h.1)
 
--- What comes of a block, where all after it names no block before the next one.
+-- The results after a block, if all following ones are from the next block on.
 finds-after : (room block : ℕ) (next : Option Begun → Findings) (b : List ℕ)
     (r : Result BlockStep StlFault)
     → block ≤ most_blocks - room
@@ -101,7 +101,7 @@ finds-after : (room block : ℕ) (next : Option Begun → Findings) (b : List �
     → FindsFrom block (findings_after room next b r)
 finds-after room block next b r le n = grind (arith, finds-before)
 
--- What bytes give after `block` blocks names none of these.
+-- The results after `block` blocks have only later blocks.
 pub finds_from : (scope : Scope) (room block : ℕ) (begun : Option Begun) (b : List ℕ)
     → block + room ≡ most_blocks
     → FindsFrom (block + 1) (findings_at scope room begun b)

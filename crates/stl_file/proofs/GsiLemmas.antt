@@ -1,4 +1,4 @@
--- The GSI block as it is read, and with other counts; main lemmas: gsi_sound, gsi_complete,
+-- Reading the GSI block, and setting its counts; main lemmas: gsi_sound, gsi_complete,
 -- counted_is_gsi.
 use Rattle.std.proofs.Common.{◌≡◌, ℕ, Bool, List, ◌++◌, length, refl, sym, ap, ◌∙◌, append_assoc}
 use Rattle.std.proofs.Common.{arith}
@@ -16,7 +16,7 @@ use Rattle.stl_file.specs.Gsi.{IsDisplay, asked_of_gsi, dfc, dsc, five_digits, l
 use Rattle.stl_file.specs.Gsi.{no_display, open_subtitles, stl_25, stl_30}
 use Rattle.stl_file.proofs.StepLemmas.{asked-right}
 
--- What was asked of it.
+-- It passed these checks.
 format_sound : (g : List ℕ)
     → not (bytes_eq (dfc g) stl_25) && not (bytes_eq (dfc g) stl_30) ≡ false
     → bytes_eq (dfc g) stl_30 ≡ false
@@ -29,7 +29,7 @@ display_sound : (takes_open : Bool) (d : ℕ)
     → IsDisplay takes_open d
 display_sound takes_open d e = grind (arith, nat_tests)
 
--- A GSI block without a fault is taken, as it is.
+-- A GSI block without a fault is accepted unchanged.
 pub gsi_sound : (takes_open : Bool) (g h : List ℕ)
     → length g ≡ 1024
     → gsi_at takes_open g ≡ Ok h
@@ -47,7 +47,7 @@ gsi_sound takes_open g h size e =
       },
     )
 
--- A block that is taken is read as itself.
+-- An accepted block is read as itself.
 pub gsi_complete : (takes_open : Bool) (g : List ℕ)
     → IsGsiFor takes_open g
     → gsi_at takes_open g ≡ Ok g
@@ -66,7 +66,7 @@ counts_put xs ys size le =
     ∙ rw (take-put_mid 238 10 xs ys 248 (omega arith) (omega arith))
     (rw (drop-put_mid 238 10 xs ys 248 (omega arith) (omega arith) size, append_assoc) refl)
 
--- Counts that are set twice.
+-- Setting the counts twice.
 pub counts_twice : (tnb tns : ℕ) (g : List ℕ)
     → length g ≡ 1024
     → with_counts tnb tns (with_counts tnb tns g) ≡ with_counts tnb tns g
@@ -79,7 +79,7 @@ counts_twice tnb tns g size =
     (omega (arith, length-append (take 238 g) digits)) in
     rw (take_at (take 238 g) (digits ++ drop 248 g) 238 front, back) refl
 
--- A field that lies in front of place n is one of the bytes there.
+-- A field before place n is in the first n bytes.
 front_field : (at len n : ℕ) (g rest : List ℕ)
     → at + len ≤ n
     → n ≤ length g
@@ -89,7 +89,7 @@ front_field at len n g rest le size =
     (rw (take-append-le (at + len) (take n g) rest (omega (arith, length-take n g)))
     (rw (take-take (at + len) n g le) refl))
 
--- A GSI block is taken with other counts too.
+-- A GSI block is also accepted with other counts.
 pub counted_is_gsi : (tnb tns : ℕ) (g : List ℕ) → IsGsi g → IsGsi (with_counts tnb tns g)
 counted_is_gsi tnb tns g h =
     let back = length-drop 248 g in let front = length-take 238 g in

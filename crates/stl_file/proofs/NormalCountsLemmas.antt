@@ -22,11 +22,11 @@ use Rattle.stl_file.proofs.BlocksOfLemmas.{blocks_again, blocks_count}
 
 -- ---- one subtitle. For `read_on`
 
--- The count of failures of a source that never fails says that this call did not.
+-- An unchanged failure count shows that this call did not fail.
 pub no_failure : (b : Bool) → 0 ≡ 0 + cond b 1 0 → b ≡ false
 no_failure b e = grind (arith, nat_tests)
 
--- What was left, by the answer and what is left now.
+-- The remaining results before a call, by its result and those after it.
 pub left_is : (old new : ReaderValue) (rest next : List ℕ) (r : Result Bool StlFault)
     (s : SubtitleValue)
     → GivesNextSubtitle old rest new (Some next) (given_subtitle r s)
@@ -34,7 +34,7 @@ pub left_is : (old new : ReaderValue) (rest next : List ℕ) (r : Result Bool St
     ≡ judged_on r s new.block (subtitles_of (outcome_left new next))
 left_is old new rest next r s a = grind (arith, nat_tests, same_Some)
 
--- A subtitle is written in no more blocks than were taken for it.
+-- The normal form of a subtitle has no more blocks than were read for it.
 pub took : (from to : ℕ) (old new : Option (List ℕ)) (s : SubtitleValue)
     → TakesSubtitle from to old new s
     → from + length (blocks_of s) ≤ to
@@ -43,7 +43,7 @@ took from to old new s t =
 
 -- ---- the first pass
 
--- Counts with those of what is left.
+-- Adds the counts of the remaining subtitles.
 abbrev pub counted_on : Counts → Result Counts NormalFault → Result Counts NormalFault
 counted_on c (Ok d) = Ok (record { tnb = c.tnb + d.tnb; tns = c.tns + d.tns })
 counted_on c (Err f) = Err f
@@ -53,7 +53,7 @@ pub counted_none : (j : Judged)
     → counted_on (record { tnb = 0; tns = 0 }) (normal_counts j) ≡ normal_counts j
 counted_none j = grind arith
 
--- Counts with one subtitle more.
+-- The counts with one more subtitle.
 pub counted_cons : (c : Counts) (s : SubtitleValue) (j : Judged)
     → counted_on c (normal_counts (cons_all s j))
     ≡ counted_on (record { tnb = c.tnb + length (blocks_of s); tns = c.tns + 1 }) (normal_counts j)
@@ -64,11 +64,11 @@ pub ruleset judging = (counted_none, counted_cons, blocks_count)
 
 -- ---- the second pass
 
--- No fault follows a subtitle where there is none.
+-- Without a fault, none follows a subtitle.
 pub ok_cons : (s : SubtitleValue) (j : Judged) → is_ok (cons_all s j) ≡ true → is_ok j ≡ true
 ok_cons s j e = grind arith
 
--- What is written of the subtitles that are left, after this one.
+-- The bytes written for the remaining subtitles after this one.
 pub written_cons : {E : Type 0} (old mid new : Option (List ℕ)) (s : SubtitleValue) (j : Judged)
     (result : Result (Unit {0}) E)
     → is_ok (cons_all s j) ≡ true

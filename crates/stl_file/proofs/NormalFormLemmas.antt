@@ -1,4 +1,4 @@
--- The normal form: a file of the same subtitles, and what `normal` answers; main lemmas:
+-- The normal form: a file with the same subtitles, and the results of `normal`; main lemmas:
 -- normal_is_file, normal_twice, refused_body, whole_written.
 use Rattle.std.proofs.Common.{rules, ◌≡◌, ℕ, List, [], ◌∷◌, ◌++◌, length, refl, ap, ◌∙◌, arith}
 use Rattle.std.proofs.Common.{length-append, take, drop, false, Option, Ok, Err}
@@ -33,7 +33,7 @@ use Rattle.stl_file.proofs.BlocksOfLemmas.{blocks_again}
 
 -- ---- blocks of subtitles
 
--- Linked blocks have 128 bytes each, and are no comments and no user data.
+-- Linked blocks have 128 bytes each, and are neither comments nor user data.
 linked_kept : (sgn_is sn_is : ℕ) (g : List (List ℕ))
     → AreLinked sgn_is sn_is g
     → AllByRecursion IsBlock g × (filter is_kept g ≡ g)
@@ -42,7 +42,7 @@ linked_kept sgn_is sn_is (b ∷ []) c = grind (arith, nat_tests)
 linked_kept sgn_is sn_is (b ∷ x ∷ g) c =
     let rest = linked_kept sgn_is sn_is (x ∷ g) c.2 in grind (arith, nat_tests)
 
--- Blocks, one after the other.
+-- Lists of blocks can be joined.
 each_append : (xs ys : List (List ℕ))
     → AllByRecursion IsBlock xs
     → AllByRecursion IsBlock ys
@@ -50,7 +50,7 @@ each_append : (xs ys : List (List ℕ))
 each_append [] ys h k = k
 each_append (x ∷ xs) ys h k = (h.0, each_append xs ys h.1 k)
 
--- The subtitles of a file have blocks of their own, and no more than the file has.
+-- The subtitles of a file can be written in blocks, no more than the file has.
 respelled : (ss : List SubtitleValue) (gs : List (List (List ℕ)))
     → AllZip AreBlocksOf ss gs
     → AreSubtitleBlocks whole (length (groups_of gs)) (all_blocks ss) ss
@@ -76,7 +76,7 @@ respelled (s ∷ ss) (g ∷ gs) h =
           (one.0, rw (all_inside rest.groups) at rest.are_of);
     }
 
--- The blocks that are made for the subtitles of a file are those of a file.
+-- The blocks written for the subtitles of a file are those of a file.
 own_rest : (bs : List (List ℕ)) (ts : List SubtitleValue)
     → AreSubtitleBlocks whole most_blocks bs ts
     → AreSubtitleBlocks whole most_blocks (all_blocks ts) ts
@@ -93,13 +93,13 @@ own_rest bs ts r =
 
 -- ---- the laws
 
--- The normal form of a file is a file of the same subtitles.
+-- The normal form of a file is a file with the same subtitles.
 pub normal_is_file : (s g : List ℕ) (ts : List SubtitleValue)
     → IsFile s g ts
     → IsFile (normal_form g ts) (counted_gsi g ts) ts
 normal_is_file s g ts h = search (rules, counted_is_gsi, own_rest)
 
--- The normal form of a normal form is itself.
+-- The normal form of a normal form is the same.
 pub normal_twice : (s g h : List ℕ) (ts us : List SubtitleValue)
     → IsFile s g ts
     → IsFile (normal_form g ts) h us
@@ -110,11 +110,11 @@ normal_twice s g h ts us a b =
 
 -- ---- the returns of `normal`
 
--- A sink that was not touched keeps its bytes.
+-- An unchanged sink keeps its bytes.
 keeps_same : (o : Option (List ℕ)) → Keeps o o
 keeps_same o = grind (arith, nat_tests)
 
--- A file whose GSI block is refused, as `normal` answers it.
+-- The result of `normal` for a file whose GSI block is rejected.
 pub refused_open : (s : List ℕ) (f : StlFault) (old : Option (List ℕ))
     → opened_at s ≡ Err f
     → NormalAnswers s old old (Err (Refused f 0))
@@ -122,7 +122,7 @@ unfolding findings_for
 refused_open s f old e =
     (rw (opened_bad (gsi_of false s) f e) refl, keeps_same old)
 
--- After a GSI block that is taken, a file gives what its body gives.
+-- After an accepted GSI block, the results of a file are those of its body.
 file_body : (s : List ℕ) (r : ReaderValue)
     → opened_at s ≡ good r
     → subtitles_of (outcome_of s) ≡ subtitles_of (outcome_from 0 (drop 1024 s))
@@ -130,7 +130,7 @@ unfolding findings_for
 file_body s r e =
     rw (opened_good (gsi_of false s) r e).0 refl
 
--- A file whose blocks are refused, as `normal` answers it.
+-- The result of `normal` for a file whose blocks are rejected.
 pub refused_body : (s : List ℕ) (r : ReaderValue) (f : NormalFault) (old : Option (List ℕ))
     → opened_at s ≡ good r
     → (f ≡ Write → ⊥)
@@ -138,7 +138,7 @@ pub refused_body : (s : List ℕ) (r : ReaderValue) (f : NormalFault) (old : Opt
     → NormalAnswers s old old (Err f)
 refused_body s r f old e never c = grind (arith, nat_tests, file_body, keeps_same)
 
--- A file that is not refused: its subtitles, their counts and the bytes of its normal form.
+-- An accepted file: its subtitles, their counts and the bytes of its normal form.
 record Accepted (s : List ℕ) (r : ReaderValue) (c : Counts) : Type 0 where
   ts : List SubtitleValue
   is_file : IsFile s (take 1024 s) ts
@@ -172,7 +172,7 @@ accepted s r c opened judged =
 module _ (s : List ℕ) (r : ReaderValue) (c : Counts) (g : List ℕ) (opened : opened_at s ≡ good r)
     (judged : normal_counts (subtitles_of (outcome_from 0 (drop 1024 s))) ≡ Ok c)
     (set : g ≡ with_counts c.tnb c.tns r.gsi) (old new : Option (List ℕ)) where
-  -- All was written.
+  -- Everything was written.
   pub whole_written : Appends old new
       (g ++ concat (all_blocks (given (subtitles_of (outcome_from 0 (drop 1024 s))))))
       → WritesNormal s old new c.tns

@@ -1,4 +1,4 @@
--- `gsi_of`, and that no file begins with what is refused; main lemmas: gsi_of-sound, opened_sound,
+-- `gsi_of`, and that no file begins with rejected bytes; main lemmas: gsi_of-sound, opened_sound,
 -- open_whole, bad_opening.
 use Rattle.std.proofs.Common.{◌≡◌, ℕ, Bool, List, ◌++◌, length, refl, sym, ap, ◌∙◌, arith}
 use Rattle.std.proofs.Common.{length-append, take, drop, Option, Some, Result, Ok, Err, ◌<◌, ◌≤◌}
@@ -19,7 +19,7 @@ use Rattle.stl_file.specs.Subtitle.{SubtitleValue}
 use Rattle.stl_file.specs.File.{IsFileFor}
 use Rattle.stl_file.proofs.GsiLemmas.{gsi_sound, gsi_complete}
 
--- What holds of any answer. For `read_gsi`.
+-- Facts that hold for any result. For `read_gsi`.
 pub if_ok : {A E P : Type 0} (r : Result A E) → P → IfOk r (λ a. P)
 if_ok (Ok a) p = p
 if_ok (Err e) p = tt
@@ -34,7 +34,7 @@ if_err (Err e) P h = h e refl
 abbrev pub good : ReaderValue → Result ReaderValue StlFault
 good r = Ok r
 
--- A GSI block that is taken is that of the file's first bytes.
+-- An accepted GSI block is that of the file's first bytes.
 pub gsi_of-sound : (takes_open : Bool) (s g : List ℕ)
     → gsi_of takes_open s ≡ Ok g
     → (1024 ≤ length s) × IsGsiFor takes_open (take 1024 s) × (g ≡ take 1024 s)
@@ -45,21 +45,21 @@ gsi_of-sound takes_open s g e =
     (rw (le-ltb _ _ le) at e) in
     (le, own.1, own.0)
 
--- A reader that was opened has the GSI block that is taken. Also for `sub_listing`.
+-- An opened reader has the accepted GSI block. Also for `sub_listing`.
 pub opened_good : (g : Result (List ℕ) StlFault) (r : ReaderValue)
     → opened g ≡ good r
     → (g ≡ Ok r.gsi) × (r ≡ record { gsi = r.gsi; block = 0; progress = Reading })
 opened_good (Err f) r e = absurd cc
 opened_good (Ok g) r e = grind arith
 
--- One that was not tells the fault of the GSI block. For `sub_listing`.
+-- Otherwise the fault is that of the GSI block. For `sub_listing`.
 pub opened_bad : (g : Result (List ℕ) StlFault) (f : StlFault)
     → opened g ≡ (let r : Result ReaderValue StlFault = Err f in r)
     → g ≡ Err f
 opened_bad (Err f') f e = grind arith
 opened_bad (Ok g) f e = absurd cc
 
--- A file that was opened begins with a GSI block that is taken.
+-- A file that was opened begins with an accepted GSI block.
 pub opened_sound : (s : List ℕ) (r : ReaderValue)
     → opened_at s ≡ good r
     → (1024 ≤ length s) × IsGsi (take 1024 s)
@@ -102,7 +102,7 @@ module _ {bytes : List ℕ} {n : ℕ} {new : Option (List ℕ)} {block : List �
   unfolding gsi_of
   open_short takes_open lt = grind (arith, nat_tests, length-append, length-take)
 
-  -- What a whole GSI block is read as.
+  -- The result of reading a complete GSI block.
   pub open_whole : (takes_open : Bool) (r : Result (List ℕ) StlFault)
       → 1024 ≤ n
       → gsi_at takes_open block ≡ r
@@ -114,6 +114,6 @@ module _ {bytes : List ℕ} {n : ℕ} {new : Option (List ℕ)} {block : List �
       rw (le-ltb _ _ long, t.parts, take_all n block (omega arith))
       (rw (take_at block t.rest 1024 size, e) refl)
 
-  -- What is left after it.
+  -- The bytes left after it.
   pub open_rest : 1024 ≤ n → new ≡ Some (drop 1024 bytes)
   open_rest le = grind (arith, nat_tests, take_all, drop_at block t.rest 1024 size)

@@ -1,5 +1,5 @@
--- The loop over blocks: what they and any more bytes give; main lemmas: reads_on, leads_given,
--- leads_refused, fails_reading.
+-- The loop over blocks: the results of these and any further bytes; main lemmas: reads_on,
+-- leads_given, leads_refused, fails_reading.
 use Rattle.std.proofs.Common.{rules, ◌≡◌, ◌*◌, ℕ, false, true, List, [], ◌++◌, length, refl}
 use Rattle.std.proofs.Common.{sym, ap, ◌∙◌}
 use Rattle.std.proofs.Common.{append_assoc, arith, length-append, take, drop, Option, None, Result}
@@ -26,10 +26,10 @@ use Rattle.stl_file.proofs.StepLemmas.{step_gives}
 use Rattle.stl_file.proofs.FindingsLemmas.{findings_block, findings_full, findings_short}
 use Rattle.stl_file.proofs.FindingsLemmas.{finds_from}
 
--- ---- what was read so far
+-- ---- the bytes read so far
 
--- The bytes that were taken in this call, after `from` blocks: they are whole blocks, up to
--- `block`, and what they and any more bytes give is known.
+-- The bytes read in this call, after `from` blocks: they are complete blocks, up to `block`, and
+-- the results of these and any further bytes are known.
 pub record HasRead
     (scope : Scope) (from : ℕ) (refused : Option Begun) (old now : Option (List ℕ)) (block : ℕ)
     (begun : Option Begun)
@@ -41,7 +41,7 @@ pub record HasRead
       → findings_from scope from refused (bytes ++ more)
       ≡ findings_at scope (most_blocks - block) begun more
 
--- Fewer than 128 bytes were taken after them, and the source failed.
+-- Fewer than 128 bytes were read after them, and the source failed.
 pub fails_reading : (scope : Scope) (from block : ℕ) (refused : Option Begun)
     (old mid new : Option (List ℕ)) (begun : Option Begun) (bytes : List ℕ)
     → HasRead scope from refused old mid block begun
@@ -58,17 +58,17 @@ fails_reading scope from block refused old mid new begun bytes h few lt c = reco
       (finds_from scope (most_blocks - block) block begun (bytes ++ more) (omega arith));
 }
 
--- ---- one turn of the loop: the bytes that came after them
+-- ---- one iteration of the loop: the next bytes
 
 module _ {scope : Scope} {from : ℕ} {refused : Option Begun} {old mid new : Option (List ℕ)}
     {n block : ℕ} {begun : Option Begun} {buffer : List ℕ}
     (h : HasRead scope from refused old mid block begun) (f : Fills mid n new buffer)
     (size : length buffer ≡ 128) (next : Option Begun) (s : SubtitleValue) where
-  -- The bytes that came.
+  -- The number of bytes read in this iteration.
   length_front : length (take n buffer) ≡ n
   length_front = omega (arith, length-take n buffer)
 
-  -- The answer, by what the bytes of this turn give with those that are left.
+  -- The result, from the results of the bytes of this iteration and those left.
   leads : (to : ℕ) (r : Result Found StlFault)
       → to ≡ block + (n + 127) / 128
       → (is_ok r ≡ true → 128 * block + n ≡ 128 * to)
@@ -85,7 +85,7 @@ module _ {scope : Scope} {from : ℕ} {refused : Option Begun} {old mid new : Op
       let l = length-append h.bytes (take n buffer) in
       grind (arith, nat_tests, length_front, append_assoc)
 
-  -- Nothing came: the end of the file, or its end within a subtitle.
+  -- No bytes: the end of the file, or its end within a subtitle.
   pub leads_end : (r : Result Found StlFault)
       → n ≡ 0
       → block ≤ most_blocks
@@ -95,7 +95,7 @@ module _ {scope : Scope} {from : ℕ} {refused : Option Begun} {old mid new : Op
       → LeadsOn scope from block refused next old new s r
   leads_end r z le cut never gives = grind (arith, nat_tests, nil_from_length, length_front, leads)
 
-  -- A byte came, and no block may follow.
+  -- A byte was read, but no block may follow.
   pub leads_too_many : (n ≡ 0 → ⊥)
       → block ≡ most_blocks
       → LeadsOn scope from (block + 1) refused next old new s (Err fault.TooManyBlocks)
@@ -103,7 +103,7 @@ module _ {scope : Scope} {from : ℕ} {refused : Option Begun} {old mid new : Op
       let positive : 0 < n = grind (arith, nat_tests) in
       search (rules, length_front, leads, findings_full, length-append)
 
-  -- A block that is cut.
+  -- A truncated block.
   pub leads_truncated : (n ≡ 0 → ⊥)
       → block < most_blocks
       → n < 128
@@ -113,7 +113,7 @@ module _ {scope : Scope} {from : ℕ} {refused : Option Begun} {old mid new : Op
       grind (arith, nat_tests, length_front, leads, append-nil, findings_short)
 
   module _ (few : block < most_blocks) (long : 128 ≤ n) where
-    -- What a whole block gives.
+    -- The results of a complete block.
     one_block : (more : List ℕ)
         → findings_at scope (most_blocks - block) begun (take n buffer ++ more)
         ≡ findings_after (most_blocks - (block + 1))
@@ -157,7 +157,7 @@ module _ {scope : Scope} {from : ℕ} {refused : Option Begun} {old mid new : Op
         ∙ ap (drop (length front)) e ∙ drop_at front last (length front) refl in
         rw (← take_all n buffer (omega arith), same) at (step_gives scope begun buffer s step))
 
-    -- The blocks go on.
+    -- More blocks follow.
     pub reads_on : step_at scope begun buffer ≡ Ok (More next)
         → HasRead scope from refused old new (block + 1) next
     reads_on step =

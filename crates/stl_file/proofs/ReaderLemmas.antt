@@ -1,5 +1,5 @@
--- What a call of a reader takes and answers; main lemmas: takes_subtitle, takes_passed,
--- refuses; left-then.
+-- What a call of a reader consumes and returns; main lemmas: takes_subtitle, takes_passed, refuses;
+-- left-then.
 use Rattle.std.proofs.Common.{◌≡◌, ℕ, true, List, [], ◌∷◌, ◌++◌, refl, sym, ap, ◌∙◌}
 use Rattle.std.proofs.Common.{append_assoc, arith, Option, Some, None, Result, Ok, Err, ◌-◌, length}
 use Rattle.std.proofs.lemmas.Bool.Decides.{nat_tests}
@@ -23,7 +23,7 @@ use Rattle.stl_file.proofs.FindingsLemmas.{findings_end}
 use Rattle.stl_file.proofs.RestLemmas.{read_complete, read_sound, groups_of}
 use Rattle.stl_file.proofs.ScopeLemmas.{all_inside}
 
--- What was left is what was found, and what is left after it. For `stl_rows`.
+-- The bytes that were left are those consumed, followed by those left now. For `stl_rows`.
 pub left-then : (old new : Option (List ℕ)) (rest : List ℕ) {scope : Scope} {from to : ℕ}
     {refused next : Option Begun} {t : SubtitleValue} {result : Result Found StlFault}
     → LeadsOn scope from to refused next old new t result
@@ -36,18 +36,18 @@ left-then (Some all) (Some more) rest l is =
     let same : rest ≡ l.bytes ++ more = let whole = l.consumed in cc in
     (more, refl, rw same (l.findings more l.ended))
 
--- ---- what an answer says of a reader that stops at the first fault
+-- ---- results of a reader that stops at the first fault
 
--- A fault ends what it gives, also where reading could go on behind it.
+-- A fault ends its results, even if reading could continue.
 by_fault : (to : ℕ) (next : Option Begun) (more : List ℕ) (s : SubtitleValue) (f : StlFault)
     → stopped (findings_by whole to next more s (found_of (Err f))) ≡ fails f to
 by_fault to next more s f = grind arith
 
--- More bytes might cure only a file that is cut.
+-- Only a truncated file might be cured by more bytes.
 is_cut-by : (f : StlFault) → finds_end (found_of (Err f)) ≡ true → is_cut f ≡ true
 is_cut-by f e = grind arith
 
--- No file goes on with a first fault.
+-- No file continues with the bytes of a first fault.
 pub refuses : (from to : ℕ) (old new : Option (List ℕ)) (s : SubtitleValue) (next : Option Begun)
     (x : StlFault)
     → LeadsOn whole from to None next old new s (found_of (Err x))
@@ -63,17 +63,17 @@ refuses from to old new s next x l = record {
       grind arith;
 }
 
--- One subtitle has one list of blocks.
+-- One subtitle has one group of blocks.
 one_group : (s : SubtitleValue) (gs : List (List (List ℕ)))
     → AllZip AreBlocksOf (s ∷ []) gs
     → AreBlocksOf s (groups_of gs)
 one_group s gs h = grind (arith, nat_tests, append-nil)
 
--- No subtitle has no blocks.
+-- Without a subtitle there are no blocks.
 no_group : (gs : List (List (List ℕ))) → AllZip AreBlocksOf [] gs → groups_of gs ≡ []
 no_group gs h = grind (arith, nat_tests)
 
--- Blocks whose last one is kept.
+-- The last of these blocks is not skipped.
 ends_kept : (front b : List ℕ) (bs : List (List ℕ))
     → AllByRecursion IsBlock (b ∷ bs)
     → LastIsKept (front ++ concat (b ∷ bs))
@@ -82,7 +82,7 @@ ends_kept front b [] h k = k front b (ap (λ (x : List ℕ). front ++ x) (append
 ends_kept front b (c ∷ bs) h k = ends_kept (front ++ b) c bs h.1
     (λ start last e size. k start last (sym (append_assoc front b (concat (c ∷ bs))) ∙ e) size)
 
--- The blocks of a subtitle end with a kept one.
+-- The blocks of a subtitle end with one that is not skipped.
 ends_group : (s : SubtitleValue) (bs : List (List ℕ))
     → AreBlocksOf s (filter is_kept bs)
     → AllByRecursion IsBlock bs
@@ -91,7 +91,7 @@ ends_group : (s : SubtitleValue) (bs : List (List ℕ))
 ends_group s [] a h k = absurd cc
 ends_group s (b ∷ bs) a h k = ends_kept [] b bs h k
 
--- A subtitle is that of the blocks that were taken.
+-- A subtitle consists of the blocks that were consumed.
 pub takes_subtitle : (from to : ℕ) (old new : Option (List ℕ)) (s : SubtitleValue)
     (kept : Option (List ℕ))
     → kept ≡ None
@@ -111,7 +111,7 @@ takes_subtitle from to old new s kept over l =
       consumed = rw r.bytes at l.consumed;
     }
 
--- No subtitle is that of passed blocks alone.
+-- Only skipped blocks contain no subtitle.
 pub takes_passed : (from to : ℕ) (old new : Option (List ℕ)) (s : SubtitleValue)
     (next : Option Begun)
     → LeadsOn whole from to None next old new s (Ok found.End)
@@ -134,5 +134,5 @@ takes_passed from to old new s next l =
       ended = l.ended refl;
     }
 
--- What bytes that lead to an answer say of it. For `next_into`.
+-- The meaning of a result for the bytes consumed. For `next_into`.
 pub ruleset led = (takes_subtitle, takes_passed, refuses)

@@ -1,5 +1,5 @@
--- `AreSubtitleBlocks`: bytes are read without a fault exactly when they are blocks of subtitles;
--- main lemmas: read_complete, read_sound.
+-- `AreSubtitleBlocks`: bytes are read without a fault exactly if they are blocks of subtitles; main
+-- lemmas: read_complete, read_sound.
 use Rattle.std.proofs.Common.{◌≡◌, ℕ, false, true, cond, List, [], ◌∷◌, ◌++◌, length, refl, sym}
 use Rattle.std.proofs.Common.{ap, ◌∙◌, append_assoc, arith, take, drop, Option, Some, None, Result}
 use Rattle.std.proofs.Common.{Ok, Err, subst, zero, suc, ◌+◌, ◌-◌, ◌<◌, ◌≤◌, length-append, inl}
@@ -26,17 +26,17 @@ use Rattle.stl_file.proofs.StepLemmas.{Represents, step_kept, step_passed, step_
 use Rattle.stl_file.proofs.FindingsLemmas.{findings_full, findings_step, findings_end}
 use Rattle.stl_file.proofs.FindingsLemmas.{findings_block, findings_short}
 
--- The blocks of each subtitle, one after the other.
+-- The blocks of the subtitles, joined.
 abbrev pub groups_of : List (List (List ℕ)) → List (List ℕ)
 groups_of gs = flat_map (λ (g : List (List ℕ)). g) gs
 
--- The subtitles that bytes give, where a subtitle was begun or none was.
+-- The subtitles in the bytes, with or without a current subtitle.
 abbrev pub read_at : Scope → ℕ → Option Begun → List ℕ → Judged
 read_at scope room begun b = subtitles_of (stopped (findings_at scope room begun b))
 
--- ---- completeness: the blocks of a file give its subtitles
+-- ---- completeness: the blocks of a file are read as its subtitles
 
--- What a step gives, it gives wherever what follows gives no less.
+-- The result of a step with enough room for what follows.
 after_enough : (few room : ℕ) (f g : Option Begun → Findings) (b : List ℕ)
     (r : Result BlockStep StlFault) (ss : List SubtitleValue)
     → ((next : Option Begun) (ts : List SubtitleValue)
@@ -46,7 +46,7 @@ after_enough : (few room : ℕ) (f g : Option Begun → Findings) (b : List ℕ)
     → subtitles_of (stopped (findings_after room g b r)) ≡ Ok ss
 after_enough few room f g b r ss same e = grind arith
 
--- What the kept blocks give, they give with passed ones between them.
+-- The result of blocks does not change if skipped ones are between them.
 kept_enough : (scope : Scope) (bs : List (List ℕ)) (begun : Option Begun) (few room : ℕ)
     (ss : List SubtitleValue)
     → AllByRecursion IsBlock bs
@@ -75,13 +75,13 @@ kept_enough scope (b ∷ bs) begun few room ss h f le e =
           ) at e)
     ])
 
--- What comes behind the blocks of a subtitle, with it in front where it is not passed over.
+-- The results after the blocks of a subtitle, with the subtitle in front unless it is skipped.
 abbrev behind_begun : Begun → List (List ℕ) → Judged → Judged
 behind_begun o tail j =
     cond o.is_passed j
     (cons_all (record o.subtitle { text = o.subtitle.text ++ flat_map text_of tail }) j)
 
--- The blocks of a subtitle, from one on that was read, give it, and then what follows them.
+-- The blocks of a subtitle, from one that was read on, yield it and then what follows.
 blocks_give : (scope : Scope) (tail : List (List ℕ)) (room : ℕ) (begun : Option Begun)
     (b rest : List ℕ) (o : Begun)
     → kept_at scope begun b ≡ Ok (closed (ebn b) o)
@@ -103,7 +103,7 @@ blocks_give scope (c ∷ tail) room begun b rest o step linked few le =
     (omega arith) (omega arith) in
     grind (arith, nat_tests, append_assoc)
 
--- The blocks of a subtitle that is outside give what follows them.
+-- The blocks of a subtitle outside the scope yield only what follows.
 outside_gives : (scope : Scope) (b : List ℕ) (others : List (List ℕ)) (room : ℕ) (rest : List ℕ)
     → AreOutside scope (b ∷ others)
     → length (b ∷ others) ≤ room
@@ -117,7 +117,7 @@ outside_gives scope b others room rest i le =
     blocks_give scope others room None b rest (passed_by b) (outside_kept scope b outside) linked
     (let few = i.few in omega arith) (omega arith)
 
--- The blocks of one that is inside give it, and then what follows them.
+-- The blocks of a subtitle inside the scope yield it and then what follows.
 inside_gives : (scope : Scope) (s : SubtitleValue) (g : List (List ℕ)) (room : ℕ) (rest : List ℕ)
     → is_outside scope g ≡ false
     → AreBlocksOf s g
@@ -133,7 +133,7 @@ inside_gives scope s g room rest inside i le =
     let text = i.text_is in
     grind (arith, append_assoc)
 
--- The blocks of subtitles, the first of which is outside.
+-- The blocks of subtitles, the first of them outside the scope.
 passes_group : (scope : Scope) (b : List ℕ) (others : List (List ℕ)) (gs : List (List (List ℕ)))
     (ss : List SubtitleValue) (room : ℕ)
     → AreOutside scope (b ∷ others)
@@ -149,7 +149,7 @@ passes_group scope b others gs ss room i le on =
     (omega (arith, length-append (b ∷ others) (groups_of gs), le))
     ∙ on)
 
--- Or inside.
+-- The same with the first of them inside.
 gives_group : (scope : Scope) (g : List (List ℕ)) (gs : List (List (List ℕ)))
     (kept : List (List (List ℕ))) (ss : List SubtitleValue) (room : ℕ)
     → is_outside scope g ≡ false
@@ -165,7 +165,7 @@ gives_group scope g gs kept (s ∷ ss) room inside are le on =
     (omega (arith, length-append g (groups_of gs), le))
     ∙ ap (cons_all s) (on ss are.1))
 
--- The blocks of subtitles give those that are inside.
+-- The blocks of subtitles are read as those inside the scope.
 groups_give : (scope : Scope) (gs : List (List (List ℕ))) (ss : List SubtitleValue) (room : ℕ)
     → AllByRecursion (AreOutside scope) (filter (is_outside scope) gs)
     → AllZip AreBlocksOf ss (filter (is_inside scope) gs)
@@ -190,7 +190,7 @@ groups_give scope ((b ∷ others) ∷ gs) ss room out are le =
           groups_give scope gs ts (room - length (b ∷ others)) (rw inside at out) h few)
     ]
 
--- The blocks of a file from where a subtitle may begin give its subtitles and no fault.
+-- The blocks of a file, from where a subtitle may begin, are read as its subtitles without a fault.
 pub read_complete : (scope : Scope) (bs : List (List ℕ)) (room : ℕ) (ss : List SubtitleValue)
     → AreSubtitleBlocks scope room bs ss
     → read_at scope room None (concat bs) ≡ Ok ss
@@ -200,9 +200,9 @@ read_complete scope bs room ss r =
     kept_enough scope bs None room room ss r.each r.few r.few
     (rw r.kept (groups_give scope r.groups ss room r.outside r.are_of few))
 
--- ---- soundness: bytes that give subtitles are the blocks of them
+-- ---- soundness: bytes that are read as subtitles are their blocks
 
--- The blocks that were read, where some of a subtitle were read before.
+-- The blocks that were read, with some of a subtitle before them.
 pub record Reads
     (scope : Scope) (room : ℕ) (before : List (List ℕ)) (b : List ℕ) (ss : List SubtitleValue)
     : Type 0 where
@@ -215,7 +215,7 @@ pub record Reads
   pub outside : AllByRecursion (AreOutside scope) (filter (is_outside scope) groups)
   pub are_groups : AllZip AreBlocksOf ss (filter (is_inside scope) groups)
 
--- One block in front.
+-- One more block in front.
 in_front : (scope : Scope) (room : ℕ) (before k : List (List ℕ)) (b : List ℕ)
     (ss ts : List SubtitleValue) (groups : List (List (List ℕ)))
     → 128 ≤ length b
@@ -242,13 +242,13 @@ pub cons_ok : (s : SubtitleValue) (j : Judged) (ss : List SubtitleValue)
     → (rest : List SubtitleValue) × (j ≡ Ok rest) × (ss ≡ s ∷ rest)
 cons_ok s j ss e = grind (arith, nat_tests)
 
--- The groups of a file behind a first one.
+-- The groups of the rest of a file.
 abbrev HasGroups : Scope → List SubtitleValue → List (List (List ℕ)) → Type 0
 HasGroups scope ss gs =
     AllByRecursion (AreOutside scope) (filter (is_outside scope) gs)
     × AllZip AreBlocksOf ss (filter (is_inside scope) gs)
 
--- One that is outside.
+-- A group outside the scope.
 groups_outside : (scope : Scope) (ss : List SubtitleValue) (g : List (List ℕ))
     (gs : List (List (List ℕ)))
     → AreOutside scope g
@@ -260,7 +260,7 @@ groups_outside scope ss (b ∷ others) gs i h =
     let outside : begins_outside scope b ≡ true = rw same i.outside in
     (rw outside (i, h.0), rw outside h.1)
 
--- One that is inside.
+-- A group inside the scope.
 groups_inside : (scope : Scope) (s : SubtitleValue) (ss : List SubtitleValue) (g : List (List ℕ))
     (gs : List (List (List ℕ)))
     → is_outside scope g ≡ false
@@ -310,7 +310,7 @@ step_reads scope room begun before b ss (Ok (Give s)) le rep e go all =
     (subst (λ (x : List SubtitleValue). AllZip AreBlocksOf x
     (filter (is_inside scope) (own ∷ r.groups))) (sym c.2) has.1)
 
--- Bytes that give subtitles and no fault are blocks of them.
+-- Bytes that are read as subtitles without a fault are their blocks.
 pub read_sound : (scope : Scope) (room : ℕ) (begun : Option Begun) (before : List (List ℕ))
     (b : List ℕ) (ss : List SubtitleValue)
     → Represents scope begun before

@@ -1,4 +1,4 @@
--- The whole of a file: nothing is outside; main lemmas: all_inside, none_outside.
+-- The whole scope: no subtitle is outside; main lemmas: all_inside, none_outside.
 use Rattle.std.proofs.Common.{◌≡◌, ℕ, false, List, [], ◌∷◌, refl, ap, arith}
 use Rattle.std.proofs.lemmas.Bool.Decides.{nat_tests}
 use Rattle.std.specs.Prelude.{filter}
@@ -18,7 +18,7 @@ all_inside ([] ∷ gs) = ap (λ (l : List (List (List ℕ))). [] ∷ l) (all_ins
 all_inside ((b ∷ others) ∷ gs) =
     rw (inside_whole b) (ap (λ (l : List (List (List ℕ))). (b ∷ others) ∷ l) (all_inside gs))
 
--- And none is outside.
+-- No group is outside.
 pub none_outside : (gs : List (List (List ℕ))) → filter (is_outside whole) gs ≡ []
 none_outside [] = refl
 none_outside ([] ∷ gs) = none_outside gs

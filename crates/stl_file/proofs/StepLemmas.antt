@@ -1,5 +1,5 @@
--- `step_at`: the blocks that are read without a fault are those of subtitles; main lemmas:
--- step_sound, first_kept, further_kept, step_kept, step_passed.
+-- `step_at`: blocks that are read without a fault are those of subtitles; main lemmas: step_sound,
+-- first_kept, further_kept, step_kept, step_passed.
 use Rattle.std.proofs.Common.{◌≡◌, ℕ, Bool, false, true, cond, List, [], ◌∷◌, ◌++◌, length, refl}
 use Rattle.std.proofs.Common.{arith, length-append, Option, Some, None, Result, Ok, ◌+◌, ◌<◌, ◌≤◌}
 use Rattle.std.proofs.Common.{◌⊎◌}
@@ -19,14 +19,14 @@ use Rattle.stl_file.specs.Reading.{asked_of_first, passed_by}
 
 -- ---- a first block
 
--- Where there is an answer, no question is answered wrongly. Also for `GsiLemmas`.
+-- If there is a value, all checks passed. Also for `GsiLemmas`.
 pub asked-right : {X : Type 0} (qs : Questions) (answer : Result X StlFault) (x : X)
     → asked qs answer ≡ Ok x
     → (answer ≡ Ok x) × AllByRecursion (λ (q : StlFault × Bool). q.1 ≡ false) qs
 asked-right [] answer x e = (e, tt)
 asked-right (q ∷ qs) answer x e = grind (arith, nat_tests, asked-right qs answer x)
 
--- A first block that was read begins the subtitle that was read.
+-- A first block that is read begins the subtitle.
 pub first_sound : (b : List ℕ) (s : SubtitleValue)
     → first_at b ≡ Ok s
     → Begins s b × (s.text ≡ text_of b)
@@ -41,12 +41,12 @@ first_complete : (b : List ℕ) (s : SubtitleValue)
 unfolding first_at
 first_complete b s h = grind (arith, nat_tests)
 
--- A subtitle of which the first block was read.
+-- A subtitle whose first block was read.
 abbrev pub first_begun : SubtitleValue → List ℕ → Begun
 first_begun s b =
     record { subtitle = record s { text = text_of b }; blocks = 1; is_passed = false }
 
--- A block that begins a subtitle is kept.
+-- A block that begins a subtitle is accepted as its first.
 pub first_kept : (scope : Scope) (s : SubtitleValue) (b : List ℕ)
     → begins_outside scope b ≡ false
     → Begins s b
@@ -54,7 +54,7 @@ pub first_kept : (scope : Scope) (s : SubtitleValue) (b : List ℕ)
 unfolding kept_at
 first_kept scope s b inside h = rw (inside, first_complete b s h) refl
 
--- One that is outside begins one that is passed over.
+-- A block outside the scope begins a skipped subtitle.
 pub outside_kept : (scope : Scope) (b : List ℕ)
     → begins_outside scope b ≡ true
     → kept_at scope None b ≡ Ok (closed (ebn b) (passed_by b))
@@ -68,7 +68,7 @@ longer o b = record o {
   blocks = o.blocks + 1;
 }
 
--- A further block of a subtitle is kept.
+-- A further block of a subtitle is accepted.
 pub further_kept : (scope : Scope) (o : Begun) (b : List ℕ)
     → BelongsTo o.subtitle.sgn o.subtitle.sn b
     → o.blocks < 9
@@ -76,13 +76,13 @@ pub further_kept : (scope : Scope) (o : Begun) (b : List ℕ)
 unfolding kept_at
 further_kept scope o b belongs few = grind (arith, nat_tests)
 
--- ---- subtitles that are not whole
+-- ---- incomplete subtitles
 
 -- A block of this SGN and SN that is not the last.
 abbrev pub Within : ℕ → ℕ → List ℕ → Type 0
 Within sgn_is sn_is b = BelongsTo sgn_is sn_is b × (ebn b < 240)
 
--- The blocks of a subtitle before its last one. One that is passed over is outside.
+-- The blocks of a subtitle before its last one. A skipped subtitle is outside the scope.
 pub record IsOpen (scope : Scope) (o : Begun) (g : List (List ℕ)) : Type 0 where
   pub first : List ℕ
   pub others : List (List ℕ)
@@ -95,19 +95,19 @@ pub record IsOpen (scope : Scope) (o : Begun) (g : List (List ℕ)) : Type 0 whe
   pub size : length g ≡ o.blocks
   pub few : o.blocks ≤ 9
 
--- The blocks so far of the subtitle that was begun.
+-- The blocks so far of the current subtitle.
 abbrev pub Represents : Scope → Option Begun → List (List ℕ) → Type 0
 Represents scope None kept = kept ≡ []
 Represents scope (Some o) kept = IsOpen scope o kept
 
--- What a step makes of the kept blocks: where nothing is begun behind them they are none, or those
--- of a subtitle that is outside.
+-- The effect of a step on the blocks: without a current subtitle there are none, or those of a
+-- subtitle outside the scope.
 abbrev pub Reaches : Scope → List (List ℕ) → BlockStep → Type 0
 Reaches scope kept (More None) = (kept ≡ []) ⊎ AreOutside scope kept
 Reaches scope kept (More (Some o)) = IsOpen scope o kept
 Reaches scope kept (Give s) = AreBlocksOf s kept × (is_outside scope kept ≡ false)
 
--- One block more that is not the last.
+-- One more block that is not the last.
 all_push : (sgn_is sn_is : ℕ) (g : List (List ℕ)) (b : List ℕ)
     → AllByRecursion (Within sgn_is sn_is) g
     → Within sgn_is sn_is b
@@ -115,7 +115,7 @@ all_push : (sgn_is sn_is : ℕ) (g : List (List ℕ)) (b : List ℕ)
 all_push sgn_is sn_is [] b h w = (w, tt)
 all_push sgn_is sn_is (x ∷ g) b h w = (h.0, all_push sgn_is sn_is g b h.1 w)
 
--- The last block links them.
+-- The last block completes a chain.
 chain_push : (sgn_is sn_is : ℕ) (g : List (List ℕ)) (b : List ℕ)
     → AllByRecursion (Within sgn_is sn_is) g
     → BelongsTo sgn_is sn_is b
@@ -156,7 +156,7 @@ kept_further scope o kept b r size none e h k =
       append-nil,
     )
 
--- A kept block that was read belongs to the subtitle.
+-- A block that is not skipped belongs to the subtitle.
 kept_sound : (scope : Scope) (begun : Option Begun) (kept : List (List ℕ)) (b : List ℕ)
     (r : BlockStep)
     → length b ≡ 128
@@ -168,13 +168,13 @@ kept_sound : (scope : Scope) (begun : Option Begun) (kept : List (List ℕ)) (b 
 kept_sound scope None kept b r size none e h k = rw h (kept_first scope b r size none e k)
 kept_sound scope (Some o) kept b r size none e h k = kept_further scope o kept b r size none e h k
 
--- What was begun stays so.
+-- The current subtitle does not change.
 stays_begun : (scope : Scope) (begun : Option Begun) (kept : List (List ℕ))
     → Represents scope begun kept
     → Reaches scope kept (More begun)
 stays_begun scope begun kept h = grind (arith, nat_tests)
 
--- A block that was read without a fault goes with the kept ones, or is passed over.
+-- A block that is read without a fault belongs to the others, or is skipped.
 pub step_sound : (scope : Scope) (begun : Option Begun) (kept : List (List ℕ)) (b : List ℕ)
     (r : BlockStep)
     → length b ≡ 128
@@ -185,14 +185,14 @@ unfolding step_at
 step_sound scope begun kept b r size h e =
     grind (arith, nat_tests, append-nil, kept_sound, stays_begun)
 
--- A subtitle is given at a kept block.
+-- A subtitle ends with a block that is not skipped.
 pub step_gives : (scope : Scope) (begun : Option Begun) (b : List ℕ) (s : SubtitleValue)
     → step_at scope begun b ≡ Ok (Give s)
     → is_kept b ≡ true
 unfolding step_at
 step_gives scope begun b s e = grind (arith, nat_tests)
 
--- A block of a subtitle is kept.
+-- A block of a subtitle is not skipped.
 pub step_kept : (scope : Scope) (begun : Option Begun) (b : List ℕ)
     → (ebn b < 240) ⊎ (ebn b ≡ 255)
     → cf b ≡ 0
@@ -200,7 +200,7 @@ pub step_kept : (scope : Scope) (begun : Option Begun) (b : List ℕ)
 unfolding step_at
 step_kept scope begun b e c = grind (arith, nat_tests)
 
--- A comment or user data is passed over.
+-- Comments and user data are skipped.
 pub step_passed : (scope : Scope) (begun : Option Begun) (b : List ℕ)
     → is_passed_block b ≡ true
     → step_at scope begun b ≡ Ok (More begun)

@@ -22,7 +22,7 @@ pub length-concat : (bs : List (List ℕ))
 length-concat [] h = refl
 length-concat (x ∷ bs) h = grind (arith, nat_tests, length-append, length-concat bs h.1)
 
--- No more blocks are kept than there are.
+-- Skipping blocks leaves no more than there were.
 pub kept_few : (bs : List (List ℕ)) → length (filter is_kept bs) ≤ length bs
 kept_few bs = omega (arith, length-filter is_kept bs, count_by-le-length is_kept bs)
 
@@ -34,7 +34,7 @@ pub first_linked : (sgn_is sn_is : ℕ) (b : List ℕ) (bs : List (List ℕ))
     → BelongsTo sgn_is sn_is b
 first_linked sgn_is sn_is b bs h = grind (arith, nat_tests)
 
--- One block in front of linked ones.
+-- One more block in front of linked ones.
 pub linked_cons : (sgn_is sn_is : ℕ) (b : List ℕ) (bs : List (List ℕ))
     → BelongsTo sgn_is sn_is b
     → ebn b < 240
@@ -51,6 +51,6 @@ linked_text sgn_is sn_is (b ∷ []) c = grind (arith, nat_tests, text_short, app
 linked_text sgn_is sn_is (b ∷ x ∷ g) c =
     grind (arith, nat_tests, text_short, length-append, linked_text sgn_is sn_is (x ∷ g) c.2)
 
--- The subtitle of a file's blocks is one.
+-- The subtitle of a file's blocks is valid.
 pub blocks_subtitle : (s : SubtitleValue) (g : List (List ℕ)) → AreBlocksOf s g → IsSubtitle s
 blocks_subtitle s g h = grind (arith, nat_tests, linked_text, in_day, has_no_unused-texts)

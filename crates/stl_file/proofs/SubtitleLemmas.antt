@@ -9,7 +9,7 @@ use Rattle.std.proofs.lemmas.Bool.Decides.{nat_tests}
 use Rattle.stl_file.specs.Tti.{text_of, unused_space, tf, before_unused}
 use Rattle.stl_file.specs.Subtitle.{has_no_unused}
 
--- Up to a byte that is no unused space a byte more is used.
+-- A byte that is no unused space extends the used part by one.
 pub used_more : (xs : List ℕ) (i : ℕ)
     → i < length xs
     → (get_or xs i 0 ≡ unused_space → ⊥)
@@ -17,14 +17,14 @@ pub used_more : (xs : List ℕ) (i : ℕ)
 used_more xs i lt ne =
     rw (take_more xs i 0 lt, append_assoc, drop_more xs i 0 lt, ne_eqb _ unused_space ne) refl
 
--- Nothing is used from an unused space on.
+-- The used part ends at an unused space.
 pub used_up : (xs : List ℕ) (i : ℕ)
     → i < length xs
     → get_or xs i 0 ≡ unused_space
     → take i xs ++ before_unused (drop i xs) ≡ take i xs
 used_up xs i lt e = rw (drop_more xs i 0 lt, e) (append-nil (take i xs))
 
--- All is used where there is none.
+-- Without unused space, everything is used.
 pub used_all : (xs : List ℕ) (i : ℕ)
     → length xs ≤ i
     → take i xs ++ before_unused (drop i xs) ≡ take (length xs) xs
@@ -41,7 +41,7 @@ pub has_no_unused-append : (xs ys : List ℕ)
 has_no_unused-append [] ys h k = k
 has_no_unused-append (x ∷ xs) ys h k = grind (arith, nat_tests, has_no_unused-append xs ys)
 
--- What stands before the first unused space has none.
+-- The part before the first unused space has none.
 pub has_no_unused-before_unused : (xs : List ℕ) → has_no_unused (before_unused xs) ≡ true
 has_no_unused-before_unused [] = refl
 has_no_unused-before_unused (x ∷ xs) = grind (arith, nat_tests, has_no_unused-before_unused xs)
@@ -70,7 +70,7 @@ pub clean_drop : (n : ℕ) (xs : List ℕ)
 clean_drop zero xs h = h
 clean_drop (suc n) xs h = grind (arith, nat_tests, clean_drop n)
 
--- A text after which unused space was put comes back.
+-- A text followed by unused space is read back.
 pub before_clean : (xs : List ℕ) (k : ℕ)
     → has_no_unused xs ≡ true
     → before_unused (xs ++ replicate k unused_space) ≡ xs
@@ -78,7 +78,7 @@ before_clean [] zero h = refl
 before_clean [] (suc k) h = refl
 before_clean (x ∷ xs) k h = grind (arith, nat_tests, before_clean xs k)
 
--- What stands before the first unused space is no longer.
+-- The part before the first unused space is no longer than the whole.
 before_short : (xs : List ℕ) → length (before_unused xs) ≤ length xs
 before_short [] = omega arith
 before_short (x ∷ xs) = grind (arith, nat_tests, before_short xs)

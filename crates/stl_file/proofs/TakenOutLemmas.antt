@@ -1,5 +1,5 @@
--- A file from which the blocks of subtitles outside were taken out gives the same, block numbers
--- aside; main lemmas: scope_law, day_law.
+-- A file without the blocks of subtitles outside the scope has the same results, apart from block
+-- numbers; main lemmas: scope_law, day_law.
 use Rattle.std.proofs.Common.{◌≡◌, ℕ, Bool, false, true, List, [], ◌∷◌, ◌++◌, length, refl}
 use Rattle.std.proofs.Common.{arith, length-append, Option, Some, None, Result, Ok, Err}
 use Rattle.std.proofs.Common.{zero, suc, ◌-◌, ◌<◌, ◌≤◌, ◌⊎◌, inl, inr, ◌∙◌, sym, ltb}
@@ -25,22 +25,22 @@ use Rattle.stl_file.proofs.FindingsLemmas.{findings_block, findings_end, finding
 use Rattle.stl_file.proofs.StepLemmas.{step_kept, step_passed}
 use Rattle.stl_file.proofs.TimeCodeLemmas.{in_day}
 
--- Nothing is outside the day.
+-- No subtitle is outside the day.
 pub day_law : LawOfWholeDay
 unfolding begins_outside
 day_law scope b = grind (arith, nat_tests, in_day (tci b))
 
 -- ---- the two readings
 
--- What both have begun: nothing, the same subtitle, or the one of the file a subtitle that is
--- passed over, of which the other has no block.
+-- The current subtitles of both readings: none; the same; or a skipped subtitle in the file, of
+-- which the other has no block.
 abbrev HaveBegun : Option Bool → Option Begun → Option Begun → Type 0
 HaveBegun None full cut = (full ≡ None) × (cut ≡ None)
 HaveBegun (Some true) full cut = (o : Begun) × (full ≡ Some o) × (cut ≡ Some o)
 HaveBegun (Some false) full cut =
     (o : Begun) × (full ≡ Some o) × (o.is_passed ≡ true) × (cut ≡ None)
 
--- What comes of the same step in both.
+-- The results after the same step in both.
 same_after : (room room' : ℕ) (next next' : Option Begun → Findings) (b : List ℕ)
     (step : Result BlockStep StlFault) (within : Option Bool)
     → ((n : Option Begun) → step ≡ Ok (More n) → HaveBegun within n n)
@@ -59,7 +59,7 @@ same_after room room' next next' b (Ok (Give s)) within more give passed on read
 
 -- ---- one block
 
--- A block after which reading goes on is one of a subtitle, or is passed over.
+-- A block after which reading continues belongs to a subtitle, or is skipped.
 kept_block : (scope : Scope) (begun : Option Begun) (b : List ℕ) (room : ℕ)
     (next : Option Begun → Findings)
     → is_passed_block b ≡ false
@@ -68,20 +68,20 @@ kept_block : (scope : Scope) (begun : Option Begun) (b : List ℕ) (room : ℕ)
 unfolding step_at
 kept_block scope begun b room next kept read = grind (arith, nat_tests)
 
--- A subtitle that is not outside is the same all the day.
+-- A subtitle that is not outside is read in the same way for the whole day.
 kept_first_same : (scope : Scope) (b : List ℕ)
     → begins_outside scope b ≡ false
     → kept_at scope None b ≡ kept_at (all_day scope) None b
 unfolding kept_at
 kept_first_same scope b inside = rw (inside, day_law scope b) refl
 
--- And so is a further block.
+-- So is a further block.
 kept_further_same : (scope : Scope) (o : Begun) (b : List ℕ)
     → kept_at scope (Some o) b ≡ kept_at (all_day scope) (Some o) b
 unfolding kept_at
 kept_further_same scope o b = refl
 
--- EBN FF alone ends a subtitle.
+-- Only EBN FF ends a subtitle.
 ends_first : (scope : Scope) (b : List ℕ) (n : Option Begun)
     → begins_outside scope b ≡ false
     → kept_at scope None b ≡ Ok (More n)
@@ -108,7 +108,7 @@ passed_both : (scope : Scope) (b : List ℕ) (within : Option Bool)
     → HaveBegun (within_after scope within b) (passed_at b) (passed_at b)
 passed_both scope b within stay = grind (arith, nat_tests)
 
--- The first block of a subtitle that is outside.
+-- The first block of a subtitle outside the scope.
 outside_step : (scope : Scope) (b : List ℕ)
     → begins_outside scope b ≡ true
     → kept_at scope None b ≡ Ok (More (passed_at b))
@@ -120,7 +120,7 @@ outside_begun : (scope : Scope) (b : List ℕ)
     → HaveBegun (within_after scope None b) (passed_at b) None
 outside_begun scope b outside = grind (arith, nat_tests)
 
--- A further one.
+-- A further block of it.
 ends_passed : (scope : Scope) (o : Begun) (b : List ℕ) (n : Option Begun)
     → o.is_passed ≡ true
     → kept_at scope (Some o) b ≡ Ok (More n)
@@ -141,9 +141,9 @@ fault_of_further : (scope : Scope) (o : Begun) (b : List ℕ) (f : StlFault)
 unfolding kept_at
 fault_of_further scope o b f e = grind (arith, nat_tests)
 
--- ---- the blocks that are left
+-- ---- the remaining blocks
 
--- A block that stays, and one that does not.
+-- A block that stays, and one that is removed.
 stays_is : (scope : Scope) (within : Option Bool) (b : List ℕ) (bs : List (List ℕ))
     → is_passed_block b ≡ false
     → stays scope within b ≡ true
@@ -164,11 +164,11 @@ module _ (scope : Scope) (b : List ℕ) (bs : List (List ℕ)) (within : Option 
     → unnumbered (findings_at scope room full (concat bs))
     ≡ unnumbered (findings_at (all_day scope) more cut
     (concat (taken_out scope (within_after scope within b) bs)))) where
-  -- What comes after the block in the file.
+  -- The results after the block in the file.
   abbrev next : Option Begun → Findings
   next n = findings_at scope room n (concat bs)
 
-  -- And in the one from which blocks were taken out.
+  -- The results after it in the file without the removed blocks.
   abbrev next' : Option Begun → Findings
   next' n = findings_at (all_day scope) (room' - 1) n
       (concat (taken_out scope (within_after scope within b) bs))
@@ -196,7 +196,7 @@ module _ (scope : Scope) (b : List ℕ) (bs : List (List ℕ)) (within : Option 
       (within_after scope within b) more give (passed_both scope b within stay)
       (λ full cut h. on full cut (room' - 1) h (omega arith)) read)
 
-  -- A step of the file alone.
+  -- A step in the file only.
   gone_cut : (step : Result BlockStep StlFault)
       → stays scope within b ≡ false
       → ((n : Option Begun) → step ≡ Ok (More n)
@@ -214,7 +214,7 @@ module _ (scope : Scope) (b : List ℕ) (bs : List (List ℕ)) (within : Option 
       rw (gone_is scope within b bs kept gone)
       (on n None room' (more n refl) (omega arith) read)
 
--- A step that goes on is one, gives nothing and tells nothing.
+-- A step has only one result.
 same_step : {step : Result BlockStep StlFault} {n m : Option Begun}
     → step ≡ Ok (More n)
     → step ≡ Ok (More m)
@@ -233,7 +233,7 @@ no_fault : {step : Result BlockStep StlFault} {n : Option Begun} {f : StlFault}
     → ⊥
 no_fault a b = cc
 
--- A block that is kept, by what both have begun.
+-- A block that is not skipped, by the current subtitles of both.
 kept_cut : (scope : Scope) (b : List ℕ) (bs : List (List ℕ)) (within : Option Bool)
     (full cut : Option Begun) (room room' : ℕ)
     → length b ≡ 128
@@ -350,7 +350,7 @@ same_cut scope (b ∷ bs) within full cut (suc room) room' each begun le read =
 -- ---- the whole file
 
 module _ (g : List ℕ) (size : length g ≡ 1024) where
-  -- What a file gives behind its GSI block.
+  -- The results of a file after its GSI block.
   behind_gsi : (scope : Scope) (rest : List ℕ)
       → findings_for scope (g ++ rest) ≡ findings_opened scope rest (gsi_at scope.takes_open g)
   unfolding findings_for gsi_of
@@ -359,7 +359,7 @@ module _ (g : List ℕ) (size : length g ≡ 1024) where
       le-ltb _ _ (omega (arith, size, length-append g rest)) in
       rw (long, drop_at g rest 1024 size, take_at g rest 1024 size) refl
 
--- What comes after a GSI block that is taken.
+-- The results after an accepted GSI block.
 opened_law : (scope : Scope) (bs : List (List ℕ)) (gsi : Result (List ℕ) StlFault)
     → AllByRecursion IsBlock bs
     → is_read_whole (findings_opened scope (concat bs) gsi) ≡ true
@@ -369,7 +369,7 @@ opened_law scope bs (Err f) each read = absurd cc
 opened_law scope bs (Ok g) each read =
     same_cut scope bs None None None most_blocks most_blocks each (refl, refl) (omega arith) read
 
--- A part of a file is the file from which the rest was taken out.
+-- A part of a file has the same results as the file without the rest.
 pub scope_law : LawOfScope
 scope_law scope g bs size each read =
     rw (

@@ -1,4 +1,4 @@
--- No sync byte stands in the bytes so far.
+-- The bytes so far contain no sync byte.
 use Rattle.std.proofs.Common.{◌≡◌, ◌≤◌, ◌-◌, ◌+◌, ◌<◌, List, [], ◌++◌, ℕ, length, take, false}
 use Rattle.mpeg_ts.specs.GoodPackets.{hole_size}
 use Rattle.mpeg_ts.specs.Joining.{JoiningValue, has_ended}

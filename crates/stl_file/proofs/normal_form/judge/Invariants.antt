@@ -1,4 +1,5 @@
--- What the first pass keeps: the counts so far, with those of what is left, are those of the whole.
+-- Invariant of the first pass: the counts so far and those of the remaining subtitles are the
+-- counts of all.
 use Rattle.std.proofs.Common.{◌≡◌, ◌≤◌, ◌-◌}
 use Rattle.stl_file.specs.NormalCounts.{normal_counts}
 use Rattle.stl_file.specs.NormalForm.{subtitles_of}

@@ -1,4 +1,4 @@
--- What writes the rest has then written one subtitle more.
+-- Writing the rest then writes one more subtitle.
 use Rattle.std.proofs.Common.{arith}
 use Rattle.std.proofs.lemmas.Bool.Decides.{nat_tests}
 use Rattle.std.proofs.lemmas.Grind.{common_steps}

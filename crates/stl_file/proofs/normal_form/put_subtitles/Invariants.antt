@@ -1,4 +1,4 @@
--- What the second pass keeps: what writes the subtitles that are left has written all of them.
+-- Invariant of the second pass: writing the remaining subtitles completes writing all of them.
 use Rattle.std.proofs.Common.{◌≡◌, ◌≤◌, ◌-◌, List, ℕ, Option, Result, true, is_ok}
 use Rattle.std.specs.List.{concat}
 use Rattle.sub_io.specs.Device.{Writes}

@@ -1,4 +1,4 @@
--- Each return of the loop over blocks, and one block more.
+-- Each return of the loop over blocks, and one more block.
 use Rattle.std.proofs.Common.{rules, refl, arith}
 use Rattle.std.proofs.lemmas.Bool.Decides.{nat_tests}
 use Rattle.std.proofs.lemmas.Bool.{ne_eqb}

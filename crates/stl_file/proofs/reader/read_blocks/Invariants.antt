@@ -1,4 +1,4 @@
--- What the loop keeps: the blocks that were read so far, and room for those that may follow.
+-- Invariant of the loop: the blocks read so far, and room for those that may follow.
 use Rattle.std.proofs.Common.{◌≡◌, ◌≤◌, ◌-◌}
 use Rattle.std.specs.Prelude.{option_map}
 use Rattle.stl_file.specs.Reading.{BegunFits, begun_in, passed_by}

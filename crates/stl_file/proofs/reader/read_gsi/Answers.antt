@@ -1,4 +1,4 @@
--- What the GSI block of told bytes is, and that no file begins with bytes that were refused.
+-- The GSI block of known bytes, and that no file begins with rejected bytes.
 use Rattle.std.proofs.Common.{arith, rules}
 use Rattle.std.proofs.lemmas.Grind.{common_steps}
 use Rattle.stl_file.proofs.OpeningLemmas.{bad_opening, if_err, if_ok, open_rest, open_short}

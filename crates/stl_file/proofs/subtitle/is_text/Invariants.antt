@@ -1,4 +1,4 @@
--- What the loop keeps: the test of the whole text is the test of what is left.
+-- Invariant of the loop: the result for the rest of the text is the result for all of it.
 use Rattle.std.proofs.Common.{◌≡◌, drop}
 use Rattle.stl_file.specs.Subtitle.{has_no_unused}
 use Rattle.stl_file.proofs.subtitle.is_text.Given as goal

@@ -1,4 +1,4 @@
--- What the loop keeps: no unused space was met so far.
+-- Invariant of the loop: no unused space was found so far.
 use Rattle.std.proofs.Common.{◌≡◌, ◌++◌, take, drop}
 use Rattle.stl_file.specs.Tti.{before_unused}
 use Rattle.stl_file.proofs.subtitle.used_of.Given as goal

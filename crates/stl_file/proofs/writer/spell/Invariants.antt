@@ -1,4 +1,4 @@
--- What the loop keeps: the blocks so far, with those of the rest of the text, are all blocks.
+-- Invariant of the loop: the blocks so far and those of the rest of the text are all blocks.
 use Rattle.std.proofs.Common.{◌≡◌, ◌≤◌, ◌+◌, ◌*◌, ◌++◌, length}
 use Rattle.std.specs.List.{concat}
 use Rattle.stl_file.specs.NormalForm.{blocks_from, blocks_of, full_pieces}

@@ -1,4 +1,4 @@
--- Nothing waits: none_waits.
+-- Nothing is ready: none_waits.
 use Rattle.std.proofs.Common.{◌∙◌, ap}
 use Rattle.mpeg_ts.specs.Joining.{JoiningValue}
 use Rattle.mpeg_ts.proofs.ReadyLemmas.{none_waits}

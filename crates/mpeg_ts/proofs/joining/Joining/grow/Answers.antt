@@ -1,4 +1,4 @@
--- The PES packet that was found waits.
+-- The PES packet that was found is ready.
 use Rattle.std.proofs.Common.{◌≤◌, List, ℕ, arith, length, subst, take}
 use Rattle.ttx_pes.specs.Pieces.{IsPiece}
 use Rattle.mpeg_ts.proofs.joining.Joining.grow.Goals as goal

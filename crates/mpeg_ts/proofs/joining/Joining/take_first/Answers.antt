@@ -1,4 +1,4 @@
--- A piece, or nothing: piece_first.
+-- A PES packet, or nothing: piece_first.
 use Rattle.mpeg_ts.proofs.ReadyLemmas.{piece_first}
 use Rattle.mpeg_ts.proofs.joining.Joining.take_first.Goals as goal
 

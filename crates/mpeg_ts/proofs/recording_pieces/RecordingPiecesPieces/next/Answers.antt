@@ -1,5 +1,5 @@
--- What came, that the bytes which were taken give it, and that no byte was asked for behind those
--- that give some: rest_came, piece_came, next_gives.
+-- The next item; that the bytes consumed contain it; and that no byte was read after those that
+-- contain an item: rest_came, piece_came, next_gives.
 use Rattle.std.proofs.Common.{[], refl}
 use Rattle.std.proofs.lemmas.Result.{err_from_is_err_and}
 use Rattle.mpeg_ts.specs.Stream.{still_given}

@@ -1,4 +1,4 @@
--- All that is left is given, and nothing follows: rest_taken.
+-- All remaining bytes are returned, and nothing follows: rest_taken.
 use Rattle.mpeg_ts.proofs.RecordingLemmas.{rest_taken}
 use Rattle.mpeg_ts.proofs.recording_pieces.RecordingPiecesPieces.read_rest.Goals as goal
 

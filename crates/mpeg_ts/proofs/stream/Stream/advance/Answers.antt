@@ -1,4 +1,4 @@
--- The bytes from the item after so many on: ahead_moved.
+-- The bytes after skipping `count` of them: ahead_moved.
 use Rattle.mpeg_ts.specs.Stream.{StreamValue}
 use Rattle.mpeg_ts.specs.contracts.stream.Stream.{the_view}
 use Rattle.mpeg_ts.proofs.StreamLemmas.{ahead_moved}

@@ -1,5 +1,5 @@
--- Where it is known what stands next, at least a packet is held: needs_packet. No byte is asked for
--- behind those that tell it: need_asks.
+-- If the next item is known, at least a packet is buffered: needs_packet. No byte is read after
+-- those that determine it: need_asks.
 use Rattle.std.proofs.Common.{◌≡◌, ◌≤◌, ◌+◌, ◌∙◌, [], ap, arith, is_ok, sym}
 use Rattle.mpeg_ts.specs.PacketsInStep.{bytes_needed}
 use Rattle.mpeg_ts.specs.Stream.{StreamValue}

@@ -1,4 +1,4 @@
--- What is still to be given is what it was, and no pull has failed.
+-- The output still to come is the same, and no pull has failed.
 use Rattle.std.proofs.Common.{◌≡◌, true}
 use Rattle.sub_io.specs.Asking.{Asks}
 use Rattle.mpeg_ts.specs.Stream.{bytes_at_most, given_of, gives_some}

@@ -1,4 +1,4 @@
--- What is left after a byte that was skipped: byte_skipped.
+-- The output still to come after a skipped byte: byte_skipped.
 use Rattle.std.proofs.Common.{◌≡◌, ◌≤◌, ◌+◌, ℕ, drop, refl, ap, ◌∙◌, arith, false}
 use Rattle.mpeg_ts.specs.Stream.{StreamValue, after_skipped, bytes_ahead}
 use Rattle.mpeg_ts.proofs.StreamLemmas.{byte_skipped}

@@ -1,4 +1,4 @@
--- What is left after bytes that no packet begins at: junk_given.
+-- The output still to come after bytes that contain no packet: junk_given.
 use Rattle.std.proofs.Common.{◌≡◌, ◌≤◌, ◌+◌, ◌<◌, ◌++◌, ℕ, List, [], length, take, refl, ap, sym}
 use Rattle.std.proofs.Common.{◌∙◌, arith, false, rules, subst}
 use Rattle.mpeg_ts.specs.GoodPackets.{hole_size}

@@ -1,4 +1,4 @@
--- What is left after packets that were lent: others_given, packet_given, lent_passed.
+-- The output still to come after lent packets: others_given, packet_given, lent_passed.
 use Rattle.std.proofs.Common.{◌≡◌, ◌+◌, ◌-◌, ◌≤◌, [], length, true, false}
 use Rattle.std.proofs.Common.{ap, sym, ◌∙◌, arith, length-take-le, refl, rules}
 use Rattle.std.proofs.lemmas.List.{nil_from_length}

@@ -1,4 +1,4 @@
--- What was taken and what may be are what they were together, and no pull has failed.
+-- The bytes read and those that may be read are the same in total, and no pull has failed.
 use Rattle.std.proofs.Common.{length, true, ◌+◌, ◌-◌, ◌≡◌, ◌≤◌}
 use Rattle.mpeg_ts.specs.TakenBytes.{TakesFront}
 use Rattle.mpeg_ts.specs.Window.{AsksUpTo, held_and_left}
