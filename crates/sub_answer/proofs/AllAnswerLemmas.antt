@@ -1,5 +1,5 @@
--- What is answered to `check --all` by what a printer was told, and how counts go with it. Main
--- lemmas: answers_cut, answers_end, counts.
+-- The answer of `check --all`, given what a printer was told, and its counts. Main lemmas:
+-- answers_cut, answers_end, counts.
 use Rattle.std.proofs.Common.{◌≡◌, ◌≢◌, ◌∙◌, ap, refl, sym, subst, arith, inl, inr, ℕ, ◌+◌, ◌==◌}
 use Rattle.std.proofs.Common.{List, [], ◌++◌, Bool, true, false, Option, Some, None, Result, Ok}
 use Rattle.std.proofs.Common.{Err, min, ◌∷◌}
@@ -46,7 +46,7 @@ use Rattle.sub_listing.proofs.PrintingLemmas.{printed-status}
 use Rattle.sub_answer.proofs.BothFilesLemmas.{Exactly, exactly-accepted, exactly-accepted_by}
 use Rattle.sub_answer.proofs.BothFilesLemmas.{pes-fails, status-told, stl-fails}
 
--- A sink in a call, by what it had taken and has taken.
+-- A sink in a call, given its contents before and after.
 abbrev sink : Option (List ℕ) → ℕ → Option (List ℕ) → ℕ → SinkCall
 sink old old_count new new_count = record {
   old = old;
@@ -55,7 +55,7 @@ sink old old_count new new_count = record {
   new_count = new_count;
 }
 
--- Lines were put, and then a listing was printed.
+-- Lines were written, and then a listing was printed.
 printed-after : (old mid new : Option (List ℕ)) (m n p : ℕ) (text : List ℕ) (listing : Listing)
     (status : Status)
     → Appends old mid text
@@ -81,7 +81,7 @@ unfolding PrintsOrFails
 printed-cut old new m n text listing part risen =
     inr (risen, AppendsPrefix-first old new text listing.text part, refl)
 
--- Nothing is refused exactly where nothing is told first.
+-- There is no fault exactly if there is no first one.
 none-first : (events : List Event)
     → (min (refusals events) most_counted == 0) ≡ is_none (first_told events)
 none-first [] = refl
@@ -90,7 +90,7 @@ none-first (Ended rule frame ∷ events) = let rest = none-first events in grind
 none-first (PassedUntil f ∷ events) = let rest = none-first events in grind (arith, nat_tests)
 none-first (Trusted from to ∷ events) = let rest = none-first events in grind (arith, nat_tests)
 
--- The status of what was read, by whether anything was refused.
+-- The status of what was read, given whether there was a fault.
 abbrev by_first : Option CheckFault → Status
 by_first None = Done
 by_first (Some f) = Refused
@@ -117,7 +117,7 @@ answer-fails : (first : ℕ) (events : List Event) (answer : Result (Option Acce
     → failed is_failure answer ≡ true
 answer-fails first events answer ended is = grind (arith, nat_tests, never-fault, read-status)
 
--- Want of memory is told last, after faults of the subtitle file.
+-- Want of memory is reported last, after faults of the subtitle file.
 memory-last : (drawing : Drawing) (options : OptionsValue) (told pes old new : Option (List ℕ))
     (first : ℕ) (events : List Event) (answer : Result (Option Accepted) CheckFault) (block : ℕ)
     → answer ≡ Err (fault.Subtitles (load_fault block load.Memory))
@@ -133,14 +133,14 @@ memory-last drawing options told pes old new first events answer block memory li
       subst (AreListed drawing options file pes events) memory (listed file heard),
 )
 
--- Where no refusal is told nothing is told of the subtitle file.
+-- Without a fault there are no events of the subtitle file.
 untold : (fs : List LoadFault) (more : List Event)
     → first_told (subtitle_events fs ++ more) ≡ None
     → fs ≡ []
 untold [] more none = refl
 untold (f ∷ fs) more none = cc
 
--- Where nothing failed, the last line says that the files are accepted exactly where they are.
+-- If nothing failed, the last line says that the files are accepted exactly if they are.
 done-exactly :
     (drawing : Drawing) (options : OptionsValue) (file bytes : List ℕ) (pes : Option (List ℕ))
     (first : ℕ) (events : List Event) (answer : Result (Option Accepted) CheckFault)
@@ -277,8 +277,7 @@ answers_end
           block memory t.listed text);
     }
 
--- What is answered of a sink is answered of one with the same contents and count. For
--- `print_every_fault`.
+-- The answer is the same for sinks with the same contents and count. For `print_every_fault`.
 pub answers_at :
     (drawing : Drawing) (options : OptionsValue) (stl pes : SourceCall) (first : FirstNumber)
     (Untouched : Type 0) (old mid new : Option (List ℕ)) (m n p : ℕ) (status : Status)
@@ -291,7 +290,7 @@ answers_at drawing options stl pes first Untouched old mid new m n p status answ
 
 -- ---- counts
 
--- A device whose failure ends with `Fault` fails once at most, and not where the status is another.
+-- A device whose failure ends with `Fault` fails at most once, and only then.
 pub counted_by : (b : Bool) (old new : ℕ) (status : Status)
     → RisesIf old b new
     → (b ≡ true → status ≢ Fault → ⊥)
@@ -299,7 +298,7 @@ pub counted_by : (b : Bool) (old new : ℕ) (status : Status)
 counted_by true old new status rises is = grind (arith, is)
 counted_by false old new status rises is = grind (arith, nat_tests)
 
--- An answer that tells that a source failed has the status `Fault`.
+-- An answer that reports a failed source has the status `Fault`.
 fault-status : (is_one : CheckFault → Bool)
     → ((f : CheckFault) → is_one f ≡ true → is_failure f ≡ true)
     → (first : ℕ) (events : List Event) (answer : Result (Option Accepted) CheckFault)
@@ -308,7 +307,7 @@ fault-status : (is_one : CheckFault → Bool)
 fault-status is_one fails first events (Ok a) is = absurd (true≢false (sym is))
 fault-status is_one fails first events (Err f) is = ap (λ b. status_of (kind_by b)) (fails f is)
 
--- The source of either file fails once at most, and not where the status is another than `Fault`.
+-- The source of either file fails at most once, and only if the status is `Fault`.
 pub counts : (drawing : Drawing) (options : OptionsValue) (stl pes : SourceCall)
     (first : FirstNumber) (Untouched : Type 0) (out : SinkCall) (status : Status)
     → AnswersAll drawing options stl pes first Untouched out status

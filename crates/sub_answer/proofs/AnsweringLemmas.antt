@@ -1,5 +1,5 @@
--- The answer of a check by the contract of `check_files`: as_answered; where the files are
--- accepted, `done-exactly`.
+-- The answer of a check from the contract of `check_files`: as_answered; if the files are accepted,
+-- `done-exactly`.
 use Rattle.std.proofs.lemmas.Bool.Decides.{nat_tests}
 use Rattle.std.proofs.Common.{◌≡◌, ◌≢◌, ◌↔◌, ℕ, List, Some, Result, Ok, Err, true, false}
 use Rattle.std.proofs.Common.{ap, arith, refl, sym, subst, Bool}
@@ -40,7 +40,7 @@ use Rattle.sub_answer.proofs.BothFilesLemmas.{Exactly, exactly-accepted, exactly
 use Rattle.sub_answer.proofs.BothFilesLemmas.{status-told}
 use Rattle.sub_answer.proofs.BothFilesLemmas.{told-fails, told-not_done, told-runs}
 
--- A file whose PES file was looked at gives a programme. For `done-exactly`.
+-- If the PES file was read, the subtitle file gives a programme. For `done-exactly`.
 has_programme :
     (drawing : Drawing) (file : List ℕ) (answer : Result Accepted CheckFault)
     → (((programme : ProgrammeValue) → loaded drawing file ≢ Ok programme)
@@ -57,7 +57,7 @@ has_programme drawing file answer refused looked = go (loaded drawing file) refl
     go (Err f) is =
         let is_refused = refused (λ programme same. cc) in cc
 
--- A file that gives a programme is refused for want of memory or a failing source alone. For
+-- A file that gives a programme is refused only for want of memory or a failing source. For
 -- `looked-at`.
 failure-of_programme :
     (drawing : Drawing) (file : List ℕ) (programme : ProgrammeValue) (block : ℕ)
@@ -69,7 +69,7 @@ failure-of_programme drawing file programme block (load.File stl.Read) is told =
 failure-of_programme drawing file programme block load.Memory is told = refl
 failure-of_programme drawing file programme block kind is told = cc
 
--- The subtitle file gives a programme, so a fault that is no failure is none of it. For
+-- The subtitle file gives a programme, so a fault that is no failure is not one of it. For
 -- `done-exactly`.
 looked-at :
     (drawing : Drawing) (file : List ℕ) (programme : ProgrammeValue) (f : CheckFault)
@@ -79,7 +79,7 @@ looked-at :
     → (is_subtitle_fault f ≡ false) × (is_pes_read f ≡ false)
 looked-at drawing file programme f is told runs = grind (arith, nat_tests, failure-of_programme)
 
--- The status is that of what is done exactly where the files are accepted.
+-- The status is `Done` exactly if the files are accepted.
 done-exactly :
     (drawing : Drawing) (options : OptionsValue) (file bytes : List ℕ)
     (first : ℕ) (answer : Result Accepted CheckFault) (Means : Type 0)
@@ -107,7 +107,7 @@ answer-fails : (first : ℕ) (answer : Result Accepted CheckFault)
 answer-fails first (Ok a) is = cc
 answer-fails first (Err f) is = told-fails (is_failure f) is
 
--- What `check_files` tells of both files, and the line that is printed. For `print_verdict`.
+-- The answer of `check_files` for both files, and the line that is printed. For `print_verdict`.
 pub as_answered :
     (drawing : Drawing) (options : OptionsValue) (stl pes : SourceCall) (first : FirstNumber)
     (Untouched : Type 0) (out : SinkCall) (status : Status) (number : ℕ)
@@ -151,13 +151,13 @@ as_answered
           ));
     }
 
--- What is answered where the source failed before its first PES packet was found, by whatever
--- options. For `check_from`.
+-- The answer if the source failed before its first PES packet was found, with any options. For
+-- `check_from`.
 pub no_piece_read : (programme : ProgrammeValue) (options : OptionsValue) (bytes : List ℕ)
     → IsCheckedBy programme options bytes (Err (fault.Pes 0 pes_fault.Read))
 no_piece_read programme options bytes = grind (arith, nat_tests, no_events)
 
--- An answer that tells that a source failed has the status `Fault`.
+-- An answer that reports a failed source has the status `Fault`.
 verdict-fault : (is_one : CheckFault → Bool)
     → ((f : CheckFault) → is_one f ≡ true → is_failure f ≡ true)
     → (first : ℕ) (answer : Result Accepted CheckFault)
@@ -166,8 +166,8 @@ verdict-fault : (is_one : CheckFault → Bool)
 verdict-fault is_one fails first (Ok a) is = absurd (true≢false (sym is))
 verdict-fault is_one fails first (Err f) is = ap (λ b. status_of (kind_by b)) (fails f is)
 
--- A source whose failure such an answer tells fails once at most, and not where the status is
--- another. For `print_verdict`.
+-- A source whose failure such an answer reports fails at most once, and only then. For
+-- `print_verdict`.
 pub source_counts : (is_one : CheckFault → Bool)
     → ((f : CheckFault) → is_one f ≡ true → is_failure f ≡ true)
     → (out : SinkCall) (status : Status) (first old new : ℕ) (answer : Result Accepted CheckFault)

@@ -1,5 +1,5 @@
--- What the status of a check tells of both files, by the listing that goes with it. Main lemmas:
--- status-told, exactly-accepted, exactly-accepted_by.
+-- What the status of a check says about both files, from the listing that belongs to it. Main
+-- lemmas: status-told, exactly-accepted, exactly-accepted_by.
 use Rattle.std.proofs.Common.{◌≡◌, ◌≢◌, ◌↔◌, ◌∙◌, ap, arith, refl, sym, ℕ, List, Bool, true}
 use Rattle.std.proofs.Common.{false, Result, Ok, Err}
 use Rattle.std.specs.Prelude.{IsFalse, IsOk}
@@ -35,28 +35,28 @@ use Rattle.sub_listing.specs.declared.status.Status.TheVariants.{Done, Fault}
 use Rattle.sub_listing.proofs.PrintingLemmas.{did_not_rise, printed-status, printed-whole}
 use Rattle.sub_answer.specs.BothFiles.{TellsSources, TellsStatus}
 
--- ---- what is told of a fault, and its status
+-- ---- the line of a fault, and its status
 
--- It never ends as what is done does.
+-- It is never `Done`.
 pub told-not_done : (b : Bool) → status_of (kind_by b) ≢ Done
 told-not_done true e = cc
 told-not_done false e = cc
 
--- It ends as a failure only where it is one.
+-- It is `Fault` only for a failure.
 pub told-fails : (b : Bool) → status_of (kind_by b) ≡ Fault → b ≡ true
 told-fails true e = refl
 told-fails false e = cc
 
--- Where it is none, it ends otherwise.
+-- Otherwise it is another status.
 pub told-runs : (b : Bool) → status_of (kind_by b) ≢ Fault → b ≡ false
 told-runs true other = absurd (other refl)
 told-runs false other = refl
 
--- That the source of the subtitle file failed is a failure.
+-- A failed source of the subtitle file is a failure.
 pub stl-fails : (f : CheckFault) → is_stl_read f ≡ true → is_failure f ≡ true
 stl-fails f is = grind (arith, nat_tests)
 
--- That the source of the PES file failed is a failure.
+-- A failed source of the PES file is a failure.
 pub pes-fails : (f : CheckFault) → is_pes_read f ≡ true → is_failure f ≡ true
 pes-fails f is = grind (arith, nat_tests)
 
@@ -81,10 +81,10 @@ memory-fault (Err (fault.Subtitles f)) fails read fine =
 memory-fault (Err (fault.Pes pes pes_fault.Read)) fails read fine = cc
 memory-fault (Err f) fails read fine = cc
 
--- ---- what is accepted
+-- ---- acceptance
 
--- Where the subtitle file gives a programme, an answer that failed at no device is accepted exactly
--- where the files are: in these words.
+-- If the subtitle file gives a programme, an answer without a failed device is `Ok` exactly if the
+-- files are accepted.
 pub record Exactly
     (drawing : Drawing) (file : List ℕ) (answer : Result Accepted CheckFault) (Means : Type 0)
     : Type 0 where
@@ -130,7 +130,7 @@ exactly-accepted_by drawing options file bytes answer loading checked = record {
   loads = accepted-loads_by drawing options file bytes loading;
 }
 
--- The status that was printed with a listing, by what that tells of the files.
+-- What the status that was printed with a listing says about the files.
 pub status-told :
     {Counts : Type 0} {AtBlock AtPes : ℕ → Type 0} {Untouched : Type 0} {is_of_subtitles : Bool}
     (drawing : Drawing) (options : OptionsValue) (stl pes : SourceCall) (out : SinkCall)
@@ -172,8 +172,8 @@ status-told drawing options stl pes out listing status answer PrintsMemory print
           memory wanted.0 wanted.1 whole.0;
     }
 
--- What an answer tells of the sources of both files, by another word for that no byte of the PES
--- file was read. For EndingLemmas.
+-- What an answer says about the sources of both files, if `Untouched` is replaced by another
+-- statement. For EndingLemmas.
 pub sources-untouched :
     {Counts : Type 0} (AtBlock AtPes : ℕ → Type 0) (Untouched Other : Type 0) (is : Bool)
     (stl pes : SourceCall) (answer : Result Counts CheckFault)

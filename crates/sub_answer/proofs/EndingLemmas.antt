@@ -1,4 +1,4 @@
--- How a run ends, of devices of which less is said: ends_weaker; what it has written and handed on
+-- How a run ends, with weaker properties of devices: ends_weaker; what it has written and flushed
 -- before its source failed: written_before, followed_before.
 use Rattle.std.proofs.lemmas.Bool.Decides.{nat_tests}
 use Rattle.std.proofs.Common.{arith}
@@ -19,7 +19,7 @@ use Rattle.sub_request.specs.declared.request.Request.TheVariants as ask
 use Rattle.ttx_pes.specs.Advancing.{held_then}
 use Rattle.sub_answer.specs.Ending.{EndsWith, HoldsLineAlone, IsEmptySource, Lines, lines_in}
 
--- What is answered, by another word for that the second source was not touched.
+-- The answer, if `Untouched` is replaced by a weaker statement.
 untouched :
     (request : Request) (first second : InputCall) (Untouched Other : Type 0) (file out : SinkCall)
     (status : Status)
@@ -29,7 +29,7 @@ untouched :
 untouched request first second Untouched Other file out status other is =
     grind (arith, nat_tests, sources-untouched)
 
--- What is answered where the first input of the request is a source. For `answer`.
+-- The answer if the first input of the request is a source. For `answer`.
 pub answers_second :
     (request : Request) (first second pieces : InputCall) (Untouched Other : Type 0)
     (file out : SinkCall) (status : Status)
@@ -71,19 +71,19 @@ first_empty request source pieces input is h1 h2 =
     subst (λ (i : InputCall). i.call.known ≡ Some []) (sym is)
     (either_empty (reads_pieces request) source pieces h1 h2)
 
--- The pieces of a source that gives nothing. For `answer_alone`.
+-- The PES packets of an empty source. For `answer_alone`.
 pub told_nothing : (held bytes : List ℕ) → held ≡ [] → bytes ≡ []
     → held_then held (Some bytes) ≡ Some []
 told_nothing held bytes none empty = rw (none, empty) refl
 
--- An input that gives nothing.
+-- An empty input.
 abbrev nothing : InputCall
 nothing = record {
   call = record { known = Some []; left = Some []; old_count = 0; new_count = 0 };
   number = record { known = Some 0; left = Some 0; passed = 0 };
 }
 
--- What a request that reads pieces answers, whatever the second input is.
+-- The answer of a request that reads PES packets does not depend on the second input.
 any_second :
     (request : Request) (first second other : InputCall) (Untouched Other : Type 0)
     (file out : SinkCall) (status : Status)
@@ -114,7 +114,7 @@ any_second
 any_second (ask.Survey recording options) first second other U V file out status reads is =
     absurd (true≢false (sym reads))
 
--- What it hands on before does not hang on the second input either.
+-- Nor does what it flushes before.
 any_second_followed :
     (request : Request) (First Second Other IsAlone : Type 0)
     → reads_pieces request ≡ true
@@ -137,7 +137,7 @@ any_second_followed
     absurd (true≢false (sym reads))
 any_second_followed (ask.Survey recording options) First Second Other IsAlone reads is = is
 
--- How a run ends that reads pieces alone. For `answer_pieces`.
+-- How a run ends that reads only PES packets. For `answer_pieces`.
 pub ends_alone :
     {IsAlone : Lines → Type 0} (request : Request)
     (IsFirst IsSecond IsFirst' : InputCall → Type 0) (Untouched : Type 0)
@@ -166,7 +166,7 @@ ends_alone
       handed_on = is.handed_on;
     }
 
--- How a run ends, of devices of which less is said.
+-- How a run ends, with weaker properties of devices.
 pub ends_weaker :
     {IsAlone : Lines → Type 0} (request : Request)
     (IsFirst IsSecond IsFirst' IsSecond' : InputCall → Type 0)
@@ -196,12 +196,11 @@ ends_weaker
       handed_on = is.handed_on;
     }
 
--- A list of no bytes.
 none_of : (held : List ℕ) → length held ≡ 0 → held ≡ []
 none_of [] is = refl
 none_of (byte ∷ more) is = grind (arith, nat_tests)
 
--- What is handed on before, by other words for which source failed and what is held back.
+-- What is flushed before, with other statements of which source failed and what is held back.
 hands_on_so :
     (request : Request) (First First' Second Second' IsAlone IsAlone' : Type 0)
     → (First' → First)
@@ -231,7 +230,7 @@ hands_on_so
 hands_on_so (ask.Listen pes listening) F F' S S' A A' first second alone is = tt
 hands_on_so (ask.Extract recording pes stream) F F' S S' A A' first second alone is = tt
 
--- What is written before, likewise.
+-- What is written before, in the same way.
 writes_so :
     (request : Request) (First First' None None' : Type 0)
     → (First' → First)
@@ -251,7 +250,7 @@ writes_so (ask.Check stl pes options national layout scope all) F F' N N' first 
 writes_so (ask.Listen pes listening) F F' N N' first none is = tt
 writes_so (ask.Survey recording options) F F' N N' first none is = tt
 
--- What is written before, of a buffer by the bytes that it holds. For `answer_and_hand_on`.
+-- What is written before, from the bytes in a buffer. For `answer_and_hand_on`.
 pub written_before :
     (request : Request) (Fails : Type 0) (old new : List ℕ)
     → old ≡ []
@@ -260,12 +259,11 @@ pub written_before :
 written_before request Fails old new none is =
     writes_so request Fails Fails _ _ (λ f. f) (λ so. none_of new (so (ap length none))) is
 
--- That an input failed, said of the same one by another word.
 fails_so : (input other : InputCall) → input ≡ other → fails other → fails input
 fails_so input other same is = subst (λ (i : InputCall). fails i) (sym same) is
 
--- What is handed on and written before, where the first input of the request is a source, or gives
--- pieces. For `answer`.
+-- What is flushed and written before, if the first input of the request is a source or gives PES
+-- packets. For `answer`.
 pub followed_beside :
     (request : Request) (first pieces : InputCall) (SecondFails None IsAlone : Type 0)
     → reads_pieces request ≡ false
@@ -288,7 +286,7 @@ written_beside request first pieces Before None source is none =
     writes_so request _ _ _ _ (fails_so _ _ (first_source request first pieces source))
     (λ so. so none) is
 
--- What is handed on before, where the request reads pieces, whatever the second source does.
+-- What is flushed before, if the request reads PES packets, whatever the second source does.
 followed_pieces :
     (request : Request) (Second Other None IsAlone First : Type 0)
     → reads_pieces request ≡ true
@@ -324,7 +322,7 @@ written_of_pieces request source pieces FirstFails Before None reads first is no
     writes_so request _ _ _ _
     (λ f. fails_so _ _ (first_pieces request source pieces reads) (first f)) (λ so. so none) is
 
--- What is handed on before, of lines by the bytes that they hold back. For `answer_and_hand_on`.
+-- What is flushed before, from the bytes that the lines hold back. For `answer_and_hand_on`.
 pub followed_before :
     {O : Type 0} (contents : O → Option (List ℕ)) (held_back : O → List ℕ)
     (held failure_count : O → ℕ)
@@ -354,14 +352,14 @@ followed_before
     })
     is
 
--- A source of which all is read, from its first PES packet on.
+-- A source that is read completely, from its first PES packet.
 pub whole_source : {D : Type 0} (remaining : D → Option (List ℕ)) (failure_count : D → ℕ)
     (old new : D) (input : InputCall)
     → input ≡ input_call remaining failure_count (λ s. Some 0) (λ s. 0) old new
     → IsPartOf whole_file remaining failure_count old new input
 whole_source remaining failure_count old new input is = grind (arith, nat_tests)
 
--- Calls that go on from others are calls in turn. For `open_and_answer`.
+-- Calls followed by others are calls in turn. For `open_and_answer`.
 pub calls_go_on : {I O D : Type 0} (IsCall : D → FileCall I O → D → Type 0) (old mid new : D)
     (calls more : List (FileCall I O))
     → CallsInTurn IsCall old mid calls

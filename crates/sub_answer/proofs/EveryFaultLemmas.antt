@@ -1,5 +1,5 @@
--- What a printer was told of a subtitle file, and of a PES file after it, and what is answered by
--- it. Main lemmas: after_error, after_faults, after_unhanded, after_judged.
+-- The events of a subtitle file, and of a PES file after it, that a printer was told, and the
+-- answer. Main lemmas: after_error, after_faults, after_unhanded, after_judged.
 use Rattle.std.proofs.lemmas.Bool.Decides.{nat_tests}
 use Rattle.std.proofs.Common.{◌≡◌, ◌∙◌, ap, refl, sym, subst, arith, inl, inr, ℕ, ◌<◌, ◌≤◌}
 use Rattle.std.proofs.Common.{List, [], ◌∷◌, take, length, Bool, true, false, Option}
@@ -43,12 +43,12 @@ use Rattle.sub_answer.proofs.PesEventLemmas.{decided}
 
 -- ---- the subtitle file
 
--- A fault of the subtitle file is one refusal.
+-- Each fault of the subtitle file counts once.
 refusals-subtitles : (fs : List LoadFault) → refusals (subtitle_events fs) ≡ length fs
 refusals-subtitles [] = refl
 refusals-subtitles (f ∷ fs) = let rest = refusals-subtitles fs in omega (arith, rest)
 
--- What an error of the subtitle file names.
+-- The fault that an error of the subtitle file names.
 named : (f g : LoadFault)
     → (let r : Result (Option Accepted) CheckFault = Err (fault.Subtitles f) in r)
     ≡ Err (fault.Subtitles g)
@@ -100,7 +100,7 @@ module _ {D : Type 0} (IsTold : D → LoadFault → D → Type 0) (value : D →
     listed = are;
   }
 
-  -- Memory was refused.
+  -- An allocation was refused.
   at_memory : (block : ℕ)
       → (value new).failed ≡ false
       → TellsSome IsTold old new
@@ -149,7 +149,7 @@ module _ {D : Type 0} (IsTold : D → LoadFault → D → Type 0) (value : D →
   after_error block kind quiet kinds some count memory read =
       grind (arith, nat_tests, at_memory, at_read)
 
-  -- What was told of a list, where the sink failed or not.
+  -- What was told of a list, whether the sink failed or not.
   prints-faults : (items : List LoadFault) (stopped b : Bool)
       → (value new).failed ≡ b
       → (b ≡ false → stopped ≡ false)
@@ -211,8 +211,8 @@ module _ {D : Type 0} (IsTold : D → LoadFault → D → Type 0) (value : D →
             (ap subtitle_events (items.2 file heard), rw (refusals-subtitles items.0) items.1.1);
       }
 
-  -- These faults were told, at least one, and the sink failed as it was to hand on their lines. For
-  -- `tell_every_fault`.
+  -- These faults were told, at least one, and the sink failed when their lines were to be flushed.
+  -- For `tell_every_fault`.
   pub after_unhanded : (fs : List LoadFault)
       → (value new).failed ≡ true
       → Tells IsTold old new fs
@@ -242,9 +242,9 @@ module _ {D : Type 0} (IsTold : D → LoadFault → D → Type 0) (value : D →
         (ap subtitle_events (are file heard), rw (refusals-subtitles fs) some);
   }
 
--- ---- lines that are handed on
+-- ---- flushed lines
 
--- A printer that can't hand on what it was told has failed. For `tell_every_fault`.
+-- A printer that can't be flushed has failed. For `tell_every_fault`.
 pub stops_failed : (old new : PrinterValue) (events : List Event)
     → PrintsEvents old events new
     → old.count < 0xFFFF_FFFF_FFFF_FFFF
@@ -263,8 +263,7 @@ some_told IsTold waits old new [] told still waiting =
     absurd (true≢false (sym waiting ∙ ap waits told.in_turn ∙ still))
 some_told IsTold waits old new (f ∷ fs) told still waiting = omega arith
 
--- One that holds nothing back while it does not wait does so after it was told some. For
--- `tell_every_fault`.
+-- If it holds nothing back unless it waits, that stays true after events. For `tell_every_fault`.
 pub held_told : {D : Type 0} (IsTold : D → LoadFault → D → Type 0) (waits : D → Bool)
     (held : D → ℕ)
     (one : (s t : D) (f : LoadFault) → IsTold s f t → waits t ≡ false → held t ≡ 0)
@@ -278,7 +277,7 @@ held_told IsTold waits held one old new [] holds told =
 held_told IsTold waits held one old new (f ∷ fs) holds (mid, first, rest) =
     held_told IsTold waits held one mid new fs (one old mid f first) rest
 
--- What holds of an error. For `tell_every_fault`.
+-- A property of errors. For `tell_every_fault`.
 pub when_err : {X E : Type 0} {Q : Type 0} (r : Result X E) → is_err r ≡ true → IfErr r (λ _. Q) → Q
 when_err (Ok x) is holds = absurd (true≢false (sym is))
 when_err (Err e) is holds = holds
@@ -293,7 +292,7 @@ module _ (drawing : Drawing) (options : OptionsValue) (stl pes : SourceCall) (fi
     (stl_count : RisesIf stl.old_count false stl.new_count)
     (by : IfKnown stl.known (λ file. JudgesBy drawing file judged))
     (are : IfKnown stl.known (λ file. fs ≡ faults drawing file)) where
-  -- All lines of the one and then of the other.
+  -- All lines of the first file followed by those of the second.
   both_printed : (number : ℕ) (events : List Event)
       → PrintsEvents (record mid { first = number }) events new
       → PrintsEvents (record old { first = number }) (subtitle_events fs ++ events) new
@@ -301,7 +300,7 @@ module _ (drawing : Drawing) (options : OptionsValue) (stl pes : SourceCall) (fi
       prints-two (record old { first = number }) (record mid { first = number }) new
       (subtitle_events fs) events (prints-renumbered number old mid fs before) goes more
 
-  -- What is listed then.
+  -- The events then.
   both_listed : (events : List Event) (answer : Result Accepted ℕ)
       → IfKnown pes.known (λ bytes. AreListedOfPes judged options bytes events answer)
       → IfKnown stl.known (λ file.
@@ -314,7 +313,7 @@ module _ (drawing : Drawing) (options : OptionsValue) (stl pes : SourceCall) (fi
     listed = listed;
   }
 
-  -- Where the file gives a programme nothing was told of it, and all of it is known.
+  -- If the file gives a programme it has no events, and all of it is known.
   verdict : (events : List Event) (a : Accepted)
       → IfKnown pes.known (λ bytes.
       (programme : ProgrammeValue)
@@ -333,7 +332,7 @@ module _ (drawing : Drawing) (options : OptionsValue) (stl pes : SourceCall) (fi
       subst (λ gs. IsAnswer programme options bytes (first_answer (subtitle_events gs ++ events) a))
       (sym nothing) (checked bytes told programme (whole.1 ∙ ap known one))
 
-  -- The faults of the subtitle file were told, and then what is told of the PES file. For
+  -- The faults of the subtitle file were told, and then the events of the PES file. For
   -- `tell_every_fault`.
   pub after_judged : (given : Result (Option Accepted) CheckFault)
       → TellsPes judged options pes first mid new given

@@ -1,5 +1,5 @@
--- The source of the PES file failed: what is told then, and what is not. Main lemmas: tells_none,
--- cut_reads, last_line.
+-- The source of the PES file failed: what is reported then, and what is not. Main lemmas:
+-- tells_none, cut_reads, last_line.
 use Rattle.std.proofs.lemmas.Bool.Decides.{nat_tests}
 use Rattle.std.proofs.Common.{◌≡◌, refl, sym, subst, arith, ℕ, ◌<◌}
 use Rattle.std.proofs.Common.{List, [], Bool, true, Option}
@@ -29,13 +29,13 @@ use Rattle.sub_listing.specs.FaultLine.{line_of, counted_from}
 use Rattle.sub_answer.specs.EveryFault.{TellsBoth}
 use Rattle.sub_listing.specs.Printer.{PrinterValue}
 
--- Nothing is told of no piece.
+-- Without PES packets there are no events.
 pub no_events : (programme : ProgrammeValue) (options : OptionsValue) (bytes : List ℕ)
     → events_of_first_pieces programme options bytes 0 ≡ []
 unfolding events_of_pieces all_announced told_after steps_of_each
 no_events programme options bytes = refl
 
--- Nor beside what is refused of the subtitle file.
+-- Nor are there if subtitles were refused.
 no_events_by : (judged : JudgedValue) (options : OptionsValue) (bytes : List ℕ)
     → events_of_first_by judged options bytes 0 ≡ []
 unfolding events_of_pieces all_announced told_after steps_of_each
@@ -47,12 +47,12 @@ pub tells_none : {D : Type 0} (IsTold : D → Event → D → Type 0) (judged : 
     → TellsEvents judged options bytes IsTold old old (Err (fault.Pes 0 pes_fault.Read))
 tells_none IsTold judged options bytes old = grind (arith, nat_tests, no_events_by)
 
--- An answer that is no success is a failure. For `hand_on_told`.
+-- A result other than `Ok` is an error. For `hand_on_told`.
 pub not_is_err : {X E : Type 0} (r : Result X E) → not (is_ok r) ≡ is_err r
 not_is_err (Ok x) = refl
 not_is_err (Err e) = refl
 
--- What holds of an error holds where it is one of these.
+-- A property of errors holds for one of these.
 pub error_fails : {X E : Type 0} (Q : Type 0) (is_one : E → Bool) (r : Result X E)
     → IfErr r (λ _. Q)
     → failed is_one r ≡ true
@@ -79,7 +79,7 @@ pub cut_reads : {drawing : Drawing} {options : OptionsValue} {stl pes : SourceCa
 cut_reads told failing risen =
     ok_keeps told.answer _ _ (told.cut failing) told.sources.pes_count risen
 
--- The line of the failure was put, and nothing before it is held back.
+-- The line of the failure was written, and nothing before it is held back.
 pub last_line : {K : Type 0} (contents : K → Option (List ℕ)) (held : K → ℕ)
     (IsPush : K → List ℕ → Option ℕ → K → Type 0) (before new end : K) (number : ℕ)
     (answer : Result (Option Accepted) CheckFault)

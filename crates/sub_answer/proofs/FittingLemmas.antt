@@ -1,4 +1,4 @@
--- What was opened for a request is what its names ask for: fits.
+-- The files opened for a request are those that its names request: fits.
 use Rattle.std.proofs.lemmas.Bool.Decides.{nat_tests}
 use Rattle.std.proofs.Common.{◌≡◌, ℕ, Bool, List, Some, arith, subst, sym}
 use Rattle.sub_request.specs.declared.files.FileNames.{FileNames}
@@ -9,7 +9,7 @@ use Rattle.sub_files.specs.declared.opening.Opened.{Opened}
 use Rattle.sub_files.specs.declared.opening.Opened.TheVariants.{Extract, Write}
 use Rattle.sub_answer.specs.Ending.{Fits}
 
--- Where the output was created, what was opened is made of it.
+-- If the output was created, the result contains it.
 created :
     {I O : Type 0} (made : O → Opened I O) (b : Bool) (output : List ℕ)
     (calls : List (FileCall I O)) (opened : Opened I O)
@@ -17,7 +17,7 @@ created :
     → (file : O) × (opened ≡ made file)
 created made b output calls opened is = grind (arith, nat_tests)
 
--- And of the file that is read.
+-- It also contains the input.
 made_of :
     {I O : Type 0} (made : I → O → Opened I O) (input output : List ℕ)
     (calls : List (FileCall I O)) (opened : Opened I O)

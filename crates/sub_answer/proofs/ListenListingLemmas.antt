@@ -1,4 +1,4 @@
--- What is told of a fault of a run, and what is printed of one.
+-- The line of a fault of a run, and its output.
 use Rattle.std.proofs.lemmas.Bool.Decides.{nat_tests}
 use Rattle.std.specs.Prelude.{IfOk}
 use Rattle.std.proofs.Common.{◌≡◌, ◌∙◌, ℕ, ◌+◌, List, arith, refl, subst, sym, Bool, Option}
@@ -26,7 +26,7 @@ use Rattle.ttx_page.specs.Page.{Rows}
 use Rattle.sub_listen.specs.declared.listening.ListenFault.{ListenFault}
 use Rattle.sub_request.specs.declared.listening.Listening.{Listening}
 
--- What is printed of a run of a receiver that was tuned. For `listen`.
+-- The output of a run of a receiver that was tuned. For `listen`.
 pub listens_from : (leaves : ℕ → ℕ) (l : Listening) (first : ℕ) (frames : Transmission)
     → (unread : Option Unread) (told left : Option (List ℕ)) (w : PageIdValue)
     → (old end : Display) (result : Result (Unit {0}) ListenFault) (page : Rows)
@@ -43,7 +43,8 @@ listens_from
     is_old hears seen =
     grind (arith, nat_tests)
 
--- What is answered by what a receiver leaves in a cell whose byte has even parity. For `answer`.
+-- The answer depends only on what a receiver leaves in a cell whose byte has even parity. For
+-- `answer`.
 pub answers_as : (leaves left : ℕ → ℕ) (l : Listening) (pes : SourceCall) (first : FirstNumber)
     → (out : SinkCall) (status : Status)
     → leaves ≡ left
@@ -51,7 +52,7 @@ pub answers_as : (leaves left : ℕ → ℕ) (l : Listening) (pes : SourceCall) 
     → AnswersListen leaves l pes first out status
 answers_as leaves left l pes first out status same answers = rw same answers
 
--- What is heard once the first PES packet was found. For `print_listening`.
+-- What is received after the first PES packet was found. For `print_listening`.
 pub heard_kept : (leaves : ℕ → ℕ) (l : Listening) (number : ℕ) (old mid left : Option (List ℕ))
     (old_count mid_count new_count : ℕ) (out : SinkCall) (status : Status)
     → Keeps old mid

@@ -1,4 +1,4 @@
--- What the status of `check` tells of files in memory: law_of_files_in_memory.
+-- What the status of `check` says about files in memory: law_of_files_in_memory.
 use Rattle.std.proofs.lemmas.Bool.Decides.{nat_tests}
 use Rattle.std.proofs.Common.{arith}
 use Rattle.std.proofs.Common.{◌≡◌, ◌≢◌, ◌↔◌, ◌∙◌, ap, sym, subst, ℕ, true, false, List}
@@ -25,7 +25,7 @@ use Rattle.sub_answer.specs.FilesInMemory.{LawOfFilesInMemory, known_of_memory}
 use Rattle.sub_answer.specs.Part.{part_asked, through_range, through_stream, whole_file}
 use Rattle.sub_answer.specs.declared.part.Part.{Part}
 
--- Two files of these names were opened.
+-- Two files with these names were opened.
 record BothOpened
     (stl pes : List ℕ) (files : MemFilesValue) (opened : Opened (List ℕ) Written)
     : Type 0 where
@@ -44,7 +44,7 @@ both_opened :
     → BothOpened stl pes before opened
 both_opened stl pes before after calls more opened made opens = grind (arith, nat_tests)
 
--- What is told of all of a file in memory, or of a part of it, in the calls of an answer.
+-- The bytes of a file in memory, or of a part of it, in the calls of an answer.
 read_told : (part : Part) (file : List ℕ) (left : Option (List ℕ)) (input : InputCall)
     → IsSourceOf known_of_memory part (Some file) left input
     → input.call.known ≡ through_range part.range (through_stream part.stream (Some file))
@@ -59,7 +59,7 @@ same_status :
     → result ≡ status
 same_status printed new status result h runs = grind (arith, nat_tests)
 
--- What is told of these bytes by a check that ended so.
+-- What a check that ended like this says about these bytes.
 abbrev Tells : Request → List ℕ → List ℕ → Status → Type 0
 Tells (ask.Check stl pes options national layout scope all) file bytes status =
     (read : List ℕ)
@@ -120,7 +120,7 @@ over_both :
 over_both request opened first second left IsAlone old new result opened_is ends =
     grind (arith, nat_tests)
 
--- What is there once is the same.
+-- A file has only one content.
 same_bytes :
     (told : Option (List ℕ)) (a b : List ℕ) → told ≡ Some a → told ≡ Some b → a ≡ b
 same_bytes told a b one other = let e = sym one ∙ other in cc

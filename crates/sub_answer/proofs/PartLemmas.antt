@@ -1,4 +1,4 @@
--- A part of what a source gives, by how it was made. Main lemmas: all_of_source, file_of_source,
+-- A part of a source, by how it was made. Main lemmas: all_of_source, file_of_source,
 -- stream_of_source, all_of_pieces, range_of_pieces.
 use Rattle.std.proofs.lemmas.Bool.Decides.{nat_tests}
 use Rattle.std.proofs.Common.{◌≡◌, ◌∙◌, ap, arith, ℕ, List, Option, Some, None, true, false}
@@ -18,7 +18,7 @@ use Rattle.sub_answer.proofs.EndingLemmas.{whole_source}
 
 module _ {D : Type 0} (remaining : D → Option (List ℕ)) (failure_count : D → ℕ)
     (old left : D) (input : InputCall) where
-  -- All that it gives, where the request reads no pieces.
+  -- The whole source, if the request reads no PES packets.
   pub all_of_source : (request : Request) (p : Part)
       → (p ≡ whole_file) ⊎ (reads_pieces request ≡ true)
       → reads_pieces request ≡ false
@@ -61,7 +61,7 @@ module _ {D : Type 0} (remaining : D → Option (List ℕ)) (failure_count : D �
     left_is = λ whole. let none = ap (λ (q : Part). q.stream) whole in absurd cc;
   }
 
--- ---- of pieces
+-- ---- of PES packets
 
 module _ {P : Type 0} (given behind : P → Option (List ℕ)) (count : P → ℕ) (before after : P)
     (input : InputCall) where
@@ -78,7 +78,7 @@ module _ {P : Type 0} (given behind : P → Option (List ℕ)) (count : P → �
     left_is = λ none. ap (λ (i : InputCall). i.call.left) is;
   }
 
-  -- Those of a range, by what is told of who gives these.
+  -- Those of a range, given the source of all.
   pub range_of_pieces : (part : InputCall) (r : PieceRangeValue)
       → input ≡ part
       → part.call.known ≡ option_map (in_range r) (given before)

@@ -1,4 +1,4 @@
--- What a printer was told of a PES file, and what is answered by it. Main lemmas: after_pes,
+-- The events of a PES file that a printer was told, and the answer. Main lemmas: after_pes,
 -- all_answers.
 use Rattle.std.proofs.Common.{◌≡◌, ◌∙◌, ap, refl, sym, subst, arith, ℕ, ◌+◌, ◌≤◌}
 use Rattle.std.proofs.Common.{zero, suc, List, take, length, Bool, true, false, Option}
@@ -39,7 +39,7 @@ use Rattle.sub_listing.specs.Printer.{PrinterValue, PrintsEvent, PrintsEvents}
 use Rattle.sub_listing.proofs.PrinterLemmas.{as_told, prints-taken}
 use Rattle.sub_listing.proofs.PrinterLemmas.{prints_all}
 
--- Where a source tells its bytes, these decide what else is something.
+-- If the bytes of a source are known, a value that they decide exists.
 pub decided : {A : Type 0} (Q : A → Type 0) (told : Option (List ℕ)) (given : List ℕ → A) (some : A)
     → Q some
     → IfKnown told (λ bytes. Q (given bytes))
@@ -48,7 +48,7 @@ decided Q None given some holds told = (some, holds, λ bytes heard. cc)
 decided Q (Some bytes) given some holds told =
     (given bytes, told bytes refl, λ other heard. let same : bytes ≡ other = cc in ap given same)
 
--- The frames that are counted are holds fewer than none.
+-- The first frame is not after the latest one.
 latest-first : (frames : Transmission) (n : ℕ)
     → frame_at frames 0 ≤ latest frames (suc n)
 unfolding latest
@@ -83,16 +83,16 @@ some_counts page frames (suc n) is =
       },
     )
 
--- Where the source of the PES file failed, the fault names the piece within which it did. It stands
--- apart since `cc` refutes its cases quickly only where little else is known.
+-- If the source of the PES file failed, the fault names the PES packet in which it did. A separate
+-- lemma, since `cc` is slow to refute its cases when more is known.
 read_at : (f : CheckFault)
     → is_pes_read f ≡ true
     → (n : ℕ) × (f ≡ fault.Pes n pes_fault.Read)
 read_at (fault.Pes n pes_fault.Read) is = (n, refl)
 read_at f is = cc
 
--- What `check_all` answers by whatever options, and where each header has to erase the page, and
--- that has to be whole at each frame's end, of a programme of which all is known. For
+-- The answer of `check_all` with any options, and if each header has to erase the page, which has
+-- to be right at the end of each frame, for a programme without refused subtitles. For
 -- `tell_transmission`.
 pub all_answers : (judged : JudgedValue) (options : OptionsValue) (pes : Option (List ℕ))
     (r : Result (Option Accepted) CheckFault)
@@ -118,7 +118,7 @@ all_answers judged options pes (Ok (Some a)) by at_once bytes heard programme is
 all_answers judged options pes (Ok None) by at_once bytes heard programme is = tt
 all_answers judged options pes (Err f) by at_once bytes heard programme is = tt
 
--- What is told where nothing of the subtitle file is refused is told of its programme.
+-- If no subtitle was refused, the events are those for its programme.
 events_known : (judged : JudgedValue) (programme : ProgrammeValue) (options : OptionsValue)
     (bytes : List ℕ)
     → judged ≡ known programme
@@ -308,7 +308,7 @@ module _ {D : Type 0} (IsTold : D → Event → D → Type 0) (value : D → Pri
       calm true e = absurd (true≢false (sym (stops e) ∙ goes_on))
       calm false e = e
 
--- What is told with another first number before is told. For `tell_transmission`.
+-- The events, if the printer had another first number before. For `tell_transmission`.
 pub with_first : (judged : JudgedValue) (options : OptionsValue) (pes : SourceCall)
     (first : FirstNumber) (old new : PrinterValue) (number : ℕ)
     (given : Result (Option Accepted) CheckFault)

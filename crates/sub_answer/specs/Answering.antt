@@ -1,4 +1,4 @@
--- What is said of the answer to a request, command by command.
+-- The answer to a request, command by command.
 use Rattle.std.specs.Prelude.{◌≡◌, ◌≢◌, ◌+◌, ◌<◌, ⊤, ℕ, Bool, true, false, not, ◌&&◌, ◌||◌}
 use Rattle.std.specs.Prelude.{List, Option, Some, Result, Ok, Err, codes, if◌then◌else◌}
 use Rattle.sub_io.specs.Device.{failed}
@@ -44,8 +44,7 @@ use Rattle.sub_request.specs.declared.request.Request.TheVariants as ask
 use Rattle.sub_listing.specs.declared.status.Status.{Status}
 use Rattle.sub_listing.specs.declared.status.Status.TheVariants.{Done, Fault}
 
--- Whether the answer takes memory: a programme or a whole file is kept in it, or what is known of a
--- recording.
+-- Whether the answer needs memory: for a programme, a whole file, or the state of a survey.
 abbrev pub takes_memory : Request → Bool
 takes_memory (ask.Normal input output) = true
 takes_memory (ask.Schedule stl pes options serial national layout scope) = true
@@ -53,7 +52,7 @@ takes_memory (ask.Check stl pes options national layout scope all) = true
 takes_memory (ask.Survey recording options) = true
 takes_memory _ = false
 
--- How the texts of a subtitle file are drawn: as the request says, or else by default.
+-- How the texts of a subtitle file are drawn: as the request says, or by default.
 abbrev pub drawing_of : Request → Drawing
 drawing_of (ask.Schedule stl pes options serial national layout scope) =
     drawing_within national layout scope
@@ -61,47 +60,46 @@ drawing_of (ask.Check stl pes options national layout scope all) =
     drawing_within national layout scope
 drawing_of _ = drawing_by English default_layout
 
--- ---- what each command answers
+-- ---- the answer of each command
 
--- The line of an answer, with the status, where the first PES packet that is read has the number
+-- The line of an answer, with the status, if the first PES packet that is read has the number
 -- `first` in its file.
 abbrev pub verdict : ℕ → Result Accepted CheckFault → Listing
 verdict first (Ok a) = done (accepted_line a)
 verdict first (Err f) = fault_listing (counted_from first (check_line f))
 
 -- `check` has one answer, which the bytes of both files decide, and prints it. `first` is the
--- number that the first PES packet has in its file; `Untouched` says that no byte of the PES file
--- was read.
+-- number of the first PES packet in its file; `Untouched` says that no byte of the PES file was
+-- read.
 pub record AnswersCheck
     (drawing : Drawing) (options : OptionsValue) (stl pes : SourceCall) (first : FirstNumber)
     (Untouched : Type 0) (out : SinkCall) (status : Status)
     : Type 0 where
   pub answer : Result Accepted CheckFault
-  -- A PES packet is told by its number in the file.
+  -- PES packets are reported by their numbers in the file.
   pub number : ℕ
   pub starts : failed is_subtitle_fault answer ≡ false → StartsAt first pes number
-  -- Its one line is printed, or `out` failed and has a prefix of it.
+  -- Its line is printed, or `out` failed and has a prefix of it.
   pub printed : PrintsOrFails out (verdict number answer) status
-  -- That a source failed is told at the block of the byte that was asked for, and no fault comes
-  -- before it, or at the PES packet within which it failed.
+  -- A failed source is reported at the block that was being read, with no fault before it, or at
+  -- the PES packet in which it failed.
   pub sources :
       TellsSources (FailsLoading drawing stl.known stl.left)
       (λ index. FailsAtPacket index pes.known pes.left)
       Untouched (failed is_subtitle_fault answer) stl pes answer
-  -- Where the files tell their bytes, these decide it. What is accepted is robust, with lost rows
-  -- too: every receiver shows each due page within the repeat bound, but for cells whose byte was
-  -- hit. By it receivers recover from whatever they held before, and where complete pages are asked
-  -- for, it is on their screens. Where frames are allowed within which the page has to be whole,
-  -- each due page is shown so at the end of one of them. A subtitle file that gives no programme is
-  -- refused.
+  -- If the bytes of the files are known, they decide the answer. What is accepted is robust, with
+  -- lost rows, too: every receiver shows each due page within the repeat bound, except for cells
+  -- whose byte was hit. Receivers recover whatever they contained before, and if complete pages are
+  -- required, the due page is on their screens. If `within` is not 0, each due page is shown like
+  -- this at the end of at least one of its frames. A subtitle file without a programme is refused.
   pub checked : IfKnown stl.known (λ file. AreChecked drawing options file pes.known answer)
   pub ends :
       TellsStatus drawing options stl pes out (PrintsMemory drawing stl.known out.old out.new)
       status
 
--- It is printed what a receiver shows that heard the frames of the PES file, and leaves this code
--- in a cell whose byte has even parity; or the refusal. The first PES packet has the number `first`
--- in its file.
+-- The output shows the state of a receiver that received the frames of the PES file, and leaves the
+-- code `leaves` in a cell whose byte has even parity; or the refusal. The first PES packet has the
+-- number `first` in its file.
 pub record PrintsHeard
     (leaves : ℕ → ℕ) (listening : Listening) (first : ℕ) (pes : SourceCall) (out : SinkCall)
     (status : Status)
@@ -114,31 +112,31 @@ pub record PrintsHeard
       → (listing : Listing)
       × Listens leaves listening first frames unread pes.known pes.left listing
       × PrintsOrFails out listing status)
-  -- That the source failed is told at the PES packet within which it failed, and where nothing that
-  -- was read before is refused.
+  -- A failed source is reported at the PES packet in which it failed, if nothing before it is
+  -- refused.
   pub read :
       pes.new_count ≢ pes.old_count
       → (f : ListenFault)
       × FailsListening listening pes.known pes.left f
       × PrintsOrFails out (fault_listing (counted_from first (listen_line f))) status
 
--- `listen` prints that. `first` is the number that the first PES packet has in its file.
+-- `listen` prints that. `first` is the number of the first PES packet in its file.
 pub record AnswersListen
     (leaves : ℕ → ℕ) (listening : Listening) (pes : SourceCall) (first : FirstNumber)
     (out : SinkCall) (status : Status)
     : Type 0 where
-  -- A PES packet is told by its number in the file.
+  -- PES packets are reported by their numbers in the file.
   pub number : ℕ
   pub starts : StartsAt first pes number
   pub heard : PrintsHeard leaves listening number pes out status
 
--- An input in a call, and the number that the first PES packet which it gives has in its file.
+-- An input in a call, and the number of the first PES packet that it gives in its file.
 pub record InputCall : Type 0 where
   pub call : SourceCall
   pub number : FirstNumber
 
--- An input in a call, by what is left in it and how often it has failed, by that number and how
--- many PES packets of the file it has passed over.
+-- An input in a call, given its remaining bytes and count of failures, that number, and how many
+-- PES packets of the file were skipped.
 abbrev pub input_call :
     {S : Type 0}
     → (S → Option (List ℕ)) → (S → ℕ) → (S → Option ℕ) → (S → ℕ) → S → S → InputCall
@@ -147,13 +145,13 @@ input_call remaining failure_count number passed old new = record {
   number = first_number number passed old new;
 }
 
--- A source of which all is read, from its first PES packet on.
+-- A source that is read completely, from its first PES packet.
 abbrev pub whole_call : {S : Type 0} → (S → Option (List ℕ)) → (S → ℕ) → S → S → InputCall
 whole_call remaining failure_count old new =
     input_call remaining failure_count (λ s. Some 0) (λ s. 0) old new
 
--- Pieces in a call, by what is still to come of them, what their device has still to give and how
--- often that has failed, and by the number of the first one.
+-- PES packets in a call, given those still to come, what their device still has and its count of
+-- failures, and the number of the first one.
 abbrev pub pieces_call :
     {P : Type 0}
     → (P → Option (List ℕ)) → (P → Option (List ℕ)) → (P → ℕ) → (P → Option ℕ) → (P → ℕ) → P → P
@@ -167,27 +165,27 @@ pieces_call remaining left failure_count number passed old new = record {
 abbrev pub fails : InputCall → Type 0
 fails input = input.call.old_count < input.call.new_count
 
--- The first input of the request gives pieces: PES packets are listed, heard or written.
+-- The first input of the request gives PES packets: they are listed, received or written.
 abbrev pub reads_pieces : Request → Bool
 reads_pieces (ask.Packets pes) = true
 reads_pieces (ask.Listen pes listening) = true
 reads_pieces (ask.Extract recording pes stream) = true
 reads_pieces _ = false
 
--- The first input of the request is a source, and does not give pieces.
+-- The first input of the request is a source that does not give PES packets.
 abbrev pub reads_source : Request → Bool
 reads_source request = reads_one (files_of request) && not (reads_pieces request)
 
--- An input of the request gives pieces: the first, or the second as in a check.
+-- An input of the request gives PES packets: the first, or the second of a check.
 abbrev pub reads_some_pieces : Request → Bool
 reads_some_pieces request = reads_pieces request || reads_two (files_of request)
 
--- The first input of the request, of a source and of one that gives pieces.
+-- The first input of the request: a source, or one that gives PES packets.
 abbrev pub first_input : Request → InputCall → InputCall → InputCall
 first_input request source pieces = if reads_pieces request then pieces else source
 
--- What is answered to a request: what is printed and written, and the status. `Untouched` says that
--- no byte of the second source was read.
+-- The answer to a request: the output, the written file, and the status. `Untouched` says that no
+-- byte of the second source was read.
 abbrev pub Answers :
     Request → InputCall → InputCall → Type 0 → SinkCall → SinkCall → Status → Type 0
 Answers ask.Help first second Untouched file out status = PrintsOrFails out (done help_text) status
@@ -221,8 +219,8 @@ Answers (ask.Extract recording pes stream) first second Untouched file out statu
 Answers (ask.Survey recording options) first second Untouched file out status =
     Surveys options first.call out status
 
--- Each device of an answer fails once at most, and not where the status is another than `Fault`.
--- That of a command that takes no memory is `Fault` only where a device failed.
+-- Each device fails at most once, and only if the status is `Fault`. A command that needs no memory
+-- has the status `Fault` only if a device failed.
 pub record CountsFaults
     (request : Request) (first second : SourceCall) (file out : SinkCall) (status : Status)
     : Type 0 where
@@ -236,19 +234,19 @@ pub record CountsFaults
       → first.old_count + second.old_count + file.old_count + out.old_count
       < first.new_count + second.new_count + file.new_count + out.new_count
 
--- Where the status is `Done`, a file that is named for writing holds no byte back.
+-- If the status is `Done`, an output file holds no byte back.
 abbrev pub HandsOnWritten : Request → Status → ℕ → Type 0
 HandsOnWritten request status held =
     writes_one (files_of request) ≡ true → status ≡ Done → held ≡ 0
 
--- Then it is stored.
+-- It is stored then.
 abbrev pub StoresWritten : Request → Status → Bool → Type 0
 StoresWritten request status is_stored =
     writes_one (files_of request) ≡ true → status ≡ Done → is_stored ≡ true
 
--- A request whose answer is followed while its PES file or recording is sent: where the source of
--- that failed, this is so. It is the first source of `packets` and `survey`, and the second of
--- `check --all`.
+-- A request whose output can be followed while its PES file or recording arrives: this holds if its
+-- source failed. That is the first source of `packets` and `survey`, and the second of `check
+-- --all`.
 abbrev pub HandsOnBefore : Request → Type 0 → Type 0 → Type 0 → Type 0
 HandsOnBefore (ask.Packets pes) FirstFails SecondFails IsAlone = FirstFails → IsAlone
 HandsOnBefore (ask.Survey recording options) FirstFails SecondFails IsAlone = FirstFails → IsAlone
@@ -257,28 +255,27 @@ HandsOnBefore
     SecondFails → IsAlone
 HandsOnBefore _ FirstFails SecondFails IsAlone = ⊤
 
--- A request that writes what its first source gives as soon as it has come: where that failed, the
+-- A request that writes what its first source gives as soon as it has come: if that failed, the
 -- file holds nothing back.
 abbrev pub WritesBefore : Request → Type 0 → Type 0 → Type 0
 WritesBefore (ask.Extract recording pes stream) FirstFails HoldsNothing = FirstFails → HoldsNothing
 WritesBefore _ FirstFails HoldsNothing = ⊤
 
--- A request was answered over a source and one that gives pieces. `Untouched` says that no byte of
--- the pieces was read, `HoldsNothing` that the file holds nothing back, `IsAlone` that the lines
--- hold back that of a fault alone.
+-- A request was answered from a source and one that gives PES packets. `Untouched` says that no
+-- byte of the PES packets was read, `HoldsNothing` that the file holds nothing back, `IsAlone` that
+-- only the line of a fault is not flushed.
 pub record AnswersOver
     (request : Request) (source pieces : InputCall) (Untouched : Type 0) (file out : SinkCall)
     (HoldsNothing IsAlone : Type 0) (status : Status)
     : Type 0 where
-  -- What is printed and written of what the devices tell, command by command.
+  -- The output and the written file, command by command.
   pub answers :
       Answers request (first_input request source pieces) pieces Untouched file out status
-  -- Where the source of a recording may have to ask its device, all that was written before is with
-  -- the device of the file.
+  -- Before the source of a recording may ask its device, everything written has reached the device
+  -- of the file.
   pub written :
       WritesBefore request (fails (first_input request source pieces)) HoldsNothing
-  -- Where the source of the PES file or recording may have to ask its device, all that was told
-  -- before is with the device of the lines: each such call may fail, and where one did the line of
-  -- its failure alone may be held back.
+  -- Before the source of the PES file or recording may ask its device, which may fail, all output
+  -- has reached its device. So if it failed, only the line of its failure may be held back.
   pub followed :
       HandsOnBefore request (fails (first_input request source pieces)) (fails pieces) IsAlone

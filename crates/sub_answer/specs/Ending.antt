@@ -1,5 +1,5 @@
--- How a run ends that answers a request over its files: what was answered, what was handed on, and
--- the status.
+-- How a run ends that answers a request with its files: the answer, what was flushed, and the
+-- status.
 use Rattle.std.specs.Prelude.{◌≡◌, ◌⊎◌, ℕ, ◌+◌, ◌<◌, List, [], ◌∷◌, ◌++◌, length, Option, Some}
 use Rattle.std.specs.Prelude.{Bool, None, false}
 use Rattle.std.specs.Io.KnownBytes.{Keeps, append_known, prepend_known}
@@ -27,24 +27,24 @@ use Rattle.sub_answer.specs.Answering.{WritesBefore, fails}
 use Rattle.sub_answer.specs.Part.{IsPartOf, part_asked, whole_file}
 use Rattle.sub_answer.specs.declared.part.Part.{Part}
 
--- A sink behind a buffer, by what it has taken, what it holds back of that, and how often it has
--- failed.
+-- A sink behind a buffer: the bytes written to it, those that the buffer still has, and its count
+-- of failures.
 pub record Lines : Type 0 where
   pub taken : Option (List ℕ)
   pub held : List ℕ
   pub count : ℕ
 
--- A sink by what it has taken, what it holds back of that, and how often it has failed.
+-- The same from a sink.
 abbrev pub lines_in : {O : Type 0}
     → (O → Option (List ℕ)) → (O → List ℕ) → (O → ℕ) → O → Lines
 lines_in contents held_back failure_count o =
     record { taken = contents o; held = held_back o; count = failure_count o }
 
--- As many bytes are held back as are counted.
+-- The count of bytes that are held back is correct.
 abbrev pub CountsHeld : {O : Type 0} → (O → ℕ) → (O → List ℕ) → Type 0
 CountsHeld {O} held held_back = (o : O) → held o ≡ length (held_back o)
 
--- A buffer, by what is told of the sink inside and how often that has failed.
+-- A buffer, given the contents of the sink behind it and its count of failures.
 abbrev pub lines_of : {D : Type 0} → (D → Option (List ℕ)) → (D → ℕ) → HeldBack D → Lines
 lines_of contents failure_count k = record {
   taken = append_known (contents k.device) k.held;
@@ -52,15 +52,15 @@ lines_of contents failure_count k = record {
   count = failures_and_refused (failure_count k.device) k.refused;
 }
 
--- A buffer in a call, by what is told of the sink inside and how often that has failed.
+-- A buffer in a call, given the contents of the sink behind it and its count of failures.
 abbrev pub buffered_call : {D : Type 0}
     → (D → Option (List ℕ)) → (D → ℕ) → HeldBack D → HeldBack D → SinkCall
 buffered_call contents failure_count old new =
     sink_call (λ k. (lines_of contents failure_count k).taken)
     (λ k. (lines_of contents failure_count k).count) old new
 
--- What was held back is handed on, for a run that would end with a status: it ends with it, and
--- the sink below has taken all; or one more call has failed, and it ends with `Fault`.
+-- The buffer is flushed for a run that would end with this status: it ends with it, and the sink
+-- has all bytes; or one more call has failed, and it ends with `Fault`.
 pub record HandsOnHeldLines (old : Lines) (status : Status) (new : Lines) (result : Status)
     : Type 0 where
   pub kept : Keeps old.taken new.taken
@@ -68,9 +68,9 @@ pub record HandsOnHeldLines (old : Lines) (status : Status) (new : Lines) (resul
       ((result ≡ status) × (new.held ≡ []) × (new.count ≡ old.count))
       ⊎ ((result ≡ Fault) × (new.count ≡ old.count + 1))
 
--- All that was printed before the line of a fault was handed on, and since then this line alone was
--- put: of nothing else is a byte held back. Said of a sink by what it has taken, what it holds back
--- of that, how often it has failed and which pushes go so.
+-- Everything printed before the line of a fault was flushed, and since then only this line was
+-- written. The sink is given by its contents, the bytes that it holds back, its count of failures,
+-- and its pushes.
 pub record HoldsLineAlone
     {O : Type 0} (contents : O → Option (List ℕ)) (held_back : O → List ℕ) (failure_count : O → ℕ)
     (IsPush : O → List ℕ → Option ℕ → O → Type 0) (lines : Lines)
@@ -79,8 +79,8 @@ pub record HoldsLineAlone
   pub lines_are : lines ≡ lines_in contents held_back failure_count sink
   pub last : HoldsLastLine contents (λ o. length (held_back o)) IsPush sink
 
--- The same of a buffer, by what is told of the sink inside, how often that has failed and which
--- pushes into it go so.
+-- The same for a buffer, given the contents of the sink behind it, its count of failures, and its
+-- pushes.
 abbrev pub BufferHoldsLineAlone :
     {D : Type 0}
     → (D → Option (List ℕ)) → (D → ℕ) → (D → List ℕ → Option ℕ → D → Type 0) → Lines → Type 0
@@ -94,7 +94,7 @@ pub record HoldsNothing
   pub none : held_back new ≡ []
   pub count : failure_count new ≡ failure_count old
 
--- The last that was done to the lines: they were handed on, beside a file that is so.
+-- The last action was to flush the lines, while the file was in this state.
 pub record HandsOnBeside
     {O F : Type 0} (IsHandedOn : O → HeldBack F → Status → O → Status → Type 0)
     (file : HeldBack F) (new : O) (result : Status)
@@ -103,9 +103,9 @@ pub record HandsOnBeside
   pub status : Status
   pub call : IsHandedOn printed file status new result
 
--- A request was answered, of sources and a file that are so in their calls, the file beside that of
--- the first source, and then the lines were handed on. `Untouched` says that no byte of the second
--- source was read, and `IsAlone` of lines that all but the line of a fault was handed on.
+-- A request was answered from sources and to a file with these properties in their calls, and then
+-- the lines were flushed. `Untouched` says that no byte of the second source was read, and
+-- `IsAlone` that all lines except that of a fault were flushed.
 pub record EndsWith
     (request : Request) (IsFirst IsSecond : InputCall → Type 0) (Untouched : Type 0)
     (IsFile : InputCall → SinkCall → Type 0) (IsAlone : Lines → Type 0) (old new : Lines)
@@ -128,23 +128,22 @@ pub record EndsWith
         new_count = printed.count;
       })
       status
-  -- Where the source of the PES file or recording may have to ask its device, all that was told
-  -- before is with the device of the lines: each such call may fail, and where one did the line of
-  -- its failure alone may be held back.
+  -- Before the source of the PES file or recording may ask its device, which may fail, all output
+  -- has reached its device. So if it failed, only the line of its failure may be held back.
   pub followed :
       old.held ≡ [] → HandsOnBefore request (fails first) (fails second) (IsAlone printed)
   pub handed_on : HandsOnHeldLines printed status new result
 
--- The source has nothing to give.
+-- The source has no bytes.
 abbrev pub IsEmptySource : InputCall → Type 0
 IsEmptySource input = input.call.known ≡ Some []
 
--- The file had taken nothing before.
+-- The file was empty before.
 abbrev pub IsEmptyFile : InputCall → SinkCall → Type 0
 IsEmptyFile first call = call.old ≡ Some []
 
--- A file behind a buffer in the calls of the answer to a request, beside those of its first source,
--- by what is told of it and how often it has failed. As they left it, it was closed.
+-- A file behind a buffer in the calls of the answer to a request, together with those of its first
+-- source, given its contents and count of failures. It was closed as they left it.
 pub record IsClosedAfter
     {D : Type 0} (contents : D → Option (List ℕ)) (failure_count : D → ℕ) (IsClose : D → D → Type 0)
     (request : Request) (old new : HeldBack D) (first : InputCall) (call : SinkCall)
@@ -152,15 +151,14 @@ pub record IsClosedAfter
   pub left : HeldBack D
   pub call_is : call ≡ buffered_call contents failure_count old left
   pub closed : IsClose left.device new.device
-  -- What it holds back stays so.
+  -- The bytes in the buffer are unchanged.
   pub held_is : new.held ≡ left.held
-  -- Where the source of a recording may have to ask its device, all that was written before is with
-  -- the device of the file: each such call may fail, and where one did nothing is held back.
+  -- Before the source of a recording may ask its device, which may fail, everything written has
+  -- reached the device of the file. So if it failed, nothing is held back.
   pub written : WritesBefore request (first.call.old_count < first.call.new_count) (left.held ≡ [])
 
--- A file of which this part is read, in the calls of an answer, which leave it so, by what is told
--- of it and how often it has failed: there is a buffer before it, which held nothing, and no other
--- device.
+-- A file of which this part is read, in the calls of an answer, which leave it in this state: an
+-- empty buffer is before it, and no other device.
 pub record IsReadFrom
     {I : Type 0} (part : Part) (remaining : I → Option (List ℕ)) (failure_count : I → ℕ)
     (file left : I) (input : InputCall)
@@ -173,10 +171,10 @@ pub record IsReadFrom
       (let buffer : ReadAhead I = record { device = file; held = []; room = room } in buffer) new
       input
 
--- A file that is written, in the calls of the answer to a request, beside those of its first
--- source, and was closed as they left it; so it is then: there is a buffer before it, which held
--- nothing, and no other device. Where the run ends with `Done` the buffer holds nothing back, no
--- call has failed, and the file is stored.
+-- A file that is written, in the calls of the answer to a request, together with those of its first
+-- source, and was closed as they left it: a buffer is before it, which was empty, and no other
+-- device. If the run ends with `Done` the buffer is empty, no call has failed, and the file is
+-- stored.
 pub record IsWrittenTo
     {O : Type 0} (contents : O → Option (List ℕ)) (failure_count : O → ℕ) (is_stored : O → Bool)
     (IsClose : O → O → Type 0) (request : Request) (result : Status) (file left : O)
@@ -194,9 +192,8 @@ pub record IsWrittenTo
       (record { device = file; held = []; room = room; failed = false; refused = 0 }) new
   pub stored : StoresWritten request result (is_stored new.device)
 
--- What is told of files that are read and of those that are written: the bytes that they have still
--- to give, and those that they have taken; how often they have failed; and whether the system has
--- stored what it took.
+-- What is known of input and output files: the bytes that are still to be read, and those that were
+-- written; their counts of failures; and whether the system has stored what was written.
 pub record KnownOfFiles (I O : Type 0) : Type 0 where
   pub remaining : I → Option (List ℕ)
   pub reads_failed : I → ℕ
@@ -204,7 +201,7 @@ pub record KnownOfFiles (I O : Type 0) : Type 0 where
   pub writes_failed : O → ℕ
   pub stored : O → Bool
 
--- What is told of them, one after another.
+-- The same from its parts.
 abbrev pub known_of_files :
     {I O : Type 0}
     → (I → Option (List ℕ)) → (I → ℕ) → (O → Option (List ℕ)) → (O → ℕ) → (O → Bool)
@@ -217,8 +214,8 @@ known_of_files remaining reads_failed contents writes_failed stored = record {
   stored = stored;
 }
 
--- A source is this part of this file, which is left so, or an empty one where none was opened for
--- it.
+-- A source is this part of this file, which is left in this state, or an empty one if no file was
+-- opened.
 abbrev pub IsSourceOf :
     {I O : Type 0} → KnownOfFiles I O → Part → (opened left : Option I) → InputCall → Type 0
 IsSourceOf known part (Some file) (Some left) =
@@ -226,8 +223,8 @@ IsSourceOf known part (Some file) (Some left) =
 IsSourceOf known part None None = IsEmptySource
 IsSourceOf known part opened left = λ input. ⊥
 
--- The file of a request is the one that was created, which is left so, or an empty one where none
--- was.
+-- The file of a request is the one that was created, which is left in this state, or an empty one
+-- if none was.
 abbrev pub IsSinkOf :
     {I O : Type 0}
     → KnownOfFiles I O → (O → O → Type 0) → Request → Status → (created left : Option O) → InputCall
@@ -237,15 +234,14 @@ IsSinkOf known IsClose request result (Some file) (Some left) =
 IsSinkOf known IsClose request result None None = IsEmptyFile
 IsSinkOf known IsClose request result created left = λ first call. ⊥
 
--- The sources of a request and its file, of those that were opened and created, and which part of
--- its first source is read.
+-- The sources of a request and its file, and which part of its first source is read.
 pub record Devices (I O : Type 0) : Type 0 where
   pub first : Option I
   pub part : Part
   pub second : Option I
   pub file : Option O
 
--- The sources alone, and the first of them whole or in part.
+-- Only sources, the first of them completely or in part.
 abbrev pub sources : {I O : Type 0} → Part → Option I → Option I → Devices I O
 sources part first second =
     record { first = first; part = part; second = second; file = None }
@@ -255,7 +251,7 @@ abbrev pub source_and_file : {I O : Type 0} → Part → I → O → Devices I O
 source_and_file part source file =
     record { first = Some source; part = part; second = None; file = Some file }
 
--- Which they are. Of a file of PES packets and of a recording this part is read.
+-- Which they are. This part is read of a file of PES packets and of a recording.
 abbrev pub devices_of : {I O : Type 0} → Part → Opened I O → Devices I O
 devices_of part Nothing = sources whole_file None None
 devices_of part (ReadStl stl) = sources whole_file (Some stl) None
@@ -264,7 +260,7 @@ devices_of part (ReadBoth stl pes) = sources whole_file (Some stl) (Some pes)
 devices_of part (Write stl output) = source_and_file whole_file stl output
 devices_of part (Extract recording output) = source_and_file part recording output
 
--- What was opened is what these names ask for.
+-- The opened files are those that the names request.
 abbrev pub Fits : {I O : Type 0} → FileNames → Opened I O → Type 0
 Fits names.None Nothing = Unit {0}
 Fits (names.ReadStl name) (ReadStl stl) = Unit {0}
@@ -274,30 +270,30 @@ Fits (names.Write name other) (Write stl output) = Unit {0}
 Fits (names.Extract name other) (Extract recording output) = Unit {0}
 Fits names opened = ⊥
 
--- The files of a request as its answer left them.
+-- The files of a request in the state in which its answer left them.
 pub record FilesLeft (I O : Type 0) : Type 0 where
   pub first : Option I
   pub second : Option I
   pub file : Option O
 
--- A file that was read is let go, if there is one, and then what follows.
+-- An input file is released, if there is one, before these calls.
 abbrev pub input_before :
     {I O : Type 0} → Option I → List (FileCall I O) → List (FileCall I O)
 input_before (Some file) calls = LetGoInput file ∷ calls
 input_before None calls = calls
 
--- A file that was written is, if there is one.
+-- An output file is released, if there is one.
 abbrev pub output_alone : {I O : Type 0} → Option O → List (FileCall I O)
 output_alone (Some file) = LetGoOutput file ∷ []
 output_alone None = []
 
--- Each is let go once, as it was left.
+-- Each is released once, as it was left.
 abbrev pub let_go : {I O : Type 0} → FilesLeft I O → List (FileCall I O)
 let_go left = input_before left.first (input_before left.second (output_alone left.file))
 
--- A request was answered over devices, which are left so, by what is told of these and by which
--- closes of a file go so; and then the lines were handed on. A second source is the PES file, of
--- which the request reads a part; where no byte of it was read, it is left as it was opened.
+-- A request was answered with devices, which are left in this state; and then the lines were
+-- flushed. A second source is the PES file, of which the request reads a part; if no byte of it was
+-- read, it is left as it was opened.
 abbrev pub EndsOver :
     {I O : Type 0}
     → KnownOfFiles I O → (O → O → Type 0) → Request → Devices I O → FilesLeft I O
@@ -308,7 +304,7 @@ EndsOver known IsClose request devices left IsAlone old new result =
     (left.second ≡ devices.second)
     (IsSinkOf known IsClose request result devices.file left.file) IsAlone old new result
 
--- A request was answered over devices, and then the files were let go as that left them, by the
+-- A request was answered with devices, and then the files were released as they were left, by the
 -- calls that were made.
 pub record EndsAndLetsGo
     {I O : Type 0} (AreMade : List (FileCall I O) → Type 0) (known : KnownOfFiles I O)
@@ -319,8 +315,8 @@ pub record EndsAndLetsGo
   pub are_let_go : AreMade (let_go left)
   pub ends : EndsOver known IsClose request devices left IsAlone old new result
 
--- The files that a request names were opened, it was answered over them, and the lines were handed
--- on; then the files were let go as they were left. These are all the calls that were made.
+-- The files that a request names were opened, it was answered with them, and the lines were
+-- flushed; then the files were released as they were left. These are all the calls that were made.
 pub record Ends
     {I O : Type 0} (AreMade : List (FileCall I O) → Type 0) (known : KnownOfFiles I O)
     (IsClose : O → O → Type 0) (request : Request) (IsAlone : Lines → Type 0) (old new : Lines)
@@ -334,7 +330,7 @@ pub record Ends
       EndsOver known IsClose request (devices_of (part_asked request) files) left IsAlone old new
       result
 
--- The line of a fault was printed, and then handed on.
+-- The line of a fault was printed, and then flushed.
 pub record Says (fault : UsageFault) (old new : Lines) (result : Status) : Type 0 where
   pub printed : Lines
   pub line :

@@ -1,4 +1,4 @@
--- What is said of the answer to `check --all`.
+-- The answer of `check --all`.
 use Rattle.std.specs.Prelude.{◌≡◌, ◌≢◌, ⊤, ℕ, ◌<◌, ◌≤◌, length, Bool, true, false, List, ◌++◌}
 use Rattle.std.specs.Prelude.{Option, Some, None, Result, Ok, Err, IfErr, IsFalse, IsOk, is_err}
 use Rattle.std.specs.List.{filter}
@@ -38,16 +38,15 @@ use Rattle.sub_listing.specs.FaultLine.{line_of}
 use Rattle.sub_listing.specs.declared.status.Status.{Status}
 use Rattle.sub_listing.specs.declared.status.Status.TheVariants.{Fault}
 
--- An answer, `None` where no transmission is judged beside a refused subtitle file, refuses that
--- file or could not read it.
+-- An answer refuses the subtitle file or could not read it. It is `Ok None` if no transmission can
+-- be judged because of refused subtitles.
 abbrev pub is_of_subtitles : Result (Option Accepted) CheckFault → Bool
 is_of_subtitles (Ok None) = true
 is_of_subtitles (Ok (Some a)) = false
 is_of_subtitles (Err f) = is_subtitle_fault f
 
--- What is told where the subtitle file can't be read on, at this block: the faults that are found
--- before it. Where memory was refused, it was wanted for a subtitle that ends there, and of which
--- nothing is told.
+-- The events if the subtitle file can't be read on at this block: the faults found before it. If an
+-- allocation was refused, it was for a subtitle that ends there, which has no event.
 abbrev pub AreListedBefore : Drawing → List ℕ → List Event → ℕ → LoadFaultKind → Type 0
 AreListedBefore drawing file events block (File stl_fault.Read) =
     events ≡ subtitle_events (filter (is_told_before block) (faults drawing file))
@@ -57,8 +56,8 @@ AreListedBefore drawing file events block Memory =
     (findings_for drawing.scope file)
 AreListedBefore drawing file events block kind = ⊥
 
--- What is told of the PES file, by how many pieces of it were read: of all of them, and the frames
--- that they send are counted; or where its source failed, of those before that.
+-- The events of the PES file: of all its PES packets, whose frames are counted; or if its source
+-- failed, of those before.
 abbrev pub AreListedOfPes :
     JudgedValue → OptionsValue → List ℕ → List Event → Result Accepted ℕ → Type 0
 AreListedOfPes judged options bytes events (Ok a) =
@@ -68,8 +67,8 @@ AreListedOfPes judged options bytes events (Err n) =
     (n ≤ length (piece_file_of (clock_of options) bytes).pieces)
     × (events ≡ events_of_first_by judged options bytes n)
 
--- What is listed of both files, where a transmission is judged by the subtitle file: all faults of
--- the one, and then what is told of the other, by what can be judged beside these.
+-- The events of both files, if a transmission can be judged by the subtitle file: all faults of
+-- that, followed by the events of the PES file, compared with what can be judged in spite of these.
 pub record IsListedOf
     (drawing : Drawing) (options : OptionsValue) (file : List ℕ) (pes : Option (List ℕ))
     (events : List Event) (answer : Result Accepted ℕ) : Type 0 where
@@ -79,8 +78,8 @@ pub record IsListedOf
   pub both : events ≡ subtitle_events (faults drawing file) ++ more
   pub listed : IfKnown pes (λ bytes. AreListedOfPes judged options bytes more answer)
 
--- These are the events of a subtitle file and of a PES file: all faults of the one, and then all
--- events of the other, where that is judged.
+-- These are the events of both files: all faults of the subtitle file, followed by all events of
+-- the PES file, if it can be judged.
 abbrev pub AreListed :
     Drawing → OptionsValue → List ℕ → Option (List ℕ) → List Event
     → Result (Option Accepted) CheckFault → Type 0
@@ -94,24 +93,24 @@ AreListed drawing options file pes events (Err (Pes n Read)) =
     IsListedOf drawing options file pes events (Err n)
 AreListed drawing options file pes events (Err f) = ⊥
 
--- The source of a subtitle file failed at the block of the byte that was asked for: the first one
--- after those that were taken.
+-- The source of a subtitle file failed at the block that was being read: the first one after the
+-- consumed bytes.
 pub record FailsAtBlock (known left : Option (List ℕ)) (block : ℕ) : Type 0 where
   pub bytes : List ℕ
   pub consumed : Consumes known left bytes
   pub block_is : block ≡ block_of_byte (length bytes)
 
--- The answer is that of `check` for the bytes of a PES file, by whatever options; and where each
--- header of the page has to erase it, and that has to be whole at each frame's end, in the words of
--- the seven rules too.
+-- The answer is that of `check` for the bytes of a PES file, with any options; and if each header
+-- of the page has to erase it, and the page has to be right at the end of each frame, also in terms
+-- of the seven rules.
 abbrev pub IsAnswer :
     ProgrammeValue → OptionsValue → List ℕ → Result Accepted CheckFault → Type 0
 IsAnswer programme options bytes answer =
     IsCheckedBy programme options bytes answer
     × (IsFalse options.keeps → options.within ≡ 0 → IsChecked programme options bytes answer)
 
--- Where both files were read, the answer of `check`, which the first event decides, is one of the
--- bytes: what is accepted is good and robust.
+-- If both files were read, the answer of `check`, which the first event decides, fits the bytes:
+-- what is accepted is good and robust.
 abbrev pub IsVerdict :
     Drawing → OptionsValue → List ℕ → List ℕ → List Event → Result (Option Accepted) CheckFault
     → Type 0
@@ -121,7 +120,7 @@ IsVerdict drawing options file bytes events (Ok (Some a)) =
     → IsAnswer programme options bytes (first_answer events a)
 IsVerdict drawing options file bytes events answer = ⊤
 
--- Want of memory is printed, after the lines of these faults of the subtitle file.
+-- Want of memory is printed after the lines of these faults of the subtitle file.
 abbrev pub PrintsMemoryLast :
     Drawing → Option (List ℕ) → Option (List ℕ) → Option (List ℕ) → Type 0
 PrintsMemoryLast drawing known old new =
@@ -131,13 +130,13 @@ PrintsMemoryLast drawing known old new =
     × Appends old new (event_lines first events ++ line_of (load_line Memory block))
     × IfKnown known (λ file. AreListedBefore drawing file events block Memory)
 
--- An answer by what was read of the PES file: all of it, or its source failed at this piece.
+-- The answer for what was read of the PES file: all of it, or its source failed at this PES packet.
 abbrev pub read_answer : Result Accepted ℕ → Result (Option Accepted) CheckFault
 read_answer (Ok a) = Ok (Some a)
 read_answer (Err n) = Err (Pes n Read)
 
--- What a printer was told of the PES file, and the answer, which is the one that was given where
--- its sink has not failed.
+-- The events of the PES file that a printer was told, and the answer, which is the given one unless
+-- its sink failed.
 pub record TellsPes
     (judged : JudgedValue) (options : OptionsValue) (pes : SourceCall) (first : FirstNumber)
     (old new : PrinterValue) (given : Result (Option Accepted) CheckFault)
@@ -151,7 +150,7 @@ pub record TellsPes
   pub count : RisesIf pes.old_count (is_err answer) pes.new_count
   pub read : (n : ℕ) → answer ≡ Err n → FailsAtPiece n pes.known pes.left
   pub cut : new.failed ≡ true → IsOk answer
-  -- Where nothing of the subtitle file is refused, the first event decides what `check` answers.
+  -- If no subtitle was refused, the first event decides the answer of `check`.
   pub checked :
       new.failed ≡ false
       → IfKnown pes.known (λ bytes.
@@ -161,17 +160,17 @@ pub record TellsPes
       → IsAnswer programme options bytes (first_answer events a))
   pub listed : IfKnown pes.known (λ bytes. AreListedOfPes judged options bytes events answer)
 
--- The answer tells so of the sources of both files: that one failed is told at the block of the
--- byte that was asked for, or at the piece within which it failed. Where the subtitle file is
--- refused or can't be read, no PES byte is read.
+-- What the answer says about the sources of both files: a failure is reported at the block that was
+-- being read, or at the PES packet in which it happened. If the subtitle file is refused or can't
+-- be read, no PES byte is read.
 abbrev pub TellsBothSources :
     SourceCall → SourceCall → Type 0 → Result (Option Accepted) CheckFault → Type 0
 TellsBothSources stl pes Untouched answer =
     TellsSources (FailsAtBlock stl.known stl.left) (λ index. FailsAtPiece index pes.known pes.left)
     Untouched (is_of_subtitles answer) stl pes answer
 
--- What a printer was told of the events of both files, and the answer, which is the one that was
--- given where its sink has not failed.
+-- The events of both files that a printer was told, and the answer, which is the given one unless
+-- its sink failed.
 pub record TellsBoth
     (drawing : Drawing) (options : OptionsValue) (stl pes : SourceCall) (first : FirstNumber)
     (Untouched : Type 0) (old new : PrinterValue) (given : Result (Option Accepted) CheckFault)
@@ -196,31 +195,32 @@ pub record TellsBoth
   pub listed :
       IfKnown stl.known (λ file. AreListed drawing options file pes.known events answer)
 
--- `check --all` tells events, and has one answer; the bytes of both files decide them. `first` is
--- the number that the first PES packet has in its file; `Untouched` says that no byte of the PES
--- file was read.
+-- `check --all` prints events, and has one answer; the bytes of both files decide them. `first` is
+-- the number of the first PES packet in its file; `Untouched` says that no byte of the PES file was
+-- read.
 pub record AnswersAll
     (drawing : Drawing) (options : OptionsValue) (stl pes : SourceCall) (first : FirstNumber)
     (Untouched : Type 0) (out : SinkCall) (status : Status)
     : Type 0 where
   pub events : List Event
   pub answer : Result (Option Accepted) CheckFault
-  -- PES packets are told by their numbers in the file.
+  -- PES packets are reported by their numbers in the file.
   pub number : ℕ
   pub starts : is_of_subtitles answer ≡ false → StartsAt first pes number
-  -- Their lines and the last line are printed, or `out` failed and has a prefix of them.
+  -- The lines of the events and the last line are printed, or `out` failed and has a prefix of
+  -- them.
   pub printed : PrintsOrFails out (all_listing number events answer) status
   pub sources : TellsBothSources stl pes Untouched answer
-  -- Where the files tell their bytes, these decide the events.
+  -- If the bytes of the files are known, they decide the events.
   pub listed :
       IfKnown stl.known (λ file. AreListed drawing options file pes.known events answer)
-  -- The PES file is left unread only where no transmission is judged by the subtitle file.
+  -- The PES file is left unread only if no transmission can be judged by the subtitle file.
   pub unjudged :
       status ≢ Fault
       → answer ≡ Ok None
       → IfKnown stl.known (λ file. judges drawing file ≡ false)
-  -- Failing devices and want of memory aside, the answer of `check` that goes with the events is
-  -- one of the bytes of both files.
+  -- Unless a device fails or an allocation is refused, the answer of `check` that belongs to the
+  -- events fits the bytes of both files.
   pub checked :
       status ≢ Fault
       → IfKnown stl.known (λ file.

@@ -1,4 +1,5 @@
--- What the status of `check` tells of files in memory: a law of what is said of runs over files.
+-- What the status of `check` says about files in memory: the clauses about runs with files apply to
+-- them.
 use Rattle.std.specs.Prelude.{◌≡◌, ◌≢◌, ◌↔◌, ⊤, ℕ, List, Some, true}
 use Rattle.sub_io.specs.Memory.{Written}
 use Rattle.stl_rows.specs.Layout.{drawing_within}
@@ -12,13 +13,13 @@ use Rattle.sub_listing.specs.declared.status.Status.TheVariants.{Done, Fault}
 use Rattle.sub_answer.specs.Ending.{Ends, KnownOfFiles, Lines, known_of_files}
 use Rattle.sub_answer.specs.Part.{through_range, through_stream}
 
--- What such files tell: each all its bytes.
+-- What is known of such files: all their bytes.
 abbrev pub known_of_memory : KnownOfFiles (List ℕ) Written
 known_of_memory =
     known_of_files (λ left. Some left) (λ left. 0) (λ file. Some file.bytes)
     (λ file. file.failure_count) (λ file. true)
 
--- The status of a check is `Done` exactly where the bytes of the subtitle file that it names, and
+-- The status of a check is `Done` exactly if the bytes of the subtitle file that it names, and
 -- those that it reads of the PES file, are accepted.
 abbrev pub TellsAccepted : Request → MemFilesValue → Status → Type 0
 TellsAccepted (ask.Check stl pes options national layout scope all) files status =
@@ -30,9 +31,9 @@ TellsAccepted (ask.Check stl pes options national layout scope all) files status
     ↔ IsAcceptedBy (drawing_within national layout scope) options subtitles read
 TellsAccepted _ files status = ⊤
 
--- Where a request was answered over files in memory, as `open_and_answer` says, whatever standard
--- output is, its status tells that, failing output and want of memory aside.
--- So what is said of the bytes of files is said of some that are there.
+-- If a request was answered with files in memory, as `open_and_answer` says, whatever standard
+-- output is, its status says this, unless output fails or an allocation is refused. So the clauses
+-- about the bytes of files apply to files that exist.
 abbrev pub LawOfFilesInMemory : (Lines → Type 0) → Type 0
 LawOfFilesInMemory IsAlone =
     (request : Request) (before after : MemFilesValue) (old new : Lines) (status : Status)

@@ -1,4 +1,4 @@
--- What `listen` prints: the state of a receiver at the end of its run, or the refusal.
+-- The output of `listen`: the state of a receiver at the end of its run, or the refusal.
 use Rattle.std.specs.Prelude.{◌≡◌, ℕ, Bool, false, List, Option, None, Result, Ok, Err, IfOk}
 use Rattle.ttx_page.specs.Page.{IsCell, Rows, cell}
 use Rattle.ttx_page.specs.Screen.{Display}
@@ -17,33 +17,32 @@ use Rattle.sub_listen.specs.Fault.{listen_code}
 use Rattle.sub_rules.specs.declared.fault_place.FaultPlace.TheVariants as place
 use Rattle.sub_listen.specs.declared.listening.ListenFault.TheVariants as listen
 
--- The page that a receiver held before: 3F in every cell (own).
+-- The page that a receiver had before: 3F in every cell (own).
 abbrev pub IsOldPage : Rows → Type 0
 IsOldPage page = (row column : ℕ) → IsCell row column → cell page row column ≡ 0x3F
 
--- A receiver that was tuned with a page that it held before, and nothing on its screen.
+-- A receiver that was tuned with this old page, and nothing on its screen.
 abbrev pub tuned_with : Rows → Display
 tuned_with page = record {
   held = record { heard = false; is_open = false; page = page };
   screen = None;
 }
 
--- A fault of a PES file that is not heard: a lost header is told at its packet.
+-- The line of a fault; a lost header is reported at its packet.
 abbrev pub listen_line : ListenFault → FaultLine
 listen_line (listen.File f) = check_line f
 listen_line (listen.LostHeader frame packet) =
     line_as kind.Refused (listen_code (listen.LostHeader frame packet)) (place.Packet frame packet)
 
--- What is printed at the end of a run, where the first PES packet that is read has the number
--- `first` in its file.
+-- The output at the end of a run, if the first PES packet that is read has the number `first` in
+-- its file.
 abbrev pub listing_of : ℕ → Bool → Display → Result (Unit {0}) ListenFault → Listing
 listing_of first asks_complete end (Ok _) = done (display_text asks_complete end)
 listing_of first asks_complete end (Err f) = fault_listing (counted_from first (listen_line f))
 
--- What `listen` prints of a file that is read as these frames, of which these bytes were to be read
--- before and are left after: what a receiver that was tuned with an old page, and leaves this code
--- in a cell whose byte has even parity, holds at the end of its run, or what is on its screen; or
--- the refusal.
+-- The output of `listen` for a file with these frames, and with these bytes before and after: the
+-- page or screen, at the end of its run, of a receiver that was tuned with an old page and leaves
+-- the code `leaves` in a cell whose byte has even parity; or the refusal.
 pub record Listens
     (leaves : ℕ → ℕ) (l : Listening) (first : ℕ) (frames : Transmission) (unread : Option Unread)
     (known left : Option (List ℕ)) (listing : Listing)

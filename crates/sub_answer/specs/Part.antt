@@ -1,5 +1,5 @@
--- Which PES packets of a file a request reads: all of a file of PES packets, or what the packets of
--- a PID of a transport stream carry (ISO/IEC 13818-1); and of these all or some.
+-- The PES packets of a file that a request reads: all of a file of PES packets, or what the packets
+-- of a PID of a transport stream carry (ISO/IEC 13818-1); and of these all or some.
 use Rattle.std.specs.Prelude.{◌≡◌, ℕ, List, Option, Some, None, option_map}
 use Rattle.mpeg_ts.specs.Carried.{carried}
 use Rattle.mpeg_ts.specs.PacketSize.{bytes_of}
@@ -10,11 +10,11 @@ use Rattle.sub_request.specs.declared.request.Request.TheVariants as ask
 use Rattle.sub_answer.specs.Answering.{InputCall}
 use Rattle.sub_answer.specs.declared.part.Part.{Part}
 
--- All of a file that is no transport stream.
+-- The whole of a file that is no transport stream.
 abbrev pub whole_file : Part
 whole_file = record { stream = None; range = None }
 
--- What a request reads of its PES file, or of its recording.
+-- The part that a request reads of its PES file or recording.
 abbrev pub part_asked : Request → Part
 part_asked (ask.Packets pes) = record { stream = pes.stream; range = pes.range }
 part_asked (ask.Check stl pes options national layout scope all) =
@@ -23,23 +23,23 @@ part_asked (ask.Listen pes listening) = record { stream = pes.stream; range = pe
 part_asked (ask.Extract recording pes stream) = record { stream = Some stream; range = None }
 part_asked _ = whole_file
 
--- What a transport stream carries, where the file is one, of the bytes that are told of the file.
+-- What a transport stream carries, if the file is one.
 abbrev pub through_stream : Option TransportStream → Option (List ℕ) → Option (List ℕ)
 through_stream None told = told
 through_stream (Some s) told = option_map (carried s.pid (bytes_of s.packet_size)) told
 
--- The PES packets of a range, where one is given.
+-- The PES packets of a range, if there is one.
 abbrev pub through_range : Option PieceRangeValue → Option (List ℕ) → Option (List ℕ)
 through_range None told = told
 through_range (Some r) told = option_map (in_range r) told
 
--- The number that the first of them has among all that the file or the stream gives.
+-- The number of the first of them among all that the file or the stream gives.
 abbrev pub number_in : Option PieceRangeValue → Option (List ℕ) → Option ℕ
 number_in None told = Some 0
 number_in (Some r) told = option_map (first_index r) told
 
--- A source of this part of what another one gives, in a call which leaves that so, by what is told
--- of that one and how often it has failed.
+-- A source of this part of another one, in a call that leaves that in this state, given its
+-- remaining bytes and count of failures.
 pub record IsPartOf
     {D : Type 0} (part : Part) (remaining : D → Option (List ℕ)) (failure_count : D → ℕ)
     (whole left : D) (input : InputCall)
@@ -52,11 +52,11 @@ pub record IsPartOf
       ≡ number_in part.range (through_stream part.stream (remaining whole))
   pub old_count : input.call.old_count ≡ failure_count whole
   pub new_count : input.call.new_count ≡ failure_count left
-  -- Where that is all, the same is left of both.
+  -- If that is all, the same is left of both.
   pub left_is : part ≡ whole_file → input.call.left ≡ remaining left
 
--- Pieces of a range of those that another one gives, or all, in a call which leaves that so, by
--- what is told of that one, what its device has still to give, and how often that has failed.
+-- The PES packets of a range, or all, of those that another one gives, in a call that leaves that
+-- in this state, given those still to come, what its device still has, and its count of failures.
 pub record IsRangeOf
     {D : Type 0} (range : Option PieceRangeValue) (remaining left : D → Option (List ℕ))
     (failure_count : D → ℕ) (old new : D) (input : InputCall)

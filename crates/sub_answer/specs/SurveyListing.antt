@@ -1,4 +1,4 @@
--- What `survey` prints.
+-- The output of `survey`.
 use Rattle.std.specs.Prelude.{◌≡◌, ◌≢◌, List, ◌++◌, ℕ, Option}
 use Rattle.std.specs.Io.KnownBytes.{IsAtEnd}
 use Rattle.mpeg_ts.specs.declared.survey_options.SurveyOptions.{SurveyOptions}
@@ -10,16 +10,16 @@ use Rattle.sub_listing.specs.declared.status.Status.{Status}
 use Rattle.sub_listing.specs.declared.status.Status.TheVariants.{Done, Fault}
 use Rattle.ts_survey.specs.Listed.{IsSurveyed}
 
--- The line of a fault stands behind what was told before.
+-- The line of a fault comes after what was printed before.
 pub record EndsInFault (text : List ℕ) : Type 0 where
   pub before : List ℕ
   pub fault : FaultLine
   pub is_fault : status_of fault.kind ≡ Fault
   pub told : text ≡ before ++ line_of fault
 
--- Lines were printed, all of them or, where the sink failed, a prefix. With `Done` all are, and are
--- those of the recording, surveyed as it was asked; else the status is `Fault`, and where the sink
--- did not fail, the line of what did is the last one.
+-- Lines were printed, all of them or, if the sink failed, a prefix. With `Done` they are those of
+-- the recording, surveyed as requested. Otherwise the status is `Fault`, and unless the sink
+-- failed, the line of what failed is the last one.
 pub record PrintsSurvey
     (options : SurveyOptions) (recording : Option (List ℕ)) (out : SinkCall) (status : Status)
     : Type 0 where
@@ -30,7 +30,7 @@ pub record PrintsSurvey
   pub fault : status ≢ Done → status ≡ Fault
   pub line : status ≢ Done → out.new_count ≡ out.old_count → EndsInFault listing.text
 
--- They were printed of a recording, which was read to its end where the status is `Done`.
+-- They were printed for a recording, which was read to its end if the status is `Done`.
 pub record Surveys
     (options : SurveyOptions) (recording : SourceCall) (out : SinkCall) (status : Status)
     : Type 0 where

@@ -1,7 +1,7 @@
-//! Does what a request asks for, and prints it.
+//! Answers a request.
 //!
 //! `sub_listing` has the commands that need no checker, and a file of `answering/` each of the
-//! others; here a request is handed to its own, and the lines of refused words are printed.
+//! others. Here a request is passed to its command, and the lines of refused arguments are printed.
 
 mod check;
 mod check_all;
@@ -35,12 +35,12 @@ use sub_request::{Request, UsageFault};
 use survey::print_survey;
 use ttx_pes::{FilePieces, NumberedPieces};
 
-/// Answers a request that `Request::parse` gave.
+/// Answers a request that `Request::parse` returned.
 ///
 /// `first` is the subtitle file or the only input, `second` the PES file of a check, `file` the
-/// file to be written and `out` the standard output. Of PES packets the source gives those of a
-/// file, all of them. Devices that the request does not name are not touched. `Fault` where a
-/// device failed, or where memory ran out; what was printed until then stays.
+/// output file and `out` the standard output. A source of PES packets gives all those of its file.
+/// Devices that the request does not name are not used. Returns `Fault` if a device failed or
+/// memory ran out; what was printed before stays.
 pub fn answer<S: Source, T: Source, F: Close, K: Flush>(
     alloc: Global,
     request: &Request<'_>,
@@ -54,7 +54,7 @@ pub fn answer<S: Source, T: Source, F: Close, K: Flush>(
     requires file { CanFail (F.failure_count file.old) }
     requires out { CanFail (K.failure_count out.old) }
 
-    // What is printed and written of what the devices tell, command by command.
+    // The output and the written file, command by command.
     ensures answers { Answers request.now
         (whole_call S.remaining S.failure_count first.old first.new)
         (whole_call T.remaining T.failure_count second.old second.new)
@@ -67,28 +67,28 @@ pub fn answer<S: Source, T: Source, F: Close, K: Flush>(
     ensures second { reads_two (files_of request.now) ≡ false → second.new ≡ second.old }
     ensures file { writes_one (files_of request.now) ≡ false → file.new ≡ file.old }
 
-    // Each device fails once at most, and not where the status is another than `Fault`. That of a
-    // command that takes no memory is `Fault` only where a device failed.
+    // Each device fails at most once, and only if the status is `Fault`. A command that needs no
+    // memory has the status `Fault` only if a device failed.
     ensures fault { CountsFaults request.now
         (source_call S.remaining S.failure_count first.old first.new)
         (source_call T.remaining T.failure_count second.old second.new)
         (sink_call F.contents F.failure_count file.old file.new)
         (sink_call K.contents K.failure_count out.old out.new) result }
 
-    // Where the status is `Done`, a file that is named holds no byte back, and is stored.
+    // If the status is `Done`, an output file holds no byte back, and is stored.
     ensures held { HandsOnWritten request.now result (F.held file.new) }
     ensures stored { StoresWritten request.now result (F.is_stored file.new) }
 
-    // Where the source of the PES file or recording may have to ask its device, all that was told
-    // before is with the device of `out`: each such call may fail, and where one did the line of
-    // its failure alone may be held back.
+    // Before the source of the PES file or recording may ask its device, which may fail, all output
+    // has reached the device of `out`. So if it failed, only the line of its failure may be held
+    // back.
     ensures followed { K.held out.old ≡ 0 → HandsOnBefore request.now
         (S.failure_count first.old < S.failure_count first.new)
         (T.failure_count second.old < T.failure_count second.new)
         (HoldsLastLine K.contents K.held K.is_push out.new) }
 
-    // Where the source of a recording may have to ask its device, all that was written before is
-    // with the device of `file`.
+    // Before the source of a recording may ask its device, everything written has reached the
+    // device of `file`.
     ensures written { F.held file.old ≡ 0 → WritesBefore request.now
         (S.failure_count first.old < S.failure_count first.new) (F.held file.new ≡ 0) }
 {
@@ -101,7 +101,8 @@ pub fn answer<S: Source, T: Source, F: Close, K: Flush>(
     answer_over(alloc, request, first, &mut pieces, file, out)
 }
 
-/// Whether the first input of a request gives pieces: PES packets are listed, heard or written.
+/// Returns whether the first input of a request gives PES packets: they are listed, received or
+/// written.
 pub fn reads_pieces(request: &Request<'_>) -> bool
     ensures { result ≡ reads_pieces request.now }
 {
@@ -111,13 +112,12 @@ pub fn reads_pieces(request: &Request<'_>) -> bool
     }
 }
 
-/// Answers a request that `Request::parse` gave, as `answer` does, over those PES packets that the
-/// request reads: of a file or of a recording, all of them or some.
+/// Answers a request that `Request::parse` returned, like `answer`, with the PES packets that the
+/// request selects: of a file or of a recording, all of them or some.
 ///
-/// `first` is the subtitle file, or the recording that is reported on, and `pes` gives the PES
-/// packets that are listed, heard, checked or written. Devices that the request does not name are
-/// not touched. `Fault` where a device failed, or where memory ran out; what was printed until then
-/// stays.
+/// `first` is the subtitle file, or the recording that is surveyed, and `pes` gives the PES packets
+/// that are listed, received, checked or written. Devices that the request does not name are not
+/// used. Returns `Fault` if a device failed or memory ran out; what was printed before stays.
 pub fn answer_over<S: Source, P: NumberedPieces, F: Close, K: Flush>(
     alloc: Global,
     request: &Request<'_>,
@@ -131,7 +131,8 @@ pub fn answer_over<S: Source, P: NumberedPieces, F: Close, K: Flush>(
     requires file { CanFail (F.failure_count file.old) }
     requires out { CanFail (K.failure_count out.old) }
 
-    // What is printed and written, command by command, and handed on before a source has to wait.
+    // The output and the written file, command by command, and what is flushed before a source has
+    // to wait.
     ensures answers { AnswersOver request.now
         (whole_call S.remaining S.failure_count first.old first.new)
         (pieces_call P.remaining P.left P.failure_count P.first P.passed pes.old pes.new)
@@ -147,14 +148,14 @@ pub fn answer_over<S: Source, P: NumberedPieces, F: Close, K: Flush>(
     ensures device { P.device pes.new ≡ P.device pes.old }
     ensures file { writes_one (files_of request.now) ≡ false → file.new ≡ file.old }
 
-    // How often each device fails, by the status.
+    // How often each device fails, given the status.
     ensures fault { CountsFaults request.now
         (source_call S.remaining S.failure_count first.old first.new)
         (read_call P.remaining P.left P.failure_count pes.old pes.new)
         (sink_call F.contents F.failure_count file.old file.new)
         (sink_call K.contents K.failure_count out.old out.new) result }
 
-    // Where the status is `Done`, a file that is named holds no byte back, and is stored.
+    // If the status is `Done`, an output file holds no byte back, and is stored.
     ensures held { HandsOnWritten request.now result (F.held file.new) }
     ensures stored { StoresWritten request.now result (F.is_stored file.new) }
 {
@@ -181,7 +182,7 @@ pub fn answer_over<S: Source, P: NumberedPieces, F: Close, K: Flush>(
     }
 }
 
-// How the texts of a subtitle file are drawn: as the request says, or else by default.
+// Returns how the texts of a subtitle file are drawn: as the request says, or by default.
 fn drawing_of(request: &Request<'_>) -> Drawing
     ensures { result ≡ drawing_of request.now }
 {
@@ -202,9 +203,9 @@ fn drawing_of(request: &Request<'_>) -> Drawing
     }
 }
 
-/// Prints the line of a fault of the words, or of a file that can't be opened.
+/// Prints the line of a fault of the arguments, or of a file that can't be opened.
 ///
-/// The status is `Fault`, also where `out` fails and takes a prefix of the line.
+/// The status is `Fault`, also if `out` fails, which has a prefix of the line then.
 pub fn say<K: Sink>(fault: &UsageFault, out: &mut K) -> Status
     requires { CanFail (K.failure_count out.old) }
     ensures printed { PrintsOrFails (sink_call K.contents K.failure_count out.old out.new)

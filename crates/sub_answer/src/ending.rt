@@ -1,7 +1,7 @@
-//! Answers a request over devices, closes the file and hands on the lines; or says why none is
-//! answered.
+//! Answers a request with devices, closes the file and flushes the lines; or prints why there is no
+//! answer.
 //!
-//! For a device that the request does not name an empty one is handed in, by a function of its own.
+//! Functions of their own pass an empty device for each one that the request does not name.
 ghost use Rattle.std.specs.Prelude.{◌≡◌, ⊤, false, true, []};
 ghost use Rattle.sub_io.specs.Buffered.{HandsOn, failures_and_refused};
 ghost use Rattle.sub_io.specs.Device.{CanFail};
@@ -95,7 +95,7 @@ pub fn answer_source<S: Source, F: Close, O: HandOn<F>>(
     answer_and_hand_on(alloc, request, first, &mut pes, file, out)
 }
 
-/// Answers a request that reads PES packets alone, and may write a file.
+/// Answers a request that reads only PES packets, and may write a file.
 pub fn answer_pieces<P: NumberedPieces, F: Close, O: HandOn<F>>(
     alloc: Global,
     request: &Request<'_>,
@@ -127,12 +127,11 @@ pub fn answer_pieces<P: NumberedPieces, F: Close, O: HandOn<F>>(
     answer_and_hand_on(alloc, request, &mut nothing, pes, file, out)
 }
 
-// Answers a request over these devices, closes the file as that left it, and then hands on the
+// Answers a request with these devices, closes the file as the answer left it, and then flushes the
 // lines.
 //
-// Where the status is 0, neither the file nor the lines are held back, and no call of either sink
-// has failed: the devices below them have taken all bytes, by calls that did not fail, and a file
-// that the request names is stored.
+// If the status is 0, nothing is held back of the file or the lines, and no call of either sink has
+// failed: the devices behind them have all bytes, and an output file is stored.
 fn answer_and_hand_on<S: Source, P: NumberedPieces, F: Close, O: HandOn<F>>(
     alloc: Global,
     request: &Request<'_>,
@@ -162,7 +161,7 @@ fn answer_and_hand_on<S: Source, P: NumberedPieces, F: Close, O: HandOn<F>>(
         × HoldsNothing O.held_back O.failure_count out.old out.new }
     ensures stored { StoresWritten request.now result (F.is_stored file.new.device) }
     ensures closed { F.is_closed file.new.device ≡ true }
-    // The lines were handed on beside the file as it is in the end, and so after it was closed.
+    // The lines were flushed when the file was in its last state, and so after it was closed.
     ensures after { HandsOnBeside O.is_handed_on file.new out.new result }
 {
     let status = answer_over(alloc, request, first, pes, file, out);
@@ -170,7 +169,7 @@ fn answer_and_hand_on<S: Source, P: NumberedPieces, F: Close, O: HandOn<F>>(
     out.hand_on(status, file)
 }
 
-/// Prints the line of a fault, where no request is answered, and hands it on.
+/// Prints the line of a fault if no request is answered, and flushes it.
 pub fn say_and_hand_on<K: Sink>(fault: &UsageFault, out: &mut BufferedSink<'_, K>) -> Status
     requires { failures_and_refused (K.failure_count out.old.device) out.old.refused ≡ 0 }
     ensures says { Says fault.now (lines_of K.contents K.failure_count out.old)

@@ -1,9 +1,8 @@
-//! What the program answers to a request: what it prints, what it writes, and its status.
+//! The program's answer to a request: its output, the file that it writes, and its status.
 //!
-//! `answer` does what a `Request` of `sub_request` asks for over any devices, and `say` prints why
-//! words are no request. `open_and_answer` does it over the files that the request names, and hands
-//! on what was printed. Stands on all libraries below but `sub_words`, which reads requests from
-//! words.
+//! `answer` answers a `Request` of `sub_request` with any devices, and `say` prints why arguments
+//! make no request. `open_and_answer` does it with the files that the request names, and flushes
+//! the output. Uses all lower libraries except `sub_words`, which parses requests.
 //!
 //! ```text
 //! let words = ["subttx", "check", "film.stl", "air.ts", "--pid", "257"];

@@ -1,4 +1,4 @@
-//! Opens the files that a request names, and answers it over them, by a function for each way of
+//! Opens the files that a request names, and answers it with them, by a function for each way of
 //! opening.
 ghost use Rattle.std.specs.Prelude.{◌≡◌, ◌⊎◌, ◌≤◌, ⊤, IfErr, IfOk, None, Some, false, length, true};
 ghost use Rattle.sub_io.specs.Buffered.{failures_and_refused};
@@ -20,14 +20,14 @@ use sub_io::{BufferedSink, BufferedSource, MemSink, Sink};
 use sub_listing::Status;
 use sub_request::{Request, UsageFault};
 
-/// Opens the files that the request names, and answers it over them, with room for their buffers;
-/// then the lines are handed on, and the files let go as they were left. `files` is asked for these
-/// files alone.
+/// Opens the files that the request names, allocates their buffers, and answers the request; then
+/// flushes the lines, and releases the files as they were left. `files` is asked only for these
+/// files.
 ///
 /// # Errors
 ///
-/// `Memory` where memory runs out before a file is opened, `Open` where a file can't be opened.
-/// Then nothing is printed.
+/// Returns `Memory` if memory runs out before a file is opened, and `Open` if a file can't be
+/// opened. Nothing is printed then.
 pub fn open_and_answer<D: FileSystem, K: Sink>(
     alloc: Global,
     files: &mut D,
@@ -59,8 +59,8 @@ pub fn open_and_answer<D: FileSystem, K: Sink>(
     }
 }
 
-// Answers a request over its files, each behind a buffer, and lets them go. The buffers share the
-// rooms.
+// Answers a request with its files, each behind a buffer, and releases them. The buffers share the
+// allocated room.
 fn answer_opened<D: FileSystem, K: Sink>(
     alloc: Global,
     files: &mut D,

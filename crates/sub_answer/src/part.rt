@@ -1,20 +1,20 @@
-//! Which PES packets of a file a request reads.
+//! The PES packets of a file that a request reads.
 ghost use Rattle.std.specs.Prelude.{◌≡◌};
 ghost use Rattle.sub_answer.specs.Part as specs;
 
 use sub_request::{Request, TransportStream};
 use ttx_pes::PieceRange;
 
-/// What is read of a file of PES packets, or of a recording.
+/// The part of a file of PES packets, or of a recording, that is read.
 #[derive(Clone, Copy)]
 pub struct Part {
-    /// The transport packets that carry the PES packets. `None` where they stand in the file.
+    /// The transport packets that carry the PES packets; `None` if they are in the file directly.
     pub stream: Option<TransportStream>,
-    /// Which of them. `None` for all.
+    /// The selected PES packets; `None` for all.
     pub range: Option<PieceRange>,
 }
 
-/// What a request reads of its PES file, or of its recording; all of any other file.
+/// Returns the part that a request reads of its PES file or recording; the whole of any other file.
 pub fn part_asked(request: &Request<'_>) -> Part
     ensures { result ≡ specs.part_asked request.now }
 {
@@ -39,7 +39,7 @@ pub fn part_asked(request: &Request<'_>) -> Part
     }
 }
 
-/// All of a file that is no transport stream.
+/// Returns the whole of a file that is no transport stream.
 pub fn whole_file() -> Part
     ensures { result ≡ specs.whole_file }
 {

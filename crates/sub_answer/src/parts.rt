@@ -1,5 +1,5 @@
-//! Answers a request over a part of what a source gives: what gives its PES packets is made here,
-//! of a file or of a recording.
+//! Answers a request with a part of what a source gives; the readers of PES packets, for a file or
+//! a recording, are created here.
 ghost use Rattle.std.specs.Prelude.{◌≡◌, ◌⊎◌, ⊤, None, Some, [], false, true};
 ghost use Rattle.sub_io.specs.Buffered.{HandsOn, failures_and_refused};
 ghost use Rattle.sub_io.specs.Device.{CanFail};
@@ -20,8 +20,8 @@ use sub_listing::Status;
 use sub_request::Request;
 use ttx_pes::{FilePieces, LimitedPieces, NumberedPieces, PartOfPieces, PieceRange, PiecesAhead};
 
-/// Answers a request that reads a part of one source, and may write a file; gives the source back
-/// as that left it.
+/// Answers a request that reads a part of one source, and may write a file; returns the source as
+/// it was left.
 pub fn answer_part<S: Source + Drop, F: Close, O: HandOn<F>>(
     alloc: Global,
     request: &Request<'_>,
@@ -64,7 +64,7 @@ pub fn answer_part<S: Source + Drop, F: Close, O: HandOn<F>>(
     }
 }
 
-// Answers a request that reads PES packets of a range, or all.
+// Answers a request that reads the PES packets of a range, or all.
 fn answer_range<P: NumberedPieces, F: Close, O: HandOn<F>>(
     alloc: Global,
     request: &Request<'_>,
@@ -102,7 +102,7 @@ fn answer_range<P: NumberedPieces, F: Close, O: HandOn<F>>(
     }
 }
 
-/// Answers a request that reads a source and a part of another one; gives that one back as it was
+/// Answers a request that reads a source and a part of another one; returns that one as it was
 /// left.
 pub fn answer_second_part<S: Source, T: Source + Drop, K: Sink>(
     alloc: Global,
@@ -139,7 +139,7 @@ pub fn answer_second_part<S: Source, T: Source + Drop, K: Sink>(
     }
 }
 
-// Answers a request that reads a source, and PES packets of a range, or all.
+// Answers a request that reads a source, and the PES packets of a range, or all.
 fn answer_second_range<S: Source, P: NumberedPieces, K: Sink>(
     alloc: Global,
     request: &Request<'_>,

@@ -1,4 +1,4 @@
--- What the system gives as the words of the command line (own).
+-- The arguments of the command line, as the system gives them (own).
 use Rattle.std.specs.Prelude.{◌≡◌, List, Result, Ok, Err, String, map, string_bytes}
 use Rattle.std.specs.IoError.{error_kind}
 use Rattle.std.specs.Vec.Iter.{into_iter_items}
@@ -10,18 +10,18 @@ use Rattle.clap.specs.Words.{Text}
 use Rattle.sub_request.specs.declared.request.UsageFault.{UsageFault}
 use Rattle.sub_request.specs.declared.request.UsageFault.TheVariants as usage
 
--- Why the system gives no words: memory ran out, or one of them is no text.
+-- Why there are no arguments: memory ran out, or one of them is no text.
 abbrev pub no_words : ErrorKind → UsageFault
 no_words OutOfMemory = usage.Memory
 no_words _ = usage.Words
 
--- The words as texts, all that are to be taken; or why there are none.
+-- The arguments as texts; or why there are none.
 abbrev pub words_given : {Z : Type 0}
     → Result (IntoIter (String Z) Z) Error → Result (List Text) UsageFault
 words_given (Ok words) = Ok (map string_bytes (into_iter_items words))
 words_given (Err error) = Err (no_words (error_kind error))
 
--- Why words are not handed on: memory ran out, or there are none.
+-- Why arguments are not passed on: memory ran out, or there are none.
 abbrev pub IsLost : Result (List Text) UsageFault → UsageFault → Type 0
 IsLost (Ok words) fault = fault ≡ usage.Memory
 IsLost (Err why) fault = fault ≡ why

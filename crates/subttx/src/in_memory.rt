@@ -1,7 +1,7 @@
-//! The run of the program over files in memory, of which its exit status tells the headline.
+//! The run of the program with files in memory, whose exit status implies the headline.
 //!
-//! No device of the system tells its bytes, so what is said of bytes is said of files that tell
-//! theirs.
+//! The bytes of the system's devices are unknown to contracts, so the clauses about bytes apply to
+//! files whose bytes are known.
 ghost use Rattle.std.specs.Prelude.{◌≡◌};
 ghost use Rattle.sub_headline.specs.Headline.{TellsAcceptance, TellsChosen, TellsComplete};
 ghost use Rattle.sub_headline.specs.Headline.{TellsDrawn, TellsDropping, TellsFiles};
@@ -18,15 +18,15 @@ use sub_files::MemFiles;
 use sub_headline::law_of_headline;
 use sub_io::Sink;
 
-/// Runs the program over files in memory, as `main` runs it over those of the system.
+/// Runs the program with files in memory, as `main` runs it with those of the system.
 ///
-/// Where the words are `check STL PES`, 0 tells that the subtitles and frames that stand in the
-/// files keep the headline. With `--page`, `--every`, `--origin`, `--pace`, `--complete` or `--all`
-/// behind them, in any order, it tells that by these options, for receivers that drop hit rows too,
-/// and what is on the screen of each; that the bytes are of their formats, and hold nothing else;
-/// and any code but 2 tells whether the files are accepted. With `--pid`, `--packet-size`, `--pes`,
-/// `--from`, `--to` or `--open` it tells so of what is read of a recording and of a subtitle file,
-/// and with `--option` or `--layout` the headline of subtitles that are drawn so.
+/// If the arguments are `check STL PES`, 0 means that the subtitles and frames in the files keep
+/// the headline. With `--page`, `--every`, `--origin`, `--pace`, `--complete` or `--all` after
+/// them, in any order, it means that with these options, also for receivers that drop hit rows and
+/// for the screens of all; and that the bytes match their formats, and contain nothing else. Any
+/// code but 2 says whether the files are accepted. With `--pid`, `--packet-size`, `--pes`,
+/// `--from`, `--to` or `--open` this applies to the selected parts of a recording and of a subtitle
+/// file; with `--option` or `--layout` the headline applies to subtitles drawn in that way.
 pub fn run_in_memory<K: Sink + Drop>(
     alloc: Global,
     given: io::Result<Args>,

@@ -1,7 +1,7 @@
 //! `subttx` reads and checks Teletext subtitles from the command line.
 //!
-//! It stands above all other crates: words become a `Request` (`sub_words`), which is answered over
-//! the files that it names, and ends in a `Status` (`sub_answer`).
+//! It is the top crate: arguments become a `Request` (`sub_words`), which is answered with the
+//! files that it names, and ends in a `Status` (`sub_answer`).
 #![tactic(auto)]
 
 mod in_memory;
@@ -25,7 +25,7 @@ use sub_io::{BufferedSink, IntoWrite, Sink};
 use sub_request::{Request, UsageFault};
 use sub_words::{ParseWords, explain_words};
 
-// Room for the line that tells that memory ran out.
+// Room for the line that reports want of memory.
 const LITTLE: usize = 64;
 
 fn main(rt: HostRuntime) -> ExitCode {
@@ -43,8 +43,7 @@ fn main(rt: HostRuntime) -> ExitCode {
     ExitCode::from(run.code)
 }
 
-// Says on standard error, for people, why the words that the system gave are no command, if they
-// are none.
+// Prints on standard error why the arguments are no command, if they are none.
 fn explain_arguments(rt: &HostRuntime) {
     match env::args(rt) {
         Ok(words) => {
@@ -66,13 +65,12 @@ fn explain_arguments(rt: &HostRuntime) {
 pub(crate) struct Ended<K> {
     /// The exit status.
     code: u8,
-    /// Standard output as it was left: behind the answer nothing was printed.
+    /// Standard output at the end: nothing was printed after the answer.
     standard_output: K,
 }
 
-// Runs the program: answers the words that the system gave, over the files that it has and standard
-// output, which gets what is printed through one buffer and is given back, and gives the exit
-// status.
+// Runs the program: answers its arguments with its files and standard output, which is buffered and
+// returned, and returns the exit status.
 fn run<D: FileSystem, K: Sink>(
     alloc: Global,
     given: io::Result<Args>,
@@ -108,8 +106,7 @@ fn run<D: FileSystem, K: Sink>(
     }
 }
 
-// Answers the words that the system gave, or else prints the line that tells why they are not
-// answered.
+// Answers the arguments, or prints why they are not answered.
 fn answer_or_say<D: FileSystem, K: Sink>(
     alloc: Global,
     given: io::Result<Args>,
@@ -131,7 +128,7 @@ fn answer_or_say<D: FileSystem, K: Sink>(
     }
 }
 
-// Answers the words that the system gave.
+// Answers the arguments.
 fn answer_given<D: FileSystem, K: Sink>(
     alloc: Global,
     given: io::Result<Args>,

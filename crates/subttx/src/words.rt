@@ -1,4 +1,4 @@
-//! The words of the command line, as the system gives them.
+//! Gets the arguments of the command line from the system.
 ghost use Rattle.std.specs.Prelude.{◌≡◌, IfErr, IfOk, IfSome, Ok, map, string_bytes};
 ghost use Rattle.sub_words.specs.Commands.{texts_of};
 ghost use Rattle.subttx.specs.Words.{IsLost, words_given};
@@ -9,12 +9,12 @@ use std::io;
 use std::io::ErrorKind;
 use sub_request::UsageFault;
 
-/// All words that the system gave, in their order.
+/// Returns all arguments in order.
 ///
 /// # Errors
 ///
-/// `Memory` where memory ran out, `Words` where the system gave no words: one that is no text is no
-/// word of a command.
+/// Returns `Memory` if memory ran out, and `Words` if the system gave none: an argument that is no
+/// text belongs to no command.
 pub fn words_of(alloc: Global, given: io::Result<Args>) -> Result<Vec<String>, UsageFault>
     ensures words { IfOk result (λ words.
         words_given given ≡ Ok (map (λ word. string_bytes word) words.items)) }
@@ -32,7 +32,7 @@ pub fn words_of(alloc: Global, given: io::Result<Args>) -> Result<Vec<String>, U
     }
 }
 
-/// The words as texts, `None` where memory runs out.
+/// Returns the arguments as texts; `None` if memory runs out.
 pub fn texts_of(alloc: Global, words: &[String]) -> Option<Vec<&str>>
     ensures { IfSome result (λ texts.
         texts_of texts.items ≡ map (λ word. string_bytes word) words.now) }

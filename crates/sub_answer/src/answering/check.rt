@@ -27,12 +27,12 @@ use sub_listing::{
 use sub_plan::Options;
 use ttx_pes::{NumberedPieces, PesFault};
 
-/// Checks a PES file against a subtitle file, and prints the one line of the verdict.
+/// Checks a PES file against a subtitle file, and prints the line of the verdict.
 ///
-/// `stl` is read to its end before any byte of `pes` is, and where it is refused `pes` is not
-/// touched. `Done` where the files are accepted, with how many frames of the day the PES file
-/// reaches over and how many headers of the page it has; `Refused` with the first fault; `Fault`
-/// where a device failed or memory ran out.
+/// `stl` is read to its end before any byte of `pes`, and `pes` is not used if it is refused.
+/// Returns `Done` if the files are accepted, and prints how many frames of the day the PES file
+/// covers and how many headers of the page it has; `Refused` with the first fault; `Fault` if a
+/// device failed or memory ran out.
 pub fn print_verdict<S: Source, P: NumberedPieces, K: Sink>(
     alloc: Global,
     stl: &mut S,
@@ -61,14 +61,14 @@ pub fn print_verdict<S: Source, P: NumberedPieces, K: Sink>(
     print_answer(answer.first, answer.result, out)
 }
 
-/// The answer of a check, and the number that the first PES packet has in its file.
+/// The answer of a check, and the number of the first PES packet in its file.
 #[derive(Clone, Copy)]
 struct Answer {
     first: u64,
     result: Result<Accepted, CheckFault>,
 }
 
-// Loads a subtitle file, and checks a PES file against it, from its first PES packet on.
+// Loads a subtitle file, and checks a PES file against it, from its first PES packet.
 fn check_files<S: Source, P: NumberedPieces>(
     alloc: Global,
     stl: &mut S,
@@ -111,7 +111,7 @@ fn check_files<S: Source, P: NumberedPieces>(
     }
 }
 
-// Checks a PES file against a programme, from its first PES packet on.
+// Checks a PES file against a programme, from its first PES packet.
 fn check_from<P: NumberedPieces>(programme: &Programme, pes: &mut P, options: &Options) -> Answer
     requires { CanFail (P.failure_count pes.old) }
     ensures checked { IsFalse options.now.keeps → options.now.within ≡ 0
@@ -143,7 +143,7 @@ fn check_from<P: NumberedPieces>(programme: &Programme, pes: &mut P, options: &O
     }
 }
 
-// Prints the line of an answer, where the first PES packet has this number in its file.
+// Prints the line of an answer, if the first PES packet has this number in its file.
 fn print_answer<K: Sink>(first: u64, answer: Result<Accepted, CheckFault>, out: &mut K) -> Status
     requires { CanFail (K.failure_count out.old) }
     ensures printed { PrintsOrFails (sink_call K.contents K.failure_count out.old out.new)
@@ -156,7 +156,7 @@ fn print_answer<K: Sink>(first: u64, answer: Result<Accepted, CheckFault>, out: 
     }
 }
 
-/// Prints the line of what is accepted.
+/// Prints the line of an accepted transmission.
 pub fn print_accepted<K: Sink>(accepted: Accepted, out: &mut K) -> Status
     requires { CanFail (K.failure_count out.old) }
     ensures printed { PrintsOrFails (sink_call K.contents K.failure_count out.old out.new)

@@ -1,4 +1,4 @@
-//! `check STL PES --all`: prints every broken place of a subtitle file, and then of a PES file.
+//! `check STL PES --all`: prints every fault of a subtitle file, and then of a PES file.
 ghost use Rattle.std.specs.Prelude.{◌≡◌, ◌<◌, ◌≤◌, IfErr, OnOk, false, is_err, true};
 ghost use Rattle.sub_io.specs.Device.{CountsIf, failed};
 ghost use Rattle.sub_io.specs.HandingOn.{HoldsWhileWaiting, KeepsTold};
@@ -26,14 +26,14 @@ use sub_listing::{
 use sub_plan::Options;
 use ttx_pes::{NumberedPieces, PesFault};
 
-/// Checks a PES file against a subtitle file, and prints a line for each place that is broken, and
-/// where a rule of a frame's end is so no more, as they are found, those of the subtitle file
-/// first; then how many are refused, or the line of what is accepted.
+/// Checks a PES file against a subtitle file, and prints a line for each fault, and where a rule of
+/// a frame's end is no longer broken, as they are found, those of the subtitle file first; then the
+/// number of faults, or the line of an accepted transmission.
 ///
-/// Beside what is refused in the subtitle file the PES file is judged by what can be relied on of
-/// it; `pes` is not touched where that is not enough. `Done` where the files are accepted;
-/// `Refused` where a place is broken; `Fault` where a device failed or memory ran out, with its
-/// line last. Once `out` failed nothing more is read or printed.
+/// If subtitles are refused, the PES file is compared with the reliable ones; `pes` is not used if
+/// these do not suffice. Returns `Done` if the files are accepted; `Refused` if there is a fault;
+/// `Fault` if a device failed or memory ran out, with its line last. After `out` failed nothing
+/// more is read or printed.
 pub fn print_every_fault<S: Source, P: NumberedPieces, K: Flush>(
     alloc: Global,
     stl: &mut S,
@@ -55,8 +55,8 @@ pub fn print_every_fault<S: Source, P: NumberedPieces, K: Flush>(
     ensures device { P.device pes.new ≡ P.device pes.old }
     ensures pes_count { CountsFault P.failure_count pes.old result pes.new }
     ensures out_count { CountsFault K.failure_count out.old result out.new }
-    // Where the source of the PES file may have to ask its device, all that was told before is
-    // handed on: each such call may fail, and where one did its line alone may be held back.
+    // Before the source of the PES file may ask its device, which may fail, all output is flushed.
+    // So if it failed, only its line may be held back.
     ensures followed { K.held out.old ≡ 0
         → P.failure_count pes.old < P.failure_count pes.new
         → HoldsLastLine K.contents K.held K.is_push out.new }
@@ -83,9 +83,9 @@ pub fn print_every_fault<S: Source, P: NumberedPieces, K: Flush>(
     print_end(first, refused, answer, out)
 }
 
-// Tells a printer what is broken in the subtitle file, and then in the PES file, where a
-// transmission is judged beside that. `None` where it is not, or the printer said stop, else what
-// was read of the PES file.
+// Tells a printer the faults of the subtitle file, and then those of the PES file, if it can be
+// judged. Returns `None` if it can't, or the printer said stop, otherwise what was read of the PES
+// file.
 fn tell_every_fault<S: Source, P: NumberedPieces, K: Flush>(
     alloc: Global,
     stl: &mut S,
@@ -120,7 +120,7 @@ fn tell_every_fault<S: Source, P: NumberedPieces, K: Flush>(
         Err(fault) => Err(CheckFault::Subtitles(fault)),
         Ok(None) => Ok(None),
         Ok(Some(judged)) => {
-            // The PES file may have to be waited for.
+            // Reading the PES file may block.
             if hand_on_told(printer).is_err() {
                 return Ok(None);
             }
@@ -129,7 +129,7 @@ fn tell_every_fault<S: Source, P: NumberedPieces, K: Flush>(
     }
 }
 
-// Has a device hand on what it was told of a subtitle file, where it may hold something back.
+// Flushes a device after the faults of a subtitle file, if it may hold something back.
 fn hand_on_told<A: LiveAudience<LoadFault>>(audience: &mut A) -> Result<(), Stopped>
     requires { A.has_stopped audience.old ≡ false }
     ensures told { KeepsTold A.is_told A.is_waiting audience.old audience.new }
@@ -145,7 +145,8 @@ fn hand_on_told<A: LiveAudience<LoadFault>>(audience: &mut A) -> Result<(), Stop
     audience.hand_on()
 }
 
-// Tells a printer what is broken in the PES file, by what can be judged of the subtitle file.
+// Tells a printer the events of the PES file, compared with what can be judged of the subtitle
+// file.
 fn tell_transmission<P: NumberedPieces, K: Flush>(
     judging: &Judging<'_>,
     pes: &mut P,
@@ -185,7 +186,7 @@ fn tell_transmission<P: NumberedPieces, K: Flush>(
     }
 }
 
-// Prints the last line, after so many refusals, and gives the status. The first PES packet has the
+// Prints the last line after so many faults, and returns the status. The first PES packet has the
 // number `first` in its file.
 fn print_end<K: Sink>(
     first: u64,
@@ -215,7 +216,7 @@ fn print_end<K: Sink>(
     }
 }
 
-// Prints how many faults were told.
+// Prints the number of faults.
 #[tactic(auto, unfolding(sub_listing::specs::Listing::PrintsOrFails))]
 fn print_count<K: Sink>(refused: u64, out: &mut K) -> Status
     requires { CanFail (K.failure_count out.old) }

@@ -17,13 +17,12 @@ use sub_rules::FaultPlace;
 use ttx_page::{Blank, Keep, Page, Receiver};
 use ttx_pes::{NumberedPieces, Pieces};
 
-/// Runs the receiver that is asked for over the PES packets of a file up to TIME, and prints what
-/// it has heard and shows, or why the file is refused (`listen` of `sub_listen`).
+/// Runs the requested receiver over the PES packets of a file up to TIME, and prints what it has
+/// received and shows, or why the file is refused (`listen` of `sub_listen`).
 ///
-/// The receiver is tuned to the page with an old page that holds 3F in every cell. Nothing is
-/// printed before the last packet was heard. Where complete pages are asked for, what is printed is
-/// what is on its screen: a page comes onto it when a header of another page ends it. Else it has
-/// no screen.
+/// The receiver is tuned to the page with an old page that has 3F in every cell. Nothing is printed
+/// before the last packet was received. If complete pages are required, the output is its screen: a
+/// page is put on it when a header of another page ends it. Otherwise it has no screen.
 pub fn print_listening<P: NumberedPieces, K: Sink>(
     pes: &mut P,
     listening: &Listening,
@@ -31,9 +30,9 @@ pub fn print_listening<P: NumberedPieces, K: Sink>(
 ) -> Status
     requires first { CanFail (P.failure_count pes.old) }
     requires out { CanFail (K.failure_count out.old) }
-    // Where the source tells its bytes and does not fail, they are read as frames, and what is
-    // printed is the state of a receiver that heard what it gets of them, or the refusal. A source
-    // that fails is told at the PES packet within which it failed, after what was heard.
+    // If the bytes of the source are known and it does not fail, they are read as frames, and the
+    // output is the state of a receiver that gets its part of them, or the refusal. A source that
+    // fails is reported at the PES packet in which it failed, after what was received.
     ensures exact { AnswersListen (left_by listening.now.receiver) listening.now
         (read_call P.remaining P.left P.failure_count pes.old pes.new)
         (first_number P.first P.passed pes.old pes.new)
@@ -46,18 +45,18 @@ pub fn print_listening<P: NumberedPieces, K: Sink>(
         < P.failure_count pes.new + K.failure_count out.new }
 {
     match listening.receiver {
-        // One that drops rows hears none with a byte of even parity.
+        // One that drops rows stores none with a byte of even parity.
         ReceiverKind::Keep | ReceiverKind::DropRow => {
             print_state_of::<Keep, P, K>(pes, listening, out)
         }
-        // What one that begins anew does at a header, `listen` does with a receiver of any type.
+        // `listen` itself starts a receiver of any type again at a header.
         ReceiverKind::Blank | ReceiverKind::Anew => {
             print_state_of::<Blank, P, K>(pes, listening, out)
         }
     }
 }
 
-// The same with a receiver of this type.
+// Runs a receiver of this type.
 fn print_state_of<R: Receiver + Drop, P: NumberedPieces, K: Sink>(
     pes: &mut P,
     listening: &Listening,
@@ -82,7 +81,7 @@ fn print_state_of<R: Receiver + Drop, P: NumberedPieces, K: Sink>(
     }
 }
 
-// The same from the first PES packet on, which has this number in its file.
+// Runs it from the first PES packet, which has this number in its file.
 fn print_heard<R: Receiver + Drop, P: Pieces, K: Sink>(
     pes: &mut P,
     first: u64,
@@ -109,7 +108,7 @@ fn print_heard<R: Receiver + Drop, P: Pieces, K: Sink>(
     }
 }
 
-// A page that holds 3F in every cell.
+// Returns a page with 3F in every cell.
 fn old_page() -> Page
     ensures { IsOldPage result }
 {
@@ -121,7 +120,7 @@ fn old_page() -> Page
     page
 }
 
-// A row that holds 3F in every cell.
+// Returns a row with 3F in every cell.
 fn old_row() -> [u8; 40]
     ensures codes { AreCodes result }
     ensures value { (column : ℕ) → column < 40 → slice_index result column ≡ 0x3F }
@@ -129,7 +128,7 @@ fn old_row() -> [u8; 40]
     [0x3F; 40]
 }
 
-// A fault of a PES file that is not heard.
+// Returns the line for a PES file that can't be received.
 fn line_of_listen(fault: ListenFault) -> FaultLine
     ensures { result ≡ listen_line fault }
 {

@@ -1,4 +1,4 @@
-//! `survey RECORDING`: tells what there is in a recording.
+//! `survey RECORDING`: lists what is in a recording.
 ghost use Rattle.std.specs.Prelude.{◌≡◌, ◌<◌};
 ghost use Rattle.std.specs.Io.KnownBytes.{IsAtEnd};
 ghost use Rattle.sub_listing.specs.DeviceCall.{CanFail, CountsFault, sink_call};
@@ -13,9 +13,9 @@ use sub_request::UsageFault;
 use ts_survey::{SurveyFault, survey};
 use ttx_pes::FailedAt;
 
-/// Prints a line for each fact of a recording, to its end.
+/// Prints a line for each fact about a recording, which is read to its end.
 ///
-/// `Fault` where a device failed, or memory ran out; what was printed until then stays.
+/// Returns `Fault` if a device failed or memory ran out; what was printed before stays.
 #[tactic(auto, using(crate::proofs::SurveyListingLemmas::surveys))]
 pub fn print_survey<S: Source, K: Flush>(
     alloc: Global,
@@ -31,8 +31,8 @@ pub fn print_survey<S: Source, K: Flush>(
     ensures ended { result ≡ Status.Done → IsAtEnd (S.remaining source.new) }
     ensures source_count { CountsFault S.failure_count source.old result source.new }
     ensures out_count { CountsFault K.failure_count out.old result out.new }
-    // Where the source may have to ask its device, all that was printed before is handed on: each
-    // such call may fail, and where one did the line of its failure alone may be held back.
+    // Before the source may ask its device, which may fail, all output is flushed. So if it failed,
+    // only the line of its failure may be held back.
     ensures followed { K.held out.old ≡ 0
         → S.failure_count source.old < S.failure_count source.new
         → HoldsLastLine K.contents K.held K.is_push out.new }

@@ -1,4 +1,4 @@
--- What was answered through the buffer that was made, and the status.
+-- The answer through the buffer that was made, and the status.
 use Rattle.std.proofs.Common.{inl, inr, refl}
 use Rattle.subttx.proofs.run.Goals as goal
 

@@ -1,5 +1,5 @@
--- The pieces are those of the bytes of the source that gives them: answers_second, followed_beside
--- and written_beside, or followed_of_pieces and written_of_pieces.
+-- The PES packets are those of the source's bytes: answers_second, followed_beside and
+-- written_beside, or followed_of_pieces and written_of_pieces.
 use Rattle.std.proofs.Common.{◌∙◌, rules, sym}
 use Rattle.sub_answer.proofs.EndingLemmas.{answers_second, followed_beside, followed_of_pieces}
 use Rattle.sub_answer.proofs.EndingLemmas.{written_beside, written_of_pieces}

@@ -1,4 +1,4 @@
--- What a command's body says of its answer, said of the request.
+-- The contract of the command's function gives that of the request.
 use Rattle.sub_answer.proofs.answering.answer_over.Goals as goal
 
 pub returns-in-Packets-clause-answers : goal.returns-in-Packets-clause-answers

@@ -1,4 +1,4 @@
--- The files were let go as the answer left them.
+-- The files were released as the answer left them.
 use Rattle.std.proofs.Common.{None, Some, refl}
 use Rattle.std.specs.Io.KnownBytes.{prepend_known}
 use Rattle.sub_answer.proofs.EndingLemmas.{ends_weaker, whole_source}

@@ -1,4 +1,4 @@
--- The file was let go as the answer left it.
+-- The file was released as the answer left it.
 use Rattle.std.proofs.Common.{None, Some, refl}
 use Rattle.sub_answer.proofs.EndingLemmas.{ends_weaker}
 use Rattle.sub_answer.proofs.over_files.read_one.Goals as goal

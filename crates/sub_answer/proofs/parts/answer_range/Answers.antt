@@ -1,4 +1,4 @@
--- All pieces, or those of a range: all_of_pieces, range_of_pieces.
+-- All PES packets, or those of a range: all_of_pieces, range_of_pieces.
 use Rattle.std.proofs.Common.{rules}
 use Rattle.ttx_pes.proofs.PartLemmas.{number_is, part_is}
 use Rattle.sub_answer.proofs.EndingLemmas.{ends_weaker}

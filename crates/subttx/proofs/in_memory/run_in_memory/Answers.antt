@@ -1,4 +1,4 @@
--- What the run tells, by the law of all runs.
+-- What the run shows, from the law of all runs.
 use Rattle.subttx.proofs.in_memory.run_in_memory.Goals as goal
 
 pub returns-clause-headline : goal.returns-clause-headline

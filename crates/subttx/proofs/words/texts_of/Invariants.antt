@@ -1,4 +1,4 @@
--- The texts so far, and those of the words that are left, are those of all words.
+-- The texts so far, and those of the remaining arguments, are those of all.
 use Rattle.std.proofs.Common.{◌≡◌, ◌++◌, drop, map, string_bytes}
 use Rattle.sub_words.specs.Commands.{texts_of}
 use Rattle.subttx.proofs.words.texts_of.Given as goal

@@ -1,4 +1,4 @@
--- All words are collected; by collected.
+-- All arguments are collected; by collected.
 use Rattle.std.proofs.Common.{Ok, ap, map, string_bytes}
 use Rattle.subttx.proofs.WordsLemmas.{collected}
 use Rattle.subttx.proofs.words.words_of.Goals as goal

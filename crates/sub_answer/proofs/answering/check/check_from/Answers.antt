@@ -1,4 +1,4 @@
--- What is read once the first PES packet was found, and where the source failed before.
+-- The first PES packet was found, or the source failed before.
 use Rattle.std.proofs.Common.{◌≡◌}
 use Rattle.sub_listing.proofs.FirstPacketLemmas.{fails_first_packet, fails_packet_kept}
 use Rattle.sub_answer.proofs.AnsweringLemmas.{no_piece_read}

@@ -1,4 +1,4 @@
--- What is told of both files decides the answer; the rest is the line that is printed.
+-- Both files decide the answer; the rest is the line that is printed.
 use Rattle.std.proofs.Common.{rules}
 use Rattle.sub_rules.specs.Fault.{is_pes_read, is_stl_read}
 use Rattle.sub_answer.proofs.AnsweringLemmas.{as_answered, source_counts}

@@ -1,4 +1,4 @@
--- Codes written out; by codes_from_test.
+-- All codes, listed; by codes_from_test.
 use Rattle.std.proofs.Common.{refl, replicate, ◌==◌}
 use Rattle.std.proofs.lemmas.Bool.{eqb-true}
 use Rattle.std.proofs.lemmas.List.Sums.{AllPass-from_list_all}

@@ -1,4 +1,4 @@
--- The receiver that is asked for leaves what one of its type does.
+-- The requested receiver leaves the code that its type does.
 use Rattle.std.proofs.Common.{◌≡◌, ap, inl, inr}
 use Rattle.sub_listen.specs.Reception.{left_by}
 use Rattle.sub_request.specs.declared.listening.ReceiverKind.TheVariants.{Blank, Keep}

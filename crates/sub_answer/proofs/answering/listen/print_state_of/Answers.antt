@@ -1,5 +1,4 @@
--- What is heard once the first PES packet was found, and where the source failed before:
--- heard_kept, none_heard.
+-- The first PES packet was found, or the source failed before: heard_kept, none_heard.
 use Rattle.std.proofs.Common.{◌≡◌, ◌+◌, arith, inl, inr}
 use Rattle.sub_listing.specs.DeviceCall.{read_call}
 use Rattle.sub_answer.proofs.ListenListingLemmas.{heard_kept, none_heard}

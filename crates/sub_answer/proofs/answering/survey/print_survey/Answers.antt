@@ -1,4 +1,4 @@
--- The lines, and that of a fault behind them: printed-told.
+-- The lines, followed by that of a fault: printed-told.
 use Rattle.std.proofs.Common.{ap, arith}
 use Rattle.sub_listing.specs.DeviceCall.{sink_call}
 use Rattle.sub_listing.specs.FaultLine.{status_of}
