@@ -1,5 +1,5 @@
--- Texts that stand one behind the other: those before a new one stay as they were, subtitles_kept,
--- and the new one is where its cue says, subtitles_added.
+-- The texts of the cues, one after another: a new text leaves those before it as they were,
+-- subtitles_kept, and is found by its cue, subtitles_added.
 use Rattle.std.proofs.Common.{◌≡◌, ℕ, suc, ◌+◌, ◌<◌, ◌≤◌, List, [], ◌∷◌, ◌++◌, length}
 use Rattle.std.proofs.Common.{refl, ap, ◌∙◌, arith, take, drop, map, get_or}
 use Rattle.std.proofs.Common.{length-append, length-drop, leb, true, false, Result, Ok, Err, OnErr}
@@ -23,7 +23,6 @@ text_kept texts more start len within =
     (take-append-le len (drop start texts) more
     (rw (length-drop start texts) (omega arith)))
 
--- So does the subtitle of a cue.
 pub subtitle_kept : (texts more : List ℕ) (c : Cue)
     → IsCueAmong texts c
     → subtitle_in (texts ++ more) c ≡ subtitle_in texts c
@@ -37,7 +36,6 @@ within_kept texts more c is = record {
   subtitle = rw (subtitle_kept texts more c is) is.subtitle;
 }
 
--- And those of all cues.
 pub subtitles_kept : (texts more : List ℕ) (cs : List Cue)
     → All (IsCueAmong texts) cs
     → map (subtitle_in (texts ++ more)) cs ≡ map (subtitle_in texts) cs
@@ -51,17 +49,15 @@ pub all_kept : (texts more : List ℕ) (cs : List Cue)
     → All (IsCueAmong (texts ++ more)) cs
 all_kept texts more cs all = λ i d b. within_kept texts more (get_or cs i d) (all i d b)
 
--- The text of a new cue is the one that was added.
 pub text_added : (texts text : List ℕ)
     → take (length text) (drop (length texts) (texts ++ text)) ≡ text
 text_added texts text = rw (drop-append_seam texts text) (take-length text)
 
--- The new subtitle is the one that was added.
 pub is_added : (texts : List ℕ) (s : SubtitleValue)
     → subtitle_in (texts ++ s.text) (cue_at (length texts) s) ≡ s
 is_added texts s = rw (text_added texts s.text) refl
 
--- The subtitles are those before it and it: for `push`.
+-- For `push`.
 pub subtitles_added : (texts : List ℕ) (cs : List Cue) (s : SubtitleValue)
     → All (IsCueAmong texts) cs
     → map (subtitle_in (texts ++ s.text)) (cs ++ cue_at (length texts) s ∷ [])
@@ -70,7 +66,7 @@ subtitles_added texts cs s all =
     map-append (subtitle_in (texts ++ s.text)) cs (cue_at (length texts) s ∷ [])
     ∙ rw (subtitles_kept texts s.text cs all, is_added texts s) refl
 
--- And each stands among all texts: for `push`.
+-- For `push`.
 pub all_added : (texts : List ℕ) (cs : List Cue) (s : SubtitleValue)
     → All (IsCueAmong texts) cs
     → IsSubtitle s
@@ -81,7 +77,6 @@ all_added texts cs s all is =
     (all_kept texts s.text cs all)
     (record { within = omega (arith, l); subtitle = rw (is_added texts s) is })
 
--- What holds holds where there is an error.
 pub on_err : {T E P : Type 0} (r : Result T E) → P → OnErr r P
 on_err (Ok x) p = tt
 on_err (Err e) p = p
@@ -91,14 +86,13 @@ on_err (Err e) p = p
 no_cue : Cue
 no_cue = record { start = 0; tci = 0; tco = 0; len = 0; sn = 0; sgn = 0; vp = 0; jc = 0 }
 
--- The TCO of a cue is that of its subtitle.
 pub same_tco : (texts : List ℕ) (cs : List Cue) (k : ℕ) (c : Cue) (d : SubtitleValue)
     → k < length cs
     → (get_or (map (subtitle_in texts) cs) k d).tco ≡ (get_or cs k c).tco
 same_tco texts cs k c d b =
     ap (λ (t : SubtitleValue). t.tco) (get_or-map (subtitle_in texts) cs k c d b)
 
--- The TCOs of the cues rise with those of the subtitles.
+-- The TCOs of the cues rise if those of the subtitles do.
 pub tco_rises-cues : (texts : List ℕ) (cs : List Cue)
     → IsNonDecreasingBy (λ (t : SubtitleValue). t.tco) (map (subtitle_in texts) cs)
     → IsNonDecreasingBy (λ (c : Cue). c.tco) cs

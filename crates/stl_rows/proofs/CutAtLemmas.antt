@@ -11,14 +11,14 @@ use Rattle.std.specs.Option.{option_map_or}
 use Rattle.std.specs.Prelude.{IfSome}
 use Rattle.stl_rows.specs.LayoutText.{cut_at}
 
--- Where no byte is that character, the text is the one part.
+-- A text without the character is a single part.
 cut_at-none : (mark : ℕ) (text : List ℕ)
     → length text ≤ position_or_len (λ c. c == mark) text
     → slice_split (λ c. c == mark) text ≡ text ∷ []
 cut_at-none mark [] none = refl
 cut_at-none mark (c ∷ text) none = grind (arith, nat_tests, cut_at-none mark text)
 
--- The first part, and those behind it.
+-- The first part, and the parts after it.
 abbrev AreFirst : ℕ → List ℕ → List ℕ × Option (List ℕ) → Type 0
 AreFirst mark text parts =
     (slice_split (λ c. c == mark) text
@@ -32,7 +32,7 @@ unfolding cut_at
 are_first-by mark text found is =
     grind (arith, nat_tests, ltb-true, slice_split_first, length-drop, cut_at-none, ltb-false)
 
--- So of what `cut_at` gives.
+-- Shown for the result of `cut_at`.
 pub cut_at-first : (mark : ℕ) (text front : List ℕ) (behind : Option (Bor (List ℕ)))
     → (front, option_map (λ x. x.now) behind) ≡ cut_at mark text
     → (slice_split (λ c. c == mark) text

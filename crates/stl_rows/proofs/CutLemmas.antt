@@ -1,4 +1,4 @@
--- The cells of a text and the new lines between them are its lines: cut_flat. For `draw_by`.
+-- The lines of a text are its cells, cut at the new lines: cut_flat. For `draw_by`.
 use Rattle.std.proofs.Common.{◌≡◌, ℕ, zero, suc, ◌+◌, List, [], ◌∷◌, ◌++◌, refl}
 use Rattle.std.proofs.Common.{arith, Some, Err, false}
 use Rattle.std.proofs.lemmas.Bool.Decides.{nat_tests}
@@ -21,14 +21,12 @@ use Rattle.stl_rows.proofs.LineLemmas.{Small}
 use Rattle.stl_rows.proofs.PageShapeLemmas.{cells_small}
 use Rattle.stl_rows.proofs.TextCodeLemmas.{code_before-small}
 
--- A text code before others.
 cut-code : (at : ℕ) (code : TextCode) (codes : List (ℕ × TextCode))
     → HasSevenBits code
     → cut_lines (flat_codes codes) ≡ lines_of_codes codes
     → cut_lines (flat_codes ((at, code) ∷ codes)) ≡ with_code code (lines_of_codes codes)
 cut-code at code codes small is = grind (arith, nat_tests)
 
--- The lines of a text.
 pub cut_flat : (n : National) (at skip : ℕ) (bytes : List ℕ)
     → cut_lines (flat_codes (codes_after n at skip bytes))
     ≡ lines_of_codes (codes_after n at skip bytes)
@@ -41,17 +39,15 @@ cut_flat n at zero (b ∷ bytes) =
 
 module _ (n : National) (items : LayoutItems) (t : SubtitleValue) (cells : List ℕ)
     (is : cells ≡ flat_codes (text_codes n 0 (unstripped items t.text))) where
-  -- Their prepared lines.
   pub cut_prepared : prepared_cut items cells ≡ lines_by n items t.text
   cut_prepared = rw (is, cut_flat n 0 0 (unstripped items t.text)) refl
 
-  -- They hold codes alone.
   pub cut_small : AllByRecursion Small (cut_lines cells)
   cut_small =
       rw (is, cut_flat n 0 0 (unstripped items t.text))
       (cells_small n 0 0 (unstripped items t.text))
 
-  -- Where no byte is refused, the lines decide.
+  -- If no byte is refused, the lines decide the result.
   pub drawn_by-cut : (off : ℕ) (place : Place)
       → refused_codes (codes_by n items t.text) ≡ []
       → off ≡ rows_off items (prepared_cut items cells)
@@ -62,14 +58,14 @@ module _ (n : National) (items : LayoutItems) (t : SubtitleValue) (cells : List 
       rw (off_is, place_is, cut_prepared, sound)
       (drawn_from-is items t.jc (rows_off items (lines_by n items t.text)) _ _)
 
--- The first of some faults is told.
+-- If there are faults, the first is the result.
 first_fault : (faults more : List RowFault) (page : Rows) (fault : RowFault)
     → first_of faults ≡ Some fault
     → Err fault ≡ unless (faults ++ more) page
 first_fault [] more page fault e = cc
 first_fault (f ∷ faults) more page fault e = cc
 
--- Where a byte is refused, that is told.
+-- A refused byte is reported.
 pub drawn_by-refused : (n : National) (items : LayoutItems) (t : SubtitleValue) (fault : RowFault)
     → first_of (refused_codes (codes_by n items t.text)) ≡ Some fault
     → Err fault ≡ drawn_by n items t

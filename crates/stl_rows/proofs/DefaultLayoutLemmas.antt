@@ -1,4 +1,4 @@
--- By the default layout a subtitle is drawn plainly: drawn_by-default.
+-- The default layout draws a subtitle plainly: drawn_by-default.
 use Rattle.std.proofs.Common.{◌≡◌, ℕ, ◌+◌, ◌≤◌, Bool, false, List, [], ◌∷◌, ◌++◌}
 use Rattle.std.proofs.Common.{length, map, refl, ap, ◌∙◌, arith}
 use Rattle.std.proofs.Common.{append_assoc, None, Some, Result}
@@ -28,20 +28,18 @@ use Rattle.stl_rows.proofs.LaidOutLemmas.{none_above}
 
 -- ---- the lines
 
--- Nothing is stripped.
 none_stripped : (text : List ℕ) → unstripped default_items text ≡ text
 unfolding default_items
 none_stripped [] = refl
 none_stripped (b ∷ text) =
     grind (arith, nat_tests, get_or-replicate 32 b false false, none_stripped text)
 
--- A line is put in a box where it has none.
+-- The default layout only puts a line in a box that has none.
 prepared-default : (cells : List ℕ) → prepared_by default_items cells ≡ prepared cells
 unfolding prepared_by prepared framed headed default_items attribute_code is_boxed
 prepared-default [] = refl
 prepared-default (c ∷ cs) = grind (arith, nat_tests, take-append-drop, append_assoc)
 
--- So are all.
 lines-default : (ls : List (List ℕ)) → map (prepared_by default_items) ls ≡ map prepared ls
 lines-default [] = refl
 lines-default (l ∷ ls) = rw (prepared-default l, lines-default ls) refl
@@ -61,7 +59,7 @@ kinds-default : (number row : ℕ) (under : Bool) (line : List ℕ)
 unfolding placed_fault_kinds line_fault_kinds default_items
 kinds-default number row under line low = grind (arith, nat_tests)
 
--- Those of lines one below the other.
+-- The faults of lines one below the other.
 faults-default : (number row : ℕ) (under : Bool) (ls : List (List ℕ))
     → 1 ≤ row
     → placed_faults default_items 0 (placed_from default_items number row under ls)
@@ -90,7 +88,7 @@ row-default : (jc : ℕ) (line : List ℕ)
 unfolding row_from row_of
 row-default jc line = rw (start-default jc line) refl
 
--- Empty lines take rows, and the rows are one below the other.
+-- Empty lines take rows, and lines follow on successive rows.
 default-pack : default_items.pack ≡ false
 unfolding default_items
 default-pack = refl
@@ -99,7 +97,7 @@ default-double : default_items.double ≡ false
 unfolding default_items
 default-double = refl
 
--- The row of a page on which lines are one below the other.
+-- A row of a page whose lines follow on successive rows.
 shown-default : (jc number first row : ℕ) (under : Bool) (ls : List (List ℕ))
     → shown_row default_items jc 0 (placed_from default_items number first under ls) row
     ≡ row_of jc (line_on first ls row)
@@ -116,7 +114,6 @@ shown-default jc number first row under (l ∷ ls) =
       (shown-default jc (number + 1) (first + 1) row (is_double l) ls),
     )
 
--- The page.
 page-default : (jc vp : ℕ) (ls : List (List ℕ))
     → page_of_placed default_items jc 0 (placed_from default_items 0 vp false ls)
     ≡ page_of_lines jc vp ls
@@ -125,7 +122,7 @@ page-default jc vp ls = λ i. map (λ row. shown-default jc 0 vp row false ls i)
 
 -- ---- all
 
--- No row is taken off, and line 0 goes to VP.
+-- The lines are not shifted up, and line 0 goes to row VP.
 off-default : (ls : List (List ℕ)) → rows_off default_items ls ≡ 0
 unfolding default_items
 off-default ls = refl
@@ -156,14 +153,14 @@ page-all jc vp ls =
     (first-default vp)
     ∙ page-default jc vp ls
 
--- What is drawn of lines and text codes.
+-- The result of drawing lines and text codes.
 drawn_of : National → ℕ → ℕ → List (ℕ × TextCode) → List (List ℕ) → Result Rows RowFault
 drawn_of national jc vp codes ls =
     unless (refused_codes codes
     ++ placed_faults default_items (rows_off default_items ls) (placed_lines default_items vp ls))
     (page_of_placed default_items jc (rows_off default_items ls) (placed_lines default_items vp ls))
 
--- By the default layout a subtitle is drawn plainly: for `draw`.
+-- For `draw`.
 drawn_by-default : (national : National) (t : SubtitleValue)
     → 1 ≤ t.vp
     → drawn_by national default_items t ≡ plainly_drawn national t
@@ -171,7 +168,7 @@ unfolding drawn_by plainly_drawn drawn_of
 drawn_by-default national t low =
     grind (arith, nat_tests, drawn_of, none_stripped, lines-default, faults-all, page-all)
 
--- Where a drawing has no items, and where it has some: for `first_fault` and `draw_on`.
+-- A drawing without items, and one with some: for `first_fault` and `draw_on`.
 pub drawn-none : (drawing : Drawing) (t : SubtitleValue)
     → drawing.layout.items ≡ None
     → 1 ≤ t.vp

@@ -1,4 +1,4 @@
--- Lines that are drawn one by one: line-fault, line-next, line-end. For `draw_lines`.
+-- Lines drawn one by one: line-fault, line-next, line-end. For `draw_lines`.
 use Rattle.std.proofs.Common.{◌≡◌, ℕ, ◌+◌, ◌≤◌, List, [], ◌∷◌, map, refl, ap, ◌∙◌, sym, arith}
 use Rattle.std.proofs.Common.{Option, Some, None, Ok, Err}
 use Rattle.std.proofs.lemmas.Bool.Decides.{nat_tests}
@@ -14,7 +14,7 @@ use Rattle.stl_rows.specs.PreparedLine.{prepared_by}
 use Rattle.stl_rows.proofs.LineLemmas.{holds_at}
 use Rattle.stl_rows.proofs.PageShapeLemmas.{prepared_small}
 
--- The lines behind the first.
+-- The lines after the first.
 abbrev pub cut_behind : Option (Bor (List ℕ)) → List (List ℕ)
 cut_behind behind = option_map_or (λ more. cut_lines more.now) behind []
 
@@ -28,14 +28,14 @@ module _ (items : LayoutItems) (jc off : ℕ) (place : Place) (page : Rows)
       ap (map (prepared_by items)) cut
       ∙ ap (λ own. own ∷ map (prepared_by items) (cut_behind behind)) (sym is)
 
-  -- Its fault is the first of all.
+  -- If it has a fault, that is the first of all.
   pub line-fault : (fault : RowFault)
       → fault_at items off place line ≡ Some fault
       → drawn_from items jc off place page (prepared_cut items rest) ≡ Err fault
   unfolding drawn_from
   line-fault fault told = rw (all_lines, told) refl
 
-  -- Without a fault those behind it go on.
+  -- If it has none, drawing continues with the lines after it.
   pub line-next : fault_at items off place line ≡ None
       → drawn_from items jc off place page (prepared_cut items rest)
       ≡ drawn_from items jc off (place_behind items place line)
@@ -43,21 +43,19 @@ module _ (items : LayoutItems) (jc off : ℕ) (place : Place) (page : Rows)
   unfolding drawn_from
   line-next sound = rw (all_lines, sound) refl
 
-  -- It holds codes alone.
   pub line-codes : HoldCodes (cut_lines rest) → AreCodes line
   line-codes h1 = grind (arith, nat_tests, holds_at, prepared_small)
 
-  -- So do those behind it.
   pub behind-codes : HoldCodes (cut_lines rest) → HoldCodes (cut_behind behind)
   behind-codes h = (rw cut at h).1
 
--- At the end all is drawn.
+-- When no line is left, the page is the result.
 pub line-end : (items : LayoutItems) (jc off : ℕ) (place : Place) (page : Rows)
     → drawn_from items jc off place page [] ≡ Ok page
 unfolding drawn_from
 line-end items jc off place page = refl
 
--- The place behind a line.
+-- The place after a line.
 pub place-grows : (items : LayoutItems) (place : Place) (line : List ℕ)
     → ((place_behind items place line).number ≡ place.number + 1)
     × ((place_behind items place line).depth ≤ place.depth + 2)

@@ -1,5 +1,5 @@
 -- Lines put on the blank page one after another give the page that shows them: is_drawn-start,
--- is_drawn-next. And what faults tell of the drawn page: drawn-first.
+-- is_drawn-next. How the faults decide the drawn page: drawn-first.
 use Rattle.std.proofs.Common.{◌≡◌, ◌≢◌, ℕ, suc, ◌+◌, ◌-◌, ◌<◌, ◌≤◌, false, List, [], ◌∷◌, ◌++◌, Ok}
 use Rattle.std.proofs.Common.{Err, length, map, get_or, refl, sym, ap, ◌∙◌, arith, inl, inr, rules}
 use Rattle.std.proofs.Common.{get_or-set_other, length-append, append_assoc, append-nil}
@@ -28,17 +28,14 @@ use Rattle.stl_rows.proofs.FaultlessLemmas.{IsOnPage, empty_parts, on_page}
 code_in_column-none : (start k : ℕ) → 32 ≡ code_in_column start [] k
 code_in_column-none start k = grind (arith, nat_tests)
 
--- The row of an empty line is blank.
 pub row_of-none : (jc : ℕ) → blank_row ≡ row_of jc []
 unfolding blank_row row_of
 row_of-none jc = λ i. map (λ k. code_in_column-none (start_column jc 0) k i) (range_with_len 0 40)
 
--- The page of no lines is blank.
 page_of_none : (jc vp : ℕ) → blank ≡ page_of_lines jc vp []
 unfolding blank page_of_lines
 page_of_none jc vp = search (rules, cond_both, row_of-none)
 
--- An empty line after others changes no line.
 get_or_push-none : (ls : List (List ℕ)) (k : ℕ) → get_or ls k [] ≡ get_or (ls ++ [] ∷ []) k []
 get_or_push-none [] k = grind (arith, nat_tests)
 get_or_push-none (l ∷ ls) k = grind (arith, nat_tests, get_or_push-none ls)
@@ -49,13 +46,12 @@ line_on-last : (vp row : ℕ) (done : List (List ℕ)) (line : List ℕ)
     → line_on vp (done ++ line ∷ []) row ≡ line
 line_on-last vp row done line e = grind (arith, nat_tests, get_or_push done line [] (row - vp))
 
--- The others stay.
 line_on-other : (vp row : ℕ) (done : List (List ℕ)) (line : List ℕ)
     → row ≢ vp + length done
     → line_on vp (done ++ line ∷ []) row ≡ line_on vp done row
 line_on-other vp row done line e = search (rules, length-append, get_or_append_left, get_or_past)
 
--- No cells are no line.
+-- A line without cells gets no box.
 prepared_none : prepared [] ≡ []
 unfolding prepared
 prepared_none = refl
@@ -96,18 +92,17 @@ put_line-page jc vp done (c ∷ cs) fits =
 
 -- ---- drawing
 
--- Some of all lines are on the page, and these are left.
+-- The lines `done` are on the page, the lines `left` are not.
 pub record IsDrawn (jc vp row : ℕ) (page : Rows) (all left : List (List ℕ)) : Type 0 where
   pub done : List (List ℕ)
   pub shown : page ≡ page_of_lines jc vp done
   pub next : row ≡ vp + length done
   pub all_are : all ≡ done ++ left
 
--- The blank page has none of them.
 pub is_drawn-start : {jc vp : ℕ} {all : List (List ℕ)} → IsDrawn jc vp vp blank all all
 is_drawn-start {jc} {vp} = grind (arith, nat_tests, page_of_none)
 
--- Where no line has a fault the next is on the page.
+-- If no line has a fault, the next one is on the page.
 pub is_drawn-on_page : {jc vp row : ℕ} {page : Rows} {all left : List (List ℕ)}
     → IsDrawn jc vp row page all left
     → line_faults 0 vp false all ≡ []
@@ -118,15 +113,13 @@ is_drawn-on_page {vp = vp} {row} {all = all} {left} h none =
 module _ {jc vp row : ℕ} {page : Rows} {all left : List (List ℕ)} (cells : List ℕ) (first : 1 ≤ vp)
     (h : IsDrawn jc vp row page all (prepared cells ∷ left))
     (none : line_faults 0 vp false all ≡ []) where
-  -- The cells fit their row.
   pub is_drawn-fits : FitsRow row cells
   is_drawn-fits = grind (arith, nat_tests, is_drawn-on_page h none, prepared_longer cells)
 
-  -- The page with their line put is drawn up to the next row.
+  -- With the next line put, the page is drawn up to the next row.
   pub is_drawn-next : IsDrawn jc vp (row + 1) (put_line jc row cells page) all left
   is_drawn-next = search (rules, put_line-page, is_drawn-fits, length-append, append_assoc)
 
--- Where none is left the page shows all.
 pub is_drawn-end : {jc vp row : ℕ} {page : Rows} {all : List (List ℕ)}
     → IsDrawn jc vp row page all []
     → page_of_lines jc vp all ≡ page
@@ -134,25 +127,24 @@ is_drawn-end h = rw (h.all_are, append-nil) (sym h.shown)
 
 -- ---- faults
 
--- A subtitle that draws a page has no fault.
 no_faults : (n : National) (t : SubtitleValue) → IsOk (plainly_drawn n t) → subtitle_faults n t ≡ []
 unfolding plainly_drawn
 no_faults n t ok = grind (arith, nat_tests)
 
--- The lines of a subtitle that draws a page have no fault. For `draw_on`.
+-- For `draw_on`.
 pub no_line_faults : (n : National) (t : SubtitleValue)
     → IsOk (plainly_drawn n t)
     → line_faults 0 t.vp false (lines n t) ≡ []
 no_line_faults n t ok = (empty_parts (refused_codes (text_codes n 0 t.text)) _ (no_faults n t ok)).1
 
--- It draws the page of its lines. For `draw_on`.
+-- For `draw_on`.
 pub drawn-page : (n : National) (t : SubtitleValue)
     → IsOk (plainly_drawn n t)
     → plainly_drawn n t ≡ Ok (page_of_lines t.jc t.vp (lines n t))
 unfolding plainly_drawn
 drawn-page n t ok = rw (no_faults n t ok) refl
 
--- The first of all faults is told. For `first_fault`.
+-- For `first_fault`.
 pub drawn-first : (n : National) (t : SubtitleValue)
     → MatchOption (first_of (subtitle_faults n t)) (IsOk (plainly_drawn n t))
     (λ f. plainly_drawn n t ≡ Err f)

@@ -1,5 +1,5 @@
--- What is due, and the next edge, by the first subtitle whose TCO is after a frame: due_is_shown,
--- none_is_blank and next_edge-tci.
+-- The due page and the next edge follow from the first subtitle whose TCO is after a frame:
+-- due_is_shown, none_is_blank and next_edge-tci.
 use Rattle.std.proofs.Common.{rules, ◌≡◌, ◌≢◌, ℕ, zero, suc, ◌+◌, ◌-◌, ◌<◌, ◌≤◌, Bool, true, false}
 use Rattle.std.proofs.Common.{List, [], ◌∷◌, Option, Some, None, MatchOption, option_map, length}
 use Rattle.std.proofs.Common.{Ok}
@@ -21,20 +21,19 @@ use Rattle.stl_rows.specs.DuePage.{LawOfDueSubtitles, LawOfEdges, TellsLastEdge,
 use Rattle.stl_rows.specs.DuePage.{due, ends_at, is_due, tci_of_ending}
 use Rattle.stl_rows.specs.Programme.{IsProgramme}
 
--- ---- what is due
+-- ---- the due page
 
 -- A subtitle is not due before its TCI, nor from its TCO on.
 not_due : (f : ℕ) (t : SubtitleValue) → (f < t.tci) ⊎ (t.tco ≤ f) → is_due f t ≡ false
 not_due f t h = grind (arith, nat_tests)
 
--- A subtitle with another TCO does not end at a frame; one with this TCO does.
 other_end : (f : ℕ) (t : SubtitleValue) → t.tco ≢ f → ends_at f t ≡ false
 other_end f t h = grind (arith, nat_tests)
 
 own_end : (f : ℕ) (t : SubtitleValue) → t.tco ≡ f → ends_at f t ≡ true
 own_end f t h = grind (arith, nat_tests)
 
--- Where none is due the page is blank: for `law_of_blank_pages`.
+-- For `law_of_blank_pages`.
 pub none_is_blank : LawOfBlankPages
 unfolding due
 none_is_blank n ts f none =
@@ -42,7 +41,7 @@ none_is_blank n ts f none =
     (found_nowhere (find (is_due f)) (is_due f) Some None refl (λ x xs. refl) ts empty_subtitle
     (λ k b. not_due f (get_or ts k empty_subtitle) (none k empty_subtitle b)))
 
--- One that is due is shown: for `law_of_due_subtitles`.
+-- For `law_of_due_subtitles`.
 pub due_is_shown : LawOfDueSubtitles
 unfolding due
 due_is_shown n ts f t order member low high =
@@ -53,7 +52,6 @@ due_is_shown n ts f t order member low high =
     (rw member.2 (grind (arith, nat_tests)))
     ∙ ap Some member.2)
 
--- Where no subtitle has this TCO, none is found that ends there.
 pub none_ends : (ts : List SubtitleValue) (f : ℕ)
     → ((k : ℕ) (d : SubtitleValue) → k < length ts → (get_or ts k d).tco ≢ f)
     → None ≡ tci_of_ending ts f
@@ -73,12 +71,12 @@ find_same p q (x ∷ xs) h =
     let tail : find p xs ≡ find q xs = find_same p q xs (λ k d b. h (suc k) d (omega arith)) in
     rw (e, tail) refl
 
--- The due page changes at edges alone: for `law_of_edges`.
+-- For `law_of_edges`.
 pub edges_alone : LawOfEdges
 unfolding due
 edges_alone n ts f first none = search (rules, find_same, get_or_default)
 
--- What holds of the blank page, and of each that a subtitle draws, holds of each due page.
+-- What holds of the blank page, and of each page that a subtitle draws, holds of each due page.
 pub due_has : (P : Rows → Type 0) (n : Drawing) (ts : List SubtitleValue) (f : ℕ)
     → P blank
     → ((t : SubtitleValue) (page : Rows) → drawn n t ≡ Ok page → P page)
@@ -95,7 +93,7 @@ pub record IsFirstAfter (ts : List SubtitleValue) (f at : ℕ) : Type 0 where
 module _ (n : Drawing) (ts : List SubtitleValue) (f at : ℕ) (t : SubtitleValue)
     (ok : IsProgramme n ts) (first : IsFirstAfter ts f at) (inside : at < length ts)
     (is : t ≡ get_or ts at t) where
-  -- Each subtitle has ended by the frame, is this one, or starts where this one ends, or after.
+  -- Each subtitle has ended by the frame, or is this one, or starts at its TCO or later.
   placed : (x : SubtitleValue)
       → Contains ts x
       → (x.tco ≤ f) ⊎ ((x ≡ t) ⊎ (t.tco ≤ x.tci))
@@ -103,11 +101,11 @@ module _ (n : Drawing) (ts : List SubtitleValue) (f at : ℕ) (t : SubtitleValue
       let own : t ≡ get_or ts at x = get_or_read ts at t inside is x in
       grind (arith, nat_tests, get_or_read)
 
-  -- It ends after the frame.
+  -- -
   pub ends_after : f < t.tco
   ends_after = rw (← is) at (first.after at t (omega arith) inside)
 
-  -- In a gap before it none is due: for `draw_near`.
+  -- In a gap before it no subtitle is due: for `draw_near`.
   pub none-between : f < t.tci
       → (k : ℕ) (d : SubtitleValue)
       → k < length ts
@@ -115,7 +113,7 @@ module _ (n : Drawing) (ts : List SubtitleValue) (f at : ℕ) (t : SubtitleValue
   none-between gap k d b =
       let cases = placed (get_or ts k d) (Contains-get_or ts k d b) in grind arith
 
-  -- An edge after the frame is its TCI, or not before its TCO.
+  -- An edge after the frame is its TCI, or is at its TCO or later.
   later_edge : (x : ℕ) → IsEdge ts x → f < x → (x ≡ t.tci) ⊎ (t.tco ≤ x)
   later_edge x edge after =
       let s : SubtitleValue = edge.1 in
@@ -144,7 +142,7 @@ module _ (n : Drawing) (ts : List SubtitleValue) (f at : ℕ) (t : SubtitleValue
     least = λ x edge after. omega (arith, later_edge x edge after, low, after);
   }
 
-  -- Where it does not end at the next frame, none does: for `tci_ending_at`.
+  -- If it does not end at the next frame, no subtitle does: for `tci_ending_at`.
   pub none_ends-next : (g : ℕ) → f + 1 ≡ g → t.tco ≢ g → None ≡ tci_of_ending ts g
   none_ends-next g next other = none_ends ts g (λ k d b.
       let cases = placed (get_or ts k d) (Contains-get_or ts k d b) in
@@ -152,7 +150,7 @@ module _ (n : Drawing) (ts : List SubtitleValue) (f at : ℕ) (t : SubtitleValue
       let after = ends_after in
       grind arith)
 
-  -- Where it does, it is the one that ends there: for `tci_ending_at`.
+  -- If it does, it is the one that is found: for `tci_ending_at`.
   pub ends-next : (g : ℕ) → f + 1 ≡ g → t.tco ≡ g → Some t.tci ≡ tci_of_ending ts g
   unfolding tci_of_ending
   ends-next g next own =
@@ -165,13 +163,13 @@ module _ (n : Drawing) (ts : List SubtitleValue) (f at : ℕ) (t : SubtitleValue
 -- ---- the edges up to a frame
 
 module _ (n : Drawing) (ts : List SubtitleValue) (f at : ℕ) (ok : IsProgramme n ts) where
-  -- An edge is the TCI or the TCO of a subtitle of the list, whose TCI is before its TCO.
+  -- An edge is the TCI or TCO of a subtitle in the list, whose TCI is before its TCO.
   times_of_edge : (x : ℕ) (edge : IsEdge ts x)
       → (edge.1.tci < edge.1.tco) × ((x ≡ edge.1.tci) ⊎ (x ≡ edge.1.tco))
   times_of_edge x edge =
       ((All-contains IsSubtitle ts edge.1 ok.each (edge.0, edge.2, edge.3)).times, edge.4)
 
-  -- The TCI of the first subtitle after a frame, where that is not after it: for `edge_until`.
+  -- For `edge_until`.
   pub last_edge-tci : (t : SubtitleValue) → IsFirstAfter ts f at → at < length ts
       → t ≡ get_or ts at t → t.tci ≤ f → IsLastEdge ts f t.tci
   last_edge-tci t first inside is low = record {
@@ -191,7 +189,7 @@ module _ (n : Drawing) (ts : List SubtitleValue) (f at : ℕ) (ok : IsProgramme 
           let after : at < edge.0 → f < edge.1.tci = grind (arith, get_or_read) in
           grind (arith, nat_tests, cases_lt)
 
-  -- Where the first subtitle after a frame starts after it, so do those that follow.
+  -- If the first subtitle after a frame starts after it, so do those that follow.
   pub starts_after : (t : SubtitleValue) → IsFirstAfter ts f at → at < length ts
       → t ≡ get_or ts at t → f < t.tci
       → (k : ℕ) (d : SubtitleValue)
@@ -202,7 +200,7 @@ module _ (n : Drawing) (ts : List SubtitleValue) (f at : ℕ) (ok : IsProgramme 
       let later = ok.in_order at k d in
       grind (arith, nat_tests, cases_lt)
 
-  -- The TCO before a gap, where there is one: for `edge_until`.
+  -- For `edge_until`.
   pub last_edge-gap : (o : Option ℕ) → at ≤ length ts
       → ((k : ℕ) (d : SubtitleValue) → k < at → (get_or ts k d).tco ≤ f)
       → ((k : ℕ) (d : SubtitleValue) → at ≤ k → k < length ts → f < (get_or ts k d).tci)
@@ -241,7 +239,7 @@ module _ (n : Drawing) (ts : List SubtitleValue) (f at : ℕ) (ok : IsProgramme 
           λ l. let behind = after edge.0 edge.1 l edge.2 in grind arith in
           grind (arith, nat_tests, cases_lt)
 
--- Where no edge lies between, the same page is due: for a checker that goes back from a frame.
+-- If no edge lies between, the same page is due: for a checker that goes back from a frame.
 pub due_back : (n : Drawing) (ts : List SubtitleValue) (f j : ℕ)
     → j ≤ f
     → ((e : ℕ) → IsEdge ts e → f < e + j → e ≤ f → ⊥)
@@ -262,7 +260,7 @@ pub tco_rises : (n : Drawing) (ts : List SubtitleValue)
     → IsNonDecreasingBy (λ (t : SubtitleValue). t.tco) ts
 tco_rises n ts ok i j d le inside = grind (arith, nat_tests, cases_lt)
 
--- So all before one that has ended have ended, and none behind one that has not: for
+-- All subtitles before one that has ended have ended, and none after one that has not: for
 -- `is_first_after`.
 pub ended-until : (n : Drawing) (ts : List SubtitleValue) (f at : ℕ)
     → IsProgramme n ts

@@ -1,4 +1,4 @@
--- The first of all faults is the one that `load` tells; main lemmas: tells-first, none-told.
+-- `load` returns the first of all faults; main lemmas: tells-first, none-told.
 use Rattle.std.proofs.Common.{◌≡◌, ℕ, List, ◌∷◌, Option, Some, None, []}
 use Rattle.std.proofs.Common.{Ok, map, inl, inr}
 use Rattle.std.proofs.Common.{Err, refl, sym, ◌<◌, ◌≤◌, ◌⊎◌, Bool, true, false, arith, take}
@@ -25,7 +25,7 @@ use Rattle.stl_file.specs.Reading.{Findings, breaks, finds, no_more, refuses}
 use Rattle.stl_rows.proofs.FaultlessLemmas.{empty_parts, map_empty}
 use Rattle.stl_rows.specs.TextCode.{first_of}
 
--- A file is refused for the first of its faults.
+-- A file is rejected for the first of its faults.
 first_told : (fs : List LoadFault) (p : ProgrammeValue) (fault : LoadFault)
     → (unless_told fs p ≡ Err fault) ↔ (first_of fs ≡ Some fault)
 first_told [] p fault = ((λ e. absurd cc), (λ e. absurd cc))
@@ -36,35 +36,32 @@ first_fault : (drawing : Drawing) (file : List ℕ) (fault : LoadFault)
 unfolding loaded
 first_fault drawing file fault = first_told (faults drawing file) _ fault
 
--- ---- `load`, which is told the first
+-- ---- `load`, whose audience keeps the first fault
 
--- What is told is the first of all.
 first_taken : (n : ℕ) (all : List LoadFault) (fault : LoadFault)
     → 0 < n
     → fault ∷ [] ≡ take n all
     → first_of all ≡ Some fault
 first_taken n all fault some h = grind (arith, nat_tests)
 
--- A fault of the file is told as `load` tells it.
 tells-kind : (drawing : Drawing) (file : List ℕ) (block : ℕ) (kind : LoadFaultKind)
     → is_of_file kind ≡ true
     → loaded drawing file ≡ Err (load_fault block kind)
     → TellsFault drawing file block kind
 tells-kind drawing file block kind of_file h = grind (arith, nat_tests)
 
--- What was told of the file by the first is one of its faults.
+-- The fault that was reported of the file is one of its faults.
 pub first-of_file : (first : Option LoadFault)
     → TellsOfFile KeepsFirst None first
     → (fault : LoadFault) × (first ≡ Some fault) × (is_of_file fault.kind ≡ true)
 first-of_file first of_file = grind (arith, nat_tests, first_is)
 
--- Neither the source's failure nor the end of the file.
+-- Such a fault is neither a failure of the source nor the end of the file.
 not_read : (kind : LoadFaultKind)
     → is_of_file kind ≡ true
     → (kind ≢ File Ended) × (is_read_kind kind ≡ false)
 not_read kind of_file = grind (arith, nat_tests)
 
--- What `load` was told first is no failure of the source.
 pub first-not_read : (new first : Option LoadFault) (fault : LoadFault)
     → new ≡ None
     → first ≡ Some fault
@@ -73,7 +70,7 @@ pub first-not_read : (new first : Option LoadFault) (fault : LoadFault)
 first-not_read new first fault is_new is_first of_file =
     grind (arith, nat_tests, first-of_file first (rw is_new at of_file), not_read fault.kind)
 
--- The one fault that was told is the one of the file.
+-- The one fault that was reported is the fault of the file.
 pub tells-first : (drawing : Drawing) (file : List ℕ) (fault : LoadFault) (stopped : Bool)
     → TellsFaults KeepsFirst None (Some fault) stopped (faults drawing file)
     → TellsOfFile KeepsFirst None (Some fault)
@@ -87,20 +84,21 @@ tells-first drawing file fault stopped told of_file =
     tells-kind drawing file fault.block fault.kind kind
     ((first_fault drawing file fault).1 first)
 
--- The first of all does not come before this block, where none does.
+-- If no fault comes before this block, the first of all does not.
 not_before : (block : ℕ) (all : List LoadFault) (fault : LoadFault)
     → first_of all ≡ Some fault
     → filter (is_told_before block) all ≡ []
     → is_told_before block fault ≡ false
 not_before block all fault first none = grind (arith, nat_tests)
 
--- What does not come before is the end inside a subtitle, or names this block or a later one.
+-- A fault that does not come before is the end inside a subtitle, or names this block or a later
+-- one.
 is_late : (block at : ℕ) (kind : LoadFaultKind)
     → is_told_before block (load_fault at kind) ≡ false
     → (kind ≡ File Unfinished) ⊎ (block ≤ at)
 is_late block at kind h = grind (arith, nat_tests)
 
--- Where the source failed and nothing was told, no fault comes before.
+-- If the source failed and no fault was reported, none comes before.
 pub none-told : (drawing : Drawing) (old new : Option (List ℕ)) (block : ℕ)
     (told : Option LoadFault)
     → (is_some told ≡ true → ⊥)
@@ -118,7 +116,6 @@ none-told drawing old new block None none failed = record {
       (sym (first_is None _ (failed.told all is))));
 }
 
--- Where nothing was told all is loaded.
 pub loads-all : (drawing : Drawing) (file : List ℕ) (j : JudgedValue)
     → JudgesBy drawing file j
     → Tells KeepsFirst None None (faults drawing file)
@@ -126,7 +123,7 @@ pub loads-all : (drawing : Drawing) (file : List ℕ) (j : JudgedValue)
 loads-all drawing file j judged told =
     (judged.whole (sym (first_is None (faults drawing file) told))).0
 
--- Where nothing is told before a subtitle that is kept nothing is wrong up to it.
+-- If no fault is reported before an accepted subtitle, there is none up to it.
 ends_behind : (drawing : Drawing) (before : Option Times) (at : ℕ) (left : Findings)
     → EndsSubtitleAfter drawing before [] at left
     → EndsBehind drawing before at left
@@ -140,7 +137,7 @@ ends_behind drawing before at (finds t block left) (inr later) =
     let own = map_empty (load_fault block) (follow_faults drawing before t) parts.0 in
     (own, inr (ends_behind drawing (Some (times_of t)) at left (rw parts.1 at later.2)))
 
--- Memory was refused before anything was told.
+-- Memory was refused before any fault was reported.
 pub ends-record : (drawing : Drawing) (file : List ℕ) (block : ℕ)
     → WantsMemory drawing file KeepsFirst None None block
     → EndsRecord drawing file block
@@ -148,7 +145,7 @@ ends-record drawing file block wants =
     let none = first_is None _ wants.told in
     ends_behind drawing None block (findings_for drawing.scope file) (rw (sym none) at wants.ends)
 
--- The source failed or memory was refused, and nothing was told.
+-- The source failed or memory was refused, and no fault was reported.
 pub tells-failed : (drawing : Drawing) (file : List ℕ) (block : ℕ) (kind : LoadFaultKind)
     → (kind ≡ Memory) ⊎ (kind ≡ File Read)
     → (kind ≡ Memory → WantsMemory drawing file KeepsFirst None None block)
@@ -157,7 +154,7 @@ tells-failed drawing file block kind (inl is) wants =
     rw is (ends-record drawing file block (wants is))
 tells-failed drawing file block kind (inr is) wants = rw is tt
 
--- A device that did not say stop keeps nothing.
+-- An audience that did not say stop keeps no fault.
 pub keeps-none : (first : Option LoadFault) → (is_some first ≡ true → ⊥) → first ≡ None
 keeps-none None goes_on = refl
 keeps-none (Some fault) goes_on = absurd (goes_on refl)

@@ -1,4 +1,4 @@
--- Where the source fails, and what was told before; main lemma: fails-next.
+-- Where the source fails, and what was reported before; main lemma: fails-next.
 use Rattle.std.proofs.Common.{◌≡◌, ℕ, ◌+◌, ◌*◌, ◌/◌, List, ◌∷◌, ◌++◌, length, Option, [], Some}
 use Rattle.std.proofs.Common.{Result, true, refl, arith, length-append}
 use Rattle.std.specs.Prelude.{is_ok}
@@ -22,13 +22,13 @@ use Rattle.stl_rows.specs.EveryFault.{FailsTelling, faults, is_told_before}
 use Rattle.stl_rows.specs.Keeping.{KeptRecords}
 use Rattle.stl_rows.proofs.LoadingLemmas.{GoesOn, IsToldBy, tells-unread}
 
--- The GSI block and `block` TTI blocks were taken.
+-- The GSI block and `block` TTI blocks have been read.
 pub record HasTaken (old now : Option (List ℕ)) (block : ℕ) : Type 0 where
   pub bytes : List ℕ
   pub consumed : Consumes old now bytes
   pub long : length bytes ≡ 1024 + 128 * block
 
--- The blocks of an answer after which reading goes on were taken too.
+-- If reading goes on after a result, its blocks have been read too.
 pub has_taken-next : {old mid now : Option (List ℕ)} {scope : Scope} {from to : ℕ}
     {refused next : Option Begun} {t : SubtitleValue} {result : Result Found StlFault}
     → LeadsOn scope from to refused next mid now t result
@@ -40,13 +40,13 @@ has_taken-next {old} {mid} {now} l goes h =
 
 -- ---- the source fails
 
--- What is known of a source is what was taken and what is left.
+-- A source's bytes are those that were read and those that are left.
 left_over : (rest : List ℕ) (new : Option (List ℕ)) (bytes : List ℕ)
     → Consumes (Some rest) new bytes
     → (more : List ℕ) × (rest ≡ bytes ++ more)
 left_over rest new bytes p = grind (arith, nat_tests)
 
--- After `from` TTI blocks.
+-- The block at which a source ends, after `from` TTI blocks.
 block-is : (bytes more : List ℕ) (from to : ℕ)
     → length bytes ≡ 1024 + 128 * from
     → to ≡ from + length more / 128 + 1
@@ -58,7 +58,7 @@ none_before-0 : (all : List LoadFault) → filter (is_told_before 0) all ≡ []
 none_before-0 [] = refl
 none_before-0 (f ∷ fs) = grind (arith, nat_tests, none_before-0 fs)
 
--- While a subtitle is read.
+-- The source fails while a subtitle is read.
 pub fails-next : {drawing : Drawing} {start old new : Option (List ℕ)} {before : Option Times}
     {kept : KeptRecords} {early : List LoadFault} {D : Type 0}
     {IsTold : D → LoadFault → D → Type 0} {told_old told_new : D} {scope : Scope}
@@ -86,7 +86,7 @@ fails-next {start = start} {old} {new} {scope = scope} reader {block} taken earl
           told;
     }
 
--- While the GSI block is read: nothing was told.
+-- The source fails while the GSI block is read: nothing was reported.
 pub reads-nothing : (drawing : Drawing) (file : List ℕ)
     {D : Type 0} {IsTold : D → LoadFault → D → Type 0} (told : D)
     → Tells IsTold told told (filter (is_told_before 0) (faults drawing file))

@@ -1,4 +1,4 @@
--- Lines without a fault: each is on the page (on_page), and where text codes are left to be read
+-- Lines without a fault: each is on the page (on_page), and while text codes are left to be read
 -- the cells before them are at most 40 (few_cells).
 use Rattle.std.proofs.Common.{◌≡◌, ℕ, zero, suc, ◌+◌, ◌<◌, ◌≤◌, Bool, List, [], ◌∷◌, ◌++◌, length}
 use Rattle.std.proofs.Common.{map, get_or, refl, arith}
@@ -9,29 +9,26 @@ use Rattle.stl_rows.specs.Line.{is_double, prepared}
 use Rattle.stl_rows.specs.LineByLine.{onto}
 use Rattle.stl_rows.proofs.LineByLineLemmas.{prepared_longer}
 
--- Two lists that join to none are none.
 pub empty_parts : {A : Type 0} (xs ys : List A) → xs ++ ys ≡ [] → (xs ≡ []) × (ys ≡ [])
 empty_parts [] ys e = (refl, e)
 empty_parts (x ∷ xs) ys e = cc
 
--- Where nothing is made of a list it is none.
 pub map_empty : {A B : Type 0} (f : A → B) (xs : List A) → map f xs ≡ [] → xs ≡ []
 map_empty f [] e = refl
 map_empty f (x ∷ xs) e = cc
 
--- A prepared line has at most 40 cells, and none under the last row.
+-- A prepared line has at most 40 cells, and none below the last row.
 pub record IsOnPage (row : ℕ) (line : List ℕ) : Type 0 where
   pub few : length line ≤ 40
   pub last : 0 < length line → row ≤ last_row
 
--- A line without a fault is such a line.
 on_page_faultless : (row : ℕ) (under : Bool) (line : List ℕ)
     → line_fault_kinds row under line ≡ []
     → IsOnPage row line
 unfolding line_fault_kinds
 on_page_faultless row under line e = grind (arith, nat_tests)
 
--- So is each of lines without a fault; the line `k` goes to row `at`.
+-- If lines have no fault, each is on the page; line `k` goes to row `at`.
 pub on_page : (number row at : ℕ) (under : Bool) (lines : List (List ℕ)) (k : ℕ)
     → at ≡ row + k
     → line_faults number row under lines ≡ []
@@ -43,7 +40,7 @@ on_page number row at under (line ∷ lines) (suc k) is e =
     let rest = on_page (number + 1) (row + 1) at (is_double line) lines k in
     grind (arith, nat_tests, empty_parts)
 
--- Where the first of prepared lines is on the page, the cells that come before all are at most 40.
+-- If the first prepared line is on the page, the cells before all the others are at most 40.
 pub few_cells : (row : ℕ) (cells : List ℕ) (lines : List (List ℕ))
     → IsOnPage row (get_or (map prepared (onto cells lines)) 0 [])
     → length cells ≤ 40

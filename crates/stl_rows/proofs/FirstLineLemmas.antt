@@ -14,15 +14,16 @@ use Rattle.stl_rows.specs.TextCode.{new_line}
 use Rattle.stl_rows.proofs.LineByLineLemmas.{onto_code, onto_line_end}
 
 module _ (cells : List ℕ) (at : ℕ) where
-  -- The lines of the cells are those of what is left, with the cells so far before the first.
+  -- The lines of the cells are those of the remaining cells, with the cells so far before the
+  -- first.
   abbrev pub AreOnto : Type 0
   AreOnto = cut_lines cells ≡ onto (take at cells) (cut_lines (drop at cells))
 
-  -- The cells from a place on begin with the one there.
+  -- -
   here : at < length cells → drop at cells ≡ get_or cells at 0 ∷ drop (at + 1) cells
   here low = rw (add-one, drop-cons cells at 0) refl
 
-  -- Those before it end with the one before.
+  -- -
   one_more : at < length cells
       → take (at + 1) cells ≡ take at cells ++ get_or cells at 0 ∷ []
   one_more low = rw add-one (take-suc cells at 0 low)
@@ -35,7 +36,7 @@ module _ (cells : List ℕ) (at : ℕ) where
   first_line-more low other h =
       grind (arith, nat_tests, here, slice_split-cons_no, onto_code, one_more)
 
-  -- A new line ends them.
+  -- A new line ends the first line.
   pub first_line-end : (more : List ℕ)
       → at < length cells
       → (get_or cells at 0 == new_line) ≡ true
@@ -45,6 +46,6 @@ module _ (cells : List ℕ) (at : ℕ) where
   first_line-end more low own h is =
       grind (arith, nat_tests, here, slice_split-cons_yes, onto_line_end)
 
-  -- So does the end.
+  -- So does the end of the cells.
   pub first_line-all : length cells ≤ at → AreOnto → cut_lines cells ≡ cells ∷ []
   first_line-all past h = grind (arith, nat_tests, drop_all, onto_line_end, take_all)

@@ -1,5 +1,5 @@
--- What can be relied on in a file: judged_drawn; all of it, where nothing is told: all_decided. And
--- at which frames it is not known what is due: undecided-last, undecided-next.
+-- Each reliable subtitle draws a page: judged_drawn; without a fault, all subtitles are reliable:
+-- all_decided. The frames at which the due page is not known: undecided-last, undecided-next.
 use Rattle.std.proofs.Common.{◌≡◌, ℕ, Bool, false, true, List, [], ◌∷◌, ◌++◌, Option, Some, None}
 use Rattle.std.proofs.Common.{map, refl, ap, arith, Result, Ok, Err, zero, suc, ◌<◌, ◌≤◌}
 use Rattle.std.proofs.Common.{get_or, length}
@@ -26,7 +26,6 @@ use Rattle.stl_rows.proofs.FaultlessLemmas.{empty_parts, map_empty}
 
 -- ---- each draws a page
 
--- A subtitle draws that draws with no fault.
 drawn_none : (order : List LoadFaultKind) (r : Result Rows RowFault)
     → is_none (first_of (order ++ row_faults r)) ≡ true
     → IsOk r
@@ -34,7 +33,6 @@ drawn_none [] (Ok page) none = grind arith
 drawn_none [] (Err f) none = absurd cc
 drawn_none (k ∷ ks) r none = absurd cc
 
--- Each that can be relied on does.
 each_drawn : (drawing : Drawing) (before : Option Times) (other : Bool) (left : Findings)
     → All (λ (j : JudgedSubtitle). IsOk (drawn drawing j.subtitle))
     (judged_behind drawing before other left).judged
@@ -56,9 +54,9 @@ pub judged_drawn : LawOfJudged
 unfolding judged_of
 judged_drawn drawing file = each_drawn drawing None false (findings_for drawing.scope file)
 
--- ---- where nothing is told
+-- ---- files without a fault
 
--- No other subtitle stands anywhere.
+-- The due page is known at every frame.
 abbrev AllDecided : AllJudged → Type 0
 AllDecided all =
     (all.is_before_other ≡ false)
@@ -73,12 +71,12 @@ decided_more : (t : SubtitleValue) (all : AllJudged)
 decided_more t all h =
     (h.0, λ start frame. let rest = h.1 t.tco frame in grind (arith, nat_tests))
 
--- Nothing told of a subtitle is no order fault of it.
+-- A subtitle without a fault has no fault of its times.
 no_order : (order row : List LoadFaultKind) → order ++ row ≡ [] → is_none (first_of order) ≡ true
 no_order [] row e = refl
 no_order (k ∷ ks) row e = absurd cc
 
--- The one after a subtitle is in order.
+-- If there is no fault, the next record is in order with a subtitle.
 followed : (drawing : Drawing) (t : SubtitleValue) (left : Findings)
     → faults_behind drawing (Some (times_of t)) left ≡ []
     → is_followed_in_order (times_of t) left ≡ true
@@ -89,7 +87,7 @@ followed drawing t (refuses f block left) none = grind (arith, nat_tests)
 followed drawing t (finds u block left) none =
     grind (arith, nat_tests, empty_parts, no_order, map_empty)
 
--- All subtitles can be relied on.
+-- All subtitles are reliable.
 all_behind : (drawing : Drawing) (before : Option Times) (left : Findings)
     → faults_behind drawing before left ≡ []
     → (map (λ (j : JudgedSubtitle). j.subtitle) (judged_behind drawing before false left).judged
@@ -115,9 +113,9 @@ all_decided drawing file none =
     let all = all_behind drawing None (findings_for drawing.scope file) none in
     (all.0, λ frame. all.1.1 0 frame)
 
--- ---- what callers see
+-- ---- for callers
 
--- Where no bit is set nothing is undecided.
+-- If no bit is set, no frame is undecided.
 none_set : (ts : List SubtitleValue) (start frame : ℕ)
     → is_undecided_from start (with_bits ts []) false frame ≡ false
 none_set [] start frame = grind (arith, nat_tests)
@@ -133,7 +131,7 @@ pub all_known : LawOfKnown
 unfolding is_undecided_in
 all_known programme frame = none_set programme.records 0 frame
 
--- Before a start nothing is undecided.
+-- Before the start no frame is undecided.
 none_before : (ts : List SubtitleValue) (bits : List Bool) (other : Bool) (start frame : ℕ)
     → frame < start
     → All (λ (t : SubtitleValue). frame < t.tco) ts
@@ -148,7 +146,7 @@ none_before (t ∷ ts) (bit ∷ bits) other start frame early after =
     (λ k d h. after (suc k) d (omega arith)) in
     grind (arith, nat_tests)
 
--- Where all have ended, what stands behind the last decides.
+-- If all subtitles have ended, it depends on what follows the last.
 pub undecided-last : (ts : List SubtitleValue) (bits : List Bool) (other : Bool)
     (start frame : ℕ)
     → start ≤ frame
@@ -169,7 +167,7 @@ undecided-last (t ∷ ts) (bit ∷ bits) other start frame le each past =
     (λ k d h. each (suc k) d (omega arith)) (λ k d h. past (suc k) d (omega arith)) in
     grind (arith, nat_tests)
 
--- Else the first that ends after the frame decides, and its bit.
+-- Otherwise it depends on the first subtitle that ends after the frame, and its bit.
 pub undecided-next : (ts : List SubtitleValue) (bits : List Bool) (other : Bool)
     (start frame at : ℕ) (d : SubtitleValue)
     → start ≤ frame

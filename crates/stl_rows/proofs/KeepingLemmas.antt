@@ -1,5 +1,5 @@
--- What is kept of a file while it is read, and the rest, are what can be relied on: judged-start,
--- judged-refused, judged-next, judged-end. Subtitles that are in order: ordered.
+-- The subtitles kept while a file is read, and those of the rest, are its reliable subtitles:
+-- judged-start, judged-refused, judged-next, judged-end. Subtitles that are in order: ordered.
 use Rattle.std.proofs.Common.{◌≡◌, ℕ, zero, suc, ◌+◌, ◌-◌, ◌<◌, ◌≤◌, Bool, false, true, List, []}
 use Rattle.std.proofs.Common.{◌∷◌, ◌++◌, length, take, drop, map, replicate, Option, Some, None}
 use Rattle.std.proofs.Common.{refl, sym}
@@ -35,7 +35,6 @@ use Rattle.stl_rows.specs.TextCode.{first_of}
 
 -- ---- subtitles with their bits
 
--- A subtitle with its bit.
 abbrev with_bit : SubtitleValue → Bool → JudgedSubtitle
 with_bit t bit = record { subtitle = t; is_behind_other = bit }
 
@@ -43,7 +42,7 @@ take_none : (n : ℕ) → take {A = Bool} n [] ≡ []
 take_none zero = refl
 take_none (suc n) = refl
 
--- One more whose bit is set.
+-- One more subtitle, whose bit is set.
 pub with_bits-set : (ts : List SubtitleValue) (bits : List Bool) (t : SubtitleValue)
     → with_bits (ts ++ t ∷ [])
     (take (length ts) bits ++ (replicate (length ts - length bits) false ++ true ∷ []))
@@ -61,7 +60,7 @@ with_bits-set (s ∷ ts) (bit ∷ bits) t =
     let left : suc (length ts) - suc (length bits) ≡ length ts - length bits = omega arith in
     rw left (ap (λ (l : List JudgedSubtitle). with_bit s bit ∷ l) (with_bits-set ts bits t))
 
--- One more whose bit is missing.
+-- One more subtitle, whose bit is missing.
 pub with_bits-unset : (ts : List SubtitleValue) (bits : List Bool) (t : SubtitleValue)
     → length bits ≤ length ts
     → with_bits (ts ++ t ∷ []) bits ≡ with_bits ts bits ++ with_bit t false ∷ []
@@ -73,7 +72,6 @@ with_bits-unset (s ∷ ts) (bit ∷ bits) t fits =
     ap (λ (l : List JudgedSubtitle). with_bit s bit ∷ l)
     (with_bits-unset ts bits t (omega arith))
 
--- The first of them.
 pub with_bits-take : (n : ℕ) (ts : List SubtitleValue) (bits : List Bool)
     → with_bits (take n ts) (take n bits) ≡ take n (with_bits ts bits)
 with_bits-take zero ts bits = refl
@@ -84,7 +82,6 @@ with_bits-take (suc n) (s ∷ ts) [] =
 with_bits-take (suc n) (s ∷ ts) (bit ∷ bits) =
     ap (λ (l : List JudgedSubtitle). with_bit s bit ∷ l) (with_bits-take n ts bits)
 
--- Without their bits.
 pub with_bits-subtitles : (ts : List SubtitleValue) (bits : List Bool)
     → map (λ (j : JudgedSubtitle). j.subtitle) (with_bits ts bits) ≡ ts
 with_bits-subtitles [] bits = refl
@@ -95,7 +92,7 @@ with_bits-subtitles (s ∷ ts) (bit ∷ bits) =
 
 -- ---- subtitles in order
 
--- The bits say nothing of it.
+-- The bits don't matter for it.
 start_from-bits : (frame : ℕ) (ts : List SubtitleValue) (bits : List Bool)
     → start_from frame (with_bits ts bits) ≡ start_from frame (with_bits ts [])
 start_from-bits frame [] bits = refl
@@ -109,12 +106,11 @@ in_order-bits (t ∷ ts) [] = refl
 in_order-bits (t ∷ ts) (bit ∷ bits) =
     rw (start_from-bits t.tco ts bits, in_order-bits ts bits) refl
 
--- All start at 0 or later.
 pub start_from-0 : (js : List JudgedSubtitle) → start_from 0 js ≡ true
 start_from-0 [] = refl
 start_from-0 (j ∷ js) = grind (arith, nat_tests, start_from-0 js)
 
--- What starts from a frame starts from an earlier one.
+-- Subtitles that start at a frame or later do so for an earlier frame.
 start_from-earlier : (early late : ℕ) (js : List JudgedSubtitle)
     → early ≤ late
     → start_from late js ≡ true
@@ -124,7 +120,7 @@ start_from-earlier early late (j ∷ js) le h =
     let rest = start_from-earlier early late js le in
     grind (arith, nat_tests)
 
--- What is asked of the first of these, and then of the rest.
+-- The test of the first subtitle, and then of the rest.
 abbrev pub InOrderFrom : ℕ → List SubtitleValue → Bool
 InOrderFrom last ts = start_from last (with_bits ts []) && are_in_order (with_bits ts [])
 
@@ -141,7 +137,7 @@ pub in_order-early : (last : ℕ) (t : SubtitleValue) (ts : List SubtitleValue)
     → InOrderFrom last (t ∷ ts) ≡ false
 in_order-early last t ts early = grind (arith, nat_tests)
 
--- What is asked of the rest is asked of the next one, and then of those behind it.
+-- The test of the rest is that of the next one, and then of those after it.
 pub in_order-next : (last i : ℕ) (ts : List SubtitleValue) (t : SubtitleValue)
     → i < length ts
     → get_or ts i t ≡ t
@@ -160,7 +156,7 @@ pub in_order-end : (last i : ℕ) (ts : List SubtitleValue) (t : SubtitleValue)
 in_order-end last i ts t inside is early =
     rw (drop-cons ts i t inside, is) (in_order-early last t (drop (suc i) ts) early)
 
--- Nothing is asked of the first.
+-- The test from frame 0 is only that of the order.
 pub in_order-all : (ts : List SubtitleValue) → InOrderFrom 0 ts ≡ are_in_order (with_bits ts [])
 in_order-all ts = rw (start_from-0 (with_bits ts [])) refl
 
@@ -191,9 +187,9 @@ ordered (t ∷ ts) [] h (suc i) (suc j) d below inside =
 ordered (t ∷ ts) (bit ∷ bits) h (suc i) (suc j) d below inside =
     ordered ts bits (grind (arith, nat_tests)) i j d (omega arith) (omega arith)
 
--- ---- what is kept, and the rest
+-- ---- the kept subtitles, and the rest
 
--- These, and then those.
+-- These subtitles, and then those.
 abbrev joined : List JudgedSubtitle → AllJudged → AllJudged
 joined js all = record { judged = js ++ all.judged; is_before_other = all.is_before_other }
 
@@ -201,25 +197,25 @@ joined-more : (js : List JudgedSubtitle) (j : JudgedSubtitle) (all : AllJudged)
     → joined js (judged_before j all) ≡ joined (js ++ j ∷ []) all
 joined-more js j all = grind (arith, nat_tests, append_assoc)
 
--- The record that is compared next with these times is in order with them.
+-- The record compared next with these times is in order with them.
 abbrev is_followed : Option Times → Findings → Bool
 is_followed None left = true
 is_followed (Some times) left = is_followed_in_order times left
 
--- What can be relied on of a file: what is kept, but not its last where that is early or overlaps,
--- and what can be in the rest.
+-- The reliable subtitles of a file: those that are kept, without the last if the next record is
+-- early or overlaps it, and those of the rest.
 abbrev pub judged_on : Drawing → Option Times → KeptRecords → Findings → AllJudged
 judged_on drawing before k left =
     if k.is_latest && not (is_followed before left)
     then joined (take (length k.records - 1) (all_kept k)) (judged_behind drawing before true left)
     else joined (all_kept k) (judged_behind drawing before k.is_before_other left)
 
--- Nothing was read yet.
+-- Before anything is read.
 pub judged-start : (drawing : Drawing) (left : Findings)
     → judged_behind drawing None false left ≡ judged_on drawing None nothing_kept left
 judged-start drawing left = refl
 
--- Nothing is left.
+-- At the end of the file.
 end_none : (latest other : Bool) (js : List JudgedSubtitle) (given : AllJudged)
     → (if latest && false then given
     else record { judged = js ++ []; is_before_other = other })
@@ -233,7 +229,7 @@ unfolding judged_behind
 judged-end drawing None k = end_none k.is_latest k.is_before_other (all_kept k) _
 judged-end drawing (Some times) k = end_none k.is_latest k.is_before_other (all_kept k) _
 
--- One is refused.
+-- After a rejected subtitle.
 pub judged-refused : (drawing : Drawing) (before : Option Times) (k : KeptRecords)
     (fault : StlFault) (block : ℕ) (left : Findings)
     → judged_on drawing before k (refuses fault block left)
@@ -242,7 +238,7 @@ unfolding judged_behind
 judged-refused drawing None k fault block left = refl
 judged-refused drawing (Some times) k fault block left = refl
 
--- A record with which nothing is wrong.
+-- A record without a fault.
 finds_clean : (drawing : Drawing) (before : Option Times) (other : Bool) (t : SubtitleValue)
     (block : ℕ) (left : Findings)
     → is_none (first_of (follow_faults drawing before t)) ≡ true
@@ -253,7 +249,7 @@ finds_clean : (drawing : Drawing) (before : Option Times) (other : Bool) (t : Su
 unfolding judged_behind
 finds_clean drawing before other t block left none = rw none refl
 
--- One of which something is told.
+-- A record with a fault.
 finds_told : (drawing : Drawing) (before : Option Times) (other : Bool) (t : SubtitleValue)
     (block : ℕ) (left : Findings)
     → is_none (first_of (follow_faults drawing before t)) ≡ false
@@ -262,21 +258,21 @@ finds_told : (drawing : Drawing) (before : Option Times) (other : Bool) (t : Sub
 unfolding judged_behind
 finds_told drawing before other t block left some = rw some refl
 
--- Whether one is in order with those times is whether nothing is told of its own.
+-- A record is in order with those times if it has no fault of its times.
 followed_is : (before : Option Times) (t : SubtitleValue) (block : ℕ) (left : Findings)
     → is_followed before (finds t block left)
     ≡ is_none (first_of (order_faults before (times_of t)))
 followed_is None t block left = refl
 followed_is (Some times) t block left = refl
 
--- With which nothing is wrong is in order.
+-- A record without a fault is in order.
 clean_order : (order row : List LoadFaultKind)
     → is_none (first_of (order ++ row)) ≡ true
     → is_none (first_of order) ≡ true
 clean_order [] row none = refl
 clean_order (k ∷ ks) row none = absurd cc
 
--- One more that is kept.
+-- One more subtitle that is kept.
 bits_kept : (k : KeptRecords) (t : SubtitleValue)
     → length k.behind_other ≤ length k.records
     → all_kept (with_one t k) ≡ all_kept k ++ with_bit t k.is_before_other ∷ []
@@ -287,14 +283,13 @@ drop_last : (js : List JudgedSubtitle) (j : JudgedSubtitle) (n : ℕ)
     → take n (js ++ j ∷ []) ≡ js
 drop_last js j n is = rw is (take-append_seam js (j ∷ []))
 
--- So many are kept.
 kept_length : (ts : List SubtitleValue) (bits : List Bool)
     → length (with_bits ts bits) ≡ length ts
 kept_length [] bits = refl
 kept_length (t ∷ ts) [] = ap suc (kept_length ts [])
 kept_length (t ∷ ts) (bit ∷ bits) = ap suc (kept_length ts bits)
 
--- Whether the last was relied on or not.
+-- Whether the last subtitle was reliable or not.
 clean_step : (latest followed : Bool) (given behind other_behind : AllJudged)
     (js then_kept : List JudgedSubtitle) (j : JudgedSubtitle) (n : ℕ)
     → then_kept ≡ js ++ j ∷ []
@@ -334,7 +329,7 @@ judged_told : (drawing : Drawing) (before : Option Times) (k : KeptRecords) (t :
 judged_told drawing before k t block left in_order some is =
     grind (arith, nat_tests, followed_is, finds_told, with_bits-take)
 
--- One more of the file.
+-- One more record of the file.
 pub judged-next : (drawing : Drawing) (before : Option Times) (k : KeptRecords)
     (t : SubtitleValue) (block : ℕ) (left : Findings) (in_order clean : Bool)
     → length k.behind_other ≤ length k.records
@@ -347,10 +342,10 @@ judged-next drawing before k t block left in_order true fits is_order is_clean =
 judged-next drawing before k t block left in_order false fits is_order is_clean =
     judged_told drawing before k t block left in_order (sym is_clean) is_order
 
--- ---- what is kept is a programme
+-- ---- the kept subtitles are a programme
 
--- What is kept of the subtitles so far: it is all of them while nothing was told, and then it is a
--- programme.
+-- What is kept of the subtitles so far: while no fault was reported it is all of them, and they are
+-- a programme.
 pub record AreKept (drawing : Drawing) (before : Option Times) (early : List LoadFault)
     (k : KeptRecords) : Type 0 where
   pub each : All IsSubtitle k.records
@@ -359,15 +354,15 @@ pub record AreKept (drawing : Drawing) (before : Option Times) (early : List Loa
   pub whole : is_whole k ≡ is_none (first_of early)
   pub programme : early ≡ [] → (before ≡ times_before k.records) × IsProgramme drawing k.records
 
--- Nothing was read yet.
+-- Before anything is read.
 pub kept-none : (drawing : Drawing) → AreKept drawing None [] nothing_kept
 kept-none drawing = grind (arith, nat_tests)
 
--- Where something stands behind the last not all is kept.
+-- If something untrusted follows the last, not all is kept.
 not_whole : (none : Bool) → (none && not true) ≡ false
 not_whole none = grind (arith, nat_tests)
 
--- Something was told.
+-- A fault was reported.
 told_some : {A : Type 0} (xs ys : List A) (y : A)
     → is_none (first_of (xs ++ y ∷ ys)) ≡ false
 told_some [] ys y = refl
@@ -377,24 +372,23 @@ not_empty : {A : Type 0} (xs ys : List A) (y : A) → xs ++ y ∷ ys ≡ [] → 
 not_empty [] ys y e = absurd cc
 not_empty (x ∷ xs) ys y e = absurd cc
 
--- One more is refused.
+-- After a rejected subtitle.
 pub kept-refused : {drawing : Drawing} {before : Option Times} {early : List LoadFault}
     {k : KeptRecords} (fault : LoadFault)
     → AreKept drawing before early k
     → AreKept drawing before (early ++ fault ∷ []) (refused_one k)
 kept-refused fault kept = grind (arith, nat_tests, not_whole, told_some, not_empty)
 
--- Bits are there where one was set.
+-- The bits are not all unset if one was set.
 some_bits : (bits more : List Bool) → are_none (bits ++ (more ++ true ∷ [])) ≡ false
 some_bits [] [] = refl
 some_bits [] (bit ∷ more) = refl
 some_bits (bit ∷ bits) more = refl
 
--- No faults are the first where there is none.
 pub none-first : {A : Type 0} (xs : List A) → is_none (first_of xs) ≡ true → xs ≡ []
 none-first xs h = grind (arith, nat_tests)
 
--- Those of one more were told.
+-- The faults of one more record were reported.
 told_more : (early : List LoadFault) (block : ℕ) (kinds : List LoadFaultKind)
     → is_none (first_of kinds) ≡ false
     → is_none (first_of (early ++ map (load_fault block) kinds)) ≡ false
@@ -402,7 +396,7 @@ told_more early block [] some = absurd cc
 told_more early block (kind ∷ kinds) some =
     told_some early (map (load_fault block) kinds) (load_fault block kind)
 
--- So nothing was told where nothing is wrong with what was told.
+-- A list with a first element is not empty.
 none_some : {A : Type 0} (xs : List A) → is_none (first_of xs) ≡ false → xs ≡ [] → ⊥
 none_some xs some none = grind (arith, nat_tests)
 
@@ -415,7 +409,7 @@ module _ {drawing : Drawing} {before : Option Times} {early : List LoadFault} {k
   whole_then : is_whole (with_one t k) ≡ is_none (first_of early)
   whole_then = grind (arith, nat_tests, not_whole, some_bits)
 
-  -- It is kept.
+  -- A record without a fault is kept.
   kept_clean : IsSubtitle t
       → follow_faults drawing before t ≡ []
       → AreKept drawing (Some (times_of t))
@@ -437,7 +431,7 @@ module _ {drawing : Drawing} {before : Option Times} {early : List LoadFault} {k
             );
       })
 
-  -- It is not, and the one before it is or not.
+  -- A record with a fault is not; the one before it is kept or not.
   kept_told : (early_then : List LoadFault) (drops : Bool)
       → is_none (first_of early_then) ≡ false
       → AreKept drawing (Some (times_of t)) early_then
@@ -460,7 +454,7 @@ module _ {drawing : Drawing} {before : Option Times} {early : List LoadFault} {k
         programme = λ none. absurd (none_some early_then some none);
       }
 
-  -- One more of the file.
+  -- One more record of the file.
   pub kept-next : (in_order clean : Bool)
       → clean ≡ is_none (first_of (follow_faults drawing before t))
       → IsSubtitle t
@@ -474,9 +468,9 @@ module _ {drawing : Drawing} {before : Option Times} {early : List LoadFault} {k
       (k.is_latest && not in_order)
       (told_more early block (follow_faults drawing before t) (sym is_clean))
 
--- ---- what is judged by
+-- ---- the subtitles used for checking
 
--- Where all is kept nothing was told.
+-- If all subtitles are kept, no fault was reported.
 pub whole_none : {drawing : Drawing} {before : Option Times} {early : List LoadFault}
     {k : KeptRecords}
     → AreKept drawing before early k
@@ -484,7 +478,7 @@ pub whole_none : {drawing : Drawing} {before : Option Times} {early : List LoadF
     → early ≡ []
 whole_none {early = early} kept whole = none-first early (sym kept.whole ∙ whole)
 
--- What is enough to judge by is a programme.
+-- Subtitles that are enough for checking are a programme.
 pub programme-kept : {drawing : Drawing} {before : Option Times} {early : List LoadFault}
     {k : KeptRecords}
     → AreKept drawing before early k
@@ -500,16 +494,15 @@ programme-kept {k = k} kept enough = elim (cases_Bool (is_whole k)) [
   }
 ]
 
--- ---- how it is asked
+-- ---- as the code tests it
 
--- And whether they are in order.
+-- If a fault was reported, they must be in order.
 pub enough-some : (k : KeptRecords)
     → is_whole k ≡ false
     → 0 < length k.records
     → is_enough k ≡ are_in_order (with_bits k.records [])
 enough-some k part some = grind (arith, nat_tests, kept_length, in_order-bits)
 
--- Whether there is none, as it is asked.
 pub none-asked : {A : Type 0} (x : Option A) (none : Bool)
     → is_some x ≡ not none
     → none ≡ is_none x

@@ -1,5 +1,5 @@
 -- Lines put on a page by a layout one after another give the page that shows them, or their first
--- fault: drawn_from-is. And what is known of a page that is drawn so: drawn_by-lines.
+-- fault: drawn_from-is. Properties of such a page: drawn_by-lines.
 use Rattle.std.proofs.Common.{◌≡◌, ℕ, ◌+◌, ◌-◌, ◌<◌, ◌≤◌, Bool, true, false, List, [], ◌∷◌}
 use Rattle.std.proofs.Common.{length, map, get_or, refl, sym, ap, ◌∙◌, arith}
 use Rattle.std.proofs.Common.{None, Result, Ok, Err}
@@ -26,7 +26,7 @@ use Rattle.stl_rows.specs.PreparedLine.{row_from, start_by}
 use Rattle.stl_rows.specs.TextCode.{fault_of, first_of}
 use Rattle.stl_rows.proofs.FaultlessLemmas.{empty_parts, map_empty}
 
--- ---- rows rise
+-- ---- the rows follow on downwards
 
 -- Lines from a depth on go to no row above it.
 pub none_above : (items : LayoutItems) (off row number depth : ℕ) (under : Bool)
@@ -42,15 +42,14 @@ none_above items off row number depth under (line ∷ lines) low =
       none_above items off row (number + 1) (depth + pitch items) (is_double line) lines,
     )
 
--- ---- a page over which lines are put
+-- ---- a page on which lines are put
 
--- The row of a page over which lines are put.
+-- The row of a page on which lines are put.
 abbrev row_over : LayoutItems → ℕ → ℕ → Rows → List PlacedLine → ℕ → List ℕ
 row_over items jc off page lines row =
     option_map_or (λ (line : PlacedLine). row_from (start_by items jc line.cells) line.cells)
     (find (is_on_row off row) lines) (row_at page row)
 
--- The page.
 abbrev page_over : LayoutItems → ℕ → ℕ → Rows → List PlacedLine → Rows
 page_over items jc off page lines =
     map (row_over items jc off page lines) (range_with_len 1 24)
@@ -62,7 +61,6 @@ rows_same : (f g : ℕ → List ℕ)
 rows_same f g h =
     grind (arith, nat_tests, ext_get_or, length-map-range_with_len, get_or-map-range_with_len)
 
--- A page has the rows that it has.
 page_again : (page : Rows) → length page ≡ 24 → page ≡ map (row_at page) (range_with_len 1 24)
 page_again page long =
     ext_get_or [] page (map (row_at page) (range_with_len 1 24))
@@ -82,7 +80,7 @@ pub on_page : (items : LayoutItems) (off : ℕ) (line : PlacedLine)
 unfolding placed_fault_kinds
 on_page items off line none some = grind (arith, nat_tests)
 
--- A row of a page with a line and then others over it.
+-- A row of a page on which a line is put, and then others.
 row_step : (items : LayoutItems) (jc off : ℕ) (place : Place) (line : List ℕ) (page : Rows)
     (rest : List PlacedLine) (row : ℕ)
     → length page ≡ 24
@@ -99,7 +97,7 @@ row_step items jc off place line page rest row long none above low high =
 -- ---- the loop
 
 module _ (items : LayoutItems) (jc off : ℕ) (place : Place) (line : List ℕ) (page : Rows) where
-  -- A line that takes no row leaves all but the number.
+  -- A line that takes no row changes only the number.
   passed : takes_none items line ≡ true
       → (fault_at items off place line ≡ None)
       × (place_behind items place line ≡ record place { number = place.number + 1 })
@@ -107,7 +105,7 @@ module _ (items : LayoutItems) (jc off : ℕ) (place : Place) (line : List ℕ) 
   unfolding fault_at place_behind page_with
   passed none = grind (arith, nat_tests)
 
-  -- Any other has its own fault, and one place is below it.
+  -- Any other line has its own fault, and the place moves down.
   taken : takes_none items line ≡ false
       → (fault_at items off place line
       ≡ first_of (map (fault_of place.number) (placed_fault_kinds items off (line_at place line))))
@@ -119,7 +117,7 @@ module _ (items : LayoutItems) (jc off : ℕ) (place : Place) (line : List ℕ) 
   unfolding fault_at place_behind
   taken some = grind (arith, nat_tests)
 
-  -- The page with it has as many rows.
+  -- -
   same_length : length page ≡ 24 → length (page_with items jc off place line page) ≡ 24
   unfolding page_with
   same_length long = grind (arith, nat_tests, length-set)
@@ -129,12 +127,12 @@ abbrev placed_at : LayoutItems → Place → List (List ℕ) → List PlacedLine
 placed_at items place lines =
     placed_from items place.number place.depth place.is_under_double lines
 
--- What is drawn over a page, or the first fault.
+-- The page with these lines, or the first fault.
 abbrev drawn_over : LayoutItems → ℕ → ℕ → Rows → List PlacedLine → Result Rows RowFault
 drawn_over items jc off page lines =
     unless (placed_faults items off lines) (page_over items jc off page lines)
 
--- A line that takes a row, by what is wrong with it.
+-- A line that takes a row, by its faults.
 of_kinds : (items : LayoutItems) (jc off : ℕ) (place : Place) (line : List ℕ) (page : Rows)
     (rest : List PlacedLine) (kinds : List RowFaultKind) (drawn : Result Rows RowFault)
     → length page ≡ 24
@@ -148,7 +146,7 @@ of_kinds items jc off place line page rest [] drawn long none is above =
 of_kinds items jc off place line page rest (k ∷ ks) drawn long some is above =
     grind (arith, nat_tests)
 
--- One line, and those behind it.
+-- One line, and those after it.
 drawn_from-step : (items : LayoutItems) (jc off : ℕ) (place : Place) (page : Rows)
     (line : List ℕ) (lines : List (List ℕ)) (none : Bool)
     → length page ≡ 24
@@ -182,7 +180,7 @@ drawn_from-step items jc off place page line lines false long is rest =
     pitch_some : 0 < pitch items
     pitch_some = grind (arith, nat_tests)
 
--- What is drawn from a place on is the page with all lines over it, or the first fault.
+-- Drawing from a place on gives the page with all lines on it, or the first fault.
 drawn_from-over : (items : LayoutItems) (jc off : ℕ) (place : Place) (page : Rows)
     (lines : List (List ℕ))
     → length page ≡ 24
@@ -194,7 +192,6 @@ drawn_from-over items jc off place page (line ∷ lines) long =
     drawn_from-step items jc off place page line lines (takes_none items line) long refl
     (λ next over h. drawn_from-over items jc off next over lines h)
 
--- The rows of the blank page.
 blank_rows : (row : ℕ) → 1 ≤ row → row ≤ 24 → row_at blank row ≡ blank_row
 unfolding blank
 blank_rows row low high = get_or-replicate 24 (row - 1) blank_row [] (omega (arith, low, high))
@@ -203,7 +200,7 @@ blank_long : length blank ≡ 24
 unfolding blank
 blank_long = refl
 
--- Over the blank page: for `draw_by`.
+-- On the blank page: for `draw_by`.
 pub drawn_from-is : (items : LayoutItems) (jc off : ℕ) (place : Place) (lines : List (List ℕ))
     → drawn_from items jc off place blank lines
     ≡ unless (placed_faults items off (placed_at items place lines))
@@ -228,22 +225,21 @@ sound_line items off place (c ∷ line) sound some = grind (arith, nat_tests)
 
 -- ---- a page that is drawn
 
--- A value where nothing is wrong.
+-- If there is a value, there is no fault.
 nothing_wrong : {A E : Type 0} (es : List E) (value got : A)
     → unless es value ≡ Ok got
     → (es ≡ []) × (got ≡ value)
 nothing_wrong [] value got e = (refl, cc)
 nothing_wrong (x ∷ es) value got e = cc
 
--- The lines of a subtitle that take rows.
 abbrev pub lines_of_subtitle : National → LayoutItems → SubtitleValue → List PlacedLine
 lines_of_subtitle national items t = placed_lines items t.vp (lines_by national items t.text)
 
--- The rows that are taken off.
+-- How many rows its lines are shifted up.
 abbrev pub off_of_subtitle : National → LayoutItems → SubtitleValue → ℕ
 off_of_subtitle national items t = rows_off items (lines_by national items t.text)
 
--- What is drawn is the page of lines without a fault.
+-- The drawn page is that of lines without a fault.
 pub drawn_by-lines : (national : National) (items : LayoutItems) (t : SubtitleValue) (page : Rows)
     → drawn_by national items t ≡ Ok page
     → (placed_faults items (off_of_subtitle national items t) (lines_of_subtitle national items t)

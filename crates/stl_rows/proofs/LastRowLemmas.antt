@@ -32,7 +32,6 @@ unfolding drawn
 drawn_free drawing t page e =
     grind (arith, nat_tests, drawn_by-lines, row_free, off_of_subtitle, lines_of_subtitle)
 
--- Row 24 of each due page is blank.
 pub last_row_blank : (drawing : Drawing) (records : List SubtitleValue) (frame : ℕ)
     → row_at (due drawing records frame) 24 ≡ blank_row
 last_row_blank drawing records frame =

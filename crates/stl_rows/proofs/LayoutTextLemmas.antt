@@ -16,7 +16,7 @@ use Rattle.stl_rows.specs.LayoutText.{stripped_with}
 
 -- ---- what came before
 
--- Within a list it does not matter what is beyond it; beyond it that is.
+-- Within a list the default value doesn't matter; beyond its end it is the result.
 came_at : (came : List Bool) (k : ℕ) → k < length came → get_or came k true ≡ get_or came k false
 came_at [] k low = absurd (omega (arith, low))
 came_at (c ∷ came) zero low = refl
@@ -31,24 +31,22 @@ came_before (c ∷ came) (suc k) h = grind (arith, nat_tests, came_before came k
 
 -- ---- pairs of digits
 
--- A text from a place on begins with the byte there.
 here : (text : List ℕ) (at : ℕ) → at < length text
     → drop at text ≡ get_or text at 0 ∷ drop (at + 1) text
 here text at low = rw (add-one, drop-cons text at 0) refl
 
--- With the pair there.
 pair_at : (text : List ℕ) (at : ℕ) → at + 1 < length text
     → drop at text ≡ get_or text at 0 ∷ get_or text (at + 1) 0 ∷ drop (at + 2) text
 pair_at text at low = grind (arith, nat_tests, here)
 
--- A digit that has no other.
+-- The last digit, without another.
 last_at : (text : List ℕ) (at : ℕ) → at + 1 ≡ length text → drop at text ≡ get_or text at 0 ∷ []
 last_at text at is =
     here text at (omega (arith, is))
     ∙ ap (λ rest. get_or text at 0 ∷ rest) (drop_all (at + 1) text (omega (arith, is)))
 
 module _ (text : List ℕ) (at : ℕ) where
-  -- Codes at places of a list, by the pair at a place of the text: for `codes_of_text`.
+  -- The codes of the places, by the pair of digits at a place of the text: for `codes_of_text`.
   pub codes_filled-step : (places : List (Option Attribute)) (filled : ℕ)
       → at + 1 < length text
       → codes_filled places filled (drop at text)
@@ -72,7 +70,7 @@ module _ (text : List ℕ) (at : ℕ) where
   unfolding codes_filled
   codes_filled-end places filled past = rw (drop_all at text past) refl
 
-  -- Bytes that give no cell: for `stripped_of_text`. A byte that came before is refused.
+  -- The bytes that give no cell: for `stripped_of_text`. A byte that came before is rejected.
   stripped_with-step : (strip : List Bool) (code : ℕ)
       → at + 1 < length text
       → byte_of_digits (get_or text at 0) (get_or text (at + 1) 0) ≡ Some code

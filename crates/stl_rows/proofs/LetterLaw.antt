@@ -31,16 +31,14 @@ use Rattle.stl_rows.proofs.LetterLemmas.{letters-lines, printed-prepared, printe
 
 -- ---- the rows of a page are its lines
 
--- The cells of lines.
 abbrev cells_of : List PlacedLine → List (List ℕ)
 cells_of lines = map (λ (line : PlacedLine). line.cells) lines
 
--- Nothing of the blank row prints.
 printed-blank : printed blank_row ≡ []
 unfolding printed blank_row
 printed-blank = refl
 
--- A line without a fault has at most 40 cells, so the row that shows it has what it has.
+-- A line without a fault has at most 40 cells, so the row that shows it prints the same.
 printed-shown : (items : LayoutItems) (jc off : ℕ) (line : PlacedLine)
     → placed_fault_kinds items off line ≡ []
     → printed (row_from (start_by items jc line.cells) line.cells) ≡ printed line.cells
@@ -48,20 +46,18 @@ unfolding placed_fault_kinds start_by
 printed-shown items jc off line none =
     printed-row (start_by items jc line.cells) line.cells (grind (arith, nat_tests))
 
--- A row before others.
 printed_lines-cons : (line : List ℕ) (lines : List (List ℕ)) (own : List ℕ)
     → printed line ≡ own
     → printed_lines (line ∷ lines) ≡ filter has_cells (own ∷ []) ++ printed_lines lines
 printed_lines-cons line lines [] is = rw is refl
 printed_lines-cons line lines (c ∷ own) is = rw is refl
 
--- The rows from one on show the lines from a depth on, where none of these goes to a row before.
+-- The rows from one on show the lines from a depth on, if none of these goes to a row before.
 abbrev RowsShow : LayoutItems → ℕ → ℕ → List PlacedLine → ℕ → ℕ → Type 0
 RowsShow items jc off lines row count =
     printed_lines (map (shown_row items jc off lines) (range_with_len row count))
     ≡ printed_lines (cells_of lines)
 
--- Two ways to show the rows from one on that agree.
 range_same : (f g : ℕ → List ℕ) (row count : ℕ)
     → ((at : ℕ) → row ≤ at → f at ≡ g at)
     → map f (range_with_len row count) ≡ map g (range_with_len row count)
@@ -77,7 +73,7 @@ rows-none items jc off row zero = refl
 rows-none items jc off row (suc count) =
     printed_lines-cons blank_row _ [] printed-blank ∙ rows-none items jc off (row + 1) count
 
--- The faults of a line, and of those behind it.
+-- The faults of a line, and of those after it.
 own_and_rest : (items : LayoutItems) (off : ℕ) (line : PlacedLine) (rest : List PlacedLine)
     → placed_faults items off (line ∷ rest) ≡ []
     → (placed_fault_kinds items off line ≡ []) × (placed_faults items off rest ≡ [])
@@ -87,14 +83,14 @@ printed-nothing : printed [] ≡ []
 unfolding printed
 printed-nothing = refl
 
--- A line that is empty, before others.
+-- A line that prints nothing, before others.
 printed_lines-empty : (line : List ℕ) (lines : List (List ℕ))
     → has_cells line ≡ false
     → printed_lines (line ∷ lines) ≡ printed_lines lines
 printed_lines-empty [] lines none = printed_lines-cons [] lines [] printed-nothing
 printed_lines-empty (c ∷ line) lines none = cc
 
--- A line at a place, and those behind it that take rows.
+-- A line at a place; the lines after it follow.
 abbrev place_of : ℕ → ℕ → Bool → List ℕ → PlacedLine
 place_of number depth under line = record {
   number = number;
@@ -107,7 +103,7 @@ abbrev behind : LayoutItems → ℕ → ℕ → List ℕ → List (List ℕ) →
 behind items number depth line lines =
     placed_from items (number + 1) (depth + pitch items) (is_double line) lines
 
--- Rows go on.
+-- Each line goes to a later row.
 pitch_some : (items : LayoutItems) → 0 < pitch items
 pitch_some items = grind (arith, nat_tests)
 
@@ -120,7 +116,7 @@ none_empty : (items : LayoutItems) (line : List ℕ) → takes_none items line �
     → has_cells line ≡ false
 none_empty items line is = grind (arith, nat_tests)
 
--- By the test whether a line takes a row.
+-- Case distinction by whether a line takes a row.
 by_test : (items : LayoutItems) (number depth : ℕ) (under : Bool) (line : List ℕ)
     (lines : List (List ℕ)) (P : List PlacedLine → Type 0) (b : Bool)
     → takes_none items line ≡ b
@@ -132,7 +128,7 @@ by_test items number depth under line lines P true is none some = rw is (none is
 by_test items number depth under line lines P false is none some = rw is (some is)
 
 module _ (items : LayoutItems) (jc off : ℕ) where
-  -- Below the last row lines without a fault have nothing.
+  -- Lines without a fault print nothing below the last row.
   abbrev HasNothing : List PlacedLine → Type 0
   HasNothing lines = placed_faults items off lines ≡ [] → printed_lines (cells_of lines) ≡ []
 
@@ -161,13 +157,13 @@ module _ (items : LayoutItems) (jc off : ℕ) where
   Show row count lines =
       placed_faults items off lines ≡ [] → RowsShow items jc off lines row count
 
-  -- A row that a line does not go to shows those behind it.
+  -- A row to which a line does not go shows those after it.
   others : (place : PlacedLine) (rest : List PlacedLine) (at : ℕ)
       → (has_cells place.cells ≡ false) ⊎ (off + at ≢ place.depth)
       → shown_row items jc off (place ∷ rest) at ≡ shown_row items jc off rest at
   others place rest at other = grind (arith, nat_tests)
 
-  -- An empty line shows nothing.
+  -- -
   show-empty : (place : PlacedLine) (rest : List PlacedLine) (row count : ℕ)
       → has_cells place.cells ≡ false
       → Show row count rest
@@ -177,7 +173,7 @@ module _ (items : LayoutItems) (jc off : ℕ) where
       ∙ more (own_and_rest items off place rest sound).1
       ∙ sym (printed_lines-empty place.cells (cells_of rest) empty)
 
-  -- The row of a line shows it, and those below it the lines behind it.
+  -- The row of a line shows it, and the rows below it the lines after it.
   show-line : (place : PlacedLine) (rest : List PlacedLine) (row count : ℕ)
       → has_cells place.cells ≡ true
       → off + row ≡ place.depth
@@ -193,7 +189,7 @@ module _ (items : LayoutItems) (jc off : ℕ) where
       → Show row (suc count) lines
   show-above lines row count h1 h2 = grind (arith, nat_tests, printed_lines-cons, printed-blank)
 
-  -- The rows from one on show the lines from a depth on, where none goes to a row before.
+  -- The rows from one on show the lines from a depth on, if none goes to a row before.
   rows_show : (lines : List (List ℕ)) (count number depth row : ℕ) (under : Bool)
       → row + count ≡ 25
       → off + row ≤ depth
@@ -226,7 +222,7 @@ module _ (items : LayoutItems) (jc off : ℕ) where
             ])
       ]
 
-  -- Rows 1 to 24 show lines without a fault: those above row 1 are empty.
+  -- Rows 1 to 24 show lines without a fault: lines above row 1 are empty.
   page-empty : (place : PlacedLine) (rest : List PlacedLine) (b : Bool)
       → place.depth ≤ off
       → has_cells place.cells ≡ b
@@ -255,7 +251,7 @@ module _ (items : LayoutItems) (jc off : ℕ) where
 
 -- ---- lines
 
--- The lines that take rows have what all have.
+-- The lines that take rows print what all lines print.
 printed-placed : (items : LayoutItems) (number depth : ℕ) (under : Bool) (lines : List (List ℕ))
     → printed_lines (cells_of (placed_from items number depth under lines)) ≡ printed_lines lines
 printed-placed items number depth under [] = refl
@@ -270,7 +266,7 @@ printed-placed items number depth under (line ∷ lines) =
     (printed-placed items (number + 1) (depth + pitch items) (is_double line) lines)
     ∙ sym (printed_lines-cons line lines (printed line) refl))
 
--- Prepared lines have what their cells have.
+-- Prepared lines print what their cells print.
 printed-lines : (items : LayoutItems) (lines : List (List ℕ))
     → printed_lines (map (prepared_by items) lines) ≡ printed_lines lines
 printed-lines items [] = refl
@@ -281,7 +277,7 @@ printed-lines items (line ∷ lines) =
 
 -- ---- letters of a text
 
--- The byte of a character is above 20 and is not 80; behind a mark it is a letter.
+-- The byte of a character is above 20 and is not 80; after a diacritical mark it is a letter.
 abbrev HaveLetters : List NationalCharacter → Type 0
 HaveLetters characters =
     AllByRecursion (λ (c : NationalCharacter). (0x20 < c.byte) × (c.byte ≢ 0x80)) characters
@@ -290,7 +286,7 @@ have_letters : (n : National) → HaveLetters (sub_set n).characters
 unfolding sub_set
 have_letters n = grind (arith, nat_tests)
 
--- So no other byte gives one, behind a mark or by itself.
+-- So no other byte gives a character, after a diacritical mark or by itself.
 no_character : (characters : List NationalCharacter) (mark : Option ℕ) (byte : ℕ)
     → HaveLetters characters
     → (byte ≤ 0x20) ⊎ (byte ≡ 0x80)
@@ -318,21 +314,21 @@ letters-code code lines = grind (arith, nat_tests, letters-first)
 abbrev AreAlike : TextCode × ℕ → TextCode × ℕ → Type 0
 AreAlike a b = (letter_of a.0 ≡ letter_of b.0) × (a.1 ≡ b.1)
 
--- A byte below 20 gives no letter, as 80 gives none.
+-- A byte below 20 gives no letter, nor does 80.
 low_byte : (n : National) (byte : ℕ) (bytes : List ℕ)
     → (byte < 0x20) ⊎ (byte ≡ 0x80)
     → AreAlike (code_before n byte bytes) (NoCell, 0)
 unfolding cell_of cell_of_pair code_of_other is_common
 low_byte n byte bytes low = grind (arith, nat_tests, no_character, have_letters)
 
--- What comes behind a byte that is not stripped gives no other pair with it.
+-- The bytes after a byte that is not stripped give the same pair with it.
 pair_kept : (items : LayoutItems) (n : National) (byte : ℕ) (bytes : List ℕ)
     → cell_of_pair n byte (first_of (unstripped items bytes))
     ≡ cell_of_pair n byte (first_of bytes)
 unfolding cell_of_pair
 pair_kept items n byte bytes = grind (arith, nat_tests, no_character, have_letters)
 
--- A text code has the same letter where bytes are stripped.
+-- A text code has the same letter if bytes are stripped.
 code_kept-by : (items : LayoutItems) (n : National) (byte : ℕ) (bytes : List ℕ) (b : Bool)
     → strips items byte ≡ b
     → AreAlike
@@ -350,7 +346,6 @@ code_kept : (items : LayoutItems) (n : National) (byte : ℕ) (bytes : List ℕ)
     (code_before n byte bytes)
 code_kept items n byte bytes = code_kept-by items n byte bytes (strips items byte) refl
 
--- So has a text.
 letters-kept : (items : LayoutItems) (n : National) (place taken : ℕ) (bytes : List ℕ)
     → letters (lines_of_codes (codes_after n place taken (unstripped items bytes)))
     ≡ letters (lines_of_codes (codes_after n place taken bytes))
@@ -376,7 +371,7 @@ letters-kept items n place zero (byte ∷ bytes) =
 
 -- ---- the law
 
--- A page that is drawn has what the lines of its text have.
+-- A drawn page prints what the lines of its text print.
 printed-drawn : (national : National) (items : LayoutItems) (t : SubtitleValue) (page : Rows)
     → drawn_by national items t ≡ Ok page
     → printed_lines page ≡ printed_lines (lines_of_codes (codes_by national items t.text))
@@ -391,7 +386,7 @@ printed-drawn national items t page e =
     ∙ printed-placed items 0 first false lines
     ∙ printed-lines items (lines_of_codes (codes_by national items t.text))
 
--- No layout adds, changes, loses or moves past another any letter: for `law_of_letters`.
+-- No layout adds, changes, loses or reorders letters: for `law_of_letters`.
 pub letters_stay : LawOfLetters
 unfolding drawn
 letters_stay national layout t page e =

@@ -20,11 +20,9 @@ use Rattle.stl_rows.proofs.LineLemmas.{row_from-put}
 
 -- ---- cells that don't print
 
--- None of the cells prints.
 abbrev pub NonePrints : List ℕ → Type 0
 NonePrints cells = AllByRecursion (λ (c : ℕ). c ≤ space) cells
 
--- Two such lines joined, the front of one, and what is behind it.
 none-append : (xs ys : List ℕ) → NonePrints xs → NonePrints ys → NonePrints (xs ++ ys)
 none-append [] ys h k = k
 none-append (x ∷ xs) ys h k = (h.0, none-append xs ys h.1 k)
@@ -50,7 +48,6 @@ none-leading first last [] low = tt
 none-leading first last (c ∷ cells) low =
     grind (arith, nat_tests, none-leading first last cells low)
 
--- All of a line are.
 none-all : (first last : ℕ) (cells : List ℕ) → last ≤ space
     → list_all (is_within first last) cells ≡ true
     → NonePrints cells
@@ -58,7 +55,7 @@ none-all first last [] low all = tt
 none-all first last (c ∷ cells) low all =
     grind (arith, nat_tests, none-all first last cells low)
 
--- Those at its end.
+-- The codes or spaces at its end.
 trailing-few : (first last : ℕ) (cells : List ℕ) → trailing first last cells ≤ length cells
 trailing-few first last [] = omega arith
 trailing-few first last (c ∷ cells) = grind (arith, nat_tests, trailing-few first last cells)
@@ -87,9 +84,9 @@ none-codes [] = tt
 none-codes (None ∷ places) = none-codes places
 none-codes (Some a ∷ places) = (attribute-low a, none-codes places)
 
--- ---- what is left of a line
+-- ---- what a line prints
 
--- Cells that don't print, before others and behind them, change nothing of it.
+-- Cells that don't print, before or after others, don't change it.
 from_first-none : (xs cells : List ℕ) → NonePrints xs → from_first (xs ++ cells) ≡ from_first cells
 from_first-none [] cells h = refl
 from_first-none (x ∷ xs) cells h = grind (arith, nat_tests, from_first-none xs cells h.1)
@@ -115,13 +112,13 @@ printed-ahead xs cells h = ap to_last (from_first-none xs cells h)
 
 -- ---- prepared lines
 
--- The front of a line that does not print, taken off.
+-- Without the front of a line that does not print.
 printed-drop : (n : ℕ) (cells : List ℕ) → NonePrints (take n cells)
     → printed (drop n cells) ≡ printed cells
 printed-drop n cells h =
     sym (printed-ahead (take n cells) (drop n cells) h) ∙ ap printed (take-append-drop n cells)
 
--- The end of one.
+-- Without its end that does not print.
 printed-take : (n : ℕ) (cells : List ℕ) → NonePrints (drop n cells)
     → printed (take n cells) ≡ printed cells
 printed-take n cells h =
@@ -162,7 +159,7 @@ printed-framed : (items : LayoutItems) (cells : List ℕ)
 unfolding framed
 printed-framed items cells = grind (arith, nat_tests, printed-behind, none-ending, printed-headed)
 
--- A prepared line has what its cells have.
+-- A prepared line prints what its cells print.
 pub printed-prepared : (items : LayoutItems) (cells : List ℕ)
     → printed (prepared_by items cells) ≡ printed cells
 unfolding prepared_by
@@ -170,7 +167,7 @@ printed-prepared items cells = grind (arith, nat_tests, printed-framed, printed-
 
 -- ---- rows
 
--- The row that shows a line has what the line has.
+-- The row that shows a line prints what the line prints.
 pub printed-row : (start : ℕ) (line : List ℕ) → start + length line ≤ 40
     → printed (row_from start line) ≡ printed line
 printed-row start line room =
@@ -182,7 +179,6 @@ printed-row start line room =
 
 -- ---- letters
 
--- The letters of a line are those of what is left of it.
 letters-from_first : (cells : List ℕ) → filter prints (from_first cells) ≡ filter prints cells
 letters-from_first [] = refl
 letters-from_first (c ∷ cells) = grind (arith, nat_tests, letters-from_first cells)
@@ -201,7 +197,6 @@ letters-printed : (cells : List ℕ) → filter prints (printed cells) ≡ filte
 unfolding printed
 letters-printed cells = letters-to_last (from_first cells) ∙ letters-from_first cells
 
--- Those of lines are those of what is left of each.
 letters-line : (line own : List ℕ) (lines : List (List ℕ))
     → printed line ≡ own
     → letters (printed_lines lines) ≡ letters lines

@@ -1,4 +1,4 @@
--- The lines of a text as its text codes are read one by one: what each code does to them, as
+-- The lines of a text as its text codes are read one by one: the effect of each code, as
 -- prepared_lines-cell.
 use Rattle.std.proofs.Common.{◌≡◌, ℕ, zero, suc, ◌≤◌, List, ◌∷◌, ◌++◌, map, length, drop, refl, []}
 use Rattle.std.proofs.Common.{ap, arith, length-append, ◌∙◌}
@@ -29,7 +29,7 @@ onto_code (c ∷ cells) code lines = ap (onto_first c) (onto_code cells code lin
 
 -- ---- one text code
 
--- A cell comes after those before it.
+-- A cell is added after those before it.
 pub prepared_lines-cell : (cells : List ℕ) {at code : ℕ} {s : TextCode}
     {ss rest : List (ℕ × TextCode)}
     → ss ≡ (at, s) ∷ rest
@@ -53,12 +53,11 @@ prepared_lines-end n cells at text past =
     at_drop_all (λ bytes. prepared_lines cells (text_codes n at bytes)) text at past
     ∙ ap (map prepared) (onto_line_end cells [])
 
--- A prepared line is no shorter than its cells.
 pub prepared_longer : (cells : List ℕ) → length cells ≤ length (prepared cells)
 unfolding prepared
 prepared_longer cells = grind (arith, nat_tests, length-append)
 
--- Codes with one code after them are codes. For `draw_text`.
+-- For `draw_text`.
 pub codes_push : (cells : List ℕ) (code : ℕ)
     → AreCodes cells
     → IsCode code

@@ -1,4 +1,4 @@
--- The row that shows a line: row_from-put says what it holds, row_small that it holds codes alone.
+-- The row that shows a line: row_from-put gives its cells, row_small shows that they are codes.
 use Rattle.std.proofs.Common.{◌≡◌, ℕ, ◌+◌, ◌-◌, ◌<◌, ◌≤◌, List, [], ◌∷◌, ◌++◌, length, map, get_or}
 use Rattle.std.proofs.Common.{take, drop, replicate, arith, lit<}
 use Rattle.std.proofs.lemmas.Bool.Decides.{nat_tests}
@@ -10,7 +10,7 @@ use Rattle.ttx_page.specs.Page.{AreCodes, space}
 use Rattle.stl_rows.specs.Line.{code_in_column}
 use Rattle.stl_rows.specs.PreparedLine.{row_from}
 
--- A line that is put on a row of spaces: for `codes_from`.
+-- A line put on a row of spaces: for `codes_from`.
 pub row_from-put : (start : ℕ) (line row : List ℕ)
     → start + length line ≤ 40
     → row ≡ replicate 40 space
@@ -23,11 +23,10 @@ row_from-put start line row room is =
     fill_by_all (code_in_column start line) _ 40 0 (grind (arith, places))
     (λ k h. grind (arith, nat_tests, places, blank, get_or_past line (k - start) space))
 
--- Each cell is a code.
 abbrev pub Small : List ℕ → Type 0
 Small codes = AllByRecursion (λ (c : ℕ). c < 128) codes
 
--- What holds of each of a list, and of the value for none, holds of what is at a place.
+-- A property of each element, and of the default value, holds of the element at a place.
 pub holds_at : {X : Type 0} (P : X → Type 0) (xs : List X) (k : ℕ) (d : X)
     → P d
     → AllByRecursion P xs
@@ -35,14 +34,13 @@ pub holds_at : {X : Type 0} (P : X → Type 0) (xs : List X) (k : ℕ) (d : X)
 holds_at P [] k d none h = none
 holds_at P (x ∷ xs) k d none h = grind (arith, nat_tests, holds_at P xs)
 
--- What holds of all that a function gives holds of each of a list that is made by it.
+-- A property of all results of a function holds of each element of a list that it makes.
 pub holds_map : {X Y : Type 0} (P : Y → Type 0) (f : X → Y) (xs : List X)
     → ((x : X) → P (f x))
     → AllByRecursion P (map f xs)
 holds_map P f [] h = tt
 holds_map P f (x ∷ xs) h = (h x, holds_map P f xs h)
 
--- What a column shows of a line of codes is a code.
 cell_small : (start column : ℕ) (line : List ℕ)
     → Small line
     → code_in_column start line column < 128
@@ -53,12 +51,11 @@ pub row_length : (start : ℕ) (line : List ℕ) → length (row_from start line
 unfolding row_from
 row_length start line = grind (arith, nat_tests, length-map-range_with_len)
 
--- A row that shows a line of codes holds codes alone.
 pub row_small : (start : ℕ) (line : List ℕ) → Small line → Small (row_from start line)
 unfolding row_from
 row_small start line h = grind (arith, nat_tests, holds_map, cell_small)
 
--- A row that shows a line, where its codes are told column by column: for `codes_from`.
+-- The codes of such a row, column by column: for `codes_from`.
 pub row_from-codes : (start : ℕ) (line : List ℕ) → AreCodes line → AreCodes (row_from start line)
 row_from-codes start line codes column =
     holds_at (λ c. c < 128) (row_from start line) column 0 (lit< tt)

@@ -1,4 +1,4 @@
--- A file is loaded exactly where it is a file whose subtitles are in order, disjoint and drawable:
+-- A file is loaded if and only if it is a file whose subtitles are in order, disjoint and drawable:
 -- loading_is.
 use Rattle.std.proofs.Common.{◌≡◌, ℕ, suc, ◌-◌, ◌<◌, ◌≤◌, List, [], ◌∷◌, ◌++◌, Some, None, Result}
 use Rattle.std.proofs.Common.{Ok, length, take, map, refl, sym, ◌∙◌, ap, arith, append_assoc}
@@ -31,17 +31,16 @@ use Rattle.stl_rows.specs.Programme.{order_faults, row_faults, times_before, tim
 use Rattle.stl_rows.proofs.FaultlessLemmas.{empty_parts, map_empty}
 use Rattle.stl_rows.proofs.ProgrammeLemmas.{IsProgramme-none, IsProgramme-push, last_of-push}
 
--- ---- what is loaded is in order and drawable
+-- ---- loaded files are in order and drawable
 
--- The subtitles of a file with which nothing is wrong: they are all that it gives, and with those
--- before they are a programme.
+-- In a file without a fault, these are all its subtitles, and with those before they are a
+-- programme.
 record IsFaultless (n : Drawing) (records : List SubtitleValue) (left : Findings) : Type 0 where
   all : subtitles_of (stopped left) ≡ Ok (records_of left)
   programme : IsProgramme n records
       → All IsSubtitle (records_of left)
       → IsProgramme n (records ++ records_of left)
 
--- Each may follow those before it.
 faultless : (n : Drawing) (records : List SubtitleValue) (left : Findings)
     → faults_behind n (times_before records) left ≡ []
     → IsFaultless n records left
@@ -64,9 +63,9 @@ faultless n records (finds t block left) h =
           (λ k d h. each (suc k) d (omega arith)));
     }
 
--- ---- what is in order and drawable is loaded
+-- ---- files in order and drawable are loaded
 
--- A drawable subtitle has no fault of its rows.
+-- A drawable subtitle has no row fault.
 no_row_fault : (r : Result Rows RowFault) → IsOk r → row_faults r ≡ []
 no_row_fault r h = grind arith
 
@@ -88,7 +87,7 @@ times_follow n (r ∷ rs) ts t ok =
     let new = get_or-append_seam records t ts t in
     grind (arith, nat_tests, slice_get-get_or, no_order_fault)
 
--- It has none at all.
+-- It has no fault at all.
 none_follow : (n : Drawing) (records ts : List SubtitleValue) (t : SubtitleValue)
     → IsProgramme n (records ++ t ∷ ts)
     → follow_faults n (times_before records) t ≡ []
@@ -98,7 +97,7 @@ none_follow n records ts t ok =
     rw (get_or-append_seam records t ts t) at (ok.drawable (length records) t (omega arith)) in
     rw (times_follow n records ts t ok, no_row_fault (drawn n t) drawable) refl
 
--- Nothing is wrong with subtitles that are a programme.
+-- Subtitles that are a programme have no faults.
 given_faultless : (n : Drawing) (records : List SubtitleValue) (left : Findings)
     (ts : List SubtitleValue)
     → subtitles_of (stopped left) ≡ Ok ts
@@ -119,7 +118,6 @@ given_faultless n records (finds t block left) ts h ok =
 
 -- ---- the law
 
--- Each subtitle of a file is one.
 all_subtitles : (ts : List SubtitleValue) (gs : List (List (List ℕ)))
     → AllZip AreBlocksOf ts gs
     → All IsSubtitle ts
@@ -128,7 +126,7 @@ all_subtitles (t ∷ ts) [] e = λ k d h. absurd e
 all_subtitles (t ∷ ts) (g ∷ gs) e =
     All-cons IsSubtitle t ts (blocks_subtitle t g e.0) (all_subtitles ts gs e.1)
 
--- Where something was loaded nothing is wrong.
+-- If a value was loaded, there is no fault.
 none_told : (fs : List LoadFault) (p q : ProgrammeValue)
     → unless_told fs p ≡ Ok q
     → (fs ≡ []) × (p ≡ q)
@@ -141,7 +139,7 @@ pub none_of_loaded : (drawing : Drawing) (file : List ℕ) (programme : Programm
 unfolding loaded
 none_of_loaded drawing file programme h = (none_told (faults drawing file) _ programme h).0
 
--- The law, from what a file is: for `law_of_loading`.
+-- The law, from the definition of a file: for `law_of_loading`.
 pub loading_is : ((scope : Scope) (s g : List ℕ) (ts : List SubtitleValue)
     → IsFileFor scope s g ts
     ↔ ((g ≡ take 1024 s) × (subtitles_of (stopped (findings_for scope s)) ≡ Ok ts)))

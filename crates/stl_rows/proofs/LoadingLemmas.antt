@@ -1,4 +1,4 @@
--- What is left of a file after some of its subtitles, and what was told of these; main lemmas:
+-- The rest of a file after some of its subtitles, and the faults reported of these; main lemmas:
 -- goes_on-next, tells-unread.
 use Rattle.std.proofs.Common.{rules, ◌≡◌, ◌<◌, ◌≤◌, ◌+◌, ℕ, Bool, true, false, List, ◌∷◌, ◌++◌, []}
 use Rattle.std.proofs.Common.{take, length, map, Option, Some, None, refl, sym}
@@ -51,7 +51,7 @@ use Rattle.std.proofs.lemmas.Bool.{cases_Bool}
 use Rattle.stl_rows.specs.Programme.{follow_faults, order_faults, row_faults, times_of}
 use Rattle.stl_rows.specs.TextCode.{first_of}
 
--- ---- what was told of subtitles
+-- ---- the reported faults of subtitles
 
 -- A fault of a subtitle, after which reading goes on.
 abbrev pub is_of_subtitle : LoadFaultKind → Bool
@@ -61,16 +61,16 @@ is_of_subtitle Overlap = true
 is_of_subtitle (Row fault) = true
 is_of_subtitle _ = false
 
--- One that is told at this block or before.
+-- Such a fault, reported at this block or before.
 abbrev pub IsToldBy : ℕ → LoadFault → Type 0
 IsToldBy block fault = (is_of_subtitle fault.kind ≡ true) × (fault.block ≤ block)
 
--- Those of a subtitle are told at its block.
+-- The faults of a subtitle are reported at its block.
 at_block : (drawing : Drawing) (before : Option Times) (t : SubtitleValue) (block : ℕ)
     → All (IsToldBy block) (map (load_fault block) (follow_faults drawing before t))
 at_block drawing before t block = grind (arith, nat_tests)
 
--- What was told of the subtitles so far, and of one more.
+-- The faults of the subtitles so far, and of one more.
 pub told-next : (drawing : Drawing) (before : Option Times) (t : SubtitleValue) (from to : ℕ)
     (early : List LoadFault)
     → from ≤ to
@@ -82,7 +82,7 @@ told-next drawing before t from to early le h =
     h)
     (at_block drawing before t to)
 
--- What was told of the subtitles so far, and what one is refused for.
+-- The faults of the subtitles so far, and the one for which the next is rejected.
 pub told-refused : (fault : StlFault) (from to : ℕ) (early : List LoadFault)
     → from ≤ to
     → is_of_first fault ≡ true
@@ -94,13 +94,12 @@ told-refused fault from to early le first h =
     h)
     (first, omega arith)
 
--- Neither the source's failure nor the end of the file.
+-- Such a fault is neither a failure of the source nor the end of the file.
 pub first_kind : (fault : StlFault)
     → is_of_first fault ≡ true
     → (is_file_read fault ≡ false) × (fault ≢ Ended)
 first_kind fault first = grind (arith, nat_tests)
 
--- These are faults of the file.
 of_file : (kind : LoadFaultKind) → is_of_subtitle kind ≡ true → is_of_file kind ≡ true
 of_file kind h = grind (arith, nat_tests)
 
@@ -109,8 +108,7 @@ pub told-of_file : (block : ℕ) (early : List LoadFault)
     → list_all (λ (f : LoadFault). is_of_file f.kind) early ≡ true
 told-of_file block early h = grind (arith, nat_tests, list_all-from_AllPass, All-weaker, of_file)
 
--- What was told of a subtitle is all that is wrong with it: where the device said stop at its last
--- fault.
+-- If the audience said stop at the last fault of a subtitle, all its faults were reported.
 order_alone : (before : Option Times) (t : Times)
     → first_alone (first_of (order_faults before t)) ≡ order_faults before t
 order_alone before t = grind (arith, nat_tests)
@@ -134,10 +132,10 @@ pub stops-last : (drawing : Drawing) (before : Option Times) (t : SubtitleValue)
 stops-last drawing before t block old mid new order row is_order is_row some p q =
     grind (arith, nat_tests, order_alone, map-append, stops-whole, length-append, Tells-trans)
 
--- ---- what is left
+-- ---- the rest of the file
 
--- What was told of the subtitles so far, and what is wrong with the rest, is all that is wrong with
--- the file; and so it is with what is kept and what can be relied on.
+-- The reported faults of the subtitles so far and the faults of the rest are all faults of the
+-- file; likewise the kept subtitles and the reliable ones of the rest.
 pub record GoesOn (drawing : Drawing) (file : List ℕ) (left : Findings) (before : Option Times)
     (kept : KeptRecords) (early : List LoadFault) : Type 0 where
   pub same : faults drawing file ≡ early ++ faults_behind drawing before left
@@ -147,7 +145,7 @@ pub record GoesOn (drawing : Drawing) (file : List ℕ) (left : Findings) (befor
       → EndsSubtitleAfter drawing before rest at left
       → EndsSubtitleAfter drawing None (early ++ rest) at (findings_for drawing.scope file)
 
--- Nothing was read yet.
+-- Before anything is read.
 pub goes_on-start : (drawing : Drawing) (file : List ℕ)
     → GoesOn drawing file (findings_for drawing.scope file) None nothing_kept []
 unfolding faults judged_of
@@ -155,7 +153,7 @@ goes_on-start drawing file = grind (arith, nat_tests, judged-start)
 
 module _ {drawing : Drawing} {file : List ℕ} {rest : Findings} {before : Option Times}
     {kept : KeptRecords} {early : List LoadFault} where
-  -- One subtitle more.
+  -- One more subtitle.
   pub goes_on-next : (t : SubtitleValue) (block : ℕ) (in_order clean : Bool)
       → AreKept drawing before early kept
       → in_order ≡ is_none (first_of (order_faults before (times_of t)))
@@ -167,7 +165,7 @@ module _ {drawing : Drawing} {file : List ℕ} {rest : Findings} {before : Optio
   goes_on-next t block in_order clean are_kept is_order is_clean on =
       grind (arith, nat_tests, append_assoc, judged-next)
 
-  -- One more that is refused.
+  -- One more that is rejected.
   pub goes_on-refused : (fault : StlFault) (block : ℕ)
       → GoesOn drawing file (refuses fault block rest) before kept early
       → GoesOn drawing file rest before (refused_one kept)
@@ -175,7 +173,7 @@ module _ {drawing : Drawing} {file : List ℕ} {rest : Findings} {before : Optio
   unfolding faults_behind
   goes_on-refused fault block on = grind (arith, nat_tests, append_assoc, judged-refused)
 
--- ---- what was told in all
+-- ---- all that was reported
 
 -- All faults.
 tells-all : {D : Type 0} {IsTold : D → LoadFault → D → Type 0} {old new : D} {stopped : Bool}
@@ -187,7 +185,7 @@ tells-all : {D : Type 0} {IsTold : D → LoadFault → D → Type 0} {old new : 
 tells-all same some told = rw same (record { all = λ no. told; prefix = stops-whole some told })
 
 module _ {D : Type 0} {IsTold : D → LoadFault → D → Type 0} {old mid new : D} where
-  -- Those up to where the device said stop.
+  -- The faults up to the one at which the audience said stop.
   stops-more : (early items rest : List LoadFault)
       → Tells IsTold old mid early
       → StopsWithin IsTold mid new items
@@ -203,7 +201,7 @@ module _ {D : Type 0} {IsTold : D → LoadFault → D → Type 0} {old mid new :
         rw here (Tells-trans old mid new early (take s.0 items) told s.3),
       )
 
-  -- They are faults of the file.
+  -- -
   pub of_file-stopped : (early items : List LoadFault) {block : ℕ}
       → All (IsToldBy block) (early ++ items)
       → Tells IsTold old mid early
@@ -249,7 +247,7 @@ module _ {D : Type 0} {IsTold : D → LoadFault → D → Type 0} {old mid : D} 
     {file : List ℕ} {left : Findings} {before : Option Times} {kept : KeptRecords}
     {early : List LoadFault} (on : GoesOn drawing file left before kept early)
     (told : Tells IsTold old mid early) where
-  -- Faults were told, and nothing is wrong with the rest of the file.
+  -- Faults were reported, and the rest of the file has none.
   pub tells-none : {stopped : Bool}
       → left ≡ no_more
       → 0 < length early
@@ -257,7 +255,7 @@ module _ {D : Type 0} {IsTold : D → LoadFault → D → Type 0} {old mid : D} 
   unfolding faults_behind
   tells-none is some = tells-all (rw is at on.same ∙ append-nil early) some told
 
-  -- The fault that ends reading was told last.
+  -- The fault that ends reading was reported last.
   pub tells-end : {new : D} {stopped : Bool} {fault : StlFault} {block : ℕ}
       → left ≡ breaks fault block
       → Tells IsTold mid new (load_fault block (File fault) ∷ [])
@@ -268,7 +266,7 @@ module _ {D : Type 0} {IsTold : D → LoadFault → D → Type 0} {old mid : D} 
       tells-all (rw is at on.same) (omega (arith, length-append early last))
       (Tells-trans old mid new early last told q)
 
-  -- The device said stop at one of these.
+  -- The audience said stop at one of these faults.
   tells-some : {new : D} (items rest : List LoadFault) (has_stopped : Bool)
       → faults_behind drawing before left ≡ items ++ rest
       → has_stopped ≡ true
@@ -278,7 +276,7 @@ module _ {D : Type 0} {IsTold : D → LoadFault → D → Type 0} {old mid : D} 
       let s = stops-more early items rest told q in
       grind (arith, nat_tests, on.same, is)
 
-  -- At a fault of a subtitle.
+  -- It said stop at a fault of a subtitle.
   pub tells-stop : {new : D} {rest : Findings} {t : SubtitleValue} {block : ℕ}
       (has_stopped : Bool)
       → left ≡ finds t block rest
@@ -290,7 +288,7 @@ module _ {D : Type 0} {IsTold : D → LoadFault → D → Type 0} {old mid : D} 
       tells-some (map (load_fault block) (follow_faults drawing before t))
       (faults_behind drawing (Some (times_of t)) rest) has_stopped (rw is refl)
 
-  -- At the fault for which one is refused.
+  -- It said stop at the fault for which a subtitle is rejected.
   pub tells-refused : {new : D} {rest : Findings} {fault : StlFault} {block : ℕ}
       (has_stopped : Bool)
       → left ≡ refuses fault block rest
@@ -302,13 +300,13 @@ module _ {D : Type 0} {IsTold : D → LoadFault → D → Type 0} {old mid : D} 
       tells-some (load_fault block (File fault) ∷ []) (faults_behind drawing before rest)
       has_stopped (rw is refl) is_stopped (stops-whole (omega arith) q)
 
--- Something was told.
+-- Something was reported.
 pub some-first : {A : Type 0} (xs : List A) → is_none (first_of xs) ≡ false → 0 < length xs
 some-first xs h = grind (arith, nat_tests)
 
--- ---- what is judged by
+-- ---- the subtitles used for checking
 
--- Where all is kept no bit is set.
+-- If all subtitles are kept, no bit is set.
 whole_bits : (bits : List Bool) (other : Bool)
     → (are_none bits && not other) ≡ true
     → (bits ≡ []) × (other ≡ false)
@@ -319,7 +317,7 @@ whole_bits (bit ∷ bits) other h = absurd cc
 module _ {drawing : Drawing} {file : List ℕ} {left : Findings} {before : Option Times}
     {kept : KeptRecords} {early : List LoadFault}
     (on : GoesOn drawing file left before kept early) where
-  -- All was read.
+  -- The whole file was read.
   module _ (is : left ≡ no_more) where
     all_is : judged_of drawing file
         ≡ record { judged = all_kept kept; is_before_other = kept.is_before_other }
@@ -335,7 +333,7 @@ module _ {drawing : Drawing} {file : List ℕ} {left : Findings} {before : Optio
     judges_is : judges drawing file ≡ (are_some (all_kept kept) && are_in_order (all_kept kept))
     judges_is = rw (all_is, read_whole) refl
 
-    -- What is kept is judged by.
+    -- The kept subtitles are enough for checking.
     pub judges-enough : AreKept drawing before early kept
         → is_enough kept ≡ true
         → JudgesBy drawing file (judged_with drawing kept)
@@ -357,11 +355,11 @@ module _ {drawing : Drawing} {file : List ℕ} {left : Findings} {before : Optio
           (rw (none, records) refl, rw (bits.0, bits.1) refl);
     }
 
-    -- It is not.
+    -- They are not enough.
     pub judges-not : is_enough kept ≡ false → judges drawing file ≡ false
     judges-not few = judges_is ∙ grind (arith, nat_tests)
 
-  -- Reading ended before the end.
+  -- Reading ended before the end of the file.
   pub judges-broken : {fault : StlFault} {block : ℕ}
       → left ≡ breaks fault block
       → judges drawing file ≡ false
@@ -369,7 +367,7 @@ module _ {drawing : Drawing} {file : List ℕ} {left : Findings} {before : Optio
       let broken : is_read_whole (findings_for drawing.scope file) ≡ false = rw is at on.whole in
       rw broken refl
 
--- Then something was told.
+-- If they are not enough, a fault was reported.
 pub some-few : {drawing : Drawing} {before : Option Times} {kept : KeptRecords}
     {early : List LoadFault}
     → AreKept drawing before early kept
@@ -379,9 +377,9 @@ some-few {kept = kept} {early} are_kept few =
     let part : is_whole kept ≡ false = grind (arith, nat_tests) in
     some-first early (sym are_kept.whole ∙ part)
 
--- ---- where the source failed
+-- ---- if the source failed
 
--- What was told before comes before this block.
+-- The faults reported before come before this block.
 not_unfinished : (kind : LoadFaultKind) → is_of_subtitle kind ≡ true → ends_in_subtitle kind ≡ false
 not_unfinished kind h = grind (arith, nat_tests)
 
@@ -395,7 +393,7 @@ filter-early from block (f ∷ fs) lt h =
     let rest = filter-early from block fs lt (All-tail (IsToldBy from) f fs h) in
     grind (arith, nat_tests, not_unfinished f.kind, one.0, one.1)
 
--- What names this block or a later one does not.
+-- Faults at this block or a later one do not.
 late_kinds : (block at : ℕ) (kinds : List LoadFaultKind)
     → block ≤ at
     → filter (is_told_before block) (map (load_fault at) kinds) ≡ []
@@ -440,7 +438,7 @@ unread {drawing} {left = left} {before} {early = early} from block lt early_told
       late drawing before block left names,
     ) (append-nil early)
 
--- The faults before the block at which the source failed were told.
+-- The faults before the block at which the source failed were reported.
 pub tells-unread : {D : Type 0} {IsTold : D → LoadFault → D → Type 0} {old new : D}
     {drawing : Drawing} {file : List ℕ} {left : Findings} {before : Option Times}
     {kept : KeptRecords} {early : List LoadFault} (from block : ℕ)
@@ -453,16 +451,15 @@ pub tells-unread : {D : Type 0} {IsTold : D → LoadFault → D → Type 0} {old
 tells-unread from block lt early_told names on told =
     rw (unread from block lt early_told names on) told
 
--- ---- where memory was refused
+-- ---- if memory was refused
 
--- What names no block before the next one names none before this one.
 finds_before : (block : ℕ) (left : Findings) → FindsFrom (block + 1) left → FindsFrom block left
 finds_before block no_more h = tt
 finds_before block (breaks f at) h = grind arith
 finds_before block (finds t at left) h = (grind arith, finds_before block left h.1)
 finds_before block (refuses f at left) h = (grind arith, finds_before block left h.1)
 
--- What is found after so many blocks.
+-- The findings after so many blocks.
 pub found-from : (scope : Scope) (block : ℕ) (refused : Option Begun) (b : List ℕ)
     → block ≤ most_blocks
     → FindsFrom block (findings_from scope block refused b)
@@ -470,7 +467,7 @@ found-from scope block refused b le =
     finds_before block (findings_from scope block refused b)
     (finds_from scope (most_blocks - block) block refused b (omega arith))
 
--- For a subtitle with which nothing is wrong.
+-- For a subtitle without a fault.
 pub wants-memory : {D : Type 0} {IsTold : D → LoadFault → D → Type 0} {old new : D}
     {drawing : Drawing} {file : List ℕ} {before : Option Times} {kept : KeptRecords}
     {early : List LoadFault} (from block : ℕ) (t : SubtitleValue) (rest : Findings)

@@ -1,5 +1,5 @@
 -- Each due page is a page, 24 rows of 40 codes below 128: due_is_page. The lines of a text hold
--- codes alone, also as a layout has them: cells_small, prepared_small.
+-- only codes, also as a layout prepares them: cells_small, prepared_small.
 use Rattle.std.proofs.Common.{◌≡◌, ℕ, zero, suc, ◌+◌, ◌<◌, List, [], ◌∷◌, ◌++◌, map, get_or, refl}
 use Rattle.std.proofs.Common.{Bool, false, Ok, Option, Some, None, arith, drop, length, lit<, take}
 use Rattle.std.specs.List.{range_with_len, AllByRecursion}
@@ -37,7 +37,6 @@ with_small : (s : TextCode) (ls : List (List ℕ))
     → AllByRecursion Small (with_code s ls)
 with_small s ls l h = grind (arith, nat_tests)
 
--- All cells of a text are codes.
 pub cells_small : (national : National) (at skip : ℕ) (bytes : List ℕ)
     → AllByRecursion Small (lines_of_codes (codes_after national at skip bytes))
 cells_small national at skip [] = (tt, tt)
@@ -49,12 +48,10 @@ cells_small national at zero (b ∷ bytes) =
 
 -- ---- prepared lines
 
--- Two lines of codes joined.
 append_small : (xs ys : List ℕ) → Small xs → Small ys → Small (xs ++ ys)
 append_small [] ys h k = k
 append_small (x ∷ xs) ys h k = (h.0, append_small xs ys h.1 k)
 
--- The front of one, and what is behind it.
 take_small : (n : ℕ) (xs : List ℕ) → Small xs → Small (take n xs)
 take_small zero xs h = tt
 take_small (suc n) [] h = tt
@@ -65,12 +62,10 @@ drop_small zero xs h = h
 drop_small (suc n) [] h = tt
 drop_small (suc n) (x ∷ xs) h = drop_small n xs h.1
 
--- The code of an attribute is one.
 attribute_small : (a : Attribute) → attribute_code a < 128
 unfolding attribute_code
 attribute_small a = grind (arith, nat_tests)
 
--- So are those of a list.
 codes_small : (places : List (Option Attribute)) → Small (codes_of_places places)
 codes_small [] = tt
 codes_small (None ∷ places) = codes_small places
@@ -81,11 +76,11 @@ whitened_small : (items : LayoutItems) (codes : List ℕ) → Small codes
     → Small (whitened items codes)
 whitened_small items codes h = grind (arith, nat_tests, append_small codes (0x07 ∷ []) h)
 
--- What a line gets at its end.
+-- The codes added at the end of a line.
 ending_small : (items : LayoutItems) (n : ℕ) → Small (ending items n)
 ending_small items n = grind (arith, nat_tests, codes_small items.after, take_small)
 
--- A line with what it gets.
+-- A line with the codes added to it.
 headed_small : (items : LayoutItems) (cells : List ℕ) → Small cells → Small (headed items cells)
 unfolding headed
 headed_small items cells h =
@@ -102,13 +97,12 @@ trimmed_small : (cells : List ℕ) → Small cells → Small (trimmed cells)
 unfolding trimmed
 trimmed_small cells h = take_small _ _ (drop_small _ cells h)
 
--- A prepared line of codes holds codes alone. For `draw_lines`.
+-- For `draw_lines`.
 pub prepared_small : (items : LayoutItems) (cells : List ℕ) → Small cells
     → Small (prepared_by items cells)
 unfolding prepared_by
 prepared_small items cells h = grind (arith, nat_tests, framed_small, trimmed_small)
 
--- Prepared lines of codes hold codes alone.
 all_prepared : (items : LayoutItems) (ls : List (List ℕ))
     → AllByRecursion Small ls
     → AllByRecursion Small (map (prepared_by items) ls)
@@ -126,7 +120,6 @@ blank_is : IsRowOfCodes blank_row
 unfolding blank_row
 blank_is = record { columns = refl; small = grind (arith, nat_tests) }
 
--- What shows a line of codes is such a row.
 row_is : (start : ℕ) (line : List ℕ) → Small line → IsRowOfCodes (row_from start line)
 row_is start line h = record { columns = row_length start line; small = row_small start line h }
 
@@ -145,7 +138,6 @@ shown_is items jc off row number depth under (line ∷ lines) h =
       shown_is items jc off row (number + 1) (depth + pitch items) (is_double line) lines h.1,
     )
 
--- The page that shows lines of codes is a page.
 page_is : (items : LayoutItems) (jc off depth : ℕ) (ls : List (List ℕ))
     → AllByRecursion Small ls
     → IsPage (page_of_placed items jc off (placed_from items 0 depth false ls))
@@ -166,7 +158,6 @@ page_is items jc off depth ls h = record {
     each : (row : ℕ) → IsRowOfCodes (shown row)
     each row = shown_is items jc off row 0 depth false ls h
 
--- Each drawn page is a page.
 drawn_is_page : (drawing : Drawing) (t : SubtitleValue) (page : Rows)
     → drawn drawing t ≡ Ok page
     → IsPage page
@@ -178,7 +169,7 @@ drawn_is_page drawing t page e =
     (page_is items t.jc (off_of_subtitle n items t) _ (lines_by n items t.text)
     (all_prepared items _ (cells_small n 0 0 (unstripped items t.text))))
 
--- Each due page is a page: for `law_of_due_pages`.
+-- For `law_of_due_pages`.
 pub due_is_page : (drawing : Drawing) (ts : List SubtitleValue) (f : ℕ)
     → IsPage (due drawing ts f)
 due_is_page drawing ts f = due_has IsPage drawing ts f is_page_blank (drawn_is_page drawing)

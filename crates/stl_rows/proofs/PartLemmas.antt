@@ -15,13 +15,13 @@ use Rattle.stl_rows.specs.EveryFault.{faults, faults_behind, load_fault}
 use Rattle.stl_rows.specs.Loading.{LawOfParts, of_day, kinds_of, records_of}
 use Rattle.stl_rows.specs.Programme.{follow_faults, times_of}
 
--- What is wrong at one block.
+-- The faults of one block.
 kinds_at : (block : ℕ) (kinds : List LoadFaultKind)
     → kinds_of (map (load_fault block) kinds) ≡ kinds
 kinds_at block [] = refl
 kinds_at block (k ∷ ks) = ap (λ (l : List LoadFaultKind). k ∷ l) (kinds_at block ks)
 
--- Block numbers aside, the same is wrong.
+-- The faults are the same, apart from the block numbers.
 kinds_unnumbered : (drawing : Drawing) (before : Option Times) (left : Findings)
     → kinds_of (faults_behind drawing before left)
     ≡ kinds_of (faults_behind drawing before (unnumbered left))
@@ -42,7 +42,6 @@ kinds_unnumbered drawing before (finds t block left) =
       kinds_unnumbered drawing (Some (times_of t)) left,
     ) refl
 
--- And the same subtitles are given.
 records_unnumbered : (left : Findings) → records_of left ≡ records_of (unnumbered left)
 records_unnumbered no_more = refl
 records_unnumbered (breaks f block) = refl
@@ -50,7 +49,7 @@ records_unnumbered (refuses f block left) = records_unnumbered left
 records_unnumbered (finds t block left) =
     ap (λ (l : List SubtitleValue). t ∷ l) (records_unnumbered left)
 
--- A page that is drawn does not depend on what is taken of the file.
+-- A drawn page does not depend on the part of the file that is read.
 drawn_same : (drawing : Drawing) (t : SubtitleValue) → drawn drawing t ≡ drawn (of_day drawing) t
 unfolding drawn
 drawn_same drawing t = refl

@@ -11,14 +11,13 @@ use Rattle.stl_rows.specs.Layout.{codes_of_places}
 use Rattle.stl_rows.specs.PreparedLine.{framed, headed, trailing}
 use Rattle.stl_rows.specs.TextCode.{is_within}
 
--- Where all cells are within, all are at the end.
 pub trailing_all : (first last : ℕ) (cells : List ℕ)
     → list_all (is_within first last) cells ≡ true
     → trailing first last cells ≡ length cells
 trailing_all first last [] all = refl
 trailing_all first last (c ∷ cells) all = rw all refl
 
--- Where one is not, not all are.
+-- If one cell is not within the codes, not all are.
 not_all : (first last : ℕ) (cells : List ℕ) (at : ℕ)
     → at < length cells
     → is_within first last (get_or cells at 0) ≡ false
@@ -28,7 +27,7 @@ not_all first last (c ∷ cells) zero low not = rw not refl
 not_all first last (c ∷ cells) (suc at) low not =
     grind (arith, nat_tests, not_all first last cells at (omega (arith, low)) not)
 
--- Where one is not, and those behind it are, these are at the end.
+-- If one cell is not within the codes and those after it are, the latter are the trailing ones.
 trailing_from : (first last : ℕ) (cells : List ℕ) (at : ℕ)
     → at < length cells
     → is_within first last (get_or cells at 0) ≡ false
@@ -51,7 +50,7 @@ pub trailing_at : (first last : ℕ) (cells : List ℕ) (left : ℕ)
     → trailing first last cells ≡ length cells - left
 trailing_at first last cells left some low not all = grind (arith, nat_tests, trailing_from)
 
--- What fits of two lines that are joined, where all of the first is kept.
+-- The first 40 cells of two joined lines, or the first line if it is longer.
 take_fitting : (xs ys : List ℕ)
     → take (max (length xs) 40) (xs ++ ys) ≡ xs ++ take (40 - length xs) ys
 take_fitting xs ys =
@@ -60,7 +59,7 @@ take_fitting xs ys =
     room : (n : ℕ) → max n 40 ≡ n + (40 - n)
     room n = omega arith
 
--- With `fit` a line gets what there is room for: for `push_framed`.
+-- With `fit`, codes are added to a line as far as there is room: for `push_framed`.
 pub framed-fits : (items : LayoutItems) (cells : List ℕ)
     → 0 < length cells
     → items.fit ≡ true
@@ -72,7 +71,7 @@ framed-fits items [] some fit = absurd (omega (arith, some))
 framed-fits items (c ∷ cells) some fit =
     take_fitting (headed items (c ∷ cells)) (codes_of_places items.after) ∙ rw fit refl
 
--- Else it gets all.
+-- Without it, all are added.
 pub framed-all : (items : LayoutItems) (cells : List ℕ)
     → 0 < length cells
     → items.fit ≡ false

@@ -16,11 +16,11 @@ use Rattle.stl_rows.specs.Programme.{AreInOrder, IsProgramme, follow_faults, las
 use Rattle.stl_rows.specs.Programme.{row_faults, times_before, times_of}
 use Rattle.stl_rows.proofs.FaultlessLemmas.{empty_parts}
 
--- A subtitle with no fault of its rows draws a page.
+-- A subtitle without a row fault draws a page.
 pub draws : (r : Result Rows RowFault) → row_faults r ≡ [] → IsOk r
 draws r h = grind arith
 
--- A subtitle with no fault of its times starts at the TCO of the one before, or later.
+-- A subtitle without a fault of its times starts at the TCO of the one before, or later.
 after_last : (last t : SubtitleValue)
     → order_faults (Some (times_of last)) (times_of t) ≡ []
     → last.tco ≤ t.tci
@@ -47,7 +47,7 @@ in_order-push : (ts : List SubtitleValue) (t : SubtitleValue)
 in_order-push ts t each ordered h i j d below inside =
     grind (arith, nat_tests, length-append, get_or_append_left, cases_lt, get_or_push, last_before)
 
--- A programme stays one with a subtitle that has no fault: for `put`.
+-- For `put`.
 pub IsProgramme-push : (n : Drawing) (ts : List SubtitleValue) (t : SubtitleValue)
     → IsProgramme n ts
     → IsSubtitle t
@@ -62,7 +62,6 @@ IsProgramme-push n ts t ok subtitle h =
       drawable = All-push (λ x. IsOk (drawn n x)) ts t ok.drawable (draws (drawn n t) parts.1);
     }
 
--- The last of a list is what was put after the others.
 pub last_of-push : {A : Type 0} (xs : List A) (x : A) → last_of (xs ++ x ∷ []) ≡ Some x
 last_of-push xs x =
     let size = length-append xs (x ∷ []) in
@@ -70,6 +69,6 @@ last_of-push xs x =
     slice_get-get_or (xs ++ x ∷ []) at x (omega (arith, size))
     ∙ ap Some (get_or_push xs x x at (omega (arith, size)))
 
--- No subtitles are a programme: for `load_in`.
+-- For `load_in`.
 pub IsProgramme-none : (n : Drawing) → IsProgramme n []
 IsProgramme-none n = grind (arith, nat_tests, All-nil)

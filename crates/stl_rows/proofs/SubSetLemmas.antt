@@ -1,5 +1,5 @@
--- The national option sub-sets: the cells of a row are codes, cell_in-small; an option is found by
--- its word and by no other text, word_of_option.
+-- The national option sub-sets: the cells of a row are codes, cell_in-small; each option has its
+-- own word, word_of_option.
 use Rattle.std.proofs.Common.{◌≡◌, ◌↔◌, ℕ, ◌<◌, List, [], ◌∷◌, Option, Some, find, sym}
 use Rattle.std.proofs.Common.{arith}
 use Rattle.std.proofs.lemmas.Slice.Eq.{bytes_eq-Decides}
@@ -16,7 +16,7 @@ use Rattle.stl_rows.specs.SubSets.{cell_in, option_named, options, sub_set}
 abbrev HaveCodes : List NationalCharacter → Type 0
 HaveCodes characters = AllByRecursion (λ (c : NationalCharacter). c.cell < 128) characters
 
--- What they give is a code.
+-- Such characters give a code.
 cell_in-code : (characters : List NationalCharacter) (mark : Option ℕ) (byte : ℕ)
     → HaveCodes characters
     → IfSome (cell_in characters mark byte) IsCode
@@ -24,22 +24,18 @@ cell_in-code [] mark byte h = tt
 cell_in-code (c ∷ characters) mark byte h =
     grind (arith, nat_tests, h.0, cell_in-code characters mark byte h.1)
 
--- Those of each option are such.
 have_codes : (n : National) → HaveCodes (sub_set n).characters
 unfolding sub_set
 have_codes n = grind (arith, nat_tests)
 
--- What an option gives is a code.
 pub cell_in-small : (n : National) (mark : Option ℕ) (byte : ℕ)
     → IfSome (cell_in (sub_set n).characters mark byte) IsCode
 cell_in-small n mark byte = cell_in-code (sub_set n).characters mark byte (have_codes n)
 
--- Each option's word is its own.
 pub option_of_word : (n : National) → option_named (sub_set n).word ≡ Some n
 unfolding option_named sub_set
 option_of_word n = grind (arith, nat_tests)
 
--- An option that is found among some has this word.
 word_of_found : (ns : List National) (n : National) (text : List ℕ)
     → find (λ m. bytes_eq (sub_set m).word text) ns ≡ Some n
     → (sub_set n).word ≡ text
@@ -47,7 +43,7 @@ word_of_found [] n text e = cc
 word_of_found (m ∷ ns) n text e =
     grind (arith, nat_tests, bytes_eq-Decides (sub_set m).word text, word_of_found ns n text)
 
--- A text that has an option is its word. For `parse`.
+-- For `parse`.
 pub word_of_option : (n : National) (text : List ℕ)
     → (option_named text ≡ Some n) ↔ (text ≡ (sub_set n).word)
 unfolding option_named

@@ -1,5 +1,5 @@
--- What is one text code of a text: text_codes-common, text_codes-pair. The cell of a text code is a
--- code: code_before-small. The table of common bytes: common_by_table.
+-- Which bytes of a text are one text code: text_codes-common, text_codes-pair. The cell of a text
+-- code is a code: code_before-small. The table of common bytes: common_by_table.
 use Rattle.std.proofs.Common.{◌≡◌, ℕ, ◌+◌, ◌<◌, List, ◌∷◌, Option, Some, length, get_or, drop}
 use Rattle.std.proofs.Common.{refl, arith, true, ◌==◌}
 use Rattle.std.proofs.Common.{add-one, drop-cons}
@@ -14,7 +14,6 @@ use Rattle.stl_rows.specs.TextCode.{HasSevenBits, cell_of, cell_of_pair, code_be
 use Rattle.stl_rows.specs.TextCode.{code_of_other, first_of, is_common, text_codes}
 use Rattle.stl_rows.proofs.SubSetLemmas.{cell_in-small}
 
--- A text from a place on begins with the byte there.
 cut_at : (text : List ℕ) (at : ℕ) → at < length text
     → drop at text ≡ get_or text at 0 ∷ drop (at + 1) text
 cut_at text at h = rw (add-one, drop-cons text at 0) refl
@@ -40,23 +39,20 @@ pub text_codes-pair : (n : National) (at : ℕ) (text : List ℕ) (code : ℕ) �
 text_codes-pair n at text code h e =
     grind (arith, nat_tests, cut_at text at, cut_at text (at + 1))
 
--- What a byte says that gives no cell has no cell that is no code.
 pub other-small : (byte : ℕ) → HasSevenBits (code_of_other byte)
 unfolding code_of_other
 other-small byte = grind (arith, nat_tests)
 
--- The cell of a byte by itself is a code.
 pub cell_of-small : (n : National) (byte : ℕ) → IfSome (cell_of n byte) IsCode
 unfolding cell_of is_common
 cell_of-small n byte = grind (arith, nat_tests, cell_in-small)
 
--- The cell of a pair is a code.
 pub cell_of_pair-small : (n : National) (byte : ℕ) (next : Option ℕ)
     → IfSome (cell_of_pair n byte next) IsCode
 unfolding cell_of_pair
 cell_of_pair-small n byte next = grind (arith, nat_tests, cell_in-small)
 
--- The cell of a text code is a code. For `text_code_at` and for due pages.
+-- For `text_code_at` and for due pages.
 pub code_before-small : (n : National) (b : ℕ) (bytes : List ℕ)
     → HasSevenBits (code_before n b bytes).0
 code_before-small n b bytes =

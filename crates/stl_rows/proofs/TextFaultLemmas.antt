@@ -22,38 +22,35 @@ use Rattle.stl_rows.proofs.LineByLineLemmas.{onto_code, onto_line_end}
 
 -- ---- shapes
 
--- What of the cells of a line its faults depend on is as the open line has it.
+-- The open line records the properties of its cells on which the line's faults depend.
 pub record HasShape (cells : List ℕ) (line : OpenLine) : Type 0 where
   pub count : length cells ≡ line.len
   pub box : is_boxed cells ≡ line.is_boxed
   pub height : is_double cells ≡ line.is_double
 
--- No cells.
 shape-none : (number row : ℕ) (under : Bool) → HasShape [] (empty_line number row under)
 unfolding is_boxed is_double
 shape-none number row under = record { count = refl; box = refl; height = refl }
 
--- A cell more.
+-- One more cell.
 shape-push : (cells : List ℕ) (code : ℕ) (line : OpenLine)
     → HasShape cells line
     → HasShape (cells ++ code ∷ []) (with_cell line code)
 unfolding is_boxed is_double
 shape-push cells code line h = grind (arith, nat_tests, length-append, list_any-append, or-false)
 
--- ---- what a shape tells
+-- ---- faults by shape
 
--- A prepared line has the double height of its cells.
 double_prepared : (cells : List ℕ) → is_double (prepared cells) ≡ is_double cells
 unfolding prepared is_double
 double_prepared cells = grind (arith, nat_tests, list_any-append, or-false)
 
--- How long a line with cells is.
+-- The length of a prepared line that has cells.
 length_prepared : (c : ℕ) (cs : List ℕ)
     → length (prepared (c ∷ cs)) ≡ cond (is_boxed (c ∷ cs)) (length (c ∷ cs)) (length (c ∷ cs) + 4)
 unfolding prepared
 length_prepared c cs = grind (arith, nat_tests, length-append)
 
--- It has cells.
 cells_prepared : (c : ℕ) (cs : List ℕ) → has_cells (prepared (c ∷ cs)) ≡ true
 unfolding prepared
 cells_prepared c cs = grind (arith, nat_tests)
@@ -65,7 +62,6 @@ kinds_of_none : (line : OpenLine)
 unfolding line_fault_kinds shape_fault_kinds prepared is_boxed is_double
 kinds_of_none line h = rw (← h.count, ← h.box, ← h.height) refl
 
--- The faults of a line by its shape.
 shape_kinds : (cells : List ℕ) (line : OpenLine)
     → HasShape cells line
     → line_fault_kinds line.row line.is_under_double (prepared cells) ≡ shape_fault_kinds line
@@ -75,17 +71,15 @@ shape_kinds (c ∷ cs) line h = search (rules, length_prepared, cells_prepared, 
 
 -- ---- the first fault of the lines
 
--- The first of two lists.
 first_of-append : {A : Type 0} (xs ys : List A)
     → first_of (xs ++ ys) ≡ option_or (first_of xs) (first_of ys)
 first_of-append xs ys = grind (arith, nat_tests)
 
--- One of three.
 option_or_assoc : {A : Type 0} (a b c : Option A)
     → option_or (option_or a b) c ≡ option_or a (option_or b c)
 option_or_assoc a b c = grind (arith, nat_tests)
 
--- The faults of the open line come before those of the lines under it.
+-- The faults of the open line come before those of the lines below it.
 told_line : (before : Option RowFault) (cells : List ℕ) (line : OpenLine) (ls : List (List ℕ))
     → HasShape cells line
     → option_or (told_first before line)
@@ -95,8 +89,8 @@ told_line : (before : Option RowFault) (cells : List ℕ) (line : OpenLine) (ls 
 told_line before cells line ls h =
     grind (arith, nat_tests, shape_kinds, double_prepared, first_of-append, option_or_assoc)
 
--- What is told: a refused code, or else a fault that was found before, or else the first of the
--- lines that are left, where the open line has some cells of its shape.
+-- The result is a refused code, or else a fault found before, or else the first fault of the lines
+-- that are left, if the open line has the shape of its cells.
 abbrev IsTold : List (ℕ × TextCode) → Type 0
 IsTold ss =
     (before : Option RowFault) (cells : List ℕ) (line : OpenLine)
@@ -105,7 +99,7 @@ IsTold ss =
     ≡ option_or (first_of (refused_codes ss)) (option_or before (first_of
     (line_faults line.number line.row line.is_under_double (prepared_lines cells ss))))
 
--- Of one text code and those after it.
+-- One text code, and those after it.
 told-code : (at : ℕ) (s : TextCode) (ss : List (ℕ × TextCode)) → IsTold ss → IsTold ((at, s) ∷ ss)
 told-code at (Cell code) ss after before cells line h = search (rules, onto_code, shape-push)
 told-code at NoCell ss after before cells line h = after before cells line h
@@ -116,12 +110,12 @@ told-code at NewLine ss after before cells line h =
     (told_line before cells line (prepared_lines [] ss) h))
 told-code at (Refused kind) ss after before cells line h = refl
 
--- Of all.
+-- All text codes.
 told-is : (ss : List (ℕ × TextCode)) → IsTold ss
 told-is [] before cells line h = grind (arith, nat_tests, onto_line_end, shape_kinds, append-nil)
 told-is (c ∷ ss) before cells line h = told-code c.0 c.1 ss (told-is ss) before cells line h
 
--- The first fault of a subtitle. For `first_fault`.
+-- For `first_fault`.
 pub told-faults : (n : National) (t : SubtitleValue)
     → told None (empty_line 0 t.vp false) (text_codes n 0 t.text) ≡ first_of (subtitle_faults n t)
 told-faults n t =

@@ -1,5 +1,6 @@
--- By the default layout a subtitle that draws a page has no fault, and draws that of its lines:
--- drawn-none, no_line_faults, drawn-page. By another it draws what its items say: drawn-some.
+-- By the default layout, a subtitle that draws a page has no fault, and draws the page of its
+-- lines: drawn-none, no_line_faults, drawn-page. By another layout it draws what the items say:
+-- drawn-some.
 use Rattle.std.proofs.Common.{arith}
 use Rattle.std.proofs.lemmas.Bool.Decides.{nat_tests}
 use Rattle.stl_rows.proofs.DefaultLayoutLemmas.{drawn-none, drawn-some}

@@ -1,4 +1,4 @@
--- Where the loop meets a cell, a new line or the end: the lemmas of DrawnPageLemmas.
+-- At a cell, a new line or the end of the text: the lemmas of DrawnPageLemmas.
 use Rattle.std.proofs.Common.{arith, length-append, ◌∷◌, ◌++◌, []}
 use Rattle.std.proofs.lemmas.Bool.Decides.{nat_tests}
 use Rattle.stl_rows.proofs.DrawnPageLemmas.{is_drawn-end, is_drawn-fits, is_drawn-next}

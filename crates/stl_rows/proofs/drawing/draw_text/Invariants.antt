@@ -1,5 +1,5 @@
--- The lines that have ended are on the page; left are those of the cells so far and of the text
--- that is left.
+-- The lines that have ended are on the page; the others are those of the cells so far and of the
+-- rest of the text.
 use Rattle.std.proofs.Common.{ℕ, ◌+◌, ◌-◌, ◌<◌, ◌≤◌, [], length, drop, slice_index}
 use Rattle.stl_rows.specs.LineByLine.{prepared_lines}
 use Rattle.stl_rows.specs.TextCode.{text_codes}

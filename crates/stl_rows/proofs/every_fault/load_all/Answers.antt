@@ -1,4 +1,4 @@
--- What was kept is what is judged by.
+-- The kept subtitles are those used for checking.
 use Rattle.std.proofs.Common.{sym}
 use Rattle.stl_rows.proofs.every_fault.load_all.Goals as goal
 

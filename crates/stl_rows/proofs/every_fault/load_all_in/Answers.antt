@@ -1,6 +1,6 @@
--- What was told and what is left to be told, at each step of the loop and at each way out:
--- goes_on-next, tells-end, tells-stop, fails-next; and what is judged by: judges-enough,
--- judges-not, judges-broken.
+-- The faults reported so far and those of the rest, in each iteration and at each return:
+-- goes_on-next, tells-end, tells-stop, fails-next; and the subtitles used for checking:
+-- judges-enough, judges-not, judges-broken.
 use Rattle.std.proofs.Common.{◌∙◌, ◌++◌, ◌<◌, refl, rules, sym, [], ◌∷◌, map, arith}
 use Rattle.std.proofs.Common.{drop, inl, inr}
 use Rattle.std.proofs.lemmas.Bool.Decides.{nat_tests}

@@ -1,5 +1,5 @@
--- What was told of the subtitles so far, and what is wrong with the rest, is all that is wrong with
--- the file; and so it is with what is kept and what can be relied on.
+-- The reported faults of the subtitles so far and the faults of the rest are all faults of the
+-- file; likewise the kept subtitles and the reliable ones of the rest.
 use Rattle.std.proofs.Common.{◌≡◌, ◌-◌, ℕ, false, List, Some}
 use Rattle.std.specs.List.{All}
 use Rattle.sub_io.specs.Telling.{Tells}

@@ -1,4 +1,4 @@
--- The device said stop at the subtitle's last fault: stops-last.
+-- The audience said stop at the subtitle's last fault: stops-last.
 use Rattle.std.proofs.Common.{arith}
 use Rattle.std.proofs.lemmas.Bool.Decides.{nat_tests}
 use Rattle.stl_rows.proofs.LoadingLemmas.{stops-last}

@@ -1,4 +1,4 @@
--- What is asked of each subtitle: in_order-next, in_order-end.
+-- The test of each subtitle: in_order-next, in_order-end.
 use Rattle.std.proofs.Common.{arith, sym, ◌∙◌}
 use Rattle.std.proofs.lemmas.Bool.Decides.{nat_tests}
 use Rattle.stl_rows.proofs.KeepingLemmas.{in_order-all, in_order-end, in_order-next}

@@ -1,4 +1,4 @@
--- What was asked of the subtitles so far leaves what is asked of the rest.
+-- The subtitles so far have passed the test, so it depends on the rest.
 use Rattle.std.proofs.Common.{◌≡◌, ◌-◌, ◌≤◌, drop, length}
 use Rattle.stl_rows.proofs.KeepingLemmas.{InOrderFrom}
 use Rattle.stl_rows.proofs.keeping.are_in_order.Given as goal

@@ -1,4 +1,4 @@
--- What is refused by byte is told: drawn_by-refused; else the lines decide: drawn_by-cut.
+-- A refused byte is reported: drawn_by-refused; otherwise the lines decide: drawn_by-cut.
 use Rattle.std.proofs.Common.{arith}
 use Rattle.std.proofs.lemmas.Bool.Decides.{nat_tests}
 use Rattle.stl_rows.proofs.CutLemmas.{cut_small, drawn_by-cut, drawn_by-refused}

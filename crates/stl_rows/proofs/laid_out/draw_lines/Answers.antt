@@ -1,4 +1,4 @@
--- One line more: line-fault, line-next, line-end.
+-- One more line: line-fault, line-next, line-end.
 use Rattle.std.proofs.Common.{arith}
 use Rattle.std.proofs.lemmas.Bool.Decides.{nat_tests}
 use Rattle.stl_rows.proofs.DrawLinesLemmas.{behind-codes, line-codes, line-end, line-fault}

@@ -1,4 +1,4 @@
--- What the lines that are left draw is what all draw.
+-- Drawing the remaining lines on this page gives the result for all.
 use Rattle.std.proofs.Common.{◌≡◌, ◌+◌, ◌*◌, ◌≤◌, length}
 use Rattle.ttx_page.specs.Page.{blank}
 use Rattle.stl_rows.specs.LineByLayout.{HoldCodes, cut_lines, drawn_from, prepared_cut}

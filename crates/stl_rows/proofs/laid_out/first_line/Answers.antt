@@ -1,4 +1,4 @@
--- One cell more is read: first_line-more, first_line-end, first_line-all.
+-- One more cell: first_line-more, first_line-end, first_line-all.
 use Rattle.std.proofs.Common.{arith}
 use Rattle.std.proofs.lemmas.Bool.Decides.{nat_tests}
 use Rattle.stl_rows.proofs.FirstLineLemmas.{first_line-all, first_line-end, first_line-more}

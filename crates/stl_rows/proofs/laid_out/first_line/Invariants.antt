@@ -1,4 +1,4 @@
--- No new line is among the cells so far.
+-- The cells so far hold no new line.
 use Rattle.std.proofs.Common.{◌≡◌, ◌-◌, ◌≤◌, length, drop, take}
 use Rattle.stl_rows.specs.LineByLayout.{cut_lines}
 use Rattle.stl_rows.specs.LineByLine.{onto}

@@ -1,4 +1,4 @@
--- What is told by the lines that are left is told by all.
+-- The result for the remaining lines is that for all.
 use Rattle.std.proofs.Common.{◌≡◌, ◌+◌, ◌*◌, ◌≤◌, length}
 use Rattle.stl_rows.specs.DrawnPage.{last_depth, pitch}
 use Rattle.stl_rows.specs.LineByLayout.{prepared_cut}

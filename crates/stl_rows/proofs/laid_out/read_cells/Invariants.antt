@@ -1,4 +1,4 @@
--- What was read and is left to be read is all.
+-- The cells so far and those of the rest are all cells.
 use Rattle.std.proofs.Common.{◌≡◌, ◌-◌, ◌≤◌, ◌++◌, length, drop}
 use Rattle.stl_rows.specs.LineByLayout.{flat_codes}
 use Rattle.stl_rows.specs.TextCode.{refused_codes, text_codes}

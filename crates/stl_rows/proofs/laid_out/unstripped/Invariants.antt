@@ -1,4 +1,4 @@
--- What was read and is left to be read is all.
+-- The bytes so far and those of the rest are all bytes.
 use Rattle.std.proofs.Common.{◌≡◌, ◌++◌, length, drop}
 use Rattle.stl_rows.specs.DrawnPage.{unstripped}
 use Rattle.stl_rows.proofs.laid_out.unstripped.Given as goal

@@ -1,4 +1,4 @@
--- One pair of digits more: codes_filled-step, codes_filled-odd, codes_filled-end.
+-- One more pair of digits: codes_filled-step, codes_filled-odd, codes_filled-end.
 use Rattle.std.proofs.Common.{arith, Some}
 use Rattle.std.proofs.lemmas.Bool.Decides.{nat_tests}
 use Rattle.std.proofs.lemmas.List.{length-set}

@@ -1,4 +1,4 @@
--- What is left gives, at the places that are left, what all gives.
+-- The rest of the text, at the remaining places, gives the result for all.
 use Rattle.std.proofs.Common.{◌≡◌, ◌-◌, ◌≤◌, length, drop}
 use Rattle.stl_rows.specs.LayoutText.{codes_filled, codes_of_text}
 use Rattle.stl_rows.proofs.layout_text.codes_of_text.Given as goal

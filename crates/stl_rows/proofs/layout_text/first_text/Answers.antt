@@ -1,4 +1,4 @@
--- What `cut_at` gives is the first part: cut_at-first.
+-- The result of `cut_at` is the first part: cut_at-first.
 use Rattle.stl_rows.proofs.CutAtLemmas.{cut_at-first}
 use Rattle.stl_rows.proofs.layout_text.first_text.Goals as goal
 

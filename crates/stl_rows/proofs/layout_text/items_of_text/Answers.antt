@@ -1,4 +1,4 @@
--- One item more: items_set-more and its kin.
+-- One more item: items_set-more and the like.
 use Rattle.std.proofs.Common.{arith}
 use Rattle.std.proofs.lemmas.Bool.Decides.{nat_tests}
 use Rattle.std.proofs.lemmas.List.{length-set}

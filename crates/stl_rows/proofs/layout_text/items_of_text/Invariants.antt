@@ -1,4 +1,4 @@
--- What is left gives, with the items so far, what all gives.
+-- The rest of the text, with the items so far, gives the result for all.
 use Rattle.std.proofs.Common.{◌≡◌, ◌==◌, false, length, replicate}
 use Rattle.std.specs.List.{slice_split}
 use Rattle.std.specs.Str.{IsUtf8}

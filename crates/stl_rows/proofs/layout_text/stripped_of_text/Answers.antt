@@ -1,4 +1,4 @@
--- One pair of digits more: stripped_with-more and its kin.
+-- One more pair of digits: stripped_with-more and the like.
 use Rattle.std.proofs.Common.{arith}
 use Rattle.std.proofs.lemmas.Bool.Decides.{nat_tests}
 use Rattle.std.proofs.lemmas.List.{length-set}

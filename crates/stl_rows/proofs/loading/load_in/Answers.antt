@@ -1,6 +1,6 @@
--- The first fault that is told is what comes of the file: tells-first; where none is told all is
--- loaded: loads-all; and where the source failed or memory was refused there is none before:
--- none-told, tells-failed.
+-- The first reported fault is the result: tells-first; if none is reported, all is loaded:
+-- loads-all; if the source failed or memory was refused, there is none before: none-told,
+-- tells-failed.
 use Rattle.std.proofs.Common.{arith, ◌∙◌, rules, sym}
 use Rattle.std.proofs.lemmas.Bool.Decides.{nat_tests}
 use Rattle.stl_rows.proofs.EveryFaultLemmas.{first-not_read, first-of_file, keeps-none}

@@ -1,4 +1,4 @@
--- None of the characters so far is given, so what is left decides.
+-- The characters so far do not match, so the rest decide.
 use Rattle.std.proofs.Common.{◌≡◌, drop}
 use Rattle.stl_rows.specs.SubSets.{cell_in}
 use Rattle.stl_rows.proofs.national.cell_in.Given as goal

@@ -1,4 +1,4 @@
--- None of the rows so far has the word, so what is left decides.
+-- None of the rows so far has the word, so the rest decide.
 use Rattle.std.proofs.Common.{◌≡◌, drop, find}
 use Rattle.std.specs.Str.{bytes_eq}
 use Rattle.stl_rows.specs.declared.sub_sets.SubSet.{SubSet}

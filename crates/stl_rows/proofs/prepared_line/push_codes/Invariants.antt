@@ -1,4 +1,4 @@
--- What was put and is left to be put is all.
+-- The codes added so far and the remaining ones are all codes.
 use Rattle.std.proofs.Common.{◌≡◌, ◌+◌, ◌≤◌, ◌++◌, length, drop}
 use Rattle.stl_rows.specs.Layout.{codes_of_places}
 use Rattle.stl_rows.proofs.prepared_line.push_codes.Given as goal

@@ -1,4 +1,5 @@
--- With `fit` a line gets what there is room for: framed-fits; else all: framed-all.
+-- With `fit`, codes are added to a line as far as there is room: framed-fits; without it, all are:
+-- framed-all.
 use Rattle.std.proofs.Common.{arith}
 use Rattle.std.proofs.lemmas.Bool.Decides.{nat_tests}
 use Rattle.stl_rows.proofs.PreparedLineLemmas.{framed-all, framed-fits}

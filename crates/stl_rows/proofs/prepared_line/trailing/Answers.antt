@@ -1,4 +1,4 @@
--- The cell before the last of these is not within: trailing_at; or all are: trailing_all.
+-- The cell before these is not between the two codes: trailing_at; or all cells are: trailing_all.
 use Rattle.std.proofs.Common.{arith}
 use Rattle.std.proofs.lemmas.Bool.Decides.{nat_tests}
 use Rattle.stl_rows.proofs.PreparedLineLemmas.{trailing_all, trailing_at}

@@ -1,4 +1,4 @@
--- The cells behind are within the two codes.
+-- The cells from `left` on are between the two codes.
 use Rattle.std.proofs.Common.{◌≡◌, ◌≤◌, true, length, drop}
 use Rattle.std.specs.List.{list_all}
 use Rattle.stl_rows.specs.TextCode.{is_within}

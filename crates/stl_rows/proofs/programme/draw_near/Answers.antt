@@ -1,4 +1,5 @@
--- Past all or in a gap none is due; else the first subtitle after the frame is.
+-- After all subtitles, or in a gap, none is due; otherwise the first subtitle after the frame is
+-- due.
 use Rattle.std.proofs.Common.{arith, rules, ◌∙◌, ap, sym}
 use Rattle.std.proofs.lemmas.Bool.Decides.{nat_tests}
 use Rattle.std.specs.Result.{result_unwrap_or}

@@ -1,5 +1,5 @@
--- Behind all subtitles what stands behind the last decides, else the first that ends after the
--- frame: undecided-last, undecided-next.
+-- After all subtitles it depends on what follows the last, otherwise on the first subtitle that
+-- ends after the frame: undecided-last, undecided-next.
 use Rattle.std.proofs.Common.{arith, length, sym, ◌≡◌}
 use Rattle.std.proofs.lemmas.Bool.Decides.{nat_tests}
 use Rattle.stl_rows.proofs.JudgedLemmas.{undecided-last, undecided-next, undecided-none}

@@ -1,4 +1,4 @@
--- One byte or two are one text code: text_codes-common, text_codes-pair. The cells are codes:
+-- One or two bytes are one text code: text_codes-common, text_codes-pair. The cells are codes:
 -- cell_of_pair-small, cell_of-small, other-small.
 use Rattle.std.proofs.Common.{arith, subst, sym}
 use Rattle.std.proofs.lemmas.Bool.Decides.{nat_tests}

@@ -1,4 +1,4 @@
--- What is told of the text codes that are left is what is told of all.
+-- The first fault of the remaining text codes is the result for all.
 use Rattle.std.proofs.Common.{◌≡◌, ◌+◌, ◌-◌, ◌≤◌, None, false, length, drop}
 use Rattle.stl_rows.specs.LineByLine.{empty_line, told}
 use Rattle.stl_rows.specs.TextCode.{text_codes}

@@ -1,4 +1,4 @@
--- The first of all faults is told: told-faults, drawn-first.
+-- The first of all faults is returned: told-faults, drawn-first.
 use Rattle.std.proofs.Common.{arith}
 use Rattle.std.proofs.lemmas.Bool.Decides.{nat_tests}
 use Rattle.stl_rows.proofs.DefaultLayoutLemmas.{drawn-none, drawn-some}

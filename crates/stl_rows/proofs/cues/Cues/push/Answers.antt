@@ -1,4 +1,5 @@
--- Texts before it stay where they were, and its own is the last: subtitles_kept, subtitles_added.
+-- The texts before stay where they were, and the new one is the last: subtitles_kept,
+-- subtitles_added.
 use Rattle.std.proofs.Common.{◌≡◌, ◌∙◌, ◌++◌, ◌∷◌, [], ap, map}
 use Rattle.stl_rows.specs.Cues.{subtitle_in}
 use Rattle.stl_rows.proofs.CuesLemmas.{all_added, on_err, subtitles_added, subtitles_kept}

@@ -1,4 +1,4 @@
--- So many of the cues are those of so many subtitles.
+-- The first `n` cues are those of the first `n` subtitles.
 use Rattle.std.proofs.Common.{ap, ◌∙◌, sym, take, map}
 use Rattle.std.proofs.lemmas.List.{take-map}
 use Rattle.stl_rows.specs.Cues.{subtitle_in}

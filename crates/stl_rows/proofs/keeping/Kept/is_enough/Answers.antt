@@ -1,4 +1,4 @@
--- Where something was told there is to be a subtitle, and all in order: enough-some.
+-- If a fault was reported, there must be a subtitle, and all must be in order: enough-some.
 use Rattle.std.proofs.Common.{ap, arith, refl, sym, ◌∙◌, ◌≡◌, ◌<◌, length, false}
 use Rattle.std.proofs.lemmas.Bool.Decides.{nat_tests}
 use Rattle.stl_rows.specs.Keeping.{is_whole}

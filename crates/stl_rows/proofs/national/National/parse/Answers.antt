@@ -1,4 +1,4 @@
--- An option is found by its word alone: word_of_option.
+-- An option is found only by its word: word_of_option.
 use Rattle.std.proofs.Common.{rules, ◌≡◌}
 use Rattle.stl_rows.specs.SubSets.{option_named, sub_set}
 use Rattle.stl_rows.proofs.SubSetLemmas.{word_of_option}
