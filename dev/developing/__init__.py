@@ -27,8 +27,8 @@ trial_memory  runs with little memory
 every_place   the second implementation; on purpose it shares only codes, times and layouts
 tests         the unittest modules of check-tools, one for each tool or idea
 
-It uses the packages of tools/subtitles, which do not use it. A script imports a module from here
-before any of those, so that tools/ is on the import path.
+It uses the packages of tools/subtitles, which do not use it. A script imports its module from here
+first: that puts tools/ on the import path.
 """
 from __future__ import annotations
 

@@ -1,5 +1,8 @@
-"""Names that the documents cite in backquotes, and whether the sources have them; and how much has
-to be read for some of them, and may have to be, and the numbers of the proof."""
+"""Check names and numbers in the documents.
+
+Names in backquotes must be names of the sources. The numbers of lines to be read for a promise, and
+the numbers of the proof, must be those that are counted here.
+"""
 from __future__ import annotations
 
 import glob
@@ -12,24 +15,24 @@ from .definitions import Library, counts
 from .promises import ROW as INDEX, index_of
 from .proved import parsed
 
-# The documents, and with what a line begins that is looked at.
+# The documents, and the beginning of the lines that are checked.
 DOCUMENTS = {"docs/HEADLINE.md": "", "docs/ASSURANCE.md": "", "docs/CLAUSES.md": "",
              "docs/WRONG-PROGRAMS.md": "", "docs/DECISIONS.md": "", "docs/GLOSSARY.md": "",
              "docs/ARCHITECTURE.md": "|"}
-# A row of the table of what has to be read: what is read, its name, and the counts.
+# A row of the table of lines to be read: the promise, its name, and the counts.
 ROW = re.compile(r"^\| (.*) \| `(\S+)` \| (\d+) \| (\d+) \|$", re.M)
-# For these at most so many lines may have to be read, so that the law of a run can be.
+# The most lines that may have to be read for these promises.
 MOST_LINES = {"run_in_memory.headline": 450, "run_in_memory.acceptance": 800}
-# What README says of these: how many lines have to be read.
+# The numbers of lines to be read in README.
 IN_README = {"run_in_memory.headline": re.compile(r"\[(\d+)\s+lines\s+to\s+read\]"),
              "run_in_memory.chosen": re.compile(r"(\d+)\s+by\s+its\s+most\s+common\s+options"),
              "run_in_memory.recording": re.compile(r"(\d+)\s+of\s+a\s+recording\)")}
 NUMBERS = re.compile(r"^## The proof in numbers$.*?(?=^## )", re.M | re.S)
-NUMBER = re.compile(r"^\| (.*) \| ([\d,]+) \|$", re.M)  # a row there: what is counted, how many
-PARTS = ("src", "specs", "must-fail", "release-edits")  # of a crate, whose words are taken
+NUMBER = re.compile(r"^\| (.*) \| ([\d,]+) \|$", re.M)  # a row: what is counted, and the number
+PARTS = ("src", "specs", "must-fail", "release-edits")  # folders of a crate whose words count
 LEFT_OUT = ("out", ".git", "__pycache__")
 TOOLS = ("tools", "dev")
-MADE = ("out/", "dist/")  # by the gate and by dev/release
+MADE = ("out/", "dist/")  # written by the gate and by dev/release
 BLOCK = re.compile(r"^```.*?^```$", re.M | re.S)
 QUOTED = re.compile(r"(?<!`)`([^`]+)`(?!`)")
 PATH = re.compile(r"[\w.-]+(?:/[\w.-]+)+/?|[\w-]+/")
@@ -38,7 +41,7 @@ COMMENT = {".rt": re.compile(r"//.*"), ".antt": re.compile(r"(?:^|(?<=\s))--.*",
 
 
 class Sources:
-    """The words of the sources, and the names of all files and folders."""
+    """All words in the sources, and the names of all files and folders."""
 
     def __init__(self, top: str) -> None:
         self.words: set[str] = set()
@@ -49,7 +52,7 @@ class Sources:
                 self.take(top, os.path.relpath(os.path.join(place, name), top))
 
     def take(self, top: str, path: str) -> None:
-        """Takes a file or a folder, under its whole name and as a crate calls it; and its words."""
+        """Add the path of a file or folder, from the top and from its crate, and its words."""
         parts = path.split(os.sep)
         for start in {0, *((1, 2) if parts[0] == "crates" else ())}:
             self.paths |= {"/".join(parts[start:]), os.path.splitext("/".join(parts[start:]))[0]}
@@ -60,7 +63,7 @@ class Sources:
             self.read(os.path.join(top, path))
 
     def read(self, path: str) -> None:
-        """Takes the words of a file, without its comments; of an edit only its name counts."""
+        """Add the words of a file, without comments. Of a mutant only the name counts."""
         ending = os.path.splitext(path)[1]
         if ending != ".edit":
             with open(path, encoding="utf-8", errors="replace") as file:
@@ -69,10 +72,10 @@ class Sources:
             self.words.update(WORD.findall(text))
 
     def lacks(self, quoted: str) -> list[str]:
-        """The names in a quoted text that the sources do not have.
+        """Return the names in a quoted text that the sources do not have.
 
-        A word in capitals in a path stands for any name; a word before `=`, as in a line of the
-        prover, is not looked at.
+        A word in capitals in a path matches any name. A word before `=`, as in a line of the
+        prover, is not checked.
         """
         found: list[str] = []
         for token in quoted.split():
@@ -91,24 +94,24 @@ class Sources:
 
 
 def unknown_names(top: str) -> dict[str, list[str]]:
-    """By document, `DOCUMENT:LINE: NAME` of each name that is quoted and that no source has."""
+    """Return by document `DOCUMENT:LINE: NAME` of each quoted name that no source has."""
     sources = Sources(top)
     found: dict[str, list[str]] = {}
     for name, start in DOCUMENTS.items():
         with open(os.path.join(top, name), encoding="utf-8") as file:
             text = file.read()
         text = BLOCK.sub(lambda block: "\n" * block[0].count("\n"), text)
-        index = index_of(text)  # its clauses have a test
+        index = index_of(text)  # its clauses have a test of their own
         text = text.replace(index, INDEX.sub(lambda row: row[0].replace(row[2], ""), index))
         if start:
             text = "\n".join(line if line.startswith(start) else "" for line in text.split("\n"))
-        found[name] = [f"{name}:{text.count(chr(10), 0, quoted.start()) + 1}: {one}"
-                       for quoted in QUOTED.finditer(text) for one in sources.lacks(quoted[1])]
+        found[name] = [f"{name}:{text.count(chr(10), 0, quoted.start()) + 1}: {word}"
+                       for quoted in QUOTED.finditer(text) for word in sources.lacks(quoted[1])]
     return found
 
 
 def rows_of_counts(top: str) -> Iterator[tuple[str, str]]:
-    """The rows of the table in ASSURANCE, each with the row that it has to be."""
+    """Yield the rows of the table in ASSURANCE, each with the correct row."""
     with open(os.path.join(top, "docs", "ASSURANCE.md"), encoding="utf-8") as file:
         rows, library = list(ROW.finditer(file.read())), Library(top)
     for row in rows:
@@ -117,42 +120,43 @@ def rows_of_counts(top: str) -> Iterator[tuple[str, str]]:
 
 
 def counts_of_readme(top: str) -> Iterator[tuple[str, str]]:
-    """How many lines README says that have to be read, each with how many these are."""
+    """Yield the numbers of lines to be read in README, each with the correct one."""
     text, library = read(os.path.join(top, "README.md")) or "", Library(top)
     for name, form in IN_README.items():
         shown = form.search(text)
-        yield (f"README: {name} {shown[1] if shown else 'is not there'}",
+        yield (f"README: {name} {shown[1] if shown else 'is missing'}",
                f"README: {name} {counts(*library.reading(name))[1]}")
 
 
 def too_long(top: str, most_lines: Mapping[str, int]) -> Iterator[Optional[str]]:
-    """Of each of the names what is wrong where more lines have to be read for it than may be."""
+    """Yield for each promise `None`, or a message if too many lines have to be read."""
     library = Library(top)
     for name, most in most_lines.items():
         lines = counts(*library.reading(name))[1]
-        yield f"{name} has {lines} lines to be read, {most} at most" if lines > most else None
+        yield f"{name} needs {lines} lines to be read, at most {most} are allowed" \
+            if lines > most else None
 
 
 def numbers_of(top: str) -> list[int]:
-    """What the rows of ASSURANCE on the proof in numbers count, in their order."""
+    """Count what the rows of ASSURANCE on the proof in numbers name, in their order."""
     def files(*names: str) -> list[str]:
         return glob.glob(os.path.join(glob.escape(top), *names), recursive=True)
 
-    def told(word: str) -> list[int]:
-        return [int(one) for line in lines for one in re.findall(rf"\b{word}=(\d+)", line)]
+    def values(key: str) -> list[int]:
+        return [int(number) for line in lines for number in re.findall(rf"\b{key}=(\d+)", line)]
 
     lines = [line for _, line in parsed(read(os.path.join(top, "dist", "PROVED"))).crates.values()]
     code = [COMMENT[".rt"].sub("", read(path) or "") for path in files("crates", "*", "src", "**",
                                                                        "*.rt")]
-    return [sum("logic=proved" in line for line in lines), sum(told("functions")),
-            sum("foreign=" in line for line in lines), sum(told("axioms")),
+    return [sum("logic=proved" in line for line in lines), sum(values("functions")),
+            sum("foreign=" in line for line in lines), sum(values("axioms")),
             sum(len(re.findall(r"\bunsafe\b", text)) for text in code),
             len(files("crates", "*", "must-fail", "*.edit")),
             len(files("crates", "*", "release-edits", "*.edit"))]
 
 
 def rows_of_numbers(top: str) -> Iterator[tuple[str, str]]:
-    """The rows of that table, each with the row that it has to be."""
+    """Yield the rows of that table, each with the correct row."""
     found = NUMBERS.search(read(os.path.join(top, "docs", "ASSURANCE.md")) or "")
     rows, numbers = list(NUMBER.finditer(found[0] if found else "")), numbers_of(top)
     assert len(rows) == len(numbers), f"{len(rows)} rows of numbers in docs/ASSURANCE.md"

@@ -1,5 +1,7 @@
-"""Python's own compiled form of the tools, made once for the calls of many tests: a tool that is no
-checkout's writes none, so each of its calls would compile all of its modules anew."""
+"""Compile the tools once for the calls of many tests.
+
+A tool outside a checkout writes no bytecode, so each call would compile all of its modules.
+"""
 from __future__ import annotations
 
 import contextlib
@@ -14,20 +16,19 @@ from . import TOOLS
 PREFIX, WRITES_NONE = "PYTHONPYCACHEPREFIX", "PYTHONDONTWRITEBYTECODE"
 IMPORT_ALL = """
 import importlib, pkgutil, subtitles
-for one in pkgutil.walk_packages(subtitles.__path__, "subtitles."):
-    importlib.import_module(one.name)
+for module in pkgutil.walk_packages(subtitles.__path__, "subtitles."):
+    importlib.import_module(module.name)
 """
 
 
 def compile_beside(folder: str) -> None:
-    """Puts the compiled form of what is in a folder beside it: copies of the folder have it too,
-    for calls in `plain_environment`."""
+    """Compile the modules of a folder in place, for calls in `plain_environment` of its copies."""
     subprocess.run([sys.executable, "-m", "compileall", "-q", folder], check=False,
                    env=plain_environment())
 
 
 def share_compiled(folder: str) -> None:
-    """Lets a copy of the tools, whose files have the same times, take what they are compiled to."""
+    """Let a copy of the tools, whose files have the same times, use the compiled modules."""
     if PREFIX in os.environ:
         place = os.environ[PREFIX] + os.path.realpath(folder)
         os.makedirs(os.path.dirname(place), exist_ok=True)
@@ -35,19 +36,21 @@ def share_compiled(folder: str) -> None:
 
 
 def plain_environment() -> dict[str, str]:
-    """The environment without what says where the compiled form is."""
-    return {name: word for name, word in os.environ.items() if name not in (PREFIX, WRITES_NONE)}
+    """Return the environment without the variables about compiled modules."""
+    return {name: value for name, value in os.environ.items() if name not in (PREFIX, WRITES_NONE)}
 
 
 @contextlib.contextmanager
 def compiled() -> Iterator[None]:
-    """While this holds, what is called takes the tools as they are compiled in a folder that goes
-    in the end; a module that has changed since then is compiled as ever."""
+    """Let calls inside this context use modules compiled into a temporary folder.
+
+    Python compiles a module again if it has changed since.
+    """
     if PREFIX in os.environ:
         yield
         return
     with tempfile.TemporaryDirectory() as folder:
-        os.chmod(folder, 0o755)  # another user looks into it
+        os.chmod(folder, 0o755)  # tests run as another user read it
         subprocess.run([sys.executable, "-c", IMPORT_ALL], check=False,
                        env={**plain_environment(), PREFIX: folder, "PYTHONPATH": TOOLS})
         os.environ[PREFIX] = folder

@@ -1,4 +1,4 @@
-"""The crates of this repository, as crates.txt names them, and what each stands on."""
+"""The crates of this repository, and the crates that each uses, from crates.txt."""
 from __future__ import annotations
 
 import os
@@ -9,11 +9,11 @@ from subtitles.common.program import TOP
 CRATES = os.path.join(TOP, "crates")
 LIST = os.path.join(TOP, "crates.txt")
 
-Lines = dict[str, list[str]]  # by crate the names of its line, the toolchain's libraries too
+Lines = dict[str, list[str]]  # the crates that each crate uses, with the toolchain's libraries
 
 
 def read_lines(path: str = LIST) -> Lines:
-    """All lines of a crates.txt."""
+    """Read a crates.txt."""
     lines: Lines = {}
     with open(path, encoding="utf-8") as file:
         for line in file:
@@ -24,22 +24,22 @@ def read_lines(path: str = LIST) -> Lines:
 
 
 def below(crate: str, lines: Lines) -> list[str]:
-    """The crates of this repository that a crate stands on, lowest first."""
+    """Return the crates of this repository that a crate uses, lowest first."""
     found: list[str] = []
     for name in lines[crate]:
         if name in lines:
-            found += [one for one in [*below(name, lines), name] if one not in found]
+            found += [lower for lower in [*below(name, lines), name] if lower not in found]
     return found
 
 
 def write_lines(folder: str, crates: list[str], lines: Lines) -> None:
-    """Writes a folder's crates.txt, of these crates alone."""
+    """Write a crates.txt with these crates alone into a folder."""
     with open(os.path.join(folder, "crates.txt"), "w", encoding="utf-8") as file:
         file.writelines(f"{name}: {' '.join(lines[name])}\n" for name in crates)
 
 
 def copy_crates(folder: str, crates: list[str], lines: Lines, *left_out: str) -> None:
-    """Makes a repository of some crates, without their folders of these names."""
+    """Copy crates into a new repository, without files and folders named in `left_out`."""
     write_lines(folder, crates, lines)
     shutil.copy2(os.path.join(TOP, "HANDLES"), folder)
     for name in crates:

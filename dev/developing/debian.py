@@ -1,4 +1,4 @@
-"""A package for Debian and Ubuntu, of what tools/install installs, made by dpkg-deb."""
+"""Build a package for Debian and Ubuntu of the files that tools/install installs, by dpkg-deb."""
 from __future__ import annotations
 
 import gzip
@@ -15,7 +15,7 @@ from subtitles.common.program import (
 NAME = "subttx"
 MACHINE = "amd64"
 DEPENDS = "libc6 (>= 2.34), python3 (>= 3.9)"
-NOBODY = "subttx <subttx@example.com>"  # where the environment names no maintainer
+NOBODY = "subttx <subttx@example.com>"  # if the environment names no maintainer
 SUMMARY = "checks Teletext subtitles before they go on air"
 DESCRIPTION = """\
  Give it an EBU STL file and a recording of the DVB Teletext that your playout
@@ -30,17 +30,17 @@ Copyright 2026 the authors of subttx
 
 This package states no licence. Ask whoever gave it to you what you may do with it.
 """
-# What the tools share is compiled by the Python that is there, and taken away with them.
+# The modules of the tools are compiled by the Python that is installed, and removed with them.
 FOLDER = f"/usr/lib/{NAME}/tools/subtitles"
 SCRIPTS = {
     "postinst": f"python3 -m compileall -q --invalidation-mode unchecked-hash {FOLDER}",
     "prerm": f"find {FOLDER} -depth -name __pycache__ -exec rm -r {{}} +"}
-# Without its symbols the program would not have the SHA-256 that PROVED names.
+# A stripped program would not have the SHA-256 in PROVED.
 OVERRIDES = f"{NAME}: unstripped-binary-or-object [usr/bin/subttx]\n"
 
 
 def maintainer() -> str:
-    """Who made the package, by the variables that Debian's tools read."""
+    """Return the maintainer, from the variables that Debian's tools read."""
     address = os.environ.get("DEBEMAIL", "")
     if "<" in address:
         return address
@@ -48,14 +48,14 @@ def maintainer() -> str:
 
 
 def write_packed(path: str, data: bytes) -> None:
-    """A file packed by gzip, the same bytes each time."""
+    """Write a gzip file; the same data give the same bytes."""
     os.makedirs(os.path.dirname(path), exist_ok=True)
     with open(path, "wb") as file, gzip.GzipFile("", "wb", 9, file, 0) as packed:
         packed.write(data)
 
 
 def pack_man_pages(root: str) -> None:
-    """Man pages as Debian has them."""
+    """Compress the man pages, as Debian requires."""
     for page in PAGES:
         path = os.path.join(root, "usr", "share", "man", "man1", page)
         with open(path, "rb") as file:
@@ -64,10 +64,11 @@ def pack_man_pages(root: str) -> None:
 
 
 def add_documents(root: str, version: str, proved: str, date: str) -> None:
-    """The folder of documents: README and the others, by links to where the tools read them, and
-    what Debian asks of a package."""
+    """Add the folder of documents: links to README and the others where the tools read them, and
+    the files that Debian requires.
+    """
     folder = os.path.join(root, "usr", "share", "doc", NAME)
-    for name in sorted({one.partition(os.sep)[0] for one in documents()}):
+    for name in sorted({document.partition(os.sep)[0] for document in documents()}):
         link(os.path.join("..", "..", "..", "lib", NAME, name), os.path.join(folder, name))
     copy(proved, os.path.join(folder, "PROVED"))
     write(os.path.join(folder, "copyright"), COPYRIGHT.format(summary=SUMMARY))
@@ -78,7 +79,7 @@ def add_documents(root: str, version: str, proved: str, date: str) -> None:
 
 
 def add_control(root: str, version: str) -> None:
-    """What the package is, and a sum of each of its files."""
+    """Write the description of the package, and a checksum of each of its files."""
     size = sum(os.path.getsize(os.path.join(root, name)) for name in files_below(root))
     sums = sums_of(root, "md5")
     fields = {"Package": NAME, "Version": version, "Section": "video", "Priority": "optional",
@@ -93,8 +94,8 @@ def add_control(root: str, version: str) -> None:
         os.chmod(path, 0o755)
 
 
-def settle(root: str, time: int) -> None:
-    """The same modes and times on every machine."""
+def set_modes_and_times(root: str, time: int) -> None:
+    """Set the modes and times that the files have on every machine."""
     for place, _, names in os.walk(root, topdown=False):
         for name in names:
             path = os.path.join(place, name)
@@ -105,26 +106,26 @@ def settle(root: str, time: int) -> None:
         os.utime(place, (time, time))
 
 
-def make_package(program: str, proved: str, version: str, room: str, path: str, time: int) -> None:
-    """Makes the package at a path, in an empty folder `room`; the same files make the same bytes.
+def make_package(program: str, proved: str, version: str, work: str, path: str, time: int) -> None:
+    """Build the package at `path`, in the empty folder `work`. The same files give the same bytes.
     """
     if not shutil.which("dpkg-deb"):
-        raise Stop("dpkg-deb is not there: Debian's package dpkg has it")
+        raise Stop("dpkg-deb is not installed: it is in Debian's package dpkg")
     if not re.fullmatch(r"[0-9][A-Za-z0-9.+~]*", version):
-        raise Stop(f"{version} is no version of a package")
-    root = os.path.join(room, NAME)
+        raise Stop(f"{version} is not a version that a package may have")
+    root = os.path.join(work, NAME)
     install(program, os.path.join(root, "usr"))
     pack_man_pages(root)
     add_documents(root, version, proved, "Sat, 01 Jan 2000 00:00:00 +0000")
     add_control(root, version)
-    settle(root, time)
-    made = os.path.join(room, "made.deb")
+    set_modes_and_times(root, time)
+    made = os.path.join(work, "made.deb")
     done = subprocess.run(["dpkg-deb", "--root-owner-group", "-Zxz", "--build", root, made],
                           env={**os.environ, "SOURCE_DATE_EPOCH": str(time)},
                           stdin=subprocess.DEVNULL, stdout=subprocess.DEVNULL,
                           stderr=subprocess.PIPE, encoding="utf-8", errors="replace", check=False)
     if done.returncode:
-        raise Stop(f"dpkg-deb did not make it: {done.stderr.strip().splitlines()[-1:]}")
+        raise Stop(f"dpkg-deb failed: {done.stderr.strip().splitlines()[-1:]}")
     with naming(path):
         shutil.copyfile(made, path + ".new")
         os.replace(path + ".new", path)

@@ -1,5 +1,4 @@
-"""The index of clauses in docs/CLAUSES.md: each promise, and the clauses of contracts that state
-it."""
+"""The index of clauses in docs/CLAUSES.md: each promise, and the clauses that state it."""
 from __future__ import annotations
 
 import re
@@ -13,18 +12,18 @@ HEAD = "\n## The index of clauses\n"
 
 
 def index_of(text: str) -> str:
-    """The part of a document that is the index; all of it where no heading says where it begins."""
+    """Return the index of a document; the whole text if it has no heading of the index."""
     return text.rpartition(HEAD)[2].partition("\n## ")[0]
 
 
 def clauses_in(text: str) -> list[str]:
-    """The clauses that the rows name, each once: CRATE/FUNCTION.CLAUSE, or a law by its name."""
+    """Return the clauses in the rows, each once: CRATE/FUNCTION.CLAUSE, or the name of a law."""
     return list(dict.fromkeys(
         clause for row in ROW.finditer(index_of(text)) for clause in CLAUSE.findall(row[2])))
 
 
 def unknown_clauses(text: str, library: Library) -> list[str]:
-    """Why a clause that a row names is none of the sources, for each such clause."""
+    """Return a message for each clause in a row that the sources do not have."""
     found: list[str] = []
     for clause in clauses_in(text):
         try:

@@ -1,14 +1,14 @@
-"""PROVED, the file beside a program: of which sources it is, and what the prover said of them.
+"""Read and write PROVED, the file next to a program that names its sources and its proofs.
 
     sources SUM             the line of tools/sources
     program SUM             the program's SHA-256
-    toolchain LINE          what `rt version` printed
+    toolchain LINE          the output of `rt version`
     crate NAME SUM LINE     for each crate, lowest first: the line of `tools/sources --crates` and
                             the prover's line, logic=proved .., of the run that proved it
 
-out/ holds the program that was proved and built here, dist/ that of the repository. A crate that
-rt ci takes from what it keeps has no line in that run; so lines are noted in out/lines, each beside
-the sum of the sources that it is of, and taken from there or from dist/PROVED.
+out/ has the program that was proved and built here, dist/ that of the repository. If `rt ci` reuses
+an earlier proof of a crate, it prints no line for it. So each line is stored in out/lines, with the
+checksum of the sources that were proved, and taken from there or from dist/PROVED.
 """
 from __future__ import annotations
 
@@ -28,7 +28,7 @@ Crates = dict[str, tuple[str, str]]
 
 
 class Proved(NamedTuple):
-    """What a file says; `crates` are by name the sum of a crate's sources and the prover's line."""
+    """The contents of a file PROVED; `crates` maps a name to its checksum and the prover's line."""
 
     sources: str | None
     program: str | None
@@ -37,24 +37,24 @@ class Proved(NamedTuple):
 
 
 def parsed(text: str | None) -> Proved:
-    """What a file PROVED says, or the notes, which have no lines of sources and program."""
-    said: dict[str, str | None] = dict.fromkeys(("sources", "program", "toolchain"))
+    """Parse a file PROVED, or out/lines, which has neither `sources` nor `program`."""
+    values: dict[str, str | None] = dict.fromkeys(("sources", "program", "toolchain"))
     crates: Crates = {}
     for line in (text or "").splitlines():
         word, _, rest = line.partition(" ")
         if word == "crate" and rest.count(" ") >= 2:
-            name, digest, told = rest.split(" ", 2)
-            crates[name] = digest, told
-        elif word in said:
-            said[word] = rest
-    return Proved(said["sources"], said["program"], said["toolchain"], crates)
+            name, digest, prover_line = rest.split(" ", 2)
+            crates[name] = digest, prover_line
+        elif word in values:
+            values[word] = rest
+    return Proved(values["sources"], values["program"], values["toolchain"], crates)
 
 
 def text_of(proved: Proved) -> str:
-    """The file that says so."""
+    """Return the text of the file."""
     lines = [f"{word} {getattr(proved, word)}" for word in ("sources", "program", "toolchain")
              if getattr(proved, word)]
-    lines += [f"crate {name} {digest} {told}" for name, (digest, told) in proved.crates.items()]
+    lines += [f"crate {name} {digest} {line}" for name, (digest, line) in proved.crates.items()]
     return "".join(line + "\n" for line in lines)
 
 
@@ -63,7 +63,10 @@ def proved_in(folder: str) -> Proved:
 
 
 def crate_sums(text: str | None = None) -> dict[str, str]:
-    """By name, lowest crate first, the sum of each crate's sources: of `tools/sources --crates`."""
+    """Return the checksum of each crate's sources by name, lowest crate first.
+
+    `text` is the output of `tools/sources --crates`; without it the script is called.
+    """
     if text is None:
         command = [os.path.join(TOP, "tools", "sources"), "--crates"]
         text = subprocess.run(command, stdin=subprocess.DEVNULL, stdout=subprocess.PIPE,
@@ -77,31 +80,31 @@ def digest_of(path: str) -> str:
 
 
 def toolchain() -> str:
-    """What the toolchain calls itself."""
+    """Return the version of the toolchain."""
     try:
         return subprocess.run(["rt", "version"], stdin=subprocess.DEVNULL, check=True,
                               stdout=subprocess.PIPE).stdout.decode().strip()
     except (OSError, subprocess.CalledProcessError):
-        raise Stop("the toolchain's rt is not on the PATH, or does not tell its version") from None
+        raise Stop("the toolchain's rt is not on the PATH, or prints no version") from None
 
 
 def lines_in(log: str) -> dict[str, str]:
-    """By name the prover's line of each crate that rt ci proved, and not of its tests."""
+    """Return by name the prover's line of each crate that `rt ci` proved, without its tests."""
     found: dict[str, str] = {}
     crate: str | None = None
-    told: str | None = None
+    proof: str | None = None
     for line in log.splitlines():
         if line.startswith("== "):
-            crate, told = line.removeprefix("== "), None
+            crate, proof = line.removeprefix("== "), None
         elif line.startswith("logic=proved "):
-            told = line
-        elif told and crate and line == f"rt: {crate} proved":
-            found[crate] = told
+            proof = line
+        elif proof and crate and line == f"rt: {crate} proved":
+            found[crate] = proof
     return found
 
 
 def note(lines: dict[str, str], sums: dict[str, str]) -> None:
-    """Notes the prover's lines of crates; `sums` are those of the sources that were proved."""
+    """Store the prover's lines in out/lines; `sums` are the checksums of the proved sources."""
     version, notes = toolchain(), parsed(read(NOTES))
     crates = notes.crates if notes.toolchain == version else {}
     crates |= {name: (sums[name], line) for name, line in lines.items() if name in sums}
@@ -109,7 +112,7 @@ def note(lines: dict[str, str], sums: dict[str, str]) -> None:
 
 
 def known_lines(version: str | None) -> dict[tuple[str, str], str]:
-    """By crate and sum the lines that this toolchain's prover said, here or in the repository."""
+    """Return the lines of this toolchain's prover, here or in dist/, by crate and checksum."""
     found: dict[tuple[str, str], str] = {}
     for proved in (proved_in(DIST), parsed(read(NOTES))):
         if proved.toolchain == version:
@@ -118,7 +121,7 @@ def known_lines(version: str | None) -> dict[tuple[str, str], str]:
 
 
 def with_lines(proved: Proved) -> Proved:
-    """The same with all lines that are known, for the sources as they stand."""
+    """Add all stored lines that belong to the current sources."""
     known = known_lines(proved.toolchain)
     return proved._replace(crates={name: (digest, known[name, digest])
                                    for name, digest in crate_sums().items()
@@ -126,14 +129,13 @@ def with_lines(proved: Proved) -> Proved:
 
 
 def keep(of_sources: str, program: str = RAW) -> None:
-    """Puts into out/ the program that rt has proved and built of these sources, with the lines that
-    are known of them."""
+    """Copy the program that rt has proved and built to out/, with a file PROVED."""
     proved = with_lines(Proved(of_sources, digest_of(program), toolchain(), {}))
     copy(program, os.path.join(OUT, "subttx"), 0o755)
     write(os.path.join(OUT, "PROVED"), text_of(proved))
 
 
 def lacking(proved: Proved) -> list[str]:
-    """The crates of which a file PROVED has no line, for the sources as they stand."""
+    """Return the crates whose current sources have no line in a file PROVED."""
     return [name for name, digest in crate_sums().items()
             if proved.crates.get(name, ("", ""))[0] != digest]

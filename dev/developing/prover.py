@@ -1,8 +1,8 @@
-"""The toolchain's prover, which proves a crate over the statements of those below it.
+"""The toolchain's prover, which proves a crate over the statements of the crates that it uses.
 
-`rattle build` checks each function of a crate, and only where all are proved makes the crate's
-library, or of the program an object file, which `rattle-link` links. So does `rt ci`, which gives a
-crate one job as long as another waits; the caller here says how many a crate gets.
+`rattle build` checks each function of a crate. If all are proved, it writes the crate's library, or
+for the program an object file, which `rattle-link` links. `rt ci` does the same, but gives a crate
+one job as long as another crate waits; here the caller chooses the number of jobs.
 """
 from __future__ import annotations
 
@@ -19,7 +19,7 @@ from .proved import toolchain
 
 PROGRAM = "subttx"
 TARGET = "x86_64-unknown-linux-gnu"
-# The words that a line may have: another one would tell of what is not proved.
+# The words that a line may have: another word would name something that is not proved.
 WORDS = {"functions", "axioms", "target", "cpu", "sum", "native", "logic-built", "libraries-built",
          "statements"}
 LINE = re.compile(r"^logic=proved .*$", re.M)
@@ -27,7 +27,7 @@ WARNING = re.compile(r"^(\S+ )?warning:", re.M)
 
 
 class Prover:
-    """The prover of the toolchain whose `rt` is on the PATH, and the folder for what it makes."""
+    """The prover of the toolchain whose `rt` is on the PATH, and the folder for its libraries."""
 
     def __init__(self, lines: Lines, made: str) -> None:
         rt = shutil.which("rt")
@@ -41,16 +41,16 @@ class Prover:
         return os.path.join(self.kit, *names)
 
     def library(self, name: str) -> str:
-        """The library of a crate, of this repository or of the toolchain."""
+        """Return the path of the library of a crate, of this repository or of the toolchain."""
         folder = self.made if name in self.lines else self.of_kit("rlibs")
         return os.path.join(folder, f"{name}.rlib")
 
-    def makes(self, crate: str) -> str:
-        """What is made of a crate."""
+    def output(self, crate: str) -> str:
+        """Return the path of the library of a crate, or of the program's object file."""
         return os.path.join(self.made, "subttx.o") if crate == PROGRAM else self.library(crate)
 
-    def proves(self, crate: str, jobs: int) -> list[str]:
-        """The command that proves a crate and makes what the others need, in the crate's folder."""
+    def prove_command(self, crate: str, jobs: int) -> list[str]:
+        """Return the command that proves a crate and writes its library, in the crate's folder."""
         root = "src/main.rt" if crate == PROGRAM else "src/lib.rt"
         words = [os.path.join(self.programs, "rattle"), "build", "--crate-name", crate, root]
         for name in ["std", *self.lines[crate]]:
@@ -63,25 +63,28 @@ class Prover:
         # No crate of this repository has C code of its own.
         words += ["--links", f"{crate}="]
         words += ["--toolchain", self.of_kit("toolchain")] if crate == PROGRAM else ["--statements"]
-        return [*words, "-o", self.makes(crate)]
+        return [*words, "-o", self.output(crate)]
 
-    def links(self, program: str) -> list[str]:
-        """The command that links the program."""
+    def link_command(self, program: str) -> list[str]:
+        """Return the command that links the program."""
         words = [os.path.join(self.programs, "rattle-link"), "--target", TARGET]
-        words += ["--toolchain", self.of_kit("toolchain"), "-o", program, self.makes(PROGRAM)]
+        words += ["--toolchain", self.of_kit("toolchain"), "-o", program, self.output(PROGRAM)]
         return [*words, *(self.of_kit("c", name) for name in ("libos_c.a", "liblibc_c.a"))]
 
 
-def line_in(said: str) -> str | None:
-    """The prover's line at the end of what it said of a crate, where nothing weakens it: no other
-    word, and no warning, as of a contract that no call can meet, or a term that was not written."""
-    found = [] if WARNING.search(said) else LINE.findall(said)
+def line_in(output: str) -> str | None:
+    """Return the prover's line at the end of its output about a crate.
+
+    Return `None` if something weakens it: an unknown word, or a warning, such as that no call can
+    meet a contract, or that a term was not written.
+    """
+    found = [] if WARNING.search(output) else LINE.findall(output)
     words = {word.partition("=")[0] for word in found[-1].split()[1:]} if found else set[str]()
     return found[-1] if words and words <= WORDS else None
 
 
 class Made:
-    """The libraries that were made here, each beside the sources and the toolchain it is of."""
+    """The libraries that were built here, each with the checksum of its sources and toolchain."""
 
     def __init__(self, prover: Prover, sums: dict[str, str]) -> None:
         self.prover, self.sums, self.toolchain = prover, sums, toolchain()
@@ -90,15 +93,15 @@ class Made:
         return os.path.join(self.prover.made, f"{crate}.of")
 
     def sum_of(self, crate: str) -> str:
-        """The sum of the sources of a crate and of those below it, under this toolchain."""
+        """Return the checksum of the toolchain and the sources of a crate and its crates below."""
         names = [*below(crate, self.prover.lines), crate]
         text = "\n".join([self.toolchain, *(self.sums[name] for name in names)])
         return hashlib.sha256(text.encode()).hexdigest()
 
     def line_of(self, crate: str) -> str | None:
-        """The prover's line of a crate that was proved here, of these very sources."""
+        """Return the prover's line of a crate if exactly these sources were proved here."""
         digest, _, line = (read(self.note_of(crate)) or "").partition("\n")
-        is_there = os.path.exists(self.prover.makes(crate))
+        is_there = os.path.exists(self.prover.output(crate))
         return line.strip() if is_there and digest == self.sum_of(crate) else None
 
     def forget(self, crate: str) -> None:
@@ -110,10 +113,9 @@ class Made:
 
 
 def chains(lines: Lines, sizes: dict[str, int]) -> dict[str, int]:
-    """For each crate, lowest first, the work from its beginning to the program's end, by the
-    longest way."""
+    """Return for each crate, highest first, the work on its longest path up to the program."""
     found: dict[str, int] = {}
     for name in reversed(sizes):
-        above = (found[one] for one in found if name in lines[one])
+        above = (work for user, work in found.items() if name in lines[user])
         found[name] = sizes[name] + max(above, default=0)
     return found

@@ -1,21 +1,21 @@
-"""The command lines of documents, with what they print there; and how one is run."""
+"""Find the command lines of documents with the output shown there, and run them."""
 from __future__ import annotations
 
 import re
 import subprocess
 
-SECONDS = 600  # for one line, on a machine that does other things too
+SECONDS = 600  # time limit of one command line, on a busy machine
 
 
 class Line:
-    """A command line of a document: its line number, the command, the output shown."""
+    """A command line of a document: its line number, the command, and the output shown."""
 
     def __init__(self, number: int, command: str) -> None:
         self.number, self.command, self.shown = number, command, ""
 
 
 def commands(path: str) -> list[Line]:
-    """The command lines of a document."""
+    """Return the command lines of a document."""
     inside = False
     current: Line | None = None
     found: list[Line] = []
@@ -36,7 +36,7 @@ def commands(path: str) -> list[Line]:
 
 
 def has_status(status: int | None, command: str, output: str) -> bool:
-    """Whether the exit status of a line goes with its output, by the last line of that."""
+    """Return whether the exit status agrees with the last line of the output."""
     if "|" in command.rsplit(";", 1)[-1]:
         return True
     last = output.rstrip("\n").split("\n")[-1]
@@ -46,12 +46,12 @@ def has_status(status: int | None, command: str, output: str) -> bool:
     return status == statuses.get(last.split(" ")[0], 0)
 
 
-def printed_by(command: str, folder: str, known: dict[str, str]) -> tuple[str, int | None]:
-    """What a command line prints, and its status; `None` where it did not end."""
+def printed_by(command: str, folder: str, env: dict[str, str]) -> tuple[str, int | None]:
+    """Run a command line; return its output and its status, `None` if it did not end in time."""
     try:
-        ended = subprocess.run(["sh", "-c", command], cwd=folder, env=known, check=False,
-                               stdin=subprocess.DEVNULL, stdout=subprocess.PIPE,
-                               stderr=subprocess.STDOUT, timeout=SECONDS)
+        done = subprocess.run(["sh", "-c", command], cwd=folder, env=env, check=False,
+                              stdin=subprocess.DEVNULL, stdout=subprocess.PIPE,
+                              stderr=subprocess.STDOUT, timeout=SECONDS)
     except subprocess.TimeoutExpired:
-        return f"nothing within {SECONDS} seconds", None
-    return ended.stdout.decode("utf-8", "replace"), ended.returncode
+        return f"did not end within {SECONDS} seconds", None
+    return done.stdout.decode("utf-8", "replace"), done.returncode

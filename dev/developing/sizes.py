@@ -1,6 +1,6 @@
-"""How many lines the crates have of code, contracts, definitions, proofs and tests.
+"""Count the crates' lines of code, contracts, definitions, proofs and tests.
 
-Lines are those that are not blank; of the code neither imports nor comments count.
+Blank lines do not count, nor imports and comments in code.
 """
 from __future__ import annotations
 
@@ -20,8 +20,8 @@ IMPORT = re.compile(r"(ghost use|use|pub use|mod|pub mod)\b")
 CONTRACT = re.compile(r"(requires|ensures)\b")
 
 
-def of_code(text: str, sizes: collections.Counter[str]) -> None:
-    """Counts the lines of a file of code."""
+def count_code(text: str, sizes: collections.Counter[str]) -> None:
+    """Add the lines of a file of code to `sizes`."""
     is_test, depth = False, 0
     for line in filter(None, map(str.strip, text.split("\n"))):
         is_test = is_test or line == "mod tests {"
@@ -34,8 +34,8 @@ def of_code(text: str, sizes: collections.Counter[str]) -> None:
             sizes["code"] += 1
 
 
-def counted(top: str) -> dict[str, collections.Counter[str]]:
-    """The sizes of each crate of a repository, by its name."""
+def count_lines(top: str) -> dict[str, collections.Counter[str]]:
+    """Return the sizes of each crate of a repository by name."""
     found: dict[str, collections.Counter[str]] = collections.defaultdict(collections.Counter)
     for path in glob.glob(os.path.join(top, "crates", "*", "*", "**", "*.*"), recursive=True):
         crate, part = os.path.relpath(path, os.path.join(top, "crates")).split(os.sep)[:2]
@@ -46,17 +46,17 @@ def counted(top: str) -> dict[str, collections.Counter[str]]:
         elif path.endswith(".antt"):
             found[crate][part] += len(lines)
         elif path.endswith(".rt"):
-            of_code("\n".join(lines), found[crate])
+            count_code("\n".join(lines), found[crate])
     return found
 
 
 def total(sizes: dict[str, collections.Counter[str]]) -> collections.Counter[str]:
-    """The sizes of all crates."""
+    """Return the sizes of all crates together."""
     return sum(sizes.values(), collections.Counter())
 
 
 def promised(graph: Graph) -> collections.Counter[str]:
-    """Return the lines of each crate's definitions that public contracts and laws rest on."""
+    """Count the lines of each crate's definitions that public contracts and laws depend on."""
     lines: collections.Counter[str] = collections.Counter()
     for definition in graph.promised():
         lines[definition.file.crate] += definition.lines

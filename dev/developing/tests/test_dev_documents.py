@@ -16,7 +16,7 @@ from .. import pages
 from ..definitions import Library
 from ..looks import browser
 from ..promises import clauses_in, unknown_clauses
-from ..sizes import KINDS, counted, total
+from ..sizes import KINDS, count_lines, total
 from .bench import Case, script
 
 
@@ -288,7 +288,7 @@ class Lists(Case):
         text = read(os.path.join(TOP, "docs", "ASSURANCE.md")) or ""
         _, _, told = text.partition("(`dev/sizes`): ")
         numbers = [int(one.replace(",", "")) for one in re.findall(r"\d+,\d+", told)[:len(KINDS)]]
-        counts = total(counted(TOP))
+        counts = total(count_lines(TOP))
         self.must("sizes", len(numbers) == len(KINDS) and all(
             abs(number - counts[kind]) * 10 < counts[kind]
             for number, kind in zip(numbers, KINDS)), (numbers, counts))
@@ -370,10 +370,10 @@ def implements_drop(text: str) -> bool:
 
 
 class Bodies(unittest.TestCase):
-    """What is read because no clause can speak of it."""
+    """Bodies that were read, since no contract covers them."""
 
-    def test_stand_as_they_were_read(self) -> None:
-        """`main`, what asks the system for files, and the devices over those."""
+    def test_bodies_are_as_they_were_read(self) -> None:
+        """`main`, the calls that open files, and the devices over those; comments aside."""
         parts = text_of(STORED).split("\n== ")[1:]
         bodies = [part.partition("\n")[2] for part in parts]
         self.assertEqual([next((head for head in HELD if body.startswith(f"{head} ")), body)
@@ -381,7 +381,9 @@ class Bodies(unittest.TestCase):
         for part in parts:
             name, _, body = part.partition("\n")
             with self.subTest(body.partition("\n")[0]):
-                self.assertIn(f"\n{body.strip()}\n", text_of(name),
+                code = "\n".join(line for line in text_of(name).split("\n")
+                                 if not line.lstrip().startswith("//"))
+                self.assertIn(f"\n{body.strip()}\n", code,
                               f"read the change of {name}, and store it in {STORED}")
 
     def test_no_value_does_anything_when_it_ends(self) -> None:
