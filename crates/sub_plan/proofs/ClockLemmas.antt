@@ -1,4 +1,4 @@
--- The frame that a PTS is read as: frame_found, no_frame_found, and the laws of clocks.
+-- The frame of a PTS: frame_found, no_frame_found, and the laws of clocks.
 use Rattle.std.proofs.lemmas.Bool.Decides.{nat_tests}
 use Rattle.std.proofs.Common.{◌≡◌, ◌≢◌, ℕ, zero, suc, ◌+◌, ◌-◌, ◌/◌, ◌%◌, ◌^◌, ◌<◌}
 use Rattle.std.proofs.Common.{◌↔◌, Option, Some, None, refl, sym, ◌∙◌, arith, MatchOption}
@@ -7,7 +7,7 @@ use Rattle.sub_plan.specs.FrameTime.{clock, frame_below, frame_of_pts, near_fram
 use Rattle.sub_plan.specs.FrameTime.{ticks_since}
 use Rattle.sub_plan.specs.Laws.{LawOfClock, LawOfExactClock, LawOfNearClock}
 
--- What is told of the frames below a number: the frame that is found has the PTS, or none has.
+-- The frame that is found below a number has the PTS; if none is found, none has it.
 pub found_below :
     (origin pts n : ℕ) (r : Option ℕ)
     → frame_below origin pts n ≡ r
@@ -40,7 +40,6 @@ frame_found origin pts frame in_day e =
     let same = same_frame origin frame in
     grind (arith, nat_tests, found_below origin pts day (frame_of_pts origin pts))
 
--- Where no frame of the day has a PTS, none is found.
 pub no_frame_found :
     (origin pts : ℕ)
     → ((frame : ℕ) → frame < day → pts_of origin frame ≢ pts)
@@ -48,7 +47,7 @@ pub no_frame_found :
 no_frame_found origin pts none =
     let all = found_below origin pts day (frame_of_pts origin pts) refl in grind arith
 
--- What a clock reads that allows frames.
+-- The frame that a clock with a tolerance reads.
 near_read :
     (origin pts frame : ℕ)
     → pts < 2 ^ 33
@@ -58,7 +57,7 @@ near_read :
 unfolding near_frame
 near_read origin pts frame low in_day is = grind (arith, nat_tests)
 
--- The ticks of a frame of the day since the first one, by those since its own first one.
+-- The ticks since the first frame, from those since the frame's own first tick.
 ticks_of :
     (origin frame ticks pts : ℕ)
     → origin < 2 ^ 33
@@ -68,7 +67,6 @@ ticks_of :
     → ticks_since origin pts / 3600 ≡ frame
 ticks_of origin frame ticks pts low in_day few is = omega (arith, low, in_day, few, is)
 
--- For `law_of_near_clock`.
 pub law_of_near_clock : LawOfNearClock
 unfolding clock
 law_of_near_clock zero origin frame ticks low in_day some few = absurd (omega arith)
@@ -76,7 +74,6 @@ law_of_near_clock (suc n) origin frame ticks low in_day some few =
     near_read origin _ frame (omega arith) in_day
     (ticks_of origin frame ticks _ low in_day few refl)
 
--- For `law_of_clock`.
 pub law_of_clock : LawOfClock
 unfolding clock
 law_of_clock zero origin frame low in_day =
@@ -85,7 +82,7 @@ law_of_clock (suc n) origin frame low in_day =
     near_read origin (pts_of origin frame) frame (omega arith) in_day
     (ticks_of origin frame 900 (pts_of origin frame) low in_day (omega arith) (omega arith))
 
--- What is found is the frame of the day that has the PTS.
+-- The frame that is found is the frame of the day that has the PTS.
 pub exact_by :
     (origin pts : ℕ) (r : Option ℕ)
     → r ≡ frame_of_pts origin pts
@@ -96,27 +93,24 @@ exact_by origin pts r is frame = (
   λ both. is ∙ frame_found origin pts frame both.0 both.1,
 )
 
--- For `law_of_exact_clock`.
 pub law_of_exact_clock : LawOfExactClock
 unfolding clock
 law_of_exact_clock origin pts frame = exact_by origin pts (frame_of_pts origin pts) refl frame
 
 -- ---- for `Options::frame_of`
 
--- No frame has the PTS.
 pub exact_none : (origin pts : ℕ)
     → ((frame : ℕ) → frame < day → pts_of origin frame ≢ pts)
     → None ≡ frame_of_pts origin pts
 exact_none origin pts none = sym (no_frame_found origin pts none)
 
--- This frame has it.
 pub exact_read : (origin pts frame : ℕ)
     → frame < day
     → pts_of origin frame ≡ pts
     → Some frame ≡ frame_of_pts origin pts
 exact_read origin pts frame in_day is = sym (frame_found origin pts frame in_day is)
 
--- The clock where no frames are allowed.
+-- The clock without a tolerance.
 pub clock_exact : (within origin pts : ℕ)
     → within ≡ 0
     → frame_of_pts origin pts ≡ clock within origin pts
@@ -124,7 +118,7 @@ unfolding clock
 clock_exact zero origin pts none = refl
 clock_exact (suc n) origin pts none = absurd (omega arith)
 
--- The clock where frames are allowed.
+-- The clock with a tolerance.
 pub clock_near : (within origin pts : ℕ)
     → within ≢ 0
     → near_frame origin pts ≡ clock within origin pts

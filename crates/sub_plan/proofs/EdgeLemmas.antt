@@ -1,4 +1,4 @@
--- Between edges the due page stays: still_due.
+-- The due page stays the same between edges: still_due.
 use Rattle.std.proofs.Common.{◌≡◌, ℕ, ◌-◌, ◌<◌, ◌≤◌, List, ◌∙◌, arith, inl, inr}
 use Rattle.std.proofs.lemmas.Bool.{cases_lt}
 use Rattle.ttx_page.specs.Page.{Rows}
@@ -6,11 +6,11 @@ use Rattle.stl_file.specs.Subtitle.{SubtitleValue}
 use Rattle.stl_rows.specs.DuePage.{IsEdge}
 use Rattle.sub_plan.proofs.ScheduleBases.{stays}
 
--- The due page is that of the frame before, at each frame that is no edge.
+-- At each frame that is no edge, the due page is that of the frame before.
 abbrev pub StaysBetweenEdges : (ℕ → Rows) → List SubtitleValue → Type 0
 StaysBetweenEdges due records = (f : ℕ) → 1 ≤ f → (IsEdge records f → ⊥) → due f ≡ due (f - 1)
 
--- Where one page was due up to a frame, it is due up to the next edge. For `next_change`.
+-- If one page was due up to a frame, it is due up to the next edge. For `next_change`.
 pub still_due : (due : ℕ → Rows) (records : List SubtitleValue) (start at end : ℕ)
     → StaysBetweenEdges due records
     → ((e : ℕ) → IsEdge records e → at < e → end ≤ e)

@@ -1,4 +1,4 @@
--- The headers of a sending byte by byte, computed.
+-- The headers of a page transmission byte by byte, computed.
 use Rattle.std.proofs.Common.{refl}
 use Rattle.ttx_packet.specs.PageHeader.{header_packet}
 use Rattle.stl_rows.specs.SubSets.{sub_set}

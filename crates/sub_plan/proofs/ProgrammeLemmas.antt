@@ -15,28 +15,26 @@ use Rattle.sub_plan.specs.Schedule.{sendings_from}
 use Rattle.sub_plan.specs.Laws.{LawOfDay}
 use Rattle.sub_plan.proofs.ScheduleBases.{range_all}
 
--- No first TCI, no subtitles.
+-- Without a first TCI there are no subtitles.
 pub none_in : (ts : List SubtitleValue) → None ≡ first_in ts → ts ≡ []
 none_in [] h = refl
 none_in (t ∷ ts) h = cc
 
--- The last of some subtitles.
 last_is : (t : SubtitleValue) (ts : List SubtitleValue)
     → last_out (t ∷ ts) ≡ Some ((get_or (t ∷ ts) (length (t ∷ ts) - 1) t).tco)
 last_is t ts = grind (arith, nat_tests, slice_get-get_or)
 
--- With a first TCI there is a last TCO.
+-- If there is a first TCI, there is a last TCO.
 pub some_out : (ts : List SubtitleValue) (a : ℕ) → Some a ≡ first_in ts → None ≡ last_out ts
     → ts ≡ []
 some_out [] a h k = refl
 some_out (t ∷ ts) a h k = let e = last_is t ts in cc
 
--- The one is before the other, which is a frame of the day.
+-- The first frame is before the last, which is a frame of the day.
 pub record IsSpan (a b : ℕ) : Type 0 where
   pub rises : a < b
   pub in_day : b < day
 
--- The first TCI of a programme is before its last TCO, which is a frame of the day.
 pub span-rises : (drawing : Drawing) (ts : List SubtitleValue) (a b : ℕ) → IsProgramme drawing ts
     → Some a ≡ first_in ts → Some b ≡ last_out ts → IsSpan a b
 span-rises drawing [] a b ok h k = cc
@@ -55,7 +53,7 @@ span-rises drawing (t ∷ ts) a b ok h k =
       in_day = omega (arith, f, each_last.in_day);
     }
 
--- The frames of the schedule, where the first TCI and the last TCO are these.
+-- The frames of the schedule, by the first TCI and the last TCO.
 pub plan_frames-is : (programme : ProgrammeValue) (every a b : ℕ)
     → Some a ≡ first_in programme.records → Some b ≡ last_out programme.records
     → sendings (due_in programme) every a b ≡ plan_frames programme every
@@ -63,7 +61,7 @@ plan_frames-is programme every a b h k = rw (← h, ← k) refl
 
 -- ---- the law of the day
 
--- No frame with a sending is after the last.
+-- No page transmission is after the last frame.
 within : (due : ℕ → Rows) (every first last : ℕ) → first ≤ last
     → All (λ f. f ≤ last) (sendings due every first last)
 unfolding sendings_from
@@ -83,6 +81,5 @@ day_between programme every (Some a) (Some b) h k ok =
     let s = span-rises programme.drawing programme.records a b ok h k in
     grind (arith, nat_tests, All-weaker, within)
 
--- Each frame of the schedule is a frame of the day.
 pub law_of_day : LawOfDay
 law_of_day programme every ok = grind (arith, nat_tests, day_between)

@@ -1,4 +1,5 @@
--- Bases of a schedule and the sendings that they make: last_base, last_sending, sending_in_gap.
+-- Bases of a schedule and the page transmissions that follow from them: last_base, last_sending,
+-- sending_in_gap.
 use Rattle.std.proofs.Common.{◌≡◌, ℕ, zero, suc, ◌+◌, ◌-◌, ◌%◌, ◌<◌, ◌≤◌, ◌==◌, Bool, true, false}
 use Rattle.std.proofs.Common.{◌++◌, refl, sym, ap, ◌∙◌, arith, inl, inr, All, Decides}
 use Rattle.std.proofs.Math.Bool.{or-true}
@@ -23,7 +24,6 @@ range_split a (suc m) n =
     let e : suc m + n ≡ suc (m + n) = omega arith in
     grind (arith, nat_tests, range_split (a + 1) m n)
 
--- What holds in a range holds of each number of the list.
 pub range_all : (P : ℕ → Type 0) (a n : ℕ) → ((j : ℕ) → a ≤ j → j < a + n → P j)
     → All P (range_with_len a n)
 range_all P a zero h = All-nil P
@@ -31,7 +31,8 @@ range_all P a (suc n) h =
     All-cons P a (range_with_len (a + 1) n) (h a (omega arith) (omega arith))
     (range_all P (a + 1) n (λ j b c. h j (omega arith) (omega arith)))
 
--- What is the same at each number as at the one before is the same at all. For bases and edges.
+-- A value that is the same at each number as at the one before is the same at all of them. For
+-- bases and edges.
 pub stays : {X : Type 0} (value : ℕ → X) (s f : ℕ) → s ≤ f
     → ((k : ℕ) → s < k → k ≤ f → value k ≡ value (k - 1)) → value f ≡ value s
 stays value s zero low step = let e : zero ≡ s = omega arith in ap value e
@@ -51,7 +52,7 @@ record IsLastOf (test : ℕ → Bool) (first f g : ℕ) : Type 0 where
   passes : test g ≡ true
   none_after : (k : ℕ) → g < k → k ≤ f → test k ≡ false
 
--- There is one from a number on that passes.
+-- If a number passes, there is a last one from it on.
 find_last : (test : ℕ → Bool) (first f : ℕ) → test first ≡ true → first ≤ f
     → (g : ℕ) × IsLastOf test first f g
 find_last test first f start low = go f (test f) refl low
@@ -76,11 +77,9 @@ find_last test first f start low = go f (test f) refl low
 
 -- ---- bases
 
--- The test of equal pages decides it.
 same_page-Decides : (a b : Rows) → Decides (is_same_page a b) (a ≡ b)
 same_page-Decides a b = grind (arith, nat_tests, slice_eq-Decides, Decides-eqb)
 
--- The test of a base decides it.
 is_base-Decides : (due : ℕ → Rows) (first f : ℕ) → Decides (is_base due first f)
     (IsBase due first f)
 unfolding is_base
@@ -96,29 +95,27 @@ same_unless_base : (due : ℕ → Rows) (first f : ℕ) → (IsBase due first f 
 same_unless_base due first f none =
     let same = same_page-Decides (due f) (due (f - 1)) in grind (arith, nat_tests)
 
--- At a base the last base is the base itself.
 base-at : (due : ℕ → Rows) (first b : ℕ) → IsBase due first b → base due first b ≡ b
 unfolding base
 base-at due first b h = grind (arith, nat_tests, is_base-Decides)
 
--- At a frame that is no base it is that of the frame before.
+-- At a frame that is no base, the last base is that of the frame before.
 base-before : (due : ℕ → Rows) (first f : ℕ) → (IsBase due first f → ⊥)
     → base due first f ≡ base due first (f - 1)
 unfolding base
 base-before due first f none = grind (arith, nat_tests, no_base)
 
--- Up to the next base the last base stays.
+-- Up to the next base the last base stays the same.
 base_stays : (due : ℕ → Rows) (first s f : ℕ) → s ≤ f
     → ((k : ℕ) → s < k → k ≤ f → IsBase due first k → ⊥) → base due first f ≡ base due first s
 base_stays due first s f low none =
     stays (base due first) s f low (λ k a c. base-before due first k (none k a c))
 
--- The last base up to a frame is the one that the definition gives.
 pub base-last : (due : ℕ → Rows) (first f b : ℕ) → IsLastBase due first f b → base due first f ≡ b
 base-last due first f b last =
     base_stays due first b f last.high last.none_after ∙ base-at due first b last.is_base
 
--- From the first frame on there is one.
+-- From the first frame on there is a last base.
 pub last_base : (due : ℕ → Rows) (first f : ℕ) → first ≤ f
     → IsLastBase due first f (base due first f)
 last_base due first f low =
@@ -133,35 +130,31 @@ last_base due first f low =
     } in
     rw (base-last due first f found.0 last) last
 
--- ---- frames that send
+-- ---- frames with a page transmission
 
--- A base is aligned with itself.
 pub aligned-start : (b every : ℕ) → 1 ≤ every → (b - b) % every ≡ 0
 aligned-start b every some = let e : b - b ≡ 0 = omega arith in rw e (mod-eq_of_lt (omega arith))
 
--- A whole number of steps after the last base.
+-- A frame a whole number of steps after its last base has a page transmission.
 sends : (due : ℕ → Rows) (every first last f b : ℕ) → base due first f ≡ b
     → (f - b) % every ≡ 0 → is_sending due every first last f ≡ true
 unfolding is_sending
 sends due every first last f b e whole = rw (e, whole) (or-true (f == last))
 
--- At each base something is sent.
 sends-base : (due : ℕ → Rows) (every first last f : ℕ) → 1 ≤ every → IsBase due first f
     → is_sending due every first last f ≡ true
 sends-base due every first last f some is = grind (arith, nat_tests, sends, base-at, aligned-start)
 
--- At the first frame something is sent.
 pub sends-first : (due : ℕ → Rows) (every first last : ℕ) → 1 ≤ every
     → is_sending due every first last first ≡ true
 sends-first due every first last some = sends-base due every first last first some (inl refl)
 
--- At the last frame something is sent.
 pub sends-last : (due : ℕ → Rows) (every first last : ℕ)
     → is_sending due every first last last ≡ true
 unfolding is_sending
 sends-last due every first last = or_left _ _ ((Decides-eqb last last).1 refl)
 
--- `every` frames after a frame with a sending something is sent, where no base is between.
+-- If no base is between, the frame `every` frames after a page transmission has another.
 sends-again : (due : ℕ → Rows) (every first last s : ℕ) → first ≤ s → s < last
     → is_sending due every first last s ≡ true
     → ((k : ℕ) → s < k → k ≤ s + every → IsBase due first k → ⊥)
@@ -172,7 +165,7 @@ sends-again due every first last s low high sent none =
     let e : s + every - b ≡ s - b + every = omega (arith, (last_base due first s low).high) in
     grind (arith, nat_tests, last_base, sends, base_stays, add-mod_right)
 
--- The last sending up to a frame, made from the page that is still due there.
+-- The last page transmission up to a frame shows the page that is still due there.
 pub last_sending : (due : ℕ → Rows) (every first last f : ℕ) → 1 ≤ every → first ≤ f → (g : ℕ)
     × IsLastSending due every first last f g
 last_sending due every first last f some low =
@@ -193,7 +186,7 @@ last_sending due every first last f some low =
 
 -- ---- the laws
 
--- Among `every` frames there is one that sends: the last sending up to the last of them, since else
+-- Among `every` frames one has a page transmission: the last one up to their end, since otherwise
 -- another would follow it.
 pub sending_in_gap : (due : ℕ → Rows) (every first last g : ℕ)
     → 1 ≤ every
@@ -213,7 +206,7 @@ sending_in_gap due every first last g some low room =
           ∙ sends-base due every first last k some b))))
     ]
 
--- What was sent last is the page that is due.
+-- The page transmitted last is the due page.
 pub law_of_last_sending : LawOfLastSending
 law_of_last_sending = last_sending
 

@@ -1,4 +1,4 @@
--- The frames with a sending, without the way in which they are found: law_of_sendings, law_of_gaps.
+-- The frames with a page transmission, however they are computed: law_of_sendings, law_of_gaps.
 use Rattle.std.proofs.Common.{◌≡◌, ℕ, zero, suc, ◌+◌, ◌-◌, ◌<◌, ◌≤◌, Bool, true, List, [], ◌∷◌}
 use Rattle.std.proofs.Common.{arith, inl, inr, filter, Decides}
 use Rattle.std.proofs.lemmas.Bool.Decides.{nat_tests, Decides-eqb, Decides-like, Decides-or}
@@ -13,7 +13,7 @@ use Rattle.sub_plan.proofs.ScheduleBases.{base-last, last_base, range_all, sendi
 
 -- ---- members of a filtered range
 
--- What is in a filtered range is of the range and passes.
+-- A member of a filtered range is in the range and passes.
 members : (p : ℕ → Bool) (a n x : ℕ) → Contains (filter p (range_with_len a n)) x
     → ((a ≤ x) × (x < a + n)) × (p x ≡ true)
 members p a n x c =
@@ -24,7 +24,7 @@ members p a n x c =
       All-contains (λ y. p y ≡ true) (filter p xs) x (filter_passes p xs) c,
     )
 
--- What is of the range and passes is in the filtered range.
+-- A number in the range that passes is in the filtered range.
 contains : (p : ℕ → Bool) (a n x : ℕ) → a ≤ x → x < a + n → p x ≡ true
     → Contains (filter p (range_with_len a n)) x
 contains p a zero x low high h = absurd (omega arith)
@@ -40,14 +40,13 @@ contains p a (suc n) x low high h =
 
 -- ---- the law of sendings
 
--- The test of a sending decides it.
 is_sending-Decides : (due : ℕ → Rows) (every first last f : ℕ) → first ≤ f
     → Decides (is_sending due every first last f) (IsSending due every first last f)
 unfolding is_sending
 is_sending-Decides due every first last f low =
     grind (arith, nat_tests, Decides-or, Decides-eqb, Decides-like, last_base, base-last)
 
--- The frames with a sending are those of the words.
+-- The frames with a page transmission are those of the definition in words.
 pub law_of_sendings : LawOfSendings
 unfolding sendings_from
 law_of_sendings due every first last f = (
@@ -61,7 +60,7 @@ law_of_sendings due every first last f = (
 
 -- ---- the law of gaps
 
--- Among `every` frames stands one.
+-- Among `every` frames there is one with a page transmission.
 pub law_of_gaps : LawOfGaps
 unfolding sendings_from
 law_of_gaps due every first last g some low room =

@@ -1,4 +1,5 @@
--- What a sending holds and shows: law_of_sending, all_sent, law_of_cut_sendings.
+-- The packets of a page transmission, and the page it shows: law_of_sending, all_sent,
+-- law_of_cut_sendings.
 use Rattle.std.proofs.Common.{rules, ◌≡◌, ℕ, zero, suc, ◌+◌, ◌-◌, ◌<◌, ◌≤◌, inl, inr, Bool, true}
 use Rattle.std.proofs.Common.{false, not, ◌==◌, cond, List, [], ◌∷◌, ◌++◌, length, map, filter}
 use Rattle.std.proofs.Common.{take, find, flat_map, option_map, unwrap_or, slice_index, All, refl}
@@ -50,19 +51,19 @@ sent_rows_are w page =
     (range_all (λ row. IsRowOf w page (row_of w page row)) 1 24
     (λ j b c. record { row = j; low = b; high = omega arith; is = refl })))
 
--- What a packet list shows in a cell, where it is the span.
+-- The code in a cell, if these packets are the span.
 abbrev in_cell : PageIdValue → ℕ → ℕ → List (List ℕ) → ℕ
 in_cell w row column packets =
     unwrap_or (option_map (λ p. code_of (text_byte p column))
     (find (λ p. is_row row (kind w p)) packets)) space
 
--- A row that is not sent has spaces alone.
+-- A row that is not sent has only spaces.
 empty_cell : (codes : List ℕ) (column : ℕ) → is_sent_row codes ≡ false → column < length codes
     → slice_index codes column ≡ space
 empty_cell [] column e l = absurd (omega arith)
 empty_cell (c ∷ cs) column e l = grind (arith, nat_tests, or_parts, empty_cell cs)
 
--- A row is sent where it is not blank. For `is_sent_row`.
+-- A row is sent if it is not blank. For `is_sent_row`.
 pub sent_by_blank : (b : Bool) (codes : List ℕ)
     → length codes ≡ 40
     → (b ≡ true) ↔ (codes ≡ replicate 40 space)
@@ -76,8 +77,7 @@ sent_by_blank false codes long h =
     ∙ sym (get_or-replicate 40 i space 0 (omega (arith, long))))))))
 
 module _ (w : PageIdValue) (page : Rows) (ok : IsWatchable w) (shape : IsPage page) where
-  -- Each cell of some rows that are sent is that of the page; a row that is not among them shows
-  -- spaces.
+  -- Each cell of the sent rows is that of the page; other rows show spaces.
   cell_found : (row column a n : ℕ) → 1 ≤ a → a + n ≤ 25 → column < 40
       → in_cell w row column (rows_from w.magazine page a n)
       ≡ cond (nat_le a row && nat_lt row (a + n)) (cell page row column) space
@@ -106,9 +106,9 @@ module _ (w : PageIdValue) (page : Rows) (ok : IsWatchable w) (shape : IsPage pa
   page_found row column named =
       grind (arith, nat_tests, cell_found row column 1 24 (lit≤ tt) (lit≤ tt) named.2)
 
--- ---- the span of a sending
+-- ---- the span of a page transmission
 
--- Items and one that ends the page, cut: the items that are left, where none of them ends it.
+-- Packets before one that ends the page, cut: if none of them ends it, all stay.
 cut_end : {A : Type 0} (kind_of : A → PacketKind) (rows : List A) (c : A) (m : ℕ)
     → AllByRecursion (λ x. ends_page (kind_of x) ≡ false) rows → ends_page (kind_of c) ≡ true
     → before_end kind_of (take m (rows ++ c ∷ [])) ≡ take m rows
@@ -137,7 +137,7 @@ module _ (w : PageIdValue) (national : National) (serial : Bool) (page : Rows) (
   abbrev rest : List (List ℕ)
   rest = rows ++ closer w serial ∷ []
 
-  -- What the kind of a row says holds of all rows.
+  -- A property of every row's kind holds of all rows.
   of_rows : (P : PacketKind → Type 0) → ((row : ℕ) → P (Row row)) → All (λ p. P (kind w p)) rows
   of_rows P h = grind (arith, nat_tests, All-weaker, kind_row, sent_rows_are w page)
 
@@ -149,7 +149,7 @@ module _ (w : PageIdValue) (national : National) (serial : Bool) (page : Rows) (
   closes : ends_page (kind w (closer w serial)) ≡ true
   closes = ap ends_page (kind_closer w serial ok)
 
-  -- None after the first is a header of the page, however it is cut.
+  -- However it is cut, no packet after the first is a header of the page.
   no_header : (m : ℕ) → holds_header (kind w) (take m rest) ≡ false
   no_header m =
       let P : List ℕ → Type 0 = λ p. is_this_page (kind w p) ≡ false in
@@ -158,29 +158,30 @@ module _ (w : PageIdValue) (national : National) (serial : Bool) (page : Rows) (
       (All-push P rows (closer w serial) (of_rows (λ k. is_this_page k ≡ false) (λ row. refl))
       (ap is_this_page (kind_closer w serial ok))))
 
-  -- What stands before the closing header, cut.
+  -- The packets before the closing header, cut.
   rows_before_end : (m : ℕ) → before_end (kind w) (take m rest) ≡ take m rows
   rows_before_end m =
       cut_end (kind w) rows (closer w serial) m
       (recursion_from_All (λ p. ends_page (kind w p) ≡ false) rows
       (of_rows (λ k. ends_page k ≡ false) (λ row. refl))) closes
 
-  -- A sending cut short, but not of its header.
+  -- A page transmission cut after its header.
   cut_span : (m : ℕ) → span (kind w) (opener w national serial ∷ take m rest) ≡ take m rows
   cut_span m = grind (arith, nat_tests, after-here, opener, rest, no_header, opens, rows_before_end)
 
-  -- A sending holds a header of the page.
+  -- -
   pub sending_holds : holds_header (kind w) (sending w national serial page) ≡ true
   unfolding sending
   sending_holds = or_left _ _ opens
 
-  -- A sending that is cut short, also with what follows it, holds a header of the page.
+  -- A page transmission that is cut, also with the packets that follow it, holds a header of the
+  -- page.
   pub opens_cut : (m : ℕ) (more : List (List ℕ))
       → holds_header (kind w) (take (suc m) (sending w national serial page ++ more)) ≡ true
   unfolding sending
   opens_cut m more = or_left _ _ opens
 
-  -- Whatever came before, its other packets stand after the last header.
+  -- Whatever came before, its other packets are those after the last header.
   after_sending : (before : List (List ℕ))
       → after_last_header (kind w) (before ++ sending w national serial page) ≡ rest
   unfolding sending
@@ -208,9 +209,9 @@ module _ (w : PageIdValue) (national : National) (serial : Bool) (page : Rows) (
       → is_unended (kind w) (before ++ sending w national serial page) ≡ false
   ended_after before = search (rules, after_sending, list_any-append, closer, closes, or-true)
 
-  -- ---- also cut short
+  -- ---- cut short
 
-  -- What is in the span of a sending that is cut short.
+  -- The span of a page transmission that is cut.
   pub rows_cut : (n : ℕ)
       → AreRowsOfOnePage w (span (kind w) (take n (sending w national serial page)))
   unfolding sending
@@ -223,7 +224,7 @@ module _ (w : PageIdValue) (national : National) (serial : Bool) (page : Rows) (
 
   -- ---- each packet of it
 
-  -- A fact of the two headers and of each row is one of each packet.
+  -- A property of the two headers and of each row holds of each packet.
   each_packet : (P : List ℕ → Type 0) → P (opener w national serial) → P (closer w serial)
       → ((row : ℕ) → 1 ≤ row → row ≤ 24 → P (row_of w page row))
       → All P (sending w national serial page)
@@ -253,9 +254,9 @@ module _ (w : PageIdValue) (national : National) (serial : Bool) (page : Rows) (
           let made = made_row w page row ok shape one high in
           grind (arith, nat_tests, packet_of_codes, row_codes, none-some, kind_row)
 
--- ---- sendings one after another, cut anywhere
+-- ---- page transmissions one after another, cut anywhere
 
--- By the number of sendings: what stands before the last header does not matter.
+-- By induction on their number: the packets before the last header don't matter.
 pub law_of_cut_sendings : LawOfCutSendings
 law_of_cut_sendings w national serial due [] n ok shape =
     rw (take_all {A = List ℕ} n [] (omega arith))
@@ -276,6 +277,5 @@ law_of_cut_sendings w national serial due (f ∷ g ∷ fs) n ok shape =
       | inr within ↦ grind (arith, nat_tests, take-append-le, rest, rows_cut)
     ]
 
--- A sending shows its page.
 pub law_of_sending : LawOfSending
 law_of_sending w national serial page before row column ok shape named = search (rules, shown_after)

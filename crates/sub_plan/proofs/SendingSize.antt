@@ -1,4 +1,5 @@
--- How long a sending is, as a value and row by row: law_of_size, law_of_pes_values, sending_made.
+-- The size of a page transmission, as a value and row by row: law_of_size, law_of_pes_values,
+-- sending_made.
 use Rattle.std.proofs.Common.{rules, ◌≡◌, ℕ, ◌+◌, ◌-◌, ◌*◌, ◌^◌, ◌<◌, ◌≤◌, Bool, false, cond, List}
 use Rattle.std.proofs.Common.{[], ◌∷◌, ◌++◌, length, filter, All, refl, ap, ◌∙◌, arith, lit<}
 use Rattle.std.proofs.Common.{append-nil}
@@ -24,9 +25,8 @@ use Rattle.stl_rows.proofs.LastRowLemmas.{last_row_blank}
 use Rattle.sub_plan.proofs.SentPackets.{closer}
 use Rattle.sub_plan.proofs.SendingLemmas.{all_sent}
 
--- ---- how long it is
+-- ---- its size
 
--- A filtered list is no longer than the list.
 pub short_filter : (test : ℕ → Bool) (xs : List ℕ) → length (filter test xs) ≤ length xs
 short_filter test xs = omega (arith, length-filter test xs, count_by-le-length test xs)
 
@@ -39,7 +39,7 @@ short_page : (magazine : ℕ) (page : Rows) → length (sent_rows magazine page)
 unfolding sent_rows
 short_page magazine page = short_rows magazine page 1 24
 
--- A sending has at most 26 packets.
+-- A page transmission has at most 26 packets.
 pub law_of_size : LawOfSize
 unfolding sending
 law_of_size w national serial page = grind (arith, nat_tests, length_push, closer, short_page)
@@ -49,7 +49,7 @@ blank_unsent : is_sent_row blank_row ≡ false
 unfolding blank_row
 blank_unsent = refl
 
--- Of a page with a blank last row the rows but that one are sent.
+-- Of a page whose last row is blank at most 23 rows are sent.
 rows_but_last : (magazine : ℕ) (page : Rows)
     → row_at page 24 ≡ blank_row
     → length (sent_rows magazine page) ≤ 23
@@ -65,7 +65,7 @@ rows_but_last magazine page e =
       rows,
     ) (short_filter test (range_with_len 1 23))
 
--- A sending of a page that is due: its header, at most 23 rows, the closing header.
+-- The transmission of a due page: its header, at most 23 rows, the closing header.
 pub law_of_due_size : LawOfDueSize
 unfolding sending
 law_of_due_size w serial programme frame =
@@ -73,7 +73,7 @@ law_of_due_size w serial programme frame =
 
 -- ---- as a PES packet
 
--- A sending is the value of a PES packet.
+-- A page transmission is the value of a PES packet.
 pub law_of_pes_values : LawOfPesValues
 law_of_pes_values o national serial page frame ok shape =
     let packets : List (List ℕ) = sending o.page national serial page in
@@ -85,9 +85,9 @@ law_of_pes_values o national serial page frame ok shape =
     (numbered_is_value (pts_of o.origin frame) packets small few
     (recursion_from_All IsPacket packets each)).0
 
--- ---- for a loop that makes it row by row
+-- ---- for a loop over the rows
 
--- Of the rows from one on: the row, where it is sent, and those after it. For `of_page`.
+-- The rows from one on: this row, if it is sent, and those after it. For `of_page`.
 pub rows_next : (magazine : ℕ) (page : Rows) (row : ℕ)
     → row ≤ 24
     → rows_from magazine page row (25 - row)
@@ -95,7 +95,7 @@ pub rows_next : (magazine : ℕ) (page : Rows) (row : ℕ)
     ++ rows_from magazine page (row + 1) (25 - (row + 1))
 rows_next magazine page row high = grind (arith, nat_tests)
 
--- The closing header completes the sending, after row 24.
+-- After row 24 the closing header completes the page transmission.
 pub sending_made : (w : PageIdValue) (national : National) (serial : Bool) (page : Rows)
     (sent : List (List ℕ))
     → sent ≡ header_packet w.magazine (watched_header w national serial)

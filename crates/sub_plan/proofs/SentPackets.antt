@@ -1,4 +1,5 @@
--- The packets of a sending, one by one: what is read of them, made_row, and their kinds, kind_row.
+-- The packets of a page transmission: the values read from them, made_row, and their kinds,
+-- kind_row.
 use Rattle.std.proofs.Common.{rules, ◌≡◌, ℕ, ◌+◌, ◌-◌, ◌*◌, ◌/◌, ◌%◌, ◌<◌, ◌≤◌, Bool, List, [], ◌∷◌}
 use Rattle.std.proofs.Common.{◌++◌, length, map, replicate, slice_index, All, refl, arith, lit<}
 use Rattle.std.proofs.Common.{eq-eqb, ne_eqb}
@@ -27,11 +28,10 @@ use Rattle.sub_plan.specs.Sending.{watched_header, closing_header}
 
 -- ---- packets of bytes
 
--- The number is a byte's.
 abbrev IsByte : ℕ → Type 0
 IsByte b = b < 0x100
 
--- Each place of a list of bytes, past its end too.
+-- Each element of a list of bytes is one, also past its end.
 byte_at : (xs : List ℕ) → All IsByte xs → (n : ℕ) → slice_index xs n < 0x100
 byte_at xs all n = grind (arith, nat_tests, get_or_past)
 
@@ -39,15 +39,13 @@ byte_at xs all n = grind (arith, nat_tests, get_or_past)
 code_word_small : (n : ℕ) → code_word n < 0x100
 code_word_small n = grind (arith, nat_tests, byte_at, ltb-true, AllPass-from_list_all)
 
--- Code words are bytes.
 code_words_small : (numbers : List ℕ) → All IsByte (map code_word numbers)
 code_words_small numbers = search (rules, All-map, code_word_small)
 
--- A byte of odd parity is a byte.
 odd_byte_small : (code : ℕ) → code < 0x80 → odd_byte code < 0x100
 odd_byte_small code l = grind (arith, nat_tests)
 
--- 42 bytes, of which the first two are the address, are a packet.
+-- 42 bytes that begin with an address are a packet.
 packet_from : (magazine y : ℕ) (rest : List ℕ) → length (address_words magazine y ++ rest) ≡ 42
     → All IsByte rest → IsPacket (address_words magazine y ++ rest)
 packet_from magazine y rest size all = record {
@@ -76,14 +74,14 @@ packet_of_codes magazine row codes size all =
     (All-map IsByte odd_byte codes
     (All-weaker (λ c. c < 0x80) (λ c. odd_byte c < 0x100) odd_byte_small codes all))
 
--- ---- what the packets are
+-- ---- the values of the packets
 
--- The header of the page is one that a packet can say.
+-- The header of the page can be coded in a packet.
 watched_is : (w : PageIdValue) (national : National) (serial : Bool) → IsWatchable w
     → IsHeader (watched_header w national serial)
 watched_is w national serial ok = grind (arith, nat_tests, bit_small)
 
--- The closing header is one that a packet can say.
+-- So can the closing header.
 closing_is : (serial : Bool) → IsHeader (closing_header serial)
 closing_is serial = grind (arith, nat_tests, bit_small)
 
@@ -95,12 +93,12 @@ opener w national serial = header_packet w.magazine (watched_header w national s
 abbrev pub closer : PageIdValue → Bool → List ℕ
 closer w serial = header_packet w.magazine (closing_header serial)
 
--- What is read of the header of the page.
+-- The values read from the header of the page.
 pub made_opener : (w : PageIdValue) (national : National) (serial : Bool) → IsWatchable w
     → IsMadeHeader w.magazine (watched_header w national serial) (opener w national serial)
 made_opener w national serial ok = search (rules, law_of_header_packet, watched_is)
 
--- What is read of the closing header.
+-- The values read from the closing header.
 pub made_closer : (w : PageIdValue) (serial : Bool) → IsWatchable w
     → IsMadeHeader w.magazine (closing_header serial) (closer w serial)
 made_closer w serial ok = search (rules, law_of_header_packet, closing_is)
@@ -114,12 +112,12 @@ pub row_length : (page : Rows) (row : ℕ) → IsPage page → 1 ≤ row → row
     → length (row_at page row) ≡ 40
 row_length page row shape one high = shape.columns (row - 1) (omega arith)
 
--- The codes of a row of a page.
+-- The codes of a row of a page are below 128.
 pub row_codes : (page : Rows) (row : ℕ) → IsPage page → All (λ c. c < 0x80) (row_at page row)
 row_codes page row shape =
     All-from_get_or (λ c. c < 0x80) (row_at page row) 0 (λ i l. shape.codes (row - 1) i)
 
--- What is read of a row of the page.
+-- The values read from a row of the page.
 pub made_row : (w : PageIdValue) (page : Rows) (row : ℕ) → IsWatchable w → IsPage page → 1 ≤ row
     → row ≤ 24 → IsMadeRow w.magazine row (row_at page row) (row_of w page row)
 made_row w page row ok shape one high =
@@ -128,7 +126,7 @@ made_row w page row ok shape one high =
 
 -- ---- their kinds
 
--- The header of the page is one of the page.
+-- The header of the page is one of this page.
 pub kind_opener : (w : PageIdValue) (national : National) (serial : Bool) → IsWatchable w
     → kind w (opener w national serial) ≡ ThisPage (watched_header w national serial)
 unfolding kind

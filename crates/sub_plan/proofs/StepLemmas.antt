@@ -1,5 +1,5 @@
--- From base to base: sendings-step splits off the sendings of a stretch, steps-more the first of
--- them.
+-- From base to base: sendings-step splits off the page transmissions of a stretch, steps-more the
+-- first of them.
 use Rattle.std.proofs.Common.{◌≡◌, ℕ, zero, suc, ◌+◌, ◌-◌, ◌%◌, ◌<◌, ◌≤◌, ◌==◌, Bool, false, []}
 use Rattle.std.proofs.Common.{List, ◌∷◌, ◌++◌, refl, ap, ◌∙◌, arith, filter, eq-eqb, ne_eqb}
 use Rattle.std.proofs.lemmas.Bool.Decides.{nat_tests}
@@ -37,7 +37,6 @@ filter_skip p (suc k) a (suc n) h =
 
 -- ---- steps
 
--- At the end no step is left.
 pub steps-none : (every from end : ℕ) → end ≤ from → steps every from end ≡ []
 unfolding steps
 steps-none every from end h = let e : end - from ≡ 0 = omega arith in rw e refl
@@ -65,7 +64,7 @@ steps-more every from end some inside =
 
 -- ---- from base to base
 
--- A base, and the frames up to before another at which the same is due.
+-- A stretch: a base and the frames after it, up to an end, at which the same page is due.
 pub record IsStretch (due : ℕ → Rows) (first b end last : ℕ) : Type 0 where
   pub low : first ≤ b
   pub some : b < end
@@ -78,7 +77,7 @@ last_base-in : (due : ℕ → Rows) (first b end last f : ℕ) → IsStretch due
     → f < end → IsLastBase due first f b
 last_base-in due first b end last f s low high = grind (arith, nat_tests)
 
--- In a stretch the sendings are the steps.
+-- In a stretch the page transmissions are the steps.
 is_sending-in : (due : ℕ → Rows) (every first b end last f : ℕ) → IsStretch due first b end last
     → b ≤ f → f < end → is_sending due every first last f ≡ ((f - b) % every == 0)
 unfolding is_sending
@@ -86,7 +85,7 @@ is_sending-in due every first b end last f s low high =
     let e : (f == last) ≡ false = ne_eqb f last (λ same. absurd (omega (arith, s.high, same))) in
     rw (e, base-last due first f b (last_base-in due first b end last f s low high)) refl
 
--- The sendings from a base on: the steps of its stretch, and those from the next base on.
+-- The page transmissions from a base on: the steps of its stretch, and those from the next base on.
 pub sendings-step : (due : ℕ → Rows) (every first b end last : ℕ) → IsStretch due first b end last
     → sendings_from due every first last b ≡ steps every b end
     ++ sendings_from due every first last end
@@ -101,7 +100,7 @@ sendings-step due every first b end last s =
     (filter_same p (λ f. (f - b) % every == 0) b (end - b)
     (λ j low high. is_sending-in due every first b end last j s low (omega (arith, s.some)))))
 
--- From the last frame on there is one sending.
+-- From the last frame on there is one page transmission.
 pub sendings-last : (due : ℕ → Rows) (every first last : ℕ)
     → sendings_from due every first last last ≡ last ∷ []
 unfolding sendings_from is_sending

@@ -1,4 +1,4 @@
--- The frame by the ticks since the PTS of frame 0, or that none has the PTS.
+-- The ticks since the PTS of frame 0 give the frame; otherwise no frame has the PTS.
 use Rattle.std.proofs.Common.{arith}
 use Rattle.sub_plan.proofs.ClockLemmas.{exact_none, exact_read}
 use Rattle.sub_plan.proofs.options.exact_frame.Goals as goal

@@ -1,4 +1,4 @@
--- The frame by the ticks since the first one of frame 0, or that there is none.
+-- The ticks since the first one of frame 0 give the frame; otherwise there is none.
 use Rattle.std.proofs.Common.{arith}
 use Rattle.std.proofs.lemmas.Bool.Decides.{nat_tests}
 use Rattle.sub_plan.specs.FrameTime.{near_frame}

@@ -1,4 +1,4 @@
--- Up to each edge that was looked at the same page is due.
+-- The same page is due up to the edge reached so far.
 use Rattle.std.proofs.Common.{◌≡◌, ℕ, ◌-◌, ◌<◌, ◌≤◌}
 use Rattle.sub_plan.specs.Schedule.{due_in}
 use Rattle.sub_plan.proofs.scheduling.next_change.Given as goal

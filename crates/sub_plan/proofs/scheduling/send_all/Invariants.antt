@@ -1,4 +1,5 @@
--- Before each stretch: the sendings before its base are done, and its page is at hand.
+-- Before each stretch: the page transmissions before its base are written, and the page due there
+-- is drawn.
 use Rattle.std.proofs.Common.{◌≡◌, ◌-◌, ◌<◌, ◌≤◌}
 use Rattle.sub_plan.specs.Laws.{IsBase}
 use Rattle.sub_plan.specs.Schedule.{due_in, sending_at, sendings, sendings_from}

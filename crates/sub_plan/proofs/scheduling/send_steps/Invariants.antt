@@ -1,4 +1,4 @@
--- Before each frame: the frames before it that carry these packets are done.
+-- Before each frame: the earlier frames that carry these packets are written.
 use Rattle.std.proofs.Common.{◌≡◌, ◌-◌, ◌<◌, ◌≤◌}
 use Rattle.ttx_pes.specs.LineOrder.{numbered_units}
 use Rattle.sub_plan.specs.Steps.{packets_at, steps}

@@ -1,4 +1,4 @@
--- The clock by whether frames are allowed.
+-- The clock with a tolerance, or without one.
 use Rattle.std.proofs.Common.{arith, ◌∙◌}
 use Rattle.sub_plan.proofs.ClockLemmas.{clock_exact, clock_near, exact_by}
 use Rattle.sub_plan.proofs.options.Options.frame_of.Goals as goal

@@ -1,5 +1,4 @@
--- After each row: the packets in the list and the rows after this one are the header of the page
--- and all rows.
+-- The packets in the list and the remaining rows are the header of the page and all rows.
 use Rattle.std.proofs.Common.{◌≡◌, ◌-◌, ◌≤◌, ◌∷◌, ◌++◌, length}
 use Rattle.ttx_packet.specs.PageHeader.{header_packet}
 use Rattle.sub_plan.specs.Sending.{watched_header, rows_from}
