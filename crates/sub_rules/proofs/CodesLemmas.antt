@@ -1,4 +1,4 @@
--- Two packets of code words and odd text that say the same are equal: `same_packet`.
+-- Two packets of code words and odd text with the same contents are equal: `same_packet`.
 use Rattle.std.proofs.lemmas.Bool.Decides.{nat_tests}
 use Rattle.std.proofs.Common.{◌≡◌, ℕ, zero, suc, ◌+◌, ◌*◌, ◌/◌, ◌%◌, ◌<◌, true, not, List}
 use Rattle.std.proofs.Common.{[], ◌∷◌, get_or, slice_index, drop, map, Some, sym, ◌∙◌}
@@ -77,8 +77,8 @@ pub code_of_column :
     (p : List ℕ) (k : ℕ) → get_or (codes_of p) k 0 ≡ code_of (get_or p (k + 2) 0)
 code_of_column p k = grind (arith, nat_tests, code_at, get_or-drop)
 
--- Two packets of one address, in code words, and of one text, in odd bytes, are equal. So a checker
--- needs to keep only the codes of a row to know its packet.
+-- Two packets with the same address, in code words, and the same text, in odd bytes, are equal. So
+-- a checker only needs to keep the codes of a row to know its packet.
 pub same_packet :
     (p q : List ℕ)
     → IsPacket p

@@ -1,4 +1,4 @@
--- The end before a frame of the list: what stood broken there, and how many frames of the day come
+-- The end before a frame of the list: the active faults there, and how many frames of the day come
 -- after it.
 use Rattle.std.proofs.lemmas.Bool.Decides.{nat_tests}
 use Rattle.std.proofs.Common.{◌≡◌, ℕ, ◌+◌, ◌-◌, ◌<◌, arith}
@@ -14,7 +14,7 @@ pub gap_length-is :
 unfolding gap_length
 gap_length-is frames n h1 = grind (arith, nat_tests)
 
--- What stood broken at the end before.
+-- The active faults at the end before.
 pub standing_before_is :
     (g : Criteria) (frames : Transmission) (n f : ℕ)
     → 0 < n

@@ -1,7 +1,6 @@
--- The table of the rules of a frame's end. What is so of each rule in it is so of any,
--- `each_end_rule`; nothing stands broken exactly where none of them does, `rules_none`,
--- `stands_nothing`; and of what is told at an end nothing passes a test that nothing of a rule
--- passes, `end_any`.
+-- The table of the rules of a frame's end. A property of each rule in it holds of any rule,
+-- `each_end_rule`; no fault is active if and only if none of a rule is, `rules_none`,
+-- `stands_nothing`; no event at an end passes a test that no event of a rule passes, `end_any`.
 use Rattle.std.proofs.lemmas.Bool.Decides.{nat_tests}
 use Rattle.std.proofs.Common.{◌≡◌, ℕ, Bool, true, false, List, [], ◌∷◌, Option, Some, None}
 use Rattle.std.proofs.Common.{is_some, not, refl, ◌∙◌, ap, arith, flat_map}
@@ -21,12 +20,12 @@ pub each_end_rule : (P : EndRule → Type 0) → AllByRecursion P end_rules → 
 unfolding end_rules
 each_end_rule P h rule = grind arith
 
--- ---- nothing stands broken
+-- ---- no active faults
 
 pub nothing_at : (rule : EndRule) → broken_at rule nothing_stands ≡ None
 nothing_at rule = grind arith
 
--- Where none of them stands broken.
+-- If no rule has an active fault.
 pub rules_none : (s : Standing) → ((rule : EndRule) → broken_at rule s ≡ None)
     → stands_none s ≡ true
 rules_none s none = ap not (go end_rules)
@@ -42,9 +41,9 @@ stands_nothing s e = grind (arith, nat_tests)
 pub none_at : (s : Standing) → stands_none s ≡ true → (rule : EndRule) → broken_at rule s ≡ None
 none_at s e rule = ap (broken_at rule) (stands_nothing s e) ∙ nothing_at rule
 
--- ---- what is told at an end
+-- ---- the events at an end
 
--- Where nothing stood broken at the end before, whichever that is.
+-- If no fault was active at the end before, the number of that frame doesn't matter.
 from_none : (rule : EndRule) (a b : ℕ) (o : Option (ℕ × ℕ)) (f : ℕ)
     → rule_events rule None a o f ≡ rule_events rule None b o f
 from_none rule a b None f = refl

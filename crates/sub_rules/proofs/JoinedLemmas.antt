@@ -1,5 +1,5 @@
--- PES packets that are sent as one frame: within 0 frames each is one, `joined-none`; one PES
--- packet on, `sent_after-other`, `sent_after-same`; more packets of the last frame,
+-- PES packets that are sent as one frame: within 0 frames each is one, `joined-none`; one more PES
+-- packet, `sent_after-other`, `sent_after-same`; more packets of the last frame,
 -- `with_packets-push`, `with_packets-frames`; some PES packets, and then others,
 -- `joined_after-append`, `steps_of_each-append`; some packets of a frame, and then others,
 -- `packets_told-append`.
@@ -21,9 +21,9 @@ use Rattle.sub_rules.specs.Transmission.{SentFrame, Transmission}
 use Rattle.sub_rules.specs.declared.packet_rule.Watched.{Watched}
 use Rattle.sub_rules.proofs.PacketLists.{Each-append}
 
--- ---- one PES packet on
+-- ---- one more PES packet
 
--- Within 0 frames no frame goes on.
+-- Within 0 frames no frame is continued.
 pub goes_on-none : (sent : Transmission) (s : SentFrame) → goes_on_with 0 sent s ≡ false
 goes_on-none [] s = refl
 goes_on-none (first ∷ sent) s = refl
@@ -34,13 +34,13 @@ pub sent_after-other : (within : ℕ) (sent : Transmission) (s : SentFrame)
     → sent_after within sent s ≡ sent ++ s ∷ []
 sent_after-other within sent s other = rw other refl
 
--- More of the last frame goes on with it.
+-- A PES packet that continues the last frame adds its packets to it.
 pub sent_after-same : (within : ℕ) (sent : Transmission) (s : SentFrame)
     → goes_on_with within sent s ≡ true
     → sent_after within sent s ≡ with_packets s.packets sent
 sent_after-same within sent s same = rw same refl
 
--- Within 0 frames each is another one.
+-- Within 0 frames each PES packet is another frame.
 pub sent_after-none : (sent : Transmission) (s : SentFrame) → sent_after 0 sent s ≡ sent ++ s ∷ []
 sent_after-none sent s = sent_after-other 0 sent s (goes_on-none sent s)
 
@@ -55,7 +55,7 @@ joined_after-append within sent [] ys = refl
 joined_after-append within sent (x ∷ xs) ys =
     joined_after-append within (sent_after within sent x) xs ys
 
--- Frames after others, and the one after them.
+-- Some frames, and then one more.
 pub joined_after-push : (within : ℕ) (sent xs : Transmission) (s : SentFrame)
     → joined_after within sent (xs ++ s ∷ [])
     ≡ sent_after within (joined_after within sent xs) s
@@ -81,7 +81,7 @@ joined-within within frames none =
 
 -- ---- more packets of the last frame
 
--- The last frame, and what is sent in it too.
+-- The last frame with more packets.
 abbrev pub with_more : List (List ℕ) → SentFrame → SentFrame
 with_more packets s = record { frame = s.frame; packets = s.packets ++ packets }
 
@@ -93,7 +93,7 @@ with_packets-push packets (x ∷ []) s = refl
 with_packets-push packets (x ∷ y ∷ init) s =
     ap (λ (l : Transmission). x ∷ l) (with_packets-push packets (y ∷ init) s)
 
--- The numbers of the frames stay.
+-- The numbers of the frames stay the same.
 pub with_packets-frames : (packets : List (List ℕ)) (sent : Transmission)
     → map (λ (s : SentFrame). s.frame) (with_packets packets sent)
     ≡ map (λ (s : SentFrame). s.frame) sent
@@ -115,7 +115,7 @@ pub with_packets-frame_at : (packets : List (List ℕ)) (sent : Transmission) (i
     → frame_at (with_packets packets sent) i ≡ frame_at sent i
 with_packets-frame_at packets sent i = rw (with_packets-frames packets sent) refl
 
--- The frames before the last one stay.
+-- The frames before the last one stay the same.
 pub with_packets-take : (packets : List (List ℕ)) (sent : Transmission) (n : ℕ)
     → n < length sent
     → take n (with_packets packets sent) ≡ take n sent
@@ -131,7 +131,7 @@ pub with_packets-before : (packets : List (List ℕ)) (sent : Transmission) (n :
     → packets_before (with_packets packets sent) n ≡ packets_before sent n
 with_packets-before packets sent n l = rw (with_packets-take packets sent n l) refl
 
--- The last frame has these too, and so have all.
+-- The last frame gets these packets, and so does the list of all packets.
 pub with_packets-last : (packets : List (List ℕ)) (sent : Transmission) (i : ℕ)
     → suc i ≡ length sent
     → packets_of_frame (with_packets packets sent) i ≡ packets_of_frame sent i ++ packets
@@ -155,10 +155,10 @@ with_packets-all packets (s ∷ next ∷ frames) l =
     (with_packets-all packets (next ∷ frames) (omega arith))
     ∙ sym (append_assoc s.packets (packets_before (next ∷ frames) (length (next ∷ frames))) packets)
 
--- ---- what holds of each packet
+-- ---- properties of each packet
 
 module _ (P : List ℕ → Type 0) where
-  -- The property holds of each packet, as is told of those of a file that was read.
+  -- The property holds of each packet of each frame.
   abbrev pub EachRead : Transmission → Type 0
   EachRead frames = AllByRecursion (λ (s : SentFrame). AllByRecursion P s.packets) frames
 
@@ -190,16 +190,15 @@ module _ (P : List ℕ → Type 0) where
       joined_after-read within (sent_after within sent s) frames
       (sent_after-read within sent s each more.0) more.1
 
--- ---- pieces
+-- ---- PES packets
 
--- The frames of the one and of the other.
 pub frames_of-append : (xs ys : List Piece) → frames_of (xs ++ ys) ≡ frames_of xs ++ frames_of ys
 unfolding frames_of
 frames_of-append [] ys = refl
 frames_of-append (Sent s ∷ xs) ys = ap (λ (fs : Transmission). s ∷ fs) (frames_of-append xs ys)
 frames_of-append (Passed u ∷ xs) ys = frames_of-append xs ys
 
--- What comes of the one, and then of the other.
+-- The steps of the first PES packets, and then of the others.
 pub steps_of_each-append : (g : Criteria) (sent : Transmission) (pes n : ℕ) (xs ys : List Piece)
     → n ≡ pes + length xs
     → steps_of_each g sent pes (xs ++ ys)
@@ -217,7 +216,7 @@ steps_of_each-append g sent pes n (Passed u ∷ xs) ys d =
 
 -- ---- packets of a frame
 
--- What is told of the first packets goes by them alone.
+-- The events of the first packets depend only on these.
 pub packets_told-first :
     (w : Watched) (frame from : ℕ) (before xs ys : List (List ℕ)) (n : ℕ)
     → n ≤ length xs
@@ -231,7 +230,7 @@ packets_told-first w frame from before xs ys (suc n) l =
       get_or_append_left xs ys [] n (omega arith),
     ) refl
 
--- What is told of some packets, and then of the first n of others.
+-- The events of some packets, and then of the first n of others.
 packets_told-then :
     (w : Watched) (frame from : ℕ) (before xs ys : List (List ℕ)) (n : ℕ)
     → packets_told w frame from before (xs ++ ys) (length xs + n)
@@ -255,7 +254,7 @@ packets_told-then w frame from before xs ys (suc n) =
       sym (append_assoc before xs (take n ys)),
     ) (append_assoc (packets_told w frame from before xs (length xs)) _ _)
 
--- What is told of packets of a frame that come in two parts.
+-- The events of the packets of a frame that come in two parts.
 pub packets_told-append :
     (w : Watched) (frame from : ℕ) (before xs ys : List (List ℕ))
     → packets_told w frame from before (xs ++ ys) (length (xs ++ ys))

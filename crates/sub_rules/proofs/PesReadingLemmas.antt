@@ -1,5 +1,5 @@
--- One piece read, in terms of the file up to the first piece that is passed over: `reads_next`,
--- `reads_unread`, `reads_end`; and put together, `reads_more`, `reads_ended`.
+-- Reading one PES packet, by the file up to its first skipped packet: `reads_next`, `reads_unread`,
+-- `reads_end`; and put together, `reads_more`, `reads_ended`.
 use Rattle.std.proofs.lemmas.Bool.Decides.{nat_tests}
 use Rattle.std.proofs.Common.{◌≡◌, ℕ, suc, ◌+◌, ◌<◌, ◌≤◌, List, [], ◌∷◌, length, drop, get_or}
 use Rattle.std.proofs.Common.{Option, Some, None, Result, Ok, Err, refl, ap, arith}
@@ -23,7 +23,7 @@ use Rattle.sub_rules.specs.declared.piece.NextPiece.TheVariants as next
 use Rattle.sub_rules.specs.declared.sending.Sending.{Sending}
 use Rattle.sub_rules.proofs.PieceFileLemmas.{file_at-next}
 
--- A frame of the list, from what stands after those before it.
+-- A frame of the list is the first of the frames from it on.
 is_sent :
     (frames : Transmission) (n : ℕ) (s : SentFrame) (others : Transmission)
     → drop n frames ≡ s ∷ others
@@ -34,7 +34,7 @@ is_sent frames n s others e =
     let at : get_or frames n s ≡ s = grind (arith, nat_tests, get_or-drop n frames 0 s) in
     grind (arith, nat_tests, get_or-map)
 
--- ---- the value of a file, one PES packet on
+-- ---- the value of a file, one PES packet at a time
 
 -- At the end of the bytes no frame is read.
 pub reads_ended :
@@ -56,10 +56,10 @@ pub reads_more :
 reads_more clock given bytes v s frames unread few is sent reads =
     grind (arith, nat_tests, file_at-next)
 
--- ---- what is read of one piece
+-- ---- results of reading one PES packet
 
--- What is read of the bytes that are left after n pieces, by an answer, with the value v of the PES
--- packet that is sent.
+-- The result of reading the bytes after n PES packets; v is the value of the PES packet that is
+-- sent.
 abbrev pub TellsNext :
     Clock → ℕ → List ℕ → PesValue → Result (Option NextPiece) CheckFault → Type 0
 TellsNext clock n bytes v answer =
@@ -67,13 +67,13 @@ TellsNext clock n bytes v answer =
     → ReadsPieces clock n bytes pieces unread
     → TellsPiece clock n bytes pieces unread v answer
 
--- The fault by which no frame is read.
+-- The fault because of which no frame is read.
 abbrev pub told_fault : Result (Option NextPiece) CheckFault → Option CheckFault
 told_fault (Ok (Some (next.Passed f))) = Some f
 told_fault (Err f) = Some f
 told_fault _ = None
 
--- A piece that is sent is the next frame of the list.
+-- A PES packet that is sent is the next frame of the list.
 pub record ReadsNext
     (clock : Clock) (n : ℕ) (bytes : List ℕ) (frames : Transmission) (unread : Option Unread)
     (v : PesValue) (frame : ℕ)
@@ -97,7 +97,7 @@ reads_next clock n bytes frames unread v sending reads tells =
     let left = is.left in
     grind (arith, nat_tests, drop-drop 1 n frames, is_sent frames n s rest.frames)
 
--- Where none is left, the list is at its end.
+-- If no PES packet is left, the list is at its end.
 pub reads_end :
     (clock : Clock) (n : ℕ) (bytes : List ℕ) (frames : Transmission) (unread : Option Unread)
     (v : PesValue)
@@ -110,7 +110,7 @@ reads_end clock n bytes frames unread v reads tells =
     let is = tells file.pieces file.unread refl in
     grind (arith, nat_tests, length-drop n frames)
 
--- So it is where a fault is told, which keeps the bytes from being read on.
+-- So it is if the result is a fault, after which the bytes can't be read on.
 pub reads_unread :
     (clock : Clock) (n : ℕ) (bytes : List ℕ) (frames : Transmission) (unread : Option Unread)
     (v : PesValue) (answer : Result (Option NextPiece) CheckFault) (f : CheckFault)

@@ -1,5 +1,5 @@
--- Of a PES file that is read on the refusal is told first that is told where reading stops at the
--- first piece that is passed over. Main lemma: first_told_is.
+-- The first fault of a PES file that is read on after skipped packets is the first fault if reading
+-- stops at the first skipped packet. Main lemma: first_told_is.
 use Rattle.std.proofs.Common.{◌≡◌, ℕ, suc, ◌+◌, List, [], ◌∷◌, ◌++◌, length, map, Option, Some}
 use Rattle.std.proofs.Common.{None, refl, sym, ap, ◌∙◌, arith, append_assoc, length-append}
 use Rattle.std.proofs.Common.{flat_map}
@@ -34,9 +34,9 @@ use Rattle.sub_rules.specs.Trusted.{CheckStep, at_pes, pes_told, told_after}
 use Rattle.sub_rules.proofs.FrameEvents.{events, events_of_first, frame_events}
 use Rattle.sub_rules.specs.declared.standing.Standing.{Standing}
 
--- ---- what is told first
+-- ---- the first fault
 
--- Up to which piece a run goes changes nothing, where none was passed over before.
+-- Grouping runs of skipped packets doesn't change the first fault, if no packet was skipped before.
 pub announced_first : (es : List Event) → first_told (all_announced no_run es) ≡ first_told es
 unfolding all_announced announced joins passed_after
 announced_first [] = refl
@@ -46,15 +46,16 @@ announced_first (e ∷ es) = announced_first es
 ended_first : (run : PassedRun) → first_told (ended_run run) ≡ None
 ended_first run = grind (arith, nat_tests)
 
--- So it is of all that is told, up to which piece the last run goes among it.
+-- This holds for all events, with the end of the last run after them.
 pub all_first : (told : List Event)
     → first_told (all_announced no_run told ++ ended_run (passed_after_all no_run told))
     ≡ first_told told
 all_first told = grind (arith, nat_tests, first_of_two, ended_first, or-none, announced_first)
 
--- ---- the whole
+-- ---- the whole file
 
--- Bytes that can't be read on are told first after the last frame: what stood broken has ended.
+-- Bytes that can't be read on are the first fault after the last frame: the other events there only
+-- end active faults.
 endings_first : (last : Standing) (f : ℕ) → first_told (endings last f) ≡ None
 unfolding end_events
 endings_first last f = go end_rules
@@ -80,7 +81,7 @@ closing_first : (g : Criteria) (frames : Transmission) (n : ℕ) (u : Unread)
 unfolding closing_events
 closing_first g frames n u h1 h2 = grind (arith, nat_tests, first_of_two, endings_first)
 
--- What is told of frames, the first of them frame i of the list.
+-- The events of frames, of which the first is frame i of the list.
 told_plain : Criteria → Transmission → ℕ → Transmission → List Event
 told_plain g frames i [] = []
 told_plain g frames i (s ∷ others) = frame_events g frames i ++ told_plain g frames (suc i) others
@@ -95,7 +96,7 @@ plain_all g frames i n (s ∷ others) e =
     ∙ append_assoc (events_of_first g frames i) (frame_events g frames i)
     (told_plain g frames (suc i) others)
 
--- What keeps bytes from being read on names its own PES packet.
+-- The fault of the unread bytes names its own PES packet.
 own_unread : (n : ℕ) (u : Unread)
     → fault_at_pes n (unread_fault n (Some u)) ≡ unread_fault n (Some u)
 own_unread n u = grind (arith, nat_tests)
@@ -153,7 +154,7 @@ walk g at_once done all first n pes (Sent s ∷ pieces) u after size all_is firs
     ∙ ap (λ (es : List Event). first_told (es ++ (others ++ closed))) same
     ∙ ap first_told (sym (append_assoc (frame_events h first n) others closed))
 
--- After pieces that are all sent.
+-- After PES packets that are all sent.
 closing_same : (g : Criteria) (frames : Transmission) (n : ℕ) → length frames ≡ n
     → map (at_pes n) (closing_of_pieces g frames n n) ≡ closing_events g frames n
 unfolding closing_of_pieces
@@ -161,7 +162,7 @@ closing_same g frames n h1 =
     let same = own_names n (closing_events g frames n) (own_closing g frames n h1) in
     grind (arith, nat_tests)
 
--- The refusal that is told first, of the frames up to there.
+-- The first fault, by the frames up to the first skipped packet.
 told_of_frames : (g : Criteria) (pieces : List Piece) → g.within ≡ 0
     → first_told (all_of_pieces g pieces)
     ≡ first_told (events (until_passed g pieces) (read_until_passed pieces g.unread).frames)
@@ -200,27 +201,27 @@ told_of_frames g pieces at_once =
         ∙ ap (λ (k : ℕ). map (at_pes k) (closing_of_pieces g frames k (length frames))) (sym all)
         ∙ closing_same g frames (length frames) refl
 
--- Frames that are sent, a piece each, are read to the end.
+-- Frames that are sent, one PES packet each, are read to the end.
 read_sent : (frames : Transmission) (unread : Option Unread)
     → read_until_passed (map Sent frames) unread ≡ record { frames = frames; unread = unread }
 unfolding read_until_passed
 read_sent [] unread = grind (arith, nat_tests)
 read_sent (s ∷ frames) unread = grind (arith, nat_tests, (read_sent frames unread))
 
--- It is that of these frames, a piece each: the law.
+-- The first fault is that of these frames, one PES packet each: the law.
 pub first_told_is : LawOfFirstTold
 first_told_is = grind (arith, nat_tests, told_of_frames, events, read_sent)
 
--- ---- one list after another, for a device that hands them on
+-- ---- one list after another, for an audience that forwards the events
 
--- The run after the one is that before the other.
+-- The run after the first list is the run before the second.
 pub passed_after-append : (run : PassedRun) (xs ys : List Event)
     → passed_after_all run (xs ++ ys) ≡ passed_after_all (passed_after_all run xs) ys
 unfolding passed_after_all
 passed_after-append run [] ys = refl
 passed_after-append run (x ∷ xs) ys = passed_after-append (passed_after run x) xs ys
 
--- What is told of the one, and then of the other.
+-- The reported events of the first list, and then of the second.
 pub all_announced-append : (run : PassedRun) (xs ys : List Event)
     → all_announced run (xs ++ ys)
     ≡ all_announced run xs ++ all_announced (passed_after_all run xs) ys

@@ -1,6 +1,7 @@
--- The frame of a PTS: `clock_in_day`; one piece read, in terms of the value of the whole file:
--- `reads_sent`, `reads_off`, `reads_bad`, `pieces_end`; and a file up to the first piece that is
--- passed over, one PES packet on: `file_at-next`.
+-- Reading a PES file one packet at a time. A PTS gives a frame of the day: `clock_in_day`. Each
+-- result of reading a packet agrees with the value of the file: `reads_sent`, `reads_off`,
+-- `reads_bad`, `pieces_end`. One step of a file that ends at its first skipped packet:
+-- `file_at-next`.
 use Rattle.std.proofs.lemmas.Bool.Decides.{nat_tests}
 use Rattle.std.proofs.Common.{◌≡◌, ℕ, zero, suc, ◌+◌, ◌<◌, ◌≤◌, true, false, List, []}
 use Rattle.std.proofs.Common.{◌∷◌, ◌++◌, length-append, Option, Some, None, Result, Ok, Err, refl}
@@ -32,9 +33,9 @@ use Rattle.sub_rules.specs.Pieces.{pieces_at, read_until_passed}
 use Rattle.sub_rules.specs.Pieces.{until_passed_over}
 use Rattle.sub_rules.specs.Pieces.Piece.{Passed, Sent}
 
--- ---- the frame of a PTS
+-- ---- PTS to frame
 
--- A clock reads frames of the day alone.
+-- A clock yields only frames of the day.
 clock-below :
     (within origin pts frame : ℕ) → clock within origin pts ≡ Some frame → frame < day
 unfolding clock near_frame
@@ -45,13 +46,13 @@ pub clock_in_day :
     (o : OptionsValue) (pts frame : ℕ) → clock_of o pts ≡ Some frame → frame < day
 clock_in_day o pts frame is = clock-below o.within o.origin pts frame is
 
--- ---- the value of a file, one piece on
+-- ---- the value of a file, one PES packet at a time
 
--- A piece, and then a file.
+-- Puts a PES packet before a file.
 abbrev pub before : Piece → PieceFileValue → PieceFileValue
 before piece rest = record { pieces = piece ∷ rest.pieces; unread = rest.unread }
 
--- What a reader answers, and then a file.
+-- Puts a reader's result before a file.
 abbrev pub pieces_by : Clock → Result (Option PesValue) PesFault → PieceFileValue → PieceFileValue
 pieces_by clock (Ok (Some v)) rest = before (piece_of clock (Ok v)) rest
 pieces_by clock (Ok None) rest = record { pieces = []; unread = None }
@@ -59,13 +60,12 @@ pieces_by clock (Err f) rest =
     cond (is_of_piece f) (before (piece_of clock (Err f)) rest)
     (record { pieces = []; unread = Some (BadPacket f) })
 
--- The file of an answer and of what comes then.
 file_of-then : (clock : Clock) (answer : Result (Option PesValue) PesFault) (more : PiecesValue)
     → file_of_pieces clock (piece_then answer more)
     ≡ pieces_by clock answer (file_of_pieces clock more)
 file_of-then clock answer more = grind (arith, nat_tests)
 
--- A file is what its first piece is, and then the file of the others.
+-- A file is its first PES packet followed by the file of the others.
 pub pieces_at-next : (clock : Clock) (given : ℕ) (bytes : List ℕ)
     (answer : Result (Option PesValue) PesFault)
     → given ≤ most_packets
@@ -77,9 +77,9 @@ pieces_at-next clock given bytes answer few is =
     ap (file_of_pieces clock) (pieces_after-next given bytes answer few is)
     ∙ file_of-then clock answer (pieces_after (given + 1) (behind_piece bytes))
 
--- ---- what is read of one piece
+-- ---- results of reading one PES packet
 
--- The first of the pieces that are left, by the answer.
+-- The reader's result determines the first PES packet that is left.
 reads_piece : (clock : Clock) (n : ℕ) (bytes : List ℕ) (pieces : List Piece)
     (unread : Option Unread) (piece : Piece) (answer : Result (Option PesValue) PesFault)
     → n ≤ most_packets
@@ -90,7 +90,7 @@ reads_piece : (clock : Clock) (n : ℕ) (bytes : List ℕ) (pieces : List Piece)
 reads_piece clock n bytes pieces unread piece answer few reads is by =
     grind (arith, nat_tests, pieces_at-next clock n bytes answer few is)
 
--- A PES packet with a frame is a piece that is sent.
+-- A valid PES packet with a frame is sent.
 pub reads_sent : (clock : Clock) (n : ℕ) (bytes : List ℕ) (pieces : List Piece)
     (unread : Option Unread) (v : PesValue) (frame : ℕ)
     → n ≤ most_packets
@@ -103,7 +103,7 @@ unfolding piece_of
 reads_sent clock n bytes pieces unread v frame few reads is of =
     grind (arith, nat_tests, reads_piece)
 
--- One with none is passed over.
+-- A valid PES packet without a frame is skipped.
 pub reads_off : (clock : Clock) (n : ℕ) (bytes : List ℕ) (pieces : List Piece)
     (unread : Option Unread) (v : PesValue)
     → n ≤ most_packets
@@ -115,7 +115,7 @@ unfolding piece_of
 reads_off clock n bytes pieces unread v few reads is none =
     grind (arith, nat_tests, reads_piece)
 
--- A piece that is no PES packet is passed over.
+-- An invalid PES packet is skipped.
 pub reads_bad : (clock : Clock) (n : ℕ) (bytes : List ℕ) (pieces : List Piece)
     (unread : Option Unread) (f : PesFault)
     → n ≤ most_packets
@@ -126,7 +126,7 @@ pub reads_bad : (clock : Clock) (n : ℕ) (bytes : List ℕ) (pieces : List Piec
 unfolding piece_of
 reads_bad clock n bytes pieces unread f few reads is kind = grind (arith, nat_tests, reads_piece)
 
--- Where no piece is left, the list is at its end.
+-- If no PES packet is left, the list is empty.
 pub pieces_end : (clock : Clock) (n : ℕ) (bytes : List ℕ) (pieces : List Piece)
     (unread : Option Unread)
     → n ≤ most_packets
@@ -136,7 +136,7 @@ pub pieces_end : (clock : Clock) (n : ℕ) (bytes : List ℕ) (pieces : List Pie
 pieces_end clock n bytes pieces unread few reads is =
     grind (arith, nat_tests, pieces_at-next clock n bytes (Ok None) few is)
 
--- Where bytes are left that are no piece, no piece is left.
+-- If the bytes left begin no PES packet, the list is empty and `unread` has the fault.
 pub pieces_stop : (clock : Clock) (n : ℕ) (bytes : List ℕ) (pieces : List Piece)
     (unread : Option Unread) (f : PesFault)
     → n ≤ most_packets
@@ -147,14 +147,13 @@ pub pieces_stop : (clock : Clock) (n : ℕ) (bytes : List ℕ) (pieces : List Pi
 pieces_stop clock n bytes pieces unread f few reads is kind =
     grind (arith, nat_tests, pieces_at-next clock n bytes (Err f) few is)
 
--- The fault of a piece is not that the source failed.
+-- A fault of a PES packet is never a failure of the source.
 pub no_failure : (f : PesFault) → is_of_piece f ≡ true → is_read f ≡ false
 no_failure f kind = grind (arith, nat_tests)
 
--- ---- up to the first piece that is passed over
+-- ---- up to the first skipped packet
 
--- A PES packet of this frame and these packets, and then a file; no frame where its PTS is that of
--- none.
+-- Puts a frame with these packets before a file. Without a frame number the file ends here.
 abbrev pub file_with : Option ℕ → List (List ℕ) → PesFileValue → PesFileValue
 file_with None packets rest = record { frames = []; unread = Some NoFrame }
 file_with (Some frame) packets rest = record {
@@ -162,21 +161,20 @@ file_with (Some frame) packets rest = record {
   unread = rest.unread;
 }
 
--- What a reader of PES packets answers, and then a file.
+-- Puts a reader's result before a file that ends at its first skipped packet.
 abbrev pub file_by : Clock → Result (Option PesValue) PesFault → PesFileValue → PesFileValue
 file_by clock (Err f) rest = record { frames = []; unread = Some (BadPacket f) }
 file_by clock (Ok None) rest = record { frames = []; unread = None }
 file_by clock (Ok (Some v)) rest =
     file_with (clock v.pts) (packets_of_units v.units) rest
 
--- One answer on.
+-- Cutting at the first skipped packet commutes with putting a result in front.
 until_by : (clock : Clock) (answer : Result (Option PesValue) PesFault) (rest : PieceFileValue)
     → until_passed_over (pieces_by clock answer rest)
     ≡ file_by clock answer (until_passed_over rest)
 unfolding read_until_passed piece_of
 until_by clock answer rest = grind (arith, nat_tests)
 
--- The file of an answer and of what comes then.
 pub until_then : (clock : Clock) (answer : Result (Option PesValue) PesFault) (more : PiecesValue)
     → until_passed_over (file_of_pieces clock (piece_then answer more))
     ≡ file_by clock answer (until_passed_over (file_of_pieces clock more))
@@ -184,7 +182,7 @@ until_then clock answer more =
     ap until_passed_over (file_of-then clock answer more)
     ∙ until_by clock answer (file_of_pieces clock more)
 
--- After a PES packet the same bytes are left as after a piece.
+-- Both definitions of the bytes after a packet agree for valid packets.
 same_rest : (clock : Clock) (given : ℕ) (bytes : List ℕ)
     (answer : Result (Option PesValue) PesFault)
     → answer_at given bytes ≡ answer
@@ -192,7 +190,7 @@ same_rest : (clock : Clock) (given : ℕ) (bytes : List ℕ)
     ≡ file_by clock answer (file_at clock (given + 1) (rest_after bytes))
 same_rest clock given bytes answer is = grind (arith, nat_tests, behind_packet)
 
--- A file is what its first PES packet is, and then the file of the others.
+-- A file that ends at its first skipped packet is its first packet followed by the rest.
 pub file_at-next :
     (clock : Clock) (given : ℕ) (bytes : List ℕ)
     → given ≤ most_packets
@@ -205,21 +203,21 @@ file_at-next clock given bytes few =
     ∙ until_then clock (answer_at given bytes) (pieces_after (given + 1) (behind_piece bytes))
     ∙ same_rest clock given bytes (answer_at given bytes) refl
 
--- ---- what was taken
+-- ---- consumed bytes
 
--- A PES packet is a piece.
+-- A valid PES packet is a PES packet.
 pub packet_is_piece : (v : PesValue) (b : List ℕ) → IsPesPacket v b → IsPiece b
 packet_is_piece v b h =
     grind (arith, nat_tests, packet_of_body v b h, body_complete v b h, length-append)
 
--- The PES packet that was taken, as a piece.
+-- Consuming a valid PES packet consumes one PES packet.
 pub packet_taken : (old new : Option (List ℕ)) (v : PesValue) (field : List ℕ)
     → TakesDataField old new v field
     → TakesOnePiece old new
 packet_taken old new v field t =
     grind (arith, nat_tests, packet_is_piece v t.packet.bytes t.packet.is_packet)
 
--- One piece more, for a loop over them.
+-- Appending a PES packet keeps a list of PES packets one (induction step).
 each_piece_more : (pieces : List (List ℕ)) (b : List ℕ)
     → AllByRecursion IsPiece pieces
     → IsPiece b
@@ -227,11 +225,11 @@ each_piece_more : (pieces : List (List ℕ)) (b : List ℕ)
 each_piece_more [] b h p = (p, tt)
 each_piece_more (x ∷ pieces) b h p = (h.0, each_piece_more pieces b h.1 p)
 
--- At first none was taken.
+-- Nothing is consumed at the start of the loop.
 pub takes_no_pieces : (old : Option (List ℕ)) → TakesPieces 0 old old
 takes_no_pieces old = grind (arith, nat_tests, Consumes-nil)
 
--- One more was.
+-- One iteration consumes one more PES packet.
 pub takes_more_pieces : (n : ℕ) (old mid new : Option (List ℕ))
     → TakesPieces n old mid
     → TakesOnePiece mid new

@@ -1,6 +1,6 @@
--- What is told of a frame is told by the frames up to it alone: `frame_events-prefix`; and so are
--- since which frame the page is not whole, `unfinished_since-prefix`, whether that is late,
--- `is_late-prefix`, what stands broken, `standing_at-prefix`, and the steps of a frame.
+-- The events of a frame depend only on the frames up to it: `frame_events-prefix`; so do the first
+-- frame of the unfinished run, `unfinished_since-prefix`, whether that is late, `is_late-prefix`,
+-- the active faults, `standing_at-prefix`, and the steps of a frame.
 use Rattle.std.proofs.lemmas.Bool.Decides.{nat_tests}
 use Rattle.std.proofs.Common.{◌≡◌, ℕ, zero, suc, ◌-◌, ◌<◌, ◌≤◌, ◌++◌}
 use Rattle.std.proofs.Common.{length, get_or, Option, refl, arith}
@@ -17,7 +17,7 @@ use Rattle.sub_rules.specs.PieceEvents.{steps_of_gap}
 use Rattle.sub_rules.specs.Transmission.{Transmission}
 use Rattle.sub_rules.proofs.FrameEvents.{frame_events, gap_events}
 
--- Frames, more of them, and criteria with another end of reading.
+-- Frames, more frames after them, and criteria with another end of reading.
 module _ (g : Criteria) (u : Option Unread) (done more : Transmission) where
   abbrev h : Criteria
   h = record g { unread = u }
@@ -48,7 +48,7 @@ module _ (g : Criteria) (u : Option Unread) (done more : Transmission) where
   unfolding gap_length
   gap_length-prefix i h1 = grind (arith, nat_tests, frame_at-prefix, latest-prefix)
 
-  -- ---- within how many frames
+  -- ---- the number of frames within which the page must be right
 
   unfinished_same : (n f : ℕ) → n ≤ length done → is_unfinished g all n f ≡ is_unfinished h done n f
   unfolding is_incomplete
@@ -90,7 +90,7 @@ module _ (g : Criteria) (u : Option Unread) (done more : Transmission) where
   unfolding is_late
   is_late-prefix n f some l = rw (unfinished_since-prefix n f l, frame_at-prefix 0 some) refl
 
-  -- ---- what stands broken
+  -- ---- the active faults
 
   is_silent-prefix : (n f : ℕ) → n ≤ length done → is_silent g all n f ≡ is_silent h done n f
   unfolding is_silent
@@ -140,7 +140,7 @@ module _ (g : Criteria) (u : Option Unread) (done more : Transmission) where
   first_header_events-prefix i h1 =
       grind (arith, nat_tests, packets_of_frame-prefix, frame_at-prefix)
 
-  -- What is told of a frame.
+  -- The events of a frame.
   pub frame_events-prefix : (i : ℕ) → i < length done
       → frame_events g all i ≡ frame_events h done i
   unfolding frame_events

@@ -1,6 +1,5 @@
--- What is said with steps, each event of the PES packet of which it is told: `said_by`. That is
--- told first of them, `steps_first`; and where each PES packet is a frame, it is what is told of
--- the frame, `said_sent`.
+-- The events among some steps, each with its PES packet: `said_by`. They have the same first fault,
+-- `steps_first`; if each PES packet is a frame, they are the events of the frame, `said_sent`.
 use Rattle.std.proofs.lemmas.Bool.Decides.{nat_tests}
 use Rattle.std.proofs.Common.{◌≡◌, ℕ, zero, suc, ◌+◌, ◌==◌, Bool, true, false, List, [], ◌∷◌}
 use Rattle.std.proofs.Common.{◌++◌, length, map, Option, None, Some, refl, sym, ap, ◌∙◌, subst}
@@ -28,25 +27,25 @@ use Rattle.sub_rules.specs.Trusted.{CheckStep, at_pes, back_of, pes_told, run_of
 use Rattle.sub_rules.specs.Trusted.{told_after, told_at, trusted, trusted_up_to, whole_of}
 use Rattle.sub_rules.proofs.FrameEvents.{frame_events, gap_events}
 
--- ---- what is told first of two lists
+-- ---- the first fault of two lists
 
--- What is told first of the one list, or else of the other.
+-- The first fault of the first list, or else of the second.
 pub first_of_two : (xs ys : List Event)
     → first_told (xs ++ ys) ≡ option_or (first_told xs) (first_told ys)
 first_of_two [] ys = refl
 first_of_two (Told f ∷ xs) ys = refl
 first_of_two (e ∷ xs) ys = first_of_two xs ys
 
--- ---- what is told first with steps
+-- ---- the first fault with steps
 
--- The events among them, the first of them told of PES packet `pes`.
+-- The events among these steps; those before the first `AtPes` belong to PES packet `pes`.
 abbrev pub said_by : ℕ → List CheckStep → List Event
 said_by pes [] = []
 said_by pes (AtPes next ∷ ms) = said_by next ms
 said_by pes (Says e ∷ ms) = at_pes pes e ∷ said_by pes ms
 said_by pes (m ∷ ms) = said_by pes ms
 
--- Frames that are told as trusted before an event, or where the file ends, change nothing.
+-- `Trusted` events before another event, or at the end of the file, don't change the first fault.
 closed_first : (b : Bool) (run whole : Option ℕ) (f : ℕ)
     → first_told (if b then trusted run whole f else []) ≡ None
 closed_first b run whole f = grind (arith, nat_tests)
@@ -89,7 +88,7 @@ said_says pes [] = refl
 said_says pes (e ∷ es) = ap (λ (l : List Event). at_pes pes e ∷ l) (said_says pes es)
 
 module _ (pes : ℕ) where
-  -- These events are said with these steps, whatever follows.
+  -- These steps hold these events, whatever follows.
   abbrev Saying : List CheckStep → List Event → Type 0
   Saying ms es =
       (more : List CheckStep) → said_by pes (ms ++ more) ≡ map (at_pes pes) es ++ said_by pes more
@@ -200,7 +199,7 @@ module _ (g : Criteria) (at_once : g.within ≡ 0) where
   none_waits [] = refl
   none_waits (s ∷ sent) = rw is_zero refl
 
-  -- What is told of a frame is said with the steps of the PES packet that sends it.
+  -- The events of a frame are among the steps of the PES packet that sends it.
   pub said_sent : (sent : Transmission) (s : SentFrame) (n pes : ℕ) (more : List CheckStep)
       → length sent ≡ n
       → said_by pes (steps_of_sent g sent n s ++ more)

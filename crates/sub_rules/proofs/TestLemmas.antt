@@ -1,5 +1,5 @@
--- Tests that compute, and what they decide: truth values, numbers, lists, packets and frames. Below
--- each test stands what it decides.
+-- Tests that compute, and the properties they decide: truth values, numbers, lists, packets and
+-- frames. Each test is followed by the property it decides.
 use Rattle.std.proofs.Common.{◌≡◌, ℕ, zero, suc, ◌<◌, ◌≤◌, Bool, true, false, not, ◌&&◌}
 use Rattle.std.proofs.Common.{◌||◌, nat_le, List, Some, None, All, refl}
 use Rattle.std.proofs.Common.{arith}
@@ -14,9 +14,9 @@ use Rattle.stl_rows.specs.declared.national.NationalBits.{NationalBits}
 use Rattle.sub_rules.specs.PacketTests.{is_same_bit, is_same_option}
 use Rattle.sub_rules.specs.Transmission.{SentFrame, Transmission, EachPacket}
 
--- ---- tests and what they decide
+-- ---- tests and the properties they decide
 
--- One fact implies another.
+-- One property implies another.
 pub implied :
     {P Q : Type 0} (a b : Bool) → Decides a P → Decides b Q → Decides (not a || b) (P → Q)
 implied a b p q = grind arith
@@ -57,13 +57,13 @@ pub each_below : (test : ℕ → Bool) (n : ℕ) → all_below test n ≡ true �
     → test k ≡ true
 each_below test n = (below test (λ k. test k ≡ true) (λ k. holds (test k)) n).0
 
--- Where no number below a bound is found, none passes.
+-- If no number below a bound is found, none passes.
 pub below_none : (n : ℕ) (test : ℕ → Bool) → first_below n test ≡ None
     → (k : ℕ) → k < n → test k ≡ false
 below_none zero test e k l = absurd (omega arith)
 below_none (suc n) test e k l = let before = below_none n test in grind (arith, nat_tests)
 
--- What is found has none before it that passes.
+-- No number before the one that is found passes.
 pub below_before : (n : ℕ) (test : ℕ → Bool) (x : ℕ) → first_below n test ≡ Some x
     → (k : ℕ) → k < x → test k ≡ false
 below_before zero test x e k l = grind arith

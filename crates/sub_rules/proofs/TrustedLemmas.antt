@@ -1,4 +1,4 @@
--- What is told with steps, one list after another, `told_after-append`, and which steps came then,
+-- The events of one list of steps after another, `told_after-append`, and the steps before them,
 -- `past_after-append`.
 use Rattle.std.proofs.lemmas.Bool.Decides.{nat_tests}
 use Rattle.std.proofs.Common.{◌≡◌, ◌&&◌, List, [], ◌∷◌, ◌++◌, refl, sym, ap, ◌∙◌, append_assoc}
@@ -6,13 +6,13 @@ use Rattle.std.proofs.Common.{arith}
 use Rattle.sub_rules.specs.declared.event.Event.{Event}
 use Rattle.sub_rules.specs.Trusted.{CheckStep, tells_none, told_after, told_at}
 
--- Nothing is told by two lists exactly where nothing is by either.
+-- Two lists have no events if and only if neither has.
 pub tells_none-two : (xs ys : List Event) → tells_none (xs ++ ys) ≡ (tells_none xs && tells_none ys)
 tells_none-two xs ys = grind (arith, nat_tests)
 
 -- ---- steps, one after another
 
--- These steps came, the latest first, where those came after these.
+-- All steps that came, the latest first, after those of the second list.
 unfoldable pub past_after : List CheckStep → List CheckStep → List CheckStep
 past_after past [] = past
 past_after past (m ∷ ms) = past_after (m ∷ past) ms

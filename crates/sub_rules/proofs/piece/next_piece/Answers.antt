@@ -1,4 +1,4 @@
--- What the reader answers is the next piece, or that none is left: by PieceFileLemmas.
+-- The reader's result is the next PES packet, or that none is left: by PieceFileLemmas.
 use Rattle.std.proofs.Common.{◌≡◌, ◌∙◌, refl, sym, ap, true, false, Some, List, ℕ, arith}
 use Rattle.std.proofs.lemmas.Bool.Decides.{nat_tests}
 use Rattle.ttx_pes.specs.Fault.{is_of_piece}

@@ -1,4 +1,4 @@
--- The frame of the PTS, or that it has none.
+-- The PTS gives a frame, or none.
 use Rattle.std.proofs.Common.{◌∙◌, refl, sym, ap, arith}
 use Rattle.std.proofs.lemmas.Bool.Decides.{nat_tests}
 use Rattle.sub_plan.specs.FrameTime.{clock_of}
