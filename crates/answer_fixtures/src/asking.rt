@@ -1,4 +1,4 @@
-//! Words, and what the program answers to them.
+//! Commands, and the program's answers to them.
 ghost use Rattle.sub_io.specs.Device.{CanFail};
 
 use std::alloc::Global;
@@ -7,19 +7,19 @@ use sub_io::{Close, Flush, MemSink, MemSource, Source};
 use sub_request::Request;
 use sub_words::ParseWords;
 
-/// The words of a check by the defaults of its options.
+/// The arguments of a check with the default options.
 pub const CHECK: [&str; 4] = ["subttx", "check", "a", "b"];
 
-/// The same with all that is told.
+/// The same with `--all`.
 pub const CHECK_ALL: [&str; 5] = ["subttx", "check", "--all", "a", "b"];
 
-/// The line of a check of `Hi` and its schedule, of two sendings.
+/// The line of a check of `Hi` and its schedule, with two page transmissions.
 pub const ACCEPTED: &str = "accepted 51 frames 2 transmissions\n";
 
-/// The words of a schedule by the defaults of its options.
+/// The arguments of a schedule with the default options.
 pub const SCHEDULE: [&str; 4] = ["subttx", "schedule", "a", "b"];
 
-/// Answers words over two sources, a file that is written, and an output.
+/// Answers a command with two sources, an output file, and an output.
 pub fn answer_words<'a, S: Source, T: Source, F: Close, K: Flush>(
     alloc: Global,
     words: &'a [&'a str],
@@ -39,8 +39,8 @@ pub fn answer_words<'a, S: Source, T: Source, F: Close, K: Flush>(
     }
 }
 
-/// Answers the words of a check with `--all` after them, over two files in memory; `None` where
-/// there are too many words.
+/// Answers the arguments of a check with `--all` after them, with two files in memory; `None` if
+/// there are too many.
 pub(crate) fn answer_all<'a>(
     alloc: Global,
     words: &[&'a str],

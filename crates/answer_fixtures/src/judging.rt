@@ -1,4 +1,4 @@
-//! Whether what is printed and written for words is what is wanted.
+//! Compares what a command prints and writes with what is expected.
 ghost use Rattle.sub_io.specs.Device.{CanFail};
 
 use crate::asking::{answer_all, answer_words};
@@ -8,8 +8,8 @@ use std::alloc::Global;
 use sub_answer::Status;
 use sub_io::{MemSink, MemSource, Source};
 
-/// Whether these two parts are printed for words over two sources, with the status that the last
-/// line tells.
+/// Returns whether a command prints these two parts for two sources, with the status that the last
+/// line implies.
 pub fn prints<'a, S: Source, T: Source>(
     alloc: Global,
     words: &'a [&'a str],
@@ -28,7 +28,7 @@ pub fn prints<'a, S: Source, T: Source>(
     is_made_of(out.written(), front, end) && status == status_of(end)
 }
 
-/// Whether these two parts are printed of one file in memory, with the status.
+/// Returns whether it prints these two parts for one file in memory, with the status.
 pub fn prints_of<'a>(
     alloc: Global,
     words: &'a [&'a str],
@@ -40,7 +40,7 @@ pub fn prints_of<'a>(
     prints(alloc, words, &mut file, &mut none, front, end)
 }
 
-// Whether this is printed of two files in memory, with the status.
+// Returns whether it prints this for two files in memory, with the status.
 fn prints_both<'a>(
     alloc: Global,
     words: &'a [&'a str],
@@ -52,8 +52,8 @@ fn prints_both<'a>(
     prints(alloc, words, &mut first, &mut second, &[], want)
 }
 
-/// Whether these two parts are printed of two files in memory for the words of a check with
-/// `--all`, with the status; and without it the first line of them that tells no trusted frames.
+/// Returns whether a check with `--all` prints these two parts for two files in memory, with the
+/// status; and without it the first of these lines that is not about trusted frames.
 pub fn tells_all<'a>(
     alloc: Global,
     words: &'a [&'a str],
@@ -71,8 +71,8 @@ pub fn tells_all<'a>(
     prints_both(alloc, words, first, second, first_lines(told_in(text), 1))
 }
 
-// Whether a check with `--all` prints the line of the check without it: alone where nothing is
-// refused, and else as its first line `refused`, with the number of faults as the last line.
+// Returns whether a check with `--all` prints the line of the check without it: alone if nothing is
+// refused, otherwise as its first line `refused`, with the number of faults as the last line.
 fn tells_first<'a>(
     alloc: Global,
     words: &[&'a str],
@@ -90,8 +90,8 @@ fn tells_first<'a>(
     is_right && status == Some(status_of(text))
 }
 
-/// Whether this is printed for words over two files in memory, with the status that it tells. Of a
-/// check also whether with `--all` it is the first line that tells no trusted frames.
+/// Returns whether a command prints this for two files in memory, with the status that it implies.
+/// For a check, also whether with `--all` it is the first line that is not about trusted frames.
 pub fn tells<'a>(
     alloc: Global,
     words: &'a [&'a str],
@@ -106,8 +106,8 @@ pub fn tells<'a>(
     prints_both(alloc, words, first, second, want)
 }
 
-// Whether an output with less room gets the first of a text and is left alone after that, with the
-// status `Fault`, and what is written to the file then: all of it.
+// Returns whether an output with less room gets the beginning of a text and is not used afterwards,
+// with the status `Fault`, and whether all of the file is written.
 fn cuts<'a>(
     alloc: Global,
     words: &'a [&'a str],
@@ -128,7 +128,7 @@ fn cuts<'a>(
     is_left_alone && out.inner.written() == text && file.written() == written
 }
 
-/// Whether each output that has less room than a text gets the first of it.
+/// Returns whether each output with less room than a text gets the beginning of it.
 pub fn fills<'a>(
     alloc: Global,
     words: &'a [&'a str],

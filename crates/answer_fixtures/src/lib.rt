@@ -1,7 +1,7 @@
-//! What the tests of answers share: words, what is answered to them over devices in memory, and
-//! whether that is what is wanted.
+//! What the tests of answers share: commands, their answers with devices in memory, and the
+//! comparison with what is expected.
 //!
-//! No part of the product: only tests stand on it. It asserts nothing, since a library may hold
+//! Not part of the product: only tests use it. It asserts nothing, since a library may contain
 //! nothing that can end the process.
 #![tactic(auto)]
 

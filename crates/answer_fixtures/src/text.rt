@@ -1,8 +1,8 @@
-//! Lines of a text, and the status that they tell.
+//! Lines of a text, and the status that they imply.
 
 use sub_answer::Status;
 
-/// The first lines of a text, as many as are asked for.
+/// Returns the first lines of a text, `count` of them.
 pub fn first_lines(text: &[u8], count: usize) -> &[u8] {
     let mut left = count;
     for (place, byte) in text.iter().enumerate() {
@@ -16,7 +16,7 @@ pub fn first_lines(text: &[u8], count: usize) -> &[u8] {
     text
 }
 
-/// The status that a text tells by its last line: by the first word of it, or by its end where it
+/// Returns the status that the last line of a text implies: by its first word, or by its end if it
 /// counts faults.
 pub fn status_of(text: &[u8]) -> Status {
     let mut line = text;
@@ -35,12 +35,12 @@ pub fn status_of(text: &[u8]) -> Status {
     }
 }
 
-/// Whether a text is these two parts.
+/// Returns whether a text consists of these two parts.
 pub(crate) fn is_made_of(text: &[u8], front: &[u8], end: &[u8]) -> bool {
     text.len() == front.len() + end.len() && text.starts_with(front) && text.ends_with(end)
 }
 
-/// What a room holds of a text, without the zeros after it.
+/// Returns the text in a room, without the zeros after it.
 pub(crate) fn text_in(room: &[u8]) -> &[u8] {
     for (place, byte) in room.iter().enumerate() {
         if *byte == 0 {
@@ -50,7 +50,7 @@ pub(crate) fn text_in(room: &[u8]) -> &[u8] {
     room
 }
 
-/// What a text holds from its first line on that tells no trusted frames.
+/// Returns the text from its first line on that is not about trusted frames.
 pub(crate) fn told_in(text: &[u8]) -> &[u8] {
     let mut told = text;
     for (place, byte) in text.iter().enumerate() {

@@ -1,4 +1,4 @@
-//! Asserting what is answered to words, over devices in memory.
+//! Asserts what the program answers with devices in memory.
 ghost use Rattle.sub_io.specs.Device.{CanFail};
 
 use answer_fixtures::{fills, prints, tells, tells_all};
@@ -10,8 +10,8 @@ fn assert_right(rt: &impl Abort, is_right: bool, words: &[&str]) {
     assert!(rt; is_right, "{words:?}");
 }
 
-/// Asserts what is printed for words over two sources, in two parts, and the status that the last
-/// line tells.
+/// Asserts the output of a command for two sources, in two parts, and the status that the last line
+/// implies.
 pub fn assert_prints<'a, S: Source, T: Source>(
     rt: &(impl Abort + Alloc<A = Global>),
     words: &'a [&'a str],
@@ -27,9 +27,8 @@ pub fn assert_prints<'a, S: Source, T: Source>(
     assert_right(rt, is_right, words);
 }
 
-/// Asserts what is printed of two files in memory for the words of a check with `--all`, in two
-/// parts, and the status; and that without it the first line that tells no trusted frames is
-/// printed.
+/// Asserts the output of a check with `--all` for two files in memory, in two parts, and the
+/// status; and that without it the first line that is not about trusted frames is printed.
 pub fn assert_all<'a>(
     rt: &(impl Abort + Alloc<A = Global>),
     words: &'a [&'a str],
@@ -42,8 +41,8 @@ pub fn assert_all<'a>(
     assert_right(rt, is_right, words);
 }
 
-/// Asserts what is printed for words over two files in memory, and the status that it tells. Of a
-/// check also that with `--all` it is the first line that tells no trusted frames.
+/// Asserts the output of a command for two files in memory, and the status that it implies. For a
+/// check, also that with `--all` it is the first line that is not about trusted frames.
 pub fn assert_tells<'a>(
     rt: &(impl Abort + Alloc<A = Global>),
     words: &'a [&'a str],
@@ -54,7 +53,7 @@ pub fn assert_tells<'a>(
     assert_right(rt, tells(rt.alloc(), words, first, second, want), words);
 }
 
-/// Asserts what each output gets that has less room than a text: the first of it.
+/// Asserts that each output with less room than a text gets the beginning of it.
 pub fn assert_fills<'a>(
     rt: &(impl Abort + Alloc<A = Global>),
     words: &'a [&'a str],

@@ -1,4 +1,4 @@
-//! `check`: verdicts on transmissions of `Hi` with one thing changed.
+//! `check`: verdicts on transmissions of `Hi` with one change.
 use crate::answers::{assert_fills, assert_tells};
 use crate::asserting::assert_same_in;
 use answer_fixtures::{ACCEPTED, CHECK};
@@ -65,8 +65,8 @@ fn refuses_a_cut_subtitle_file(rt: HostRuntime) {
     }
 }
 
-// Asserts the line of a check of `Hi` where one byte of its schedule is changed: its place, its
-// value and what it becomes.
+// Asserts the line of a check of `Hi` after a byte of its schedule was changed: its place, the old
+// value and the new one.
 fn assert_changed(rt: &(impl Abort + Alloc<A = Global>), want: &str, changes: &[[u8; 3]]) {
     for [place, from, to] in changes {
         let mut pes = schedule_of_hi();
@@ -86,7 +86,7 @@ fn judges_a_byte_that_is_changed(rt: HostRuntime) {
     assert_changed(&rt, "refused 36 Time pes 0\n",
         &[[9, 0x27, 0x26], [9, 0x27, 0x37], [11, 0x79, 0x78], [13, 0x01, 0x00]]);
     assert_changed(&rt, "refused 61 OffFrame pes 0\n", &[[12, 0xF4, 0xF5]]);
-    // of a data unit
+    // a data unit
     assert_changed(&rt, "refused 37 DataId pes 0\n", &[[45, 0x10, 0x20]]);
     assert_changed(&rt, "refused 38 UnitLength pes 0\n", &[[47, 0x2C, 0x2D]]);
     assert_changed(&rt, "refused 39 Framing pes 0\n", &[[49, 0xE4, 0xE5]]);
@@ -94,11 +94,11 @@ fn judges_a_byte_that_is_changed(rt: HostRuntime) {
     assert_changed(&rt, "refused 71 NoFirstHeader frame 10:00:00:00\n", &[[46, 0x03, 0xC3]]);
     assert_changed(&rt, ACCEPTED,
         &[[6, 0x84, 0x80], [45, 0x10, 0x1F], [46, 0x03, 0x02], [48, 0xE7, 0xE0], [48, 0xE7, 0x27]]);
-    // of a packet: the page tens, with one bit wrong, and two; C4 of the header
+    // a packet: the page tens with one wrong bit, and with two; C4 of the header
     assert_changed(&rt, "refused 65 HeaderCode frame 10:00:00:00 packet 0\n",
         &[[53, 0x0B, 0x8B], [53, 0x0B, 0x68]]);
     assert_changed(&rt, "refused 67 Control frame 10:00:00:00 packet 0\n", &[[55, 0x0B, 0xA8]]);
-    // the row's address, with a wrong bit; the H of the row; C11 of the closing header
+    // the address of the row with a wrong bit; the H of the row; C11 of the closing header
     assert_changed(&rt, "refused 64 Address frame 10:00:00:00 packet 1\n", &[[97, 0xD9, 0x59]]);
     assert_changed(&rt, "refused 68 Parity frame 10:00:00:00 packet 1\n", &[[117, 0x13, 0x12]]);
     assert_changed(&rt, "refused 66 Mode frame 10:00:00:00 packet 2\n", &[[151, 0xA8, 0x40]]);
@@ -108,7 +108,7 @@ fn judges_a_byte_that_is_changed(rt: HostRuntime) {
     assert_judges(&rt, &pes, "refused 38 UnitLength pes 0\n");
 }
 
-// The bytes from 6 on of a mark.
+// The bytes from 6 on of a gap marker.
 const FILL: [u8; 178] = [0xFF; 178];
 
 // A second payload of such a PES packet.
@@ -121,14 +121,14 @@ fn tells_a_mark_where_all_bytes_from_6_on_are_ff(rt: HostRuntime) {
     assert_judges(&rt, &pes, "refused 45 Lost pes 0\n");
     pes[183] = 0xFE;
     assert_judges(&rt, &pes, "refused 33 Flags pes 0\n");
-    // One of two payloads, of which the second is FF too, and is not.
+    // Of two payloads, the second is FF, too, except for one byte.
     (pes[4], pes[5], pes[183]) = (0x01, 0x6A, 0xFF);
     assert_judges(&rt, &pes, "refused 33 Flags pes 0\n");
     put(&mut pes, 184, &PAYLOAD_OF_FF);
     assert_judges(&rt, &pes, "refused 45 Lost pes 0\n");
 }
 
-// Asserts the line of a check of `Hi` where a byte of its schedule has any other value.
+// Asserts the line of a check of `Hi` for each other value of a byte of its schedule.
 fn assert_judges_others(rt: &(impl Abort + Alloc<A = Global>), place: usize, want: &str) {
     let mut pes = schedule_of_hi();
     assert!(rt; place < 368);
@@ -151,8 +151,8 @@ fn judges_every_other_value_of_a_byte(rt: HostRuntime) {
     }
 }
 
-// Asserts the line of a check of `Hi` where these packets come at 10:00:00:00, and others two
-// seconds later.
+// Asserts the line of a check of `Hi` with these packets at 10:00:00:00, and others two seconds
+// later.
 fn assert_judges_two(
     rt: &(impl Abort + Alloc<A = Global>),
     first: &[[u8; 42]],
@@ -174,7 +174,7 @@ fn judges_packets_between_those_of_a_page(rt: HostRuntime) {
     let sent = [header, in_serial_mode(&OTHER_HEADER), ROW, closing];
     let refused = "refused 72 Content frame 10:00:00:00 row 22 column 16\n";
     assert_judges_two(&rt, &sent, &[header, closing], refused);
-    // packets after the row: the same row, with an `h` in place of its `H`, and packet 26
+    // packets after the row: the same row with an `h` instead of its `H`, and packet 26
     let last = [HEADER, CLOSING];
     assert_judges_two(&rt, &[HEADER, ROW, ROW, CLOSING], &last, ACCEPTED);
     let mut row = ROW;

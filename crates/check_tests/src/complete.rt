@@ -1,4 +1,4 @@
-//! Complete pages, asked for by `--complete`, and pages that are spread over frames.
+//! Complete pages, required by `--complete`, and pages that are spread over several frames.
 use crate::answers::assert_tells;
 use answer_fixtures::{ACCEPTED, CHECK};
 use fixtures::{
@@ -49,7 +49,7 @@ fn assert_checks_changed(
 fn refuses_a_page_that_is_open_at_a_frames_end(rt: HostRuntime) {
     let content = "refused 72 Content frame 10:00:00:00 row 22 column 17\n";
     let at_the_end = "refused 77 Incomplete frame 10:00:02:00\n";
-    // as it was written; the first closing header becomes a stuffing unit, and the second
+    // unchanged; the first closing header becomes a stuffing unit, and the second
     assert_checks_changed(&rt, [(138, 0x03), (138, 0x03)], ACCEPTED, ACCEPTED);
     assert_checks_changed(&rt, [(138, 0xFF), (138, 0xFF)], ACCEPTED, OPEN);
     assert_checks_changed(&rt, [(276, 0xFF), (276, 0xFF)], ACCEPTED, at_the_end);
@@ -68,8 +68,8 @@ fn tells_an_open_page_before_an_early_end_and_a_gap_before_it(rt: HostRuntime) {
     assert_tells(&rt, &words, &file_of_hi(), &schedule_of_hi(), gap);
 }
 
-// Asserts the lines of a check of `Hi` where these packets come at 10:00:00:00, and others two
-// seconds later.
+// Asserts the lines of a check of `Hi` with these packets at 10:00:00:00, and others two seconds
+// later.
 fn assert_checks_two(
     rt: &(impl Abort + Alloc<A = Global>),
     first: &[[u8; 42]],

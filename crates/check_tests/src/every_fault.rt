@@ -1,11 +1,11 @@
-//! `check --all`: all that is told of a subtitle file, also after subtitles that are refused.
+//! `check --all`: all faults of a subtitle file, also after refused subtitles.
 use crate::answers::assert_all;
 use answer_fixtures::CHECK;
 use fixtures::{HEAD, HI, TEN, block, file_of_five, file_of_two, head, put, schedule_of_hi};
 use std::alloc::Global;
 use std::process::Abort;
 
-/// What is told of five subtitles.
+/// The faults of five subtitles.
 pub const OF_FIVE: &str = "refused 57 Overlap block 2\n\
     refused 50 Character block 2 at 3\n\
     refused 50 Character block 3 at 3\n\
@@ -21,7 +21,7 @@ fn tells_every_fault_of_five_subtitles(rt: HostRuntime) {
     assert_all(&rt, &CHECK, &cut_file, &pes, OF_FIVE, cut);
 }
 
-// Asserts what is told of a subtitle file of three blocks.
+// Asserts the faults of a subtitle file of three blocks.
 fn assert_tells_three(
     rt: &(impl Abort + Alloc<A = Global>),
     first: &[u8; 128],
@@ -49,7 +49,8 @@ fn reads_on_after_a_subtitle_that_is_refused(rt: HostRuntime) {
         refused 18 Justify block 2\n\
         refused 50 Character block 3 at 3\n\
         3 faults\n");
-    // The first block of a subtitle that ends where it begins, its last one, and one of another SN.
+    // The first block of a subtitle that ends where it begins, its last block, and one with another
+    // SN.
     let mut open = head(TEN, TEN, 22);
     open[3] = 0;
     let mut other = head(TEN, TEN, 22);

@@ -1,5 +1,5 @@
-//! `check --all`: all that is told of a transmission, one line after another, and which frames may
-//! be trusted beside it.
+//! `check --all`: all events of a transmission, one line after another, and the trusted frames
+//! among them.
 ghost use Rattle.std.specs.Prelude.{◌≡◌, length};
 
 use crate::answers::{assert_all, assert_tells};
@@ -11,7 +11,7 @@ use std::alloc::Global;
 use std::process::Abort;
 use sub_io::MemSink;
 
-/// Asserts what is printed of a subtitle file and these bytes, with these options of a check.
+/// Asserts the output of a check of a subtitle file and these bytes, with these options.
 pub fn assert_told_of<'x>(
     rt: &(impl Abort + Alloc<A = Global>),
     stl: &[u8],
@@ -27,8 +27,7 @@ pub fn assert_told_of<'x>(
     assert_all(rt, words, stl, pes, "", lines);
 }
 
-/// Asserts what is printed of the subtitle file of `Hi` and these bytes, with these options of a
-/// check.
+/// Asserts the output of a check of the subtitle file of `Hi` and these bytes, with these options.
 pub fn assert_told<'x>(
     rt: &(impl Abort + Alloc<A = Global>),
     pes: &[u8],
@@ -86,7 +85,7 @@ fn tells_all_of_a_schedule_by_other_options(rt: HostRuntime) {
         1 faults\n");
 }
 
-// The `H` of the row as a byte with even parity, as `h`, and C4 of the first header clear.
+// The `H` of the row as a byte of even parity, as `h`, and C4 of the first header clear.
 const EVEN: (usize, u8) = (117, 0x12);
 
 const OTHER: (usize, u8) = (117, 0x16);
@@ -110,14 +109,14 @@ fn tells_all_of_a_schedule_with_an_even_byte(rt: HostRuntime) {
     let lines = "refused 68 Parity frame 10:00:00:00 packet 1\n\
         trusted frames 10:00:02:00 10:00:02:00\n1 faults\n";
     assert_told(&rt, &even, &[], lines);
-    // The header after it is two seconds later: up to there the letter may be missing.
+    // The header after it is two seconds later: until then the letter may be missing.
     let listen = ["subttx", "listen", "a", "--at", "10:00:01:24"];
     let shown = "heard yes\nopen no\nrow 22 |                ... i..                 |\n";
     assert_tells(&rt, &listen, &even, &[], shown);
 }
 
-// What is cut off may have been sent in the last frame that was read; where a file ends, nothing
-// is. 74 comes only where all bytes are read.
+// The bytes that are cut off may have been sent in the last frame that was read; at the end of a
+// file there are none. 74 is reported only if all bytes are read.
 #[rattlefmt::skip]
 #[test]
 fn doubts_the_last_frame_where_bytes_are_left(rt: HostRuntime) {

@@ -1,5 +1,5 @@
 //! Sources that fail at one call, give a byte at a time, or never end: the line names the block or
-//! the PES packet of the byte that was asked for, or tells a fault that was found before.
+//! the PES packet of the byte that was being read, or reports a fault that was found before.
 use crate::answers::assert_prints;
 use crate::asserting::assert_same_in;
 use answer_fixtures::{ACCEPTED, CHECK, SCHEDULE, answer_words};
@@ -11,7 +11,7 @@ use std::process::Abort;
 use sub_answer::Status;
 use sub_io::{FailAt, MemSink, MemSource, Source};
 
-// What is told of a subtitle file whose source fails at the call of this number. A call gives the
+// The line for a subtitle file whose source fails at the call with this number. A call gives the
 // GSI block or a TTI block, and the last one is at the end.
 const BLOCKS: [&[u8]; 5] = [
     b"fault 26 Read block 0\n",
@@ -21,7 +21,7 @@ const BLOCKS: [&[u8]; 5] = [
     b"fault 26 Read block 4\n",
 ];
 
-// What is told of a PES file whose source fails at the call of this number. A call gives a PES
+// The line for a PES file whose source fails at the call with this number. A call gives a PES
 // packet.
 const PACKETS: [&[u8]; 4] = [
     b"fault 41 Read pes 0\n",
@@ -30,7 +30,7 @@ const PACKETS: [&[u8]; 4] = [
     b"fault 41 Read pes 3\n",
 ];
 
-// Asserts what is told last of a file whose source fails at a call, and the status.
+// Asserts the last line for a file whose source fails at a call, and the status.
 fn assert_tells_at<'a>(
     rt: &(impl Abort + Alloc<A = Global>),
     words: &'a [&'a str],
@@ -58,8 +58,8 @@ fn assert_tells_at<'a>(
     );
 }
 
-// Asserts what is told last where each call in turn fails: the fault of that call, and from the
-// call on at which a fault of the file is found before it, that one.
+// Asserts the last line if each call in turn fails: the fault of that call or, from the call on at
+// which a fault of the file is found before it, that one.
 fn assert_tells_last<'a>(
     rt: &(impl Abort + Alloc<A = Global>),
     words: &'a [&'a str],
@@ -111,7 +111,7 @@ fn a_reader_of_pes_packets_names_the_pes_packet_or_tells_a_fault_before(rt: Host
 }
 
 // Asserts the line of a check of `Hi` and these bytes whose sources give a byte a pull and fail at
-// these pulls. Gives how often each was pulled and failed.
+// these pulls. Returns how often each was pulled and failed.
 fn assert_fails(
     rt: &(impl Abort + Alloc<A = Global>),
     pes: &[u8],
@@ -155,7 +155,7 @@ fn tells_a_broken_rule_before_the_pull_that_fails_after_it(rt: HostRuntime) {
     assert_fails(&rt, &pes, 1153, 368, even);
 }
 
-// The PES source would fail too.
+// The PES source would fail, too.
 #[test]
 fn tells_the_block_of_a_failing_pull(rt: HostRuntime) {
     let pes = schedule_of_hi();

@@ -8,7 +8,7 @@ use std::alloc::Global;
 use std::process::Abort;
 use sub_io::MemSink;
 
-// Asserts the line that a check prints for a row: its PES packets, the options, the line.
+// Asserts the line of a check for a row of a table: its PES packets, the options, the line.
 fn assert_line(rt: &(impl Abort + Alloc<A = Global>), stl: &[u8], row: &[&[&str]; 3]) {
     let mut room = [0; 920];
     let mut pes = MemSink::new(&mut room);
@@ -39,7 +39,7 @@ const THREE: &str = "accepted 51 frames 3 transmissions\n";
 
 const FOUR: &str = "accepted 51 frames 4 transmissions\n";
 
-// What is refused where C4 has to be set.
+// The refusal if C4 has to be set.
 const CONTROL: &str = "refused 67 Control frame 10:00:01:00 packet 0\n";
 
 #[rattlefmt::skip]
@@ -58,7 +58,7 @@ fn accepts_repeats_that_keep(rt: HostRuntime) {
     assert_lines(&rt, &file_of_hi(), &REPEATS);
 }
 
-// A row with text that is not sent again.
+// Transmissions in which a row with text is not sent again.
 #[rattlefmt::skip]
 const LEFT_OUT: [[&[&str]; 3]; 6] = [
     [&["0:hrc", "25:kc", "50:hc"], &["--keeping"], &[
@@ -90,7 +90,7 @@ const LEFT_OUT_LISTED: [[&[&str]; 3]; 3] = [
         ended 72 Content frame 10:00:01:24\n\
         trusted frames 10:00:02:00 10:00:02:00\n\
         1 faults\n"]],
-    // only a header with C4 set takes a row away
+    // only a header with C4 set removes a row
     [&["0:hrc", "25:krc", "50:kc", "51:hc"], &["--keeping"], &[
         "trusted frames 10:00:00:00 10:00:01:24\n\
         refused 72 Content frame 10:00:02:00 row 22 column 16\n\
@@ -104,7 +104,7 @@ fn lists_where_the_page_is_not_sent_again(rt: HostRuntime) {
     assert_lists(&rt, &file_of_hi(), &LEFT_OUT_LISTED);
 }
 
-// What is sent again is not what was sent before.
+// Transmissions that change when they are sent again.
 #[rattlefmt::skip]
 const CHANGED: [[&[&str]; 3]; 5] = [
     [&["0:hrc", "25:koc", "50:hc"], &["--keeping"], &[
@@ -152,7 +152,7 @@ const HEADERS: [[&[&str]; 3]; 4] = [
 
 #[rattlefmt::skip]
 const HEADERS_LISTED: [[&[&str]; 3]; 3] = [
-    // the header before is any, right or wrong
+    // the header before may be right or wrong
     [&["0:hrc", "25:Krc", "30:Krc", "50:hc"], &["--keeping"], &[
         "trusted frames 10:00:00:00 10:00:00:24\n\
         refused 67 Control frame 10:00:01:00 packet 0\n\
@@ -163,7 +163,7 @@ const HEADERS_LISTED: [[&[&str]; 3]; 3] = [
         refused 67 Control frame 10:00:01:00 packet 0\n\
         trusted frames 10:00:02:00 10:00:02:00\n\
         1 faults\n"]],
-    // no run of frames is trusted before a header that erases
+    // no frame is trusted before a header that erases the page
     [&["0:krc", "50:hc"], &["--keeping", "--every", "49"], &[
         "refused 73 Gap frame 10:00:01:24\n\
         ended 73 Gap frame 10:00:01:24\n\
@@ -202,7 +202,7 @@ const BLANK: [[&[&str]; 3]; 2] = [
     [&["0:hrc", "50:hc", "51:ksc"], &["--keeping"], &["accepted 52 frames 3 transmissions\n"]],
 ];
 
-// And before the subtitle comes.
+// Repeats before the subtitle comes.
 #[rattlefmt::skip]
 const BEFORE: [[&[&str]; 3]; 1] = [
     [&["0:kc", "10:krc", "50:hc"], &["--keeping"], &[THREE]],
@@ -219,7 +219,7 @@ const HI_TWICE: [u8; 16] = [
     0x0D, 0x0B, 0x0B, 0x48, 0x69, 0x0A, 0x0A, 0x8A, 0x8A, 0x0D, 0x0B, 0x0B, 0x48, 0x69, 0x0A, 0x0A,
 ];
 
-// The block of it on rows 20 and 22 at these frames after 10:00:00:00.
+// Returns its block on rows 20 and 22 at these frames after 10:00:00:00.
 fn twice_at(from: u32, to: u32) -> [u8; 128] {
     let fields = head(TEN.saturating_add(from), TEN.saturating_add(to), 20);
     block(&fields, &HI_TWICE)

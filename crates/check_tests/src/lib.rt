@@ -1,7 +1,6 @@
-//! Tests of what a check answers, over devices in memory. Nothing here is part of the product.
+//! Tests of the answers of `check`, with devices in memory. Nothing here is part of the product.
 //!
-//! They stand apart from the tests of other answers, since the tests of a crate are proved by one
-//! job.
+//! They are a crate of their own, since the tests of a crate are proved by one job.
 #![tactic(auto)]
 
 #[cfg(test)]

@@ -1,5 +1,5 @@
-//! Lists that are followed while a PES file is sent: whenever its source may have to wait, all that
-//! was told is handed on.
+//! Lists that are followed while a PES file arrives: all output is flushed whenever its source may
+//! have to wait.
 ghost use Rattle.std.specs.Prelude.{None};
 ghost use Rattle.sub_io.specs.Device.{holds_nothing};
 
@@ -12,13 +12,13 @@ use std::process::Abort;
 use sub_answer::Status;
 use sub_io::{BufferedSource, FailAt, Failed, Flush, MemSink, MemSource, Sink, Source};
 
-// The words of a check of another page than the one that is sent.
+// The arguments of a check of another page than the one that is sent.
 const PAGE_100: [&str; 7] = ["subttx", "check", "--all", "a", "b", "--page", "100"];
 
-// The words of a listing.
+// The arguments of a listing.
 const PACKETS: [&str; 3] = ["subttx", "packets", "a"];
 
-// What is told of the schedule of `Hi` at its first PES packet, and at both.
+// The lines for the schedule of `Hi` at its first PES packet, and at both.
 const AT_FIRST: &[u8] = b"refused 71 NoFirstHeader frame 10:00:00:00\n\
     refused 72 Content frame 10:00:00:00 row 22 column 16\n";
 
@@ -26,14 +26,14 @@ const AT_BOTH: &[u8] = b"refused 71 NoFirstHeader frame 10:00:00:00\n\
     refused 72 Content frame 10:00:00:00 row 22 column 16\n\
     ended 72 Content frame 10:00:01:24\n";
 
-// What a source sees of an output beside it.
+// What a source sees of an output.
 #[derive(Drop)]
 struct Line {
-    // The bytes that the output holds back.
+    // The number of bytes that the output holds back.
     held: Cell<u64>,
-    // In how many calls it handed bytes on.
+    // The number of calls in which it passed bytes on.
     calls: Cell<u64>,
-    // The pulls that found bytes held back.
+    // The number of pulls that found bytes held back.
     early: Cell<u64>,
 }
 
@@ -51,7 +51,7 @@ fn add(count: &Cell<u64>, more: u64) {
     count.set(count.get().saturating_add(more));
 }
 
-// A source that gives at most so many bytes a pull, and looks whether bytes are held back then.
+// A source that gives at most so many bytes a pull, and checks whether bytes are held back then.
 #[derive(Drop)]
 struct Fed<'a> {
     rest: &'a [u8],
@@ -84,7 +84,7 @@ impl Source for Fed<'_> {
     }
 }
 
-// An output that holds back all that it takes until it is flushed.
+// An output that holds back all its bytes until it is flushed.
 #[derive(Drop)]
 struct Holding<'a> {
     line: &'a Line,
@@ -117,9 +117,9 @@ impl Flush for Holding<'_> {
     }
 }
 
-// Answers words over a PES file of which a read gives at most so many bytes. Asserts that no read
-// found bytes held back, in how many calls they were handed on, and that the last line alone, which
-// comes after the last read, still is held back.
+// Answers a command with a PES file of which a read gives at most so many bytes. Asserts that no
+// read found bytes held back, in how many calls they were passed on, and that only the last line,
+// which comes after the last read, is still held back.
 fn assert_hands_on<'a>(
     rt: &(impl Abort + Alloc<A = Global>),
     words: &'a [&'a str],
@@ -146,15 +146,16 @@ fn assert_hands_on<'a>(
 
 #[test]
 fn hands_on_what_was_told_before_each_read(rt: HostRuntime) {
-    // The schedule has two PES packets of 184 bytes: they are read at once, one by one, in parts.
+    // The schedule has two PES packets of 184 bytes: they are read at once, one by one, and in
+    // parts.
     for (most, calls) in [(512, 1), (184, 2), (92, 2), (1, 2)] {
         assert_hands_on(&rt, &PAGE_100, most, calls, "2 faults\n");
         assert_hands_on(&rt, &PACKETS, most, calls, "2 pes\n");
     }
 }
 
-// Asserts that nothing more is read or printed where these lines can't be handed on, and how many
-// bytes were read. Each line and each handing on is a call of the output.
+// Asserts that nothing more is read or printed after these lines could not be flushed, and how many
+// bytes were read. Each line and each flush is a call of the output.
 fn assert_stops(rt: &(impl Abort + Alloc<A = Global>), call: u64, lines: &[u8], bytes: u64) {
     let (stl, pes) = (file_of_hi(), schedule_of_hi());
     let inner = Drip { rest: &pes };

@@ -1,9 +1,9 @@
-//! `check --pace`: how far apart PES packets are; and repeat bounds of up to a day.
+//! `check --pace`: the maximum distance of PES packets; and repeat bounds of up to a day.
 use crate::within::assert_row;
 use answer_fixtures::ACCEPTED;
 use fixtures::file_of_hi;
 
-// Transmissions, with the pace that is asked for.
+// Transmissions with the required distance.
 #[rattlefmt::skip]
 const PACED: [[&[&str]; 3]; 11] = [
     [&["0:hrc", "25:hrc", "50:hc"], &["--pace", "25"], &["accepted 51 frames 3 transmissions\n"]],
@@ -48,7 +48,7 @@ const PACED: [[&[&str]; 3]; 11] = [
         ended 79 Silent frame 10:00:01:24\n\
         trusted frames 10:00:02:00 10:00:02:00\n\
         1 faults\n"]],
-    // a repeat bound and a pace of a day
+    // a repeat bound and a distance of a day
     [&["0:hrc", "50:hc"], &["--every", "2160000"], &[ACCEPTED]],
     [&["0:hrc", "50:hc"], &["--every", "2160000", "--pace", "2160000"], &[ACCEPTED]],
 ];

@@ -1,11 +1,11 @@
-//! `check --all` of files with PES packets that can't be read, which are passed over.
+//! `check --all` of files with PES packets that can't be read, and are skipped.
 use crate::every_place::assert_told;
 use fixtures::{FIRST, every_second, put};
 use std::alloc::Global;
 use std::process::Abort;
 
-// Asserts what is told of the schedule of `Hi`, sent each second, with two bytes changed, and the
-// next bytes after it.
+// Asserts the lines for the schedule of `Hi`, sent each second, with two bytes changed, and the
+// bytes after each.
 fn assert_told_changed(
     rt: &(impl Abort + Alloc<A = Global>),
     first: (usize, u8),
@@ -58,7 +58,7 @@ fn tells_what_ends_reading_after_pes_packets_that_are_passed_over(rt: HostRuntim
         2 faults\n");
 }
 
-// The bytes from 6 on of a mark.
+// The bytes from 6 on of a gap marker.
 const FILL: [u8; 178] = [0xFF; 178];
 
 #[test]
@@ -71,7 +71,7 @@ fn passes_over_a_mark_of_lost_packets(rt: HostRuntime) {
     assert_told(&rt, &pes, &[], lines);
 }
 
-// Ten PES packets with one number, and none that is read: no other number is told.
+// Ten PES packets with the same fault, none of which is read: no other number is reported.
 #[test]
 fn tells_many_pes_packets_with_one_number_once(rt: HostRuntime) {
     let mut pes = [0; 1840];

@@ -1,4 +1,4 @@
-//! `check` of a part of a subtitle file, `--from` and `--to`, and of open subtitles, `--open`.
+//! `check` with a part of a subtitle file, `--from` and `--to`, and with open subtitles, `--open`.
 use crate::answers::{assert_all, assert_tells};
 use answer_fixtures::ACCEPTED;
 use fixtures::{HI, TEN, block, file_of_hi, file_of_two, head, push_spelled, put, schedule_of_hi};
@@ -9,10 +9,10 @@ use sub_io::MemSink;
 /// `Hi` with another last letter.
 pub const HO: [u8; 7] = [0x0D, 0x0B, 0x0B, 0x48, 0x6F, 0x0A, 0x0A];
 
-/// `Hi` with a letter that level 1 has not.
+/// `Hi` with a letter that level 1 does not have.
 pub const BAD: [u8; 7] = [0x0D, 0x0B, 0x0B, 0x48, 0xE6, 0x0A, 0x0A];
 
-/// The block of a text at these frames after 10:00:00:00.
+/// Returns the block of a text at these frames after 10:00:00:00.
 pub fn at(from: u32, to: u32, text: &[u8; 7]) -> [u8; 128] {
     block(
         &head(TEN.saturating_add(from), TEN.saturating_add(to), 22),
@@ -20,7 +20,7 @@ pub fn at(from: u32, to: u32, text: &[u8; 7]) -> [u8; 128] {
     )
 }
 
-/// The file of three blocks.
+/// Returns the file of three blocks.
 pub fn file_of_blocks(first: &[u8; 128], second: &[u8; 128], third: &[u8; 128]) -> [u8; 1408] {
     let mut file = [0; 1408];
     put(&mut file, 0, &file_of_two(first, second));
@@ -28,12 +28,12 @@ pub fn file_of_blocks(first: &[u8; 128], second: &[u8; 128], third: &[u8; 128]) 
     file
 }
 
-/// `Hi`, a subtitle that can't be drawn, and `Hi` after a pause.
+/// Returns a file of `Hi`, a subtitle that can't be drawn, and `Hi` after a pause.
 pub fn file_with_bad() -> [u8; 1408] {
     file_of_blocks(&at(0, 50, &HI), &at(50, 100, &BAD), &at(120, 150, &HI))
 }
 
-// Asserts what is printed for options over a transmission that is spelled.
+// Asserts the output with options for a transmission that is spelled.
 fn assert_told(
     rt: &(impl Abort + Alloc<A = Global>),
     options: &[&str; 4],
@@ -53,7 +53,7 @@ fn assert_told(
 // The day.
 const FROM: [&str; 2] = ["--from", "00:00:00:00"];
 
-// Asserts what is printed for `--to`.
+// Asserts the output with `--to`.
 fn assert_to(
     rt: &(impl Abort + Alloc<A = Global>),
     to: &str,
@@ -64,7 +64,7 @@ fn assert_to(
     assert_told(rt, &[FROM[0], FROM[1], "--to", to], stl, sent, want);
 }
 
-// Asserts what is printed for `--from`.
+// Asserts the output with `--from`.
 fn assert_from(
     rt: &(impl Abort + Alloc<A = Global>),
     from: &str,
@@ -141,7 +141,7 @@ fn judges_the_subtitles_between_two_times(rt: HostRuntime) {
     assert_tells(&rt, &twice, &hi, &schedule_of_hi(), "usage 0 Words\n");
 }
 
-// Asserts what is printed of `Hi` in a file for this display, without a flag and with it.
+// Asserts the output for `Hi` in a file with this display standard, without the flag and with it.
 fn assert_takes(rt: &(impl Abort + Alloc<A = Global>), display: u8, plain: &str, open: &str) {
     let mut file = file_of_hi();
     file[11] = display;

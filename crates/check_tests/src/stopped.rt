@@ -1,5 +1,5 @@
-//! `check --all` where a device fails, or gives no end: what was found before is told, and last of
-//! all the fault, where the output takes it.
+//! `check --all` if a device fails, or never ends: what was found before is reported, and the fault
+//! last, if the output takes it.
 use crate::answers::{assert_fills, assert_prints};
 use crate::asserting::assert_same_in;
 use crate::every_fault::OF_FIVE;
@@ -10,10 +10,10 @@ use std::process::Abort;
 use sub_answer::Status;
 use sub_io::{FailAt, MemSink, MemSource, Sink};
 
-// The words of a check of another page than the one that is sent.
+// The arguments of a check of another page than the one that is sent.
 const PAGE_100: [&str; 7] = ["subttx", "check", "--all", "a", "b", "--page", "100"];
 
-// What is told of the schedule of `Hi` then: at its first PES packet, at its second, and last.
+// The lines for the schedule of `Hi` then: at its first PES packet, at its second, and last.
 const AT_FIRST: &[u8] = b"refused 71 NoFirstHeader frame 10:00:00:00\n\
     refused 72 Content frame 10:00:00:00 row 22 column 16\n";
 
@@ -26,7 +26,7 @@ const ALL: &[u8] = b"refused 71 NoFirstHeader frame 10:00:00:00\n\
     ended 72 Content frame 10:00:01:24\n\
     2 faults\n";
 
-// All that is told of five subtitles.
+// All faults of five subtitles.
 const ALL_OF_FIVE: &[u8] = b"refused 57 Overlap block 2\n\
     refused 50 Character block 2 at 3\n\
     refused 50 Character block 3 at 3\n\
@@ -41,9 +41,9 @@ fn fills_an_output_that_has_less_room(rt: HostRuntime) {
     assert_fills(&rt, &CHECK_ALL, (&file_of_five(), &pes), &[], ALL_OF_FIVE);
 }
 
-// Asserts that an output that fails at a call, of which each is a line but that one by which the
-// lines are handed on, has so many lines, and that it is left alone then; and how often the PES
-// source was asked: it gives a PES packet a call, and last the end.
+// Asserts how many lines an output has that fails at a call, and that it is not used afterwards;
+// and how often the PES source was called: it gives a PES packet a call, and last the end. Each
+// call of the output is a line, except the one that flushes the lines.
 fn assert_stops(rt: &(impl Abort + Alloc<A = Global>), call: u64, count: usize, pulls: u64) {
     let (stl, pes) = (file_of_hi(), schedule_of_hi());
     let inner = MemSource::new(&stl);
@@ -67,7 +67,7 @@ fn reads_no_more_once_an_output_failed(rt: HostRuntime) {
     assert_stops(&rt, 0, 0, 1);
     assert_stops(&rt, 1, 1, 1);
     assert_stops(&rt, 2, 2, 2);
-    // The source lends both PES packets, and is asked for the end.
+    // The source gives both PES packets at once, and is asked for the end.
     assert_stops(&rt, 3, 3, 2);
     assert_stops(&rt, 4, 3, 3);
 }
@@ -90,8 +90,8 @@ fn ends_on_a_source_without_end_where_the_output_is_full(rt: HostRuntime) {
     assert_same_in(&rt, &pes.pulls, &4, &lines);
 }
 
-// Asserts what is told where a PES source gives a byte a pull and fails at one of these, or at none
-// of those that there are.
+// Asserts the lines for a PES source that gives a byte a pull and fails at one of these, or at
+// none.
 fn assert_fails(
     rt: &(impl Abort + Alloc<A = Global>),
     calls: (u64, u64),
@@ -115,7 +115,7 @@ fn tells_what_was_found_before_a_pes_source_failed(rt: HostRuntime) {
     assert_fails(&rt, (369, 370), AT_BOTH, b"2 faults\n");
 }
 
-// Asserts how it is told that the source of five subtitles failed at a call, after so many lines.
+// Asserts how a failure of the source of five subtitles at a call is reported, after so many lines.
 // A call gives the GSI block, or a block, and the last one the end.
 fn assert_fails_at(rt: &(impl Abort + Alloc<A = Global>), call: u64, count: usize, line: &[u8]) {
     let (stl, pes) = (file_of_five(), schedule_of_hi());

@@ -1,4 +1,4 @@
-//! `check --all`: frames that may be trusted beside what is broken, told where it is known.
+//! `check --all`: trusted frames next to faults, reported as soon as they are known.
 use crate::answers::{assert_fills, assert_prints};
 use crate::every_place::assert_told;
 use answer_fixtures::CHECK_ALL;
@@ -9,10 +9,10 @@ use std::alloc::Global;
 use std::process::Abort;
 use sub_io::{FailAt, MemSink, MemSource};
 
-// The words of a check by a bound of a second.
+// The arguments of a check with a repeat bound of a second.
 const EVERY_25: [&str; 7] = ["subttx", "check", "--all", "a", "b", "--every", "25"];
 
-// What is told of the schedule of `Hi` then: at its second PES packet, and of all.
+// The lines for the schedule of `Hi` then: at its second PES packet, and all.
 const AT_BOTH: &str = "trusted frames 10:00:00:00 10:00:00:24\n\
     refused 73 Gap frame 10:00:01:00\n\
     ended 73 Gap frame 10:00:01:24\n";
@@ -23,7 +23,7 @@ const ALL: &str = "trusted frames 10:00:00:00 10:00:00:24\n\
     trusted frames 10:00:02:00 10:00:02:00\n\
     1 faults\n";
 
-// An even byte in the first row: the first header after it is a second later.
+// A byte of even parity in the first row: the first header after it is a second later.
 #[rattlefmt::skip]
 #[test]
 fn trusts_from_the_first_header_on(rt: HostRuntime) {
@@ -35,8 +35,8 @@ fn trusts_from_the_first_header_on(rt: HostRuntime) {
         1 faults\n");
 }
 
-// In the second PES packet a packet 26 comes before a row with an even byte: the frames before are
-// trusted up to the row, on which receivers depend.
+// In the second PES packet a packet 26 comes before a row with a byte of even parity: the frames
+// before are trusted up to the row, which receivers depend on.
 #[rattlefmt::skip]
 #[test]
 fn tells_what_is_trusted_directly_before_what_ended_it(rt: HostRuntime) {
@@ -56,8 +56,8 @@ fn tells_what_is_trusted_directly_before_what_ended_it(rt: HostRuntime) {
         2 faults\n");
 }
 
-// Asserts what is told, with the words given, of the schedule of `Hi` where its source fails at a
-// call. A call gives a PES packet.
+// Asserts the lines, with these arguments, for the schedule of `Hi` if its source fails at a call.
+// A call gives a PES packet.
 fn assert_fails<'a>(
     rt: &(impl Abort + Alloc<A = Global>),
     words: &'a [&'a str],

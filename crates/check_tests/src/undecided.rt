@@ -1,4 +1,4 @@
-//! `check --all` beside a refused subtitle: what was sent at the other times is judged.
+//! `check --all` with a refused subtitle: what is sent at other times is checked.
 use crate::answers::assert_all;
 use crate::scope::{BAD, HO, at, file_of_blocks, file_with_bad};
 use fixtures::{HI, block, file_of, file_of_two, head, push_spelled, put};
@@ -6,16 +6,16 @@ use std::alloc::Global;
 use std::process::Abort;
 use sub_io::MemSink;
 
-// Options that say what is so without them.
+// Options that are the defaults.
 const PLAIN: [&str; 2] = ["--every", "250"];
 
 // Complete pages.
 const COMPLETE: [&str; 2] = ["--every=250", "--complete"];
 
-// A transmission of `Hi`, of `Ho` in place of what can't be drawn, and of `Hi` after a pause.
+// A transmission of `Hi`, of `Ho` instead of what can't be drawn, and of `Hi` after a pause.
 const ALL_SENT: [&str; 5] = ["0:hrc", "50:hoc", "100:hc", "120:hrc", "150:hc"];
 
-// Asserts what `check --all` prints for options over a transmission that is spelled.
+// Asserts the output of `check --all` with options for a transmission that is spelled.
 fn assert_beside(
     rt: &(impl Abort + Alloc<A = Global>),
     options: [&str; 2],
@@ -30,7 +30,7 @@ fn assert_beside(
     assert_all(rt, &words, stl, pes.written(), "", want);
 }
 
-// The file of four blocks.
+// Returns the file of four blocks.
 fn file_of_more(
     first: &[u8; 128],
     second: &[u8; 128],

@@ -1,4 +1,5 @@
-//! `check --within`: pages that are whole some frames late, and several PES packets of one frame.
+//! `check --within`: pages that become right some frames late, and several PES packets of one
+//! frame.
 use crate::every_place::assert_told_of;
 use answer_fixtures::ACCEPTED;
 use fixtures::{HEAD, HI, TEN, block, file_of_hi, file_of_two, head, push_spelled};
@@ -6,8 +7,8 @@ use std::alloc::Global;
 use std::process::Abort;
 use sub_io::MemSink;
 
-/// Asserts what is printed of a subtitle file and a transmission, by a row: its PES packets, the
-/// options of the check, and the lines that it prints with `--all`.
+/// Asserts the output for a subtitle file and a transmission, by a row of a table: its PES packets,
+/// the options of the check, and the lines that it prints with `--all`.
 pub fn assert_row(rt: &(impl Abort + Alloc<A = Global>), stl: &[u8], row: &[&[&str]; 3]) {
     let mut room = [0; 920];
     let mut pes = MemSink::new(&mut room);
@@ -16,7 +17,7 @@ pub fn assert_row(rt: &(impl Abort + Alloc<A = Global>), stl: &[u8], row: &[&[&s
     assert_told_of(rt, stl, pes.written(), row[1], row[2][0]);
 }
 
-// Pages that are sent late, with the frames within which they have to be whole.
+// Pages that are sent late, with the frames within which they have to be right.
 #[rattlefmt::skip]
 const LATE: [[&[&str]; 3]; 22] = [
     [&["0:h", "1:rc", "50:hc"], &[], &[
@@ -78,7 +79,7 @@ const LATE: [[&[&str]; 3]; 22] = [
         ended 72 Content frame 10:00:02:01\n\
         trusted frames 10:00:02:02 10:00:02:02\n\
         2 faults\n"]],
-    // whole in the first frame but for its closing header
+    // right in the first frame except for its closing header
     [&["0:hr", "1:h", "2:rc", "50:hc"], &["--within", "1"], &[
         "accepted 51 frames 3 transmissions\n"]],
     [&["0:hr", "1:h", "2:rc", "50:hc"], &["--within", "1", "--complete"], &[
@@ -127,7 +128,7 @@ fn tells_which_pages_are_late(rt: HostRuntime) {
     }
 }
 
-// Transmissions of several PES packets of one frame, or with times near those of frames.
+// Transmissions with several PES packets of one frame, or with times close to those of frames.
 #[rattlefmt::skip]
 const SENDINGS: [[&[&str]; 3]; 17] = [
     [&["0:h", "0+:rc", "50:hc"], &[], &[
@@ -157,7 +158,7 @@ const SENDINGS: [[&[&str]; 3]; 17] = [
         "accepted 51 frames 3 transmissions\n"]],
     [&["0:h", "1:", "1+:hrc", "50:hc"], &["--within", "1"], &[
         "accepted 51 frames 3 transmissions\n"]],
-    // a wrong row that is mended in its frame, and one with an even byte
+    // a wrong row that is corrected in its frame, and one with a byte of even parity
     [&["0:hrc", "1:hoc", "1+:hrc", "50:hc"], &["--within", "1"], &[
         "accepted 51 frames 4 transmissions\n"]],
     [&["0:hrc", "1:hoc", "1+:hec", "2:hrc", "50:hc"], &["--within", "1"], &[
@@ -165,7 +166,7 @@ const SENDINGS: [[&[&str]; 3]; 17] = [
         refused 68 Parity frame 10:00:00:01 packet 4\n\
         trusted frames 10:00:00:02 10:00:02:00\n\
         1 faults\n"]],
-    // gaps are told as they are without
+    // gaps are reported as without `--within`
     [&["0:hrc", "50:hc"], &["--every", "49"], &[
         "trusted frames 10:00:00:00 10:00:01:23\n\
         refused 73 Gap frame 10:00:01:24\n\
@@ -207,7 +208,7 @@ const LONG: [[&[&str]; 3]; 2] = [
         1 faults\n"]],
 ];
 
-// And with one of two frames: at the end of one of these its page has to be whole.
+// The same with one of two frames: at the end of one of these its page has to be right.
 #[rattlefmt::skip]
 const SHORT: [[&[&str]; 3]; 2] = [
     [&["0:hrc", "51:hoc", "53:hc"], &["--within", "3"], &["accepted 54 frames 3 transmissions\n"]],
@@ -219,7 +220,7 @@ const SHORT: [[&[&str]; 3]; 2] = [
         1 faults\n"]],
 ];
 
-// The subtitle file of `Hi` and `Ho`, directly after it and up to a frame.
+// Returns the subtitle file of `Hi`, directly followed by `Ho` up to a frame.
 fn file_of_ho(tco: u32) -> [u8; 1280] {
     let mut text = HI;
     text[4] = 0x6F;
@@ -239,7 +240,7 @@ fn shows_each_subtitle_once(rt: HostRuntime) {
     }
 }
 
-// Asserts what is printed of a transmission with one byte changed, and the last ones cut off.
+// Asserts the output for a transmission with one byte changed, and the last ones cut off.
 fn assert_changed(
     rt: &(impl Abort + Alloc<A = Global>),
     (place, value, cut): (usize, u8, usize),
@@ -264,7 +265,7 @@ fn tells_what_is_broken_within_frames(rt: HostRuntime) {
         ended 77 Incomplete frame 10:00:01:24\n\
         trusted frames 10:00:02:00 10:00:02:00\n\
         1 faults\n"]]);
-    // an even byte in the second PES packet of a frame
+    // a byte of even parity in the second PES packet of a frame
     let two: &[&str] = &["0:h", "0+:rc", "1:hrc", "50:hc"];
     assert_changed(&rt, (255, 0x12, 0), &[two, &["--within", "1"], &[
         "refused 68 Parity frame 10:00:00:00 packet 1\n\

@@ -1,4 +1,4 @@
-//! Files that are looked at again once they are closed.
+//! Files that are checked again after they were closed.
 ghost use Rattle.std.specs.Prelude.{◌<◌};
 ghost use Rattle.sub_io.specs.Device.{CanFail};
 
@@ -21,7 +21,7 @@ impl SecondLook for Finding {
     }
 }
 
-// Asserts what a push answers.
+// Asserts the result of a push.
 fn assert_pushes<K: Sink>(
     rt: &impl Abort,
     sink: &mut K,
@@ -37,7 +37,7 @@ fn assert_pushes<K: Sink>(
     assert!(rt; sink.failures() == failures && failures < 9);
 }
 
-// Asserts what a store answers, and that a push fails then.
+// Asserts the result of a store, and that a push fails afterwards.
 fn assert_stores<K: Close>(
     rt: &impl Abort,
     sink: &mut K,
@@ -52,7 +52,7 @@ fn assert_stores<K: Close>(
     assert_pushes(rt, sink, b"!", Err(Failed), failures + 1);
 }
 
-// Asserts what a store of six bytes answers where so many are found once the file is closed.
+// Asserts the result of storing six bytes if so many are found after the file was closed.
 fn assert_finds(rt: &impl Abort, found: u64, answer: Result<(), Failed>, failures: u64) {
     let mut room = [0; 8];
     let mut file = CheckedFile::new(MemoryFile::Created(&mut room, 0), Finding(found));

@@ -1,5 +1,5 @@
-//! Recordings, and files of PES packets, of which a read fails in the middle: which PES packet of
-//! the file is told then, and what was printed and written before.
+//! Recordings and files of PES packets of which a read fails in the middle: which PES packet of the
+//! file is reported then, and what was printed and written before.
 use crate::asserting::assert_same_in;
 use crate::pes_ranges::FIRST_LINES;
 use crate::recorded::{
@@ -17,7 +17,7 @@ const FAILED_1: &str = "fault 41 Read pes 1\n";
 
 const FAILED_3: &str = "fault 41 Read pes 3\n";
 
-// Asserts what is printed where a read fails behind these pieces. A file is written into the room.
+// Asserts the output if a read fails after these bytes. A file is written into the room.
 fn assert_fails_in<'a>(
     rt: &(impl Abort + Alloc<A = Global>),
     words: &'a [&'a str],
@@ -32,7 +32,7 @@ fn assert_fails_in<'a>(
     assert_answers(rt, words, &stl, recording(file.written(), true), room, want);
 }
 
-// The same where no file is written.
+// The same if no file is written.
 fn assert_fails<'a>(
     rt: &(impl Abort + Alloc<A = Global>),
     words: &'a [&'a str],
@@ -42,7 +42,7 @@ fn assert_fails<'a>(
     assert_fails_in(rt, words, pieces, &mut [], want);
 }
 
-// Asserts what each command prints of a range of a recording: `check`, also with `--all`,
+// Asserts the output of each command for a range of a recording: `check`, also with `--all`,
 // `packets` and `listen`.
 fn assert_ranges_fail<'a>(
     rt: &(impl Abort + Alloc<A = Global>),
@@ -101,11 +101,11 @@ fn tells_it_before_the_range_and_in_it(rt: HostRuntime) {
     let cut: [&[u8]; 6] = [&BEGINS_0, &FIRST, &NULL, &FILL, &BEGINS_1, &SECOND[..100]];
     assert_ranges_fail(&rt, "1-", &cut, FAILED_1);
     assert_ranges_fail(&rt, "5-9", &cut, FAILED_1);
-    // A mark is counted.
+    // A gap marker is counted.
     let lost: [&[u8]; 5] = [&BEGINS_0, &FIRST, &BEGINS_2, &SECOND, &NULL];
     assert_ranges_fail(&rt, "3-", &lost, FAILED_3);
     assert_ranges_fail(&rt, "4-", &lost, FAILED_3);
-    // What is told already stands before it, and nothing is read behind the range.
+    // Earlier reports come before it, and nothing is read after the range.
     let words = ["subttx", "check", "a", "b", "--pid", "257"];
     assert_fails(&rt, &words, &lost, LOST);
     let words = ["subttx", "check", "a", "b", "--pid", "257", "--pes", "0-0"];
@@ -125,7 +125,7 @@ fn tells_it_of_a_range_of_a_file_of_pes_packets(rt: HostRuntime) {
     }
 }
 
-// Asserts what is written of a recording of which a read fails behind these pieces.
+// Asserts what is written of a recording of which a read fails after these bytes.
 fn assert_extracts(
     rt: &(impl Abort + Alloc<A = Global>),
     pieces: &[&[u8]],

@@ -1,4 +1,4 @@
-//! The files of a request: which calls are made for them, and what is answered over them.
+//! The files of a request: which calls are made for them, and the answers with them.
 use crate::asserting::{assert_same, assert_same_in};
 use crate::files_in_memory::{Entry, FilesInMemory, STANDARD_OUTPUT};
 use answer_fixtures::ACCEPTED;
@@ -11,7 +11,7 @@ use sub_io::{BufferedSink, MemSink};
 use sub_request::Request;
 use sub_words::ParseWords;
 
-// A file that can be opened, with nothing in it.
+// A file that can be opened, and is empty.
 const INPUT: Entry = Entry {
     name: "a",
     found: Found::At(1, 1),
@@ -27,13 +27,13 @@ const NOTHING: Entry = Entry {
     fails: false,
 };
 
-// What is at the second name, found so.
+// Returns the second name with this result of a lookup.
 fn second(found: Found) -> Entry<'static> {
     Entry { found, ..NOTHING }
 }
 
-// Asserts the calls for the files of words, and whether they are opened. A file can be created
-// where the room is not empty.
+// Asserts the calls for the files of a command, and whether they are opened. A file can be created
+// if the room is not empty.
 fn assert_asks<'a, 'f>(
     rt: &(impl Abort + Alloc<A = Global>),
     words: &'a [&'a str],
@@ -88,7 +88,7 @@ fn creates_a_file_once_the_input_is_opened_and_both_are_looked_up(rt: HostRuntim
 
 #[test]
 fn creates_no_file_over_the_input(rt: HostRuntime) {
-    // The output is the input by another name, or can't be looked up; or the input can't be.
+    // The output is the input under another name, or can't be looked up; or the input can't be.
     let link = [INPUT, second(Found::At(1, 1))];
     assert_asks(&rt, &NORMAL, &link, &mut [0], "o0l0l1p?", false);
     let unknown = [INPUT, second(Found::Unknown)];
@@ -130,8 +130,8 @@ fn creates_no_file_that_standard_output_goes_into(rt: HostRuntime) {
     let same = [INPUT, second(Found::At(1, 2)), printed];
     assert_asks(&rt, &NORMAL, &same, &mut [0], "o0l0l1p2", false);
     assert_asks(&rt, &EXTRACT, &same, &mut [0], "o0l0l1p2", false);
-    // It goes into another file: of the same device, of the same inode, or into one of which the
-    // output's name has none.
+    // It goes to another file: of the same device, of the same inode, or to one when the output's
+    // name has none.
     let inode = [INPUT, second(Found::At(1, 3)), printed];
     assert_asks(&rt, &NORMAL, &inode, &mut [0], "o0l0l1p2c1", true);
     let device = [INPUT, second(Found::At(2, 2)), printed];
@@ -140,7 +140,7 @@ fn creates_no_file_that_standard_output_goes_into(rt: HostRuntime) {
     assert_asks(&rt, &NORMAL, &nothing, &mut [0], "o0l0l1p2c1", true);
 }
 
-// Whether words are answered over files, and what is printed.
+// Returns whether a command is answered with files, and what is printed.
 fn answers<'a, D: FileSystem>(
     alloc: Global,
     words: &'a [&'a str],
@@ -158,7 +158,7 @@ fn answers<'a, D: FileSystem>(
     }
 }
 
-// Asserts that this is printed of words over files, where there is memory and nothing fails.
+// Asserts the output of a command with files, if there is memory and nothing fails.
 fn assert_answers<'a, 'f>(
     rt: &(impl Abort + Alloc<A = Global>),
     words: &'a [&'a str],
@@ -169,7 +169,7 @@ fn assert_answers<'a, 'f>(
     assert_answers_over(rt, words, &mut FilesInMemory::new(entries, room), want);
 }
 
-// The same over any files.
+// The same with any files.
 fn assert_answers_over<'a, D: FileSystem>(
     rt: &(impl Abort + Alloc<A = Global>),
     words: &'a [&'a str],
@@ -217,8 +217,8 @@ fn answers_each_command_that_reads_files(rt: HostRuntime) {
     assert_answers(&rt, &packet, &[], &mut [], HEADER_LINES);
 }
 
-// Asserts that words over a subtitle file and a PES file, of which any read fails, are refused with
-// this line.
+// Asserts that a command is refused with this line for a subtitle file and a PES file of which any
+// read fails.
 fn assert_refuses_unread<'a>(
     rt: &(impl Abort + Alloc<A = Global>),
     words: &'a [&'a str],
@@ -242,7 +242,7 @@ fn assert_refuses_unread<'a>(
     assert!(rt; !is_done && &text[..len] == want.as_bytes(), "{words:?}");
 }
 
-// A byte of the PES file is asked for only where the subtitle file is not refused.
+// A byte of the PES file is read only if the subtitle file is not refused.
 #[test]
 fn reads_no_pes_file_beside_a_refused_subtitle_file(rt: HostRuntime) {
     let stl = file_of_hi();
@@ -255,7 +255,7 @@ fn reads_no_pes_file_beside_a_refused_subtitle_file(rt: HostRuntime) {
     assert_refuses_unread(&rt, &carried, &stl, "fault 41 Read pes 0\n");
 }
 
-// Asserts that this was written into a room that held bytes of ones, and no more.
+// Asserts that exactly this was written into a room that had bytes of ones.
 fn assert_starts(rt: &impl Abort, room: &[u8], written: &[u8]) {
     let len = written.len().min(room.len());
     let (begin, rest) = room.split_at(len);
@@ -271,7 +271,7 @@ fn writes_into_the_file_that_is_created(rt: HostRuntime) {
         bytes: Some(&stl),
         ..INPUT
     };
-    // There is room for one byte more than is written.
+    // There is room for one more byte than is written.
     let mut sent = [0xFF; 369];
     let schedule = ["subttx", "schedule", "a", "b"];
     let written = "written 2 transmissions\n";

@@ -1,4 +1,4 @@
-//! A device in memory that is asked for files: its files are a list.
+//! A device in memory that opens files: its files are a list.
 ghost use Rattle.std.specs.Prelude.{None};
 
 use std::fs::{Metadata, OpenFile};
@@ -6,19 +6,19 @@ use std::io::{self, ErrorKind, Read, Write};
 use sub_files::{FileSystem, Found};
 use sub_io::{FromRead, IntoFile};
 
-/// The name of the entry for what standard output goes into.
+/// The name of the entry for the file to which standard output goes.
 pub const STANDARD_OUTPUT: &str = "standard output";
 
-/// What is at a name.
+/// An entry of the list.
 #[derive(Clone, Copy)]
 pub struct Entry<'a> {
     /// The name.
     pub name: &'a str,
-    /// What is found there.
+    /// The result of a lookup.
     pub found: Found,
-    /// What is read of the file; `None` where it can't be opened.
+    /// The contents of the file; `None` if it can't be opened.
     pub bytes: Option<&'a [u8]>,
-    /// Whether a read fails behind them, where the file would end.
+    /// Whether a read fails after them, at the end of the file.
     pub fails: bool,
 }
 
@@ -32,17 +32,17 @@ pub struct FilesInMemory<'a> {
     len: usize,
 }
 
-/// One of them that was opened, or created.
+/// A file that was opened or created.
 #[derive(Drop)]
 pub enum MemoryFile<'a> {
-    /// What is left to be read, and whether a read fails behind it.
+    /// The bytes that are still to be read, and whether a read fails after them.
     Opened(&'a [u8], bool),
     /// The room, and how many bytes were written into it.
     Created(&'a mut [u8], usize),
 }
 
 impl<'a> FilesInMemory<'a> {
-    /// These files; `room` is that of a file that is created. Where it is empty none can be.
+    /// Returns these files; `room` is that of a file that is created. If it is empty none can be.
     pub fn new(entries: &'a [Entry<'a>], room: &'a mut [u8]) -> Self {
         FilesInMemory {
             entries,
@@ -52,13 +52,14 @@ impl<'a> FilesInMemory<'a> {
         }
     }
 
-    /// The calls that were made, two bytes for each: `l`, `p`, `o` or `c` for a look-up, a look-up
-    /// of standard output, an open or a create, and the number of the file in the list, or `?`.
+    /// Returns the calls that were made, two bytes for each: `l`, `p`, `o` or `c` for a lookup, a
+    /// lookup of standard output, an open or a create, and the number of the file in the list, or
+    /// `?`.
     pub fn calls(&self) -> &[u8] {
         &self.calls[..self.len.min(10)]
     }
 
-    // Notes a call, and gives what is at the name.
+    // Records a call, and returns the entry of the name.
     fn ask(&mut self, call: u8, name: &str) -> Option<Entry<'a>> {
         self.note(call);
         let entries = self.entries;

@@ -1,7 +1,7 @@
-//! Tests of the program's answers over recordings and ranges of PES packets, of the calls that take
-//! pieces, and of the files that a request opens. Nothing here is part of the product.
+//! Tests of the program's answers for recordings and ranges of PES packets, of the functions for
+//! PES packets, and of the files that a request opens. Nothing here is part of the product.
 //!
-//! They stand apart from those of other answers, since the tests of a crate are proved by one job.
+//! They are a crate of their own, since the tests of a crate are proved by one job.
 #![tactic(auto)]
 
 #[cfg(test)]

@@ -1,4 +1,4 @@
-//! Recordings with PES packets of many transport packets, of which some are left out, come twice or
+//! Recordings with PES packets of many transport packets, some of which are left out, repeated or
 //! announce a jump.
 use crate::recorded::{JUMP, JUMP_FILL, LOST, assert_answers, put_pieces, recording};
 use answer_fixtures::answer_words;
@@ -10,11 +10,11 @@ use sub_io::{MemSink, MemSource};
 // What is done with the fifteen packets, which are counted from 1; 0 is none of them.
 #[derive(Clone, Copy)]
 struct Sent {
-    // It is left out.
+    // This one is left out.
     left_out: usize,
-    // It comes twice.
+    // This one comes twice.
     twice: usize,
-    // Behind it a jump is announced, and all later counters are 5 higher.
+    // After this one a jump is announced, and all later counters are 5 higher.
     jump: usize,
     // The last one.
     last: usize,
@@ -27,14 +27,15 @@ const ALL: Sent = Sent {
     last: 15,
 };
 
-// A subtitle of 23 lines from row 1 on: a sending of it is a PES packet of seven payloads.
+// Returns a subtitle of 23 lines from row 1 on: its page transmission is a PES packet of seven
+// payloads.
 fn file_of_23_rows() -> [u8; 1152] {
     let text = b"A\x8AA\x8AA\x8AA\x8AA\x8AA\x8AA\x8AA\x8AA\x8AA\x8AA\x8AA\x8A\
         A\x8AA\x8AA\x8AA\x8AA\x8AA\x8AA\x8AA\x8AA\x8AA\x8AA";
     file_of(&block(&head(TEN, TEN + 50, 1), text))
 }
 
-// Puts the schedule of it, three PES packets, as packets of 184 bytes of payload each.
+// Puts its schedule, three PES packets, as packets of 184 bytes of payload each.
 fn put_packets(rt: &impl Abort, pes: &[u8], sent: Sent, recording: &mut MemSink) {
     assert!(rt; pes.len() == 2760);
     let (payloads, _) = pes.as_chunks::<184>();
@@ -64,7 +65,7 @@ fn put_packets(rt: &impl Abort, pes: &[u8], sent: Sent, recording: &mut MemSink)
     }
 }
 
-// Asserts what a check of the packets prints.
+// Asserts the output of a check of the packets.
 fn assert_checks(rt: &(impl Abort + Alloc<A = Global>), sent: Sent, want: &str) {
     let stl = file_of_23_rows();
     let mut room = [0; 2760];

@@ -1,5 +1,4 @@
-//! The calls over pieces: what they answer of those of a PES file, and of those that a recording
-//! carries.
+//! The functions for PES packets: their results for a PES file, and for what a recording carries.
 ghost use Rattle.sub_io.specs.Device.{CanFail};
 
 use crate::asserting::assert_same;
@@ -22,13 +21,13 @@ use sub_words::ParseWords;
 use ttx_page::{Keep, Page, Receiver};
 use ttx_pes::{FilePieces, NumberedPieces, Pieces};
 
-// What is counted of the schedule of `Hi`.
+// The counts of the schedule of `Hi`.
 const COUNTS: Accepted = Accepted {
     frames: 51,
     transmissions: 2,
 };
 
-// A recording of which PID 101 (hexadecimal) carries the schedule of `Hi`.
+// Returns a recording in which PID 101 (hexadecimal) carries the schedule of `Hi`.
 fn recording_of_hi() -> [u8; 376] {
     let mut recording = [0; 376];
     put(&mut recording, 0, &BEGINS_0);
@@ -38,18 +37,18 @@ fn recording_of_hi() -> [u8; 376] {
     recording
 }
 
-// What that PID carries.
+// Returns what that PID carries.
 fn carried(recording: &[u8], pid: Pid) -> RecordingPieces<MemSource<'_>> {
     RecordingPieces::new(MemSource::new(recording), pid, PacketSize::Plain)
 }
 
-// The options of a check, and the PID. Nothing is owned yet where one of them is none: a test is
-// proved sooner so.
+// Returns the options of a check, and the PID. Nothing is owned yet if one of them is invalid: a
+// test is proved sooner that way.
 fn given() -> Result<(Options, Pid), Fail> {
     Ok((every(250)?, Pid::new(0x101).ok_or("a PID")?))
 }
 
-// The programme of `Hi`.
+// Returns the programme of `Hi`.
 fn programme_of_hi(alloc: Global) -> Result<Programme, Fail> {
     let bytes = file_of_hi();
     let mut stl = MemSource::new(&bytes);
@@ -57,7 +56,7 @@ fn programme_of_hi(alloc: Global) -> Result<Programme, Fail> {
     Ok(load(alloc, &mut stl, National::English, layout, scope)?)
 }
 
-// Asserts that pieces are accepted.
+// Asserts that PES packets are accepted.
 fn assert_accepts<P: Pieces>(
     rt: &impl Abort,
     programme: &Programme,
@@ -80,7 +79,7 @@ fn checks_pieces(rt: HostRuntime) -> Result<(), Fail> {
     Ok(())
 }
 
-// Asserts that nothing is told of pieces.
+// Asserts that PES packets have no events.
 fn assert_tells_nothing<P: Pieces>(
     rt: &impl Abort,
     programme: &Programme,
@@ -106,7 +105,7 @@ fn tells_nothing_of_pieces_that_are_accepted(rt: HostRuntime) -> Result<(), Fail
     Ok(())
 }
 
-// Asserts that a receiver holds `Hi` in the middle of row 22 once it heard pieces.
+// Asserts that a receiver has `Hi` in the middle of row 22 after it received PES packets.
 fn assert_hears<P: Pieces>(rt: &impl Abort, listening: &Listening, pieces: &mut P)
     requires { CanFail (P.failure_count pieces.old) }
 {
@@ -135,7 +134,7 @@ fn hears_pieces(rt: HostRuntime) -> Result<(), Fail> {
     Ok(())
 }
 
-// Asserts what is answered to a check of pieces.
+// Asserts the answer to a check of PES packets.
 fn assert_answers_over<P: NumberedPieces>(
     rt: &(impl Abort + Alloc<A = Global>),
     pieces: &mut P,

@@ -1,4 +1,4 @@
-//! Ranges of PES packets, of recordings and of files of them: their numbers are those of the file.
+//! Ranges of PES packets, of recordings and of files of them: their numbers are those in the file.
 use crate::recorded::{
     BEGINS_0, BEGINS_1, BEGINS_2, EARLY, EMPTY, FILL, LATE, LOST, MARK_HEAD, NULL, assert_prints,
 };
@@ -8,7 +8,7 @@ use std::alloc::Global;
 use std::process::Abort;
 use sub_io::{MemSink, Sink, put_all};
 
-/// What `packets` prints of the first PES packet of the schedule of `Hi`.
+/// The output of `packets` for the first PES packet of the schedule of `Hi`.
 pub const FIRST_LINES: &str = "pes 0 pts 3240000000\n\
     unit 0 id 03 field 1 line 7 1515d0d015d015d00215\
     2020202020202020202020202020202020202020202020202020202020202020\n\
@@ -17,7 +17,7 @@ pub const FIRST_LINES: &str = "pes 0 pts 3240000000\n\
     unit 2 id 03 field 1 line 9 1515eaeaea2fea5e1515\
     2020202020202020202020202020202020202020202020202020202020202020\n";
 
-// Of the second one behind its number.
+// The output for the second one, after its number.
 const SECOND_LINES: &str = "pts 3240180000\n\
     unit 0 id 03 field 1 line 7 1515d0d015d015d00215\
     2020202020202020202020202020202020202020202020202020202020202020\n\
@@ -52,7 +52,7 @@ fn lists_pes_packets_by_their_numbers_in_the_file(rt: HostRuntime) {
     let words = ["subttx", "packets", "b", "--pid", "257", "--pes", "2-"];
     let parts = ["", "pes 2 ", SECOND_LINES, "1 pes\n"];
     assert_lists(&rt, &words, &lost, parts);
-    // It stops at a mark, and so does `listen`.
+    // It stops at a gap marker, and so does `listen`.
     let words = ["subttx", "packets", "b", "--pid", "257"];
     let parts = [FIRST_LINES, "", "", LOST];
     assert_lists(&rt, &words, &lost, parts);
@@ -80,7 +80,7 @@ fn lists_pes_packets_by_their_numbers_in_the_file(rt: HostRuntime) {
     assert_prints(&rt, &words, &lost, LOST);
 }
 
-// Asserts what is printed of a check of this range of a file of PES packets.
+// Asserts the output of a check of this range of a file of PES packets.
 fn assert_checks_range<'a>(
     rt: &(impl Abort + Alloc<A = Global>),
     range: &'a str,

@@ -1,4 +1,4 @@
-//! What the recordings of tests are made of, and asserting what is answered of them.
+//! Parts of the recordings of tests, and assertions about answers for them.
 use crate::asserting::assert_same_in;
 use crate::files_in_memory::{Entry, FilesInMemory};
 use answer_fixtures::status_of;
@@ -33,22 +33,22 @@ pub const JUMP: [u8; 6] = [0x47, 0x01, 0x01, 0x20, 0xB7, 0x80];
 /// The bytes that fill it.
 pub const JUMP_FILL: [u8; 182] = [0xFF; 182];
 
-/// The first bytes of a mark; `FILL` has more of its others than it needs.
+/// The first bytes of a gap marker; `FILL` has more of its others than it needs.
 pub const MARK_HEAD: [u8; 6] = [0x00, 0x00, 0x01, 0xBD, 0x00, 0xB2];
 
-/// What is told where packets are missing after the first PES packet.
+/// The line if packets are missing after the first PES packet.
 pub const LOST: &str = "refused 45 Lost pes 1\n";
 
-/// Where the first PES packet of the schedule of `Hi` is not read.
+/// The line if the first PES packet of the schedule of `Hi` is not read.
 pub const EARLY: &str = "refused 63 Early frame 10:00:02:00\n";
 
-/// Where the second one is not.
+/// The line if the second one is not.
 pub const LATE: &str = "refused 74 Late frame 10:00:00:00\n";
 
-/// Where there is none.
+/// The line if there is none.
 pub const EMPTY: &str = "refused 60 Empty\n";
 
-/// Puts pieces one after another, as far as there is room.
+/// Puts byte strings one after another, as far as there is room.
 pub fn put_pieces(sink: &mut MemSink<'_>, pieces: &[&[u8]]) {
     for piece in pieces {
         if sink.failures() == 0 {
@@ -57,7 +57,7 @@ pub fn put_pieces(sink: &mut MemSink<'_>, pieces: &[&[u8]]) {
     }
 }
 
-/// The file `a`, which is read whole.
+/// Returns the file `a`, which is read completely.
 pub fn subtitle_file(bytes: &[u8]) -> Entry<'_> {
     Entry {
         name: "a",
@@ -67,7 +67,7 @@ pub fn subtitle_file(bytes: &[u8]) -> Entry<'_> {
     }
 }
 
-/// The file `b`, which ends behind these bytes, or fails there.
+/// Returns the file `b`, which ends after these bytes, or fails there.
 pub fn recording(bytes: &[u8], fails: bool) -> Entry<'_> {
     Entry {
         name: "b",
@@ -85,8 +85,8 @@ const WRITTEN: Entry = Entry {
     fails: false,
 };
 
-/// Asserts what is printed for words over a subtitle file and a recording, and the status that the
-/// last line tells. A file `c` is written into the room.
+/// Asserts the output of a command for a subtitle file and a recording, and the status that the
+/// last line implies. A file `c` is written into the room.
 pub fn assert_answers<'a, 'f>(
     rt: &(impl Abort + Alloc<A = Global>),
     words: &'a [&'a str],
@@ -110,8 +110,8 @@ pub fn assert_answers<'a, 'f>(
     assert_same_in(rt, &text.get(len), &Some(&0), &words);
 }
 
-/// Asserts what is printed for words over the subtitle file `Hi` and a file that is made of these
-/// pieces.
+/// Asserts the output of a command for the subtitle file `Hi` and a file that consists of these
+/// byte strings.
 pub fn assert_prints<'a>(
     rt: &(impl Abort + Alloc<A = Global>),
     words: &'a [&'a str],

@@ -10,10 +10,10 @@ use std::alloc::Global;
 use std::process::Abort;
 use sub_io::MemSink;
 
-// Bytes 0 to 3 of a packet of PID 101 (hexadecimal) that begins a PES packet, its counter 9.
+// Bytes 0 to 3 of a packet of PID 101 (hexadecimal) that begins a PES packet, with counter 9.
 const BEGINS_9: [u8; 4] = [0x47, 0x41, 0x01, 0x19];
 
-// One that goes on, and one with transport_error_indicator.
+// One that continues a PES packet, and one with transport_error_indicator.
 const GOES_ON_1: [u8; 4] = [0x47, 0x01, 0x01, 0x11];
 
 const WRONG_1: [u8; 4] = [0x47, 0xC1, 0x01, 0x11];
@@ -36,12 +36,12 @@ const ZEROS: [u8; 3000] = [0; 3000];
 
 const CHECK: [&str; 6] = ["subttx", "check", "a", "b", "--pid", "257"];
 
-// Asserts what is printed of a check of PID 257.
+// Asserts the output of a check of PID 257.
 fn assert_checks(rt: &(impl Abort + Alloc<A = Global>), pieces: &[&[u8]], want: &str) {
     assert_prints(rt, &CHECK, pieces, want);
 }
 
-// Asserts what is printed where a recording of these pieces is written into a file, and its bytes.
+// Asserts the output if a recording of these byte strings is written to a file, and its bytes.
 fn assert_extracts<'a>(
     rt: &(impl Abort + Alloc<A = Global>),
     pid: &'a str,
@@ -111,7 +111,7 @@ fn tells_lost_packets_by_the_number_of_their_mark(rt: HostRuntime) {
         &SECOND,
     ];
     assert_checks(&rt, &no_room, LOST);
-    // Nothing stands before the first PES packet.
+    // Nothing comes before the first PES packet.
     let begin: [u8; 4] = [0x47, 0xC1, 0x01, 0x10];
     assert_checks(&rt, &[&begin, &FIRST, &BEGINS_1, &SECOND], EARLY);
 }
@@ -164,7 +164,7 @@ fn refuses_what_is_no_teletext(rt: HostRuntime) {
     let (front, back) = FIRST.split_at(3);
     let start: [&[u8]; 6] = [&BEGINS_0, front, &[0xBE], &back[1..], &BEGINS_1, &SECOND];
     assert_checks(&rt, &start, "refused 31 Start pes 0\n");
-    // A file of PES packets with a mark at its front.
+    // A file of PES packets that begins with a gap marker.
     let marked: [&[u8]; 3] = [&FIRST[..6], &FILL[..178], &SECOND];
     let words = ["subttx", "check", "a", "b"];
     assert_prints(&rt, &words, &marked, "refused 45 Lost pes 0\n");
@@ -245,7 +245,7 @@ fn writes_what_a_recording_carries(rt: HostRuntime) {
         &BEGINS_0, &FIRST, &WRONG_1, &SECOND, &WRONG_1, &SECOND, &BEGINS_1, &SECOND,
     ];
     assert_extracts(&rt, "257", &wrong, written, &marked);
-    // A packet of the PES packet has more bytes than it says.
+    // A packet of the PES packet has more bytes than the PES packet's length.
     let (front, back) = FIRST.split_at(100);
     let longer: [&[u8]; 9] = [
         &SHORT_0,

@@ -1,4 +1,4 @@
-//! `survey`: what is told of a recording.
+//! `survey`: the output for a recording.
 use crate::recorded::{
     BEGINS_0, BEGINS_1, BEGINS_2, FILL, NULL, assert_answers, assert_prints, put_pieces, recording,
 };
@@ -9,7 +9,7 @@ use sub_io::MemSink;
 
 const SURVEY: [&str; 3] = ["subttx", "survey", "b"];
 
-// Asserts what is told of a recording of these pieces, which fails at its end.
+// Asserts the output for a recording of these byte strings that fails at its end.
 fn assert_fails<'a>(
     rt: &(impl Abort + Alloc<A = Global>),
     words: &'a [&'a str],

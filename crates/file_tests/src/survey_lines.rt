@@ -1,4 +1,4 @@
-//! The lines of `survey` by which a tool chooses, each of a recording that holds little else.
+//! The lines of `survey` that other tools use, each for a recording with little else.
 use crate::recorded::{BEGINS_0, BEGINS_1, BEGINS_2, FILL, JUMP, JUMP_FILL, assert_prints};
 use fixtures::{FIRST, SECOND};
 
@@ -17,12 +17,12 @@ const BEGINS_6: [u8; 4] = [0x47, 0x41, 0x01, 0x16];
 
 const BEGINS_7: [u8; 4] = [0x47, 0x41, 0x01, 0x17];
 
-// Of a packet with errors, and of one that is scrambled.
+// The same for a packet with errors, and for one that is scrambled.
 const WRONG: [u8; 4] = [0x47, 0x81, 0x01, 0x11];
 
 const SCRAMBLED: [u8; 4] = [0x47, 0x01, 0x01, 0x91];
 
-// Of packets that go on with a PES packet.
+// The same for packets that continue a PES packet.
 const GOES_ON: [[u8; 4]; 5] = [
     [0x47, 0x01, 0x01, 0x11],
     [0x47, 0x01, 0x01, 0x12],
@@ -164,7 +164,7 @@ const PMT_HEVC: [u8; 31] = [
 ];
 
 // A packet of the video that begins its first picture, which has the flag: PTS 3239907200, DTS
-// 3239900000. Then what stands in it.
+// 3239900000. Then its contents.
 const FLAGGED: [u8; 25] = [
     0x47, 0x41, 0x10, 0x30, 0x01, 0x40, 0x00, 0x00, 0x01, 0xE0, 0x00, 0x00, 0x80, 0xC0, 0x0A, 0x37,
     0x04, 0x75, 0x1F, 0x01, 0x17, 0x04, 0x73, 0xE6, 0xC1,
@@ -179,7 +179,7 @@ const IDR_W_RADL: [u8; 5] = [0x00, 0x00, 0x01, 0x26, 0x01];
 
 const CRA_NUT: [u8; 5] = [0x00, 0x00, 0x01, 0x2A, 0x01];
 
-// Pictures without DTS, each 3600 ticks behind the one before, the last 10800 behind it.
+// Pictures without DTS, each 3600 ticks after the one before, the last 10800 after it.
 const SHOWN_1: [u8; 18] = [
     0x47, 0x41, 0x10, 0x11, 0x00, 0x00, 0x01, 0xE0, 0x00, 0x00, 0x80, 0x80, 0x05, 0x27, 0x04, 0x75,
     0x02, 0xE1,

@@ -1,5 +1,5 @@
-//! Layouts: what `schedule` sends of a text that a layout draws, and that `check` accepts it; what
-//! it refuses, and the texts that are no layout.
+//! Layouts: what `schedule` sends for a text that a layout draws, and that `check` accepts it; what
+//! it refuses, and texts that are no layout.
 ghost use Rattle.sub_io.specs.Device.{CanFail};
 
 use crate::answers::assert_tells;
@@ -12,7 +12,7 @@ use sub_io::{MemSink, MemSource};
 use ttx_packet::unham;
 
 // A text; VP and JC; the layout, empty for none; and then what is sent, for each row its number,
-// the column of its first cell and its cells, or else the line that is printed.
+// the column of its first cell and its cells, or the line that is printed.
 #[rattlefmt::skip]
 const CASES: [&[&[u8]]; 18] = [
     &[b"Hi", b"\x16\x02", b"", b"\x16\x11\x0B\x0BHi\x0A\x0A"],
@@ -38,7 +38,7 @@ const CASES: [&[&[u8]]; 18] = [
     &[b"\x0A", b"\x16\x02", b"strip=0A"],
 ];
 
-// The file of one subtitle with a text, at this VP and JC.
+// Returns the file of one subtitle with a text, at this VP and JC.
 fn file_with(rt: &impl Abort, text: &[u8], place: &[u8]) -> [u8; 1152] {
     assert!(rt; text.len() <= 112 && place.len() == 2);
     let mut head = HEAD;
@@ -46,7 +46,7 @@ fn file_with(rt: &impl Abort, text: &[u8], place: &[u8]) -> [u8; 1152] {
     file_of(&block(&head, text))
 }
 
-// A byte of the Teletext packet of a data unit of the first PES packet, bit 1 lowest.
+// Returns a byte of the Teletext packet of a data unit of the first PES packet, bit 1 lowest.
 fn byte_at(rt: &impl Abort, pes: &[u8], unit: usize, place: usize) -> u8 {
     assert!(rt; unit < 100 && place < 42);
     let at = 50 + 46 * unit + place;
@@ -54,7 +54,7 @@ fn byte_at(rt: &impl Abort, pes: &[u8], unit: usize, place: usize) -> u8 {
     pes[at].reverse_bits()
 }
 
-// The number of the row of a data unit, 0 of a header.
+// Returns the number of the row of a data unit, 0 for a header.
 fn row_of(rt: &impl Abort, pes: &[u8], unit: usize) -> u8 {
     let low = unham(byte_at(rt, pes, unit, 0)).expect(rt, "a magazine");
     let high = unham(byte_at(rt, pes, unit, 1)).expect(rt, "a row");
@@ -95,7 +95,7 @@ fn assert_schedules<'a>(
     assert!(rt; status == Status::Done, "{words:?}");
 }
 
-// Asserts what is scheduled and checked of a file by these words.
+// Asserts the schedule of a file and its check with these options.
 fn assert_answers<'a>(
     rt: &(impl Abort + Alloc<A = Global>),
     number: usize,
@@ -123,7 +123,7 @@ fn assert_answers<'a>(
     );
 }
 
-// Asserts what is scheduled and checked of a case.
+// Asserts the schedule and the check of a case.
 fn assert_case(rt: &(impl Abort + Alloc<A = Global>), number: usize, case: &[&[u8]]) {
     assert!(rt; case.len() >= 3);
     let stl = file_with(rt, case[0], case[1]);
@@ -148,7 +148,7 @@ fn draws_texts_by_layouts(rt: HostRuntime) {
     }
 }
 
-// Asserts what is scheduled and checked of a text in German, with the bytes 0A stripped.
+// Asserts the schedule and the check of a text in German, without the bytes 0A.
 fn assert_german(rt: &(impl Abort + Alloc<A = Global>), text: &[u8], row: &[u8]) {
     let stl = file_with(rt, text, &[22, 2]);
     let schedule = [
@@ -167,8 +167,8 @@ fn a_stripped_byte_parts_a_pair(rt: HostRuntime) {
     assert_german(&rt, b"a\x0A\xC8a", b"\x16\x11\x0B\x0Ba\x7B\x0A\x0A");
 }
 
-// A line, and the words of a check or a schedule for which it is printed: the layout is none, or a
-// fault is told before.
+// A line, and the arguments of a check or a schedule for which it is printed: the text is no
+// layout, or an earlier fault is reported.
 const REFUSED: [&[&str]; 5] = [
     &[
         "usage 89 Layout\n",

@@ -1,8 +1,7 @@
-//! Tests of the program's other answers, over devices in memory. Nothing here is part of the
+//! Tests of the program's other answers, with devices in memory. Nothing here is part of the
 //! product.
 //!
-//! They stand apart from the tests of the libraries, of checks, of words and of files, since the
-//! tests of a crate are proved by one job.
+//! They are a crate of their own, since the tests of a crate are proved by one job.
 #![tactic(auto)]
 
 #[cfg(test)]

@@ -9,7 +9,7 @@ use std::process::Abort;
 use std::test::Fail;
 use sub_io::{FailAt, MemSink, MemSource};
 
-// What is shown of `Hi`, and where its first letter is hit.
+// The output for `Hi`, and if its first letter is hit.
 const HI: &str = "heard yes\nopen no\nrow 22 |                ...Hi..                 |\n";
 
 const HIT: &str = "heard yes\nopen no\nrow 22 |                ... i..                 |\n";
@@ -18,7 +18,7 @@ const BLANK: &str = "heard yes\nopen no\nblank\n";
 
 const NOTHING: &str = "heard no\n";
 
-// One flip in each byte of the header that has a code word.
+// One flip in each coded byte of the header.
 const HEADER_FLIPS: &str = "0:0:1,0:1:2,0:2:3,0:3:4,0:4:5,0:5:6,0:6:7,0:7:8,0:8:1,0:9:2";
 
 const LOST_0: &str = "refused 76 LostHeader frame 10:00:00:00 packet 0\n";
@@ -29,7 +29,7 @@ const LATER_LOST_0: &str = "refused 76 LostHeader frame 10:00:01:00 packet 0\n";
 
 const NOT_SHOWN: &str = "heard yes\nopen yes\nshown no\n";
 
-// Asserts what is printed of these bytes for a listening up to a time, with these options.
+// Asserts the output of `listen` for these bytes up to a time, with these options.
 fn assert_hears<'x>(
     rt: &(impl Abort + Alloc<A = Global>),
     pes: &[u8],
@@ -45,7 +45,7 @@ fn assert_hears<'x>(
     assert_prints_of(rt, words, pes, &[], want.as_bytes());
 }
 
-// Asserts what a receiver prints of `Hi` with a sending every 25 frames.
+// Asserts the output of a receiver for `Hi`, repeated every 25 frames.
 fn assert_hears_by<'x>(
     rt: &(impl Abort + Alloc<A = Global>),
     receiver: &'x str,
@@ -61,7 +61,7 @@ fn assert_hears_by<'x>(
     assert_prints_of(rt, words, &every_second(), &[], want.as_bytes());
 }
 
-// Asserts what both receivers print of `Hi` with a sending every 25 frames.
+// Asserts the output of both receivers for `Hi`, repeated every 25 frames.
 fn assert_both_hear<'x>(
     rt: &(impl Abort + Alloc<A = Global>),
     at: &'x str,
@@ -111,7 +111,7 @@ fn counts_packets_over_the_whole_file(rt: HostRuntime) {
         &["--skip", "3", "--flip", "4:21:1"],
         HIT,
     );
-    // a packet that is passed over, comes after the time, or is not there
+    // a packet that is skipped, comes after the time, or does not exist
     let passed_over = ["--skip", "3", "--flip", "1:21:1", "--lose", "0,1"];
     assert_both_hear(&rt, "10:00:01:00", &passed_over, HI);
     let later = ["--flip", "4:21:1", "--lose", "3,4"];
@@ -127,11 +127,11 @@ fn prints_what_is_on_the_screen(rt: HostRuntime) {
     assert_hears(&rt, &pes, "10:00:00:10", &complete, HI);
     assert_hears(&rt, &pes, "10:00:02:00", &complete, BLANK);
     assert_hears(&rt, &pes, "09:59:59:24", &complete, NOTHING);
-    // The first closing header becomes a stuffing unit; the second sending is closed.
+    // The first closing header becomes a stuffing unit; the second page transmission is closed.
     pes[138] = 0xFF;
     assert_hears(&rt, &pes, "10:00:00:10", &complete, NOT_SHOWN);
     assert_hears(&rt, &pes, "10:00:01:00", &complete, HI);
-    // The closing header of the second one too: at a header of the page the screen stays.
+    // The closing header of the second one, too: at a header of the page the screen stays.
     pes[322] = 0xFF;
     assert_hears(&rt, &pes, "10:00:01:00", &complete, NOT_SHOWN);
 }
@@ -147,8 +147,8 @@ fn does_not_show_a_row_that_is_hit(rt: HostRuntime) {
     assert_hears(&rt, &pes, "10:00:00:10", &["--receiver", "drop"], HI);
 }
 
-// Asserts what both receivers show of the first sending with one flip: the cell is the due one, or
-// a space where its byte was hit.
+// Asserts what both receivers show of the first page transmission with one flip: the cell is the
+// due one, or a space if its byte was hit.
 fn assert_shows_hit(
     rt: &(impl Abort + Alloc<A = Global>),
     packet: u8,
@@ -166,7 +166,7 @@ fn assert_shows_hit(
     Ok(())
 }
 
-// Asserts what a receiver shows of the first sending with these flips.
+// Asserts what a receiver shows of the first page transmission with these flips.
 fn assert_shows(rt: &(impl Abort + Alloc<A = Global>), receiver: &str, flips: &str, want: &[u8]) {
     let at = "10:00:00:10";
     let words = [
@@ -210,7 +210,8 @@ fn keeps_or_blanks_a_cell_as_it_was_asked(rt: HostRuntime) {
     assert_hears(&rt, pes.written(), "10:00:00:10", &blank, hit);
 }
 
-// Three sendings of one data field. The second one has a flip, so the third is heard anew.
+// Three PES packets with the same data field. The second one has a flip, so the third is processed
+// again.
 #[test]
 fn hears_a_sending_anew_after_one_with_a_flip(rt: HostRuntime) {
     let sent = [HEADER, ROW, CLOSING];
@@ -224,8 +225,8 @@ fn hears_a_sending_anew_after_one_with_a_flip(rt: HostRuntime) {
     assert_hears(&rt, pes.written(), "10:00:00:02", &flip, HI);
 }
 
-// Transmissions with several PES packets of one frame, what is listened up to with which options,
-// and what is printed.
+// Transmissions with several PES packets of one frame, the time and options of `listen`, and its
+// output.
 #[rattlefmt::skip]
 const SENDINGS: [[&[&str]; 3]; 16] = [
     [&["0:h", "0+:rc", "1:hc"], &["10:00:00:00"], &["refused 61 OffFrame pes 1\n"]],
@@ -236,7 +237,7 @@ const SENDINGS: [[&[&str]; 3]; 16] = [
     [&["0:h", "0:rc", "1:hc"], &["10:00:00:00"], &["refused 62 Order pes 1\n"]],
     [&["0:h", "0:", "0:r", "0+:c", "1-:hc"], &["10:00:00:00", "--within", "50"], &[HI]],
     [&["0:hrc", "0:hc", "1:hrc"], &["10:00:00:00", "--within", "1"], &[BLANK]],
-    // a frame before, of which nothing is told after the time
+    // an earlier frame, which is not reported after the time
     [&["1:hrc", "1:h", "0+:rc"], &["10:00:00:01", "--within", "1"], &["refused 62 Order pes 2\n"]],
     [&["1:hrc", "1:h", "0+:rc"], &["10:00:00:00", "--within", "1"], &[NOTHING]],
     // a lost header, by its number in its frame
@@ -254,7 +255,7 @@ const SENDINGS: [[&[&str]; 3]; 16] = [
     [&["0:h", "0+:rc", "1:hc"], &["10:00:00:00", "--within", "1", "--complete"], &[HI]],
 ];
 
-// Asserts what a row prints.
+// Asserts the output for a row of the table.
 fn assert_hears_row(rt: &(impl Abort + Alloc<A = Global>), row: &[&[&str]; 3]) {
     let mut room = [0; 920];
     let mut pes = MemSink::new(&mut room);
@@ -271,15 +272,14 @@ fn hears_pes_packets_of_one_frame(rt: HostRuntime) {
     }
 }
 
-// Transmissions whose repeats keep the page, what is listened up to with which options, and what is
-// printed.
+// Transmissions whose repeats keep the page, the time and options of `listen`, and its output.
 #[rattlefmt::skip]
 const REPEATS: [[&[&str]; 3]; 7] = [
     [&["0:hrc", "25:kc", "50:hc"], &["10:00:01:00"], &[HI]],
     [&["0:hrc", "25:kc", "50:hc"], &["10:00:01:00", "--receiver", "anew"], &[BLANK]],
     [&["0:krc", "50:hc"], &["10:00:01:00", "--receiver", "anew"], &[HI]],
     [&["0:hrrc", "50:hc"], &["10:00:00:00", "--receiver", "anew", "--flip", "2:21:1"], &[HIT]],
-    // a header that it does not receive, and pages that are begun anew while they are open
+    // a header that is not received, and pages that start again while they are open
     [&["0:hrc", "25:kc", "50:hc"], &["10:00:00:00", "--receiver", "anew", "--skip", "1"], &[
         NOTHING]],
     [&["0:hr", "25:kc", "50:hc"], &["10:00:01:00", "--receiver", "anew", "--complete"], &[BLANK]],
@@ -307,7 +307,7 @@ fn tells_faults_of_a_file_as_far_as_it_is_read(rt: HostRuntime) {
     assert_hears(&rt, &every_second(), "10:00:00:10", &["--origin", "1"], off);
 }
 
-// Asserts what is heard of the file with this many bytes.
+// Asserts the output for the first bytes of the file.
 fn assert_hears_cut(rt: &(impl Abort + Alloc<A = Global>), len: usize, at: &str, want: &str) {
     let pes = every_second();
     assert!(rt; len <= 552);
@@ -316,7 +316,7 @@ fn assert_hears_cut(rt: &(impl Abort + Alloc<A = Global>), len: usize, at: &str,
 
 #[test]
 fn tells_a_cut_after_the_time(rt: HostRuntime) {
-    // the PES packet after the time, and not read so far
+    // the PES packet after the time, and one that is not reached
     assert_hears_cut(&rt, 194, "10:00:00:10", "refused 30 Truncated pes 1\n");
     assert_hears_cut(&rt, 194, "09:00:00:00", NOTHING);
 }

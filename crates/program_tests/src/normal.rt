@@ -1,4 +1,4 @@
-//! `normal`: what is printed of subtitle files, whole and refused.
+//! `normal`: the output for subtitle files, complete and refused.
 use crate::answers::{assert_prints, assert_prints_of};
 use answer_fixtures::answer_words;
 use fixtures::{Drip, Endless, HEAD, block, commented, file_of_two, gsi, normal_form};
@@ -7,15 +7,15 @@ use std::process::Abort;
 use sub_answer::Status;
 use sub_io::{FailAt, MemSink, MemSource, Sink};
 
-/// The words of it.
+/// Its arguments.
 pub const NORMAL: [&str; 4] = ["subttx", "normal", "a", "b"];
 
-// Asserts the line where a byte of the file of a comment, user data and a subtitle has this value.
+// Asserts the line if a byte of the file of a comment, user data and a subtitle has this value.
 fn assert_refuses(rt: &(impl Abort + Alloc<A = Global>), place: usize, value: u8, line: &[u8]) {
     let mut input = commented();
     assert!(rt; place < 1536);
     input[place] = value;
-    // The file that is written has no room, so nothing is.
+    // The output file has no room, so nothing is written.
     assert_prints_of(rt, &NORMAL, &input, &[], line);
 }
 
@@ -67,8 +67,7 @@ fn assert_answers(
     assert!(rt; is_right && is_done == (written > 0));
 }
 
-// Asserts the line and how many bytes are written for each length of the file from one on, up to
-// another.
+// Asserts the line and how many bytes are written for each length of the file from one to another.
 fn assert_answers_cuts(
     rt: &(impl Abort + Alloc<A = Global>),
     lengths: (usize, usize),
@@ -108,7 +107,7 @@ fn refuses_too_many_blocks(rt: HostRuntime) {
     assert_prints(&rt, &NORMAL, &mut long, &mut none, &[], line);
 }
 
-// Asserts the line where the byte of this number can't be read, of a file that is refused.
+// Asserts the line if the byte with this number can't be read, for a file that is refused.
 fn assert_fails(rt: &(impl Abort + Alloc<A = Global>), byte: u64, line: &[u8]) {
     let mut input = commented();
     input[3] = b'x';

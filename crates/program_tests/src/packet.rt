@@ -1,11 +1,11 @@
-//! `packet`: what is printed of packets of each number.
+//! `packet`: the output for packets of each number.
 use crate::answers::{assert_fills, assert_prints_of};
 use std::alloc::Global;
 use std::process::Abort;
 use std::test::Fail;
 use ttx_packet::ham;
 
-// Asserts the text of a packet of these digits, also where there is less room for it.
+// Asserts the text for a packet of these digits, also if there is less room for it.
 fn assert_shows(rt: &(impl Abort + Alloc<A = Global>), digits: &str, text: &str) {
     let words = ["subttx", "packet", digits];
     assert_prints_of(rt, &words, &[], &[], text.as_bytes());
@@ -29,7 +29,7 @@ fn shows_headers(rt: HostRuntime) {
         "1515eaEAea2fEA5e15022020202020202020202020202020202020202020202020202020202020202020",
         "magazine 8 packet 0\npage FF subcode 3F7F control C11\n\
         text |                                |\n");
-    // page 100 with no control bit; the text is Hi, an even H, 7F and 1F, and 20 to the end
+    // page 100 with no control bit; the text is Hi, an even H, 7F and 1F, and spaces to the end
     assert_shows(&rt,
         "02151515151515151515c8e9487f1f202020202020202020202020202020202020202020202020202020",
         "magazine 1 packet 0\npage 00 subcode 0000 control none\n\
@@ -78,7 +78,7 @@ fn refuses_two_wrong_bits(rt: HostRuntime) {
         "refused 4 BadHeader\n");
 }
 
-// Asserts what is shown of the packet of this number and magazine of which each byte is an A.
+// Asserts the output for the packet with this number and magazine of which each byte is an A.
 fn assert_shows_number(
     rt: &(impl Abort + Alloc<A = Global>),
     number: u8,

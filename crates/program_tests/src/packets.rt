@@ -1,4 +1,4 @@
-//! `packets`: what is printed of PES files.
+//! `packets`: the output for PES files.
 use crate::answers::{assert_prints, assert_prints_of};
 use fixtures::{FIRST, schedule_of_hi};
 use std::alloc::Global;
@@ -7,7 +7,7 @@ use sub_io::{FailAt, MemSource};
 
 const PACKETS: [&str; 3] = ["subttx", "packets", "a"];
 
-// What `packets` prints of the schedule of `Hi`: its first PES packet, and the second one.
+// The output of `packets` for the schedule of `Hi`: its first PES packet, and the second one.
 #[rattlefmt::skip]
 const LINES: &[u8] = b"pes 0 pts 3240000000\n\
     unit 0 id 03 field 1 line 7 1515d0d015d015d00215\
@@ -22,7 +22,7 @@ const LINES: &[u8] = b"pes 0 pts 3240000000\n\
     unit 1 id 03 field 1 line 8 1515eaeaea2fea5e1515\
     2020202020202020202020202020202020202020202020202020202020202020\n";
 
-// Asserts the lines and the last line for each length of the file from one on, up to another.
+// Asserts the lines and the last line for each length of the file from one to another.
 fn assert_lists(
     rt: &(impl Abort + Alloc<A = Global>),
     lengths: (usize, usize),

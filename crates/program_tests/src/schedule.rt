@@ -1,4 +1,4 @@
-//! `schedule`: what is written and printed of subtitle files, and that `check` accepts it.
+//! `schedule`: what is written and printed for subtitle files, and that `check` accepts it.
 ghost use Rattle.sub_io.specs.Device.{CanFail};
 
 use crate::answers::assert_tells;
@@ -13,8 +13,8 @@ use std::test::Fail;
 use sub_answer::Status;
 use sub_io::{MemSink, MemSource, Sink};
 
-// Asserts how long the schedule is that is written for these words, the line, and the line of a
-// check with this repeat bound.
+// Asserts the length of the schedule for these arguments, the line, and the line of a check with
+// this repeat bound.
 fn assert_schedules<'a>(
     rt: &(impl Abort + Alloc<A = Global>),
     words: &'a [&'a str],
@@ -31,7 +31,7 @@ fn assert_schedules<'a>(
     assert_tells(rt, &check, stl, file.written(), want);
 }
 
-// Writes a schedule into a file, and asserts the line.
+// Writes a schedule to a file, and asserts the line.
 fn write_schedule<'a>(
     rt: &(impl Abort + Alloc<A = Global>),
     words: &'a [&'a str],
@@ -76,7 +76,7 @@ fn schedules_the_subtitles_that_start_in_a_part_of_the_day(rt: HostRuntime) {
     assert_tells(&rt, &since, &hi, &[], "refused 82 NoSubtitles\n");
 }
 
-// Asserts how long the schedule of one subtitle of this row and text is.
+// Asserts the length of the schedule of one subtitle with this row and text.
 fn assert_schedules_text(rt: &(impl Abort + Alloc<A = Global>), vp: u8, text: &[u8], len: usize) {
     assert!(rt; text.len() <= 112);
     let file = file_of(&block(&head(TEN, TEN + 50, vp), text));
@@ -92,7 +92,7 @@ fn schedules_texts_of_no_row_to_all_rows(rt: HostRuntime) {
     assert_schedules_text(&rt, 1, all, 1472);
 }
 
-// A file of `Hi` and another subtitle in the two seconds after it.
+// Returns a file of `Hi` and another subtitle in the two seconds after it.
 fn hi_and(rt: &impl Abort, text: &[u8]) -> [u8; 1280] {
     assert!(rt; text.len() <= 112);
     file_of_two(
@@ -130,7 +130,7 @@ fn schedules_2000_subtitles(rt: HostRuntime) -> Result<(), Fail> {
     Ok(())
 }
 
-// Asserts the line of a schedule and of a check of a file of two blocks.
+// Asserts the line of a schedule and of a check for a file of two blocks.
 fn assert_refuses(rt: &(impl Abort + Alloc<A = Global>), file: &[u8; 1280], want: &str) {
     assert_tells(rt, &SCHEDULE, file, &[], want);
     assert_tells(rt, &CHECK, file, &[], want);
@@ -156,10 +156,10 @@ fn refuses_times(rt: HostRuntime) {
     let before = block(&head(TEN - 90_000, TEN + 100, 22), &HI);
     let out_of_order = "refused 56 OutOfOrder block 2\n";
     assert_refuses(&rt, &file_of_two(&hi, &before), out_of_order);
-    // The order is told before the text.
+    // The order is reported before the text.
     let early = block(&head(TEN - 90_000, TEN - 50, 22), &[0x0E]);
     assert_refuses(&rt, &file_of_two(&hi, &early), out_of_order);
-    // The text is told before a later block.
+    // The text is reported before a later block.
     let control = block(&HEAD, &[0x0E]);
     let refused = "refused 51 Control block 1 at 0\n";
     assert_refuses(&rt, &file_of_two(&control, &early), refused);
@@ -175,7 +175,7 @@ fn refuses_texts(rt: HostRuntime) {
     assert_refuses(&rt, &file_of_two(&low, &hi), "refused 19 Row block 1\n");
 }
 
-// Schedules `Hi` by an option, and asserts the byte 9 of its headers of the page, as it is carried.
+// Schedules `Hi` with an option, and asserts byte 9 of its headers of the page, as it is carried.
 fn assert_schedules_by(rt: &(impl Abort + Alloc<A = Global>), option: &str, byte: u8) {
     let hi = file_of_hi();
     let mut room = [0; 400];

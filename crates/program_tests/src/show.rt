@@ -1,4 +1,4 @@
-//! `show`: what is printed of subtitle files, whole and refused.
+//! `show`: the output for subtitle files, complete and refused.
 use crate::answers::{assert_fills, assert_prints, assert_prints_of};
 use fixtures::{HEAD, block, file_of, file_of_hi};
 use std::alloc::Global;
@@ -7,13 +7,13 @@ use sub_io::{FailAt, MemSource};
 
 const SHOW: [&str; 3] = ["subttx", "show", "a"];
 
-// Asserts what is printed of a file, also into each output that has less room.
+// Asserts the output for a file, also to each output with less room.
 fn assert_shows(rt: &(impl Abort + Alloc<A = Global>), file: &[u8], text: &[u8]) {
     assert_prints_of(rt, &SHOW, file, &[], text);
     assert_fills(rt, &SHOW, (file, &[]), &[], text);
 }
 
-// Asserts what is printed of the first bytes of a file.
+// Asserts the output for the first bytes of a file.
 fn assert_shows_cut(rt: &(impl Abort + Alloc<A = Global>), len: usize, text: &[u8]) {
     let file = file_of_hi();
     assert!(rt; len <= 1152);

@@ -1,11 +1,11 @@
-//! Words that are refused before anything is read.
+//! Arguments that are refused before anything is read.
 use crate::answers::{assert_fills, assert_tells};
 use std::alloc::Global;
 use std::process::Abort;
 use sub_request::Request;
 use sub_words::ParseWords;
 
-// Asserts the line of words that are refused.
+// Asserts the line of arguments that are refused.
 fn assert_refuses<'a>(rt: &(impl Abort + Alloc<A = Global>), words: &'a [&'a str], want: &str) {
     assert_tells(rt, words, &[], &[], want);
 }
@@ -25,7 +25,7 @@ fn prints_the_line_of_refused_words_into_any_output(rt: HostRuntime) {
     assert_fills(&rt, &same, none, &[], b"usage 7 SameFile\n");
 }
 
-// Words that are no command.
+// Arguments that are no command.
 #[rattlefmt::skip]
 const NO_WORDS: [&[&str]; 65] = [
     &[], // not even the program's name
@@ -35,7 +35,7 @@ const NO_WORDS: [&[&str]; 65] = [
     &["subttx", "help", "Packet"],
     &["subttx", "help", "help"],
     &["subttx", "--help", "-h"],
-    // status 0 of a check is a verdict: no word of it asks for help
+    // status 0 of a check is a verdict: none of its arguments requests help
     &["subttx", "check", "a.stl", "b.pes", "-h"],
     &["subttx", "check", "a.stl", "b.pes", "--help"],
     &["subttx", "check", "a.stl", "b.pes", "--page", "-h"],
@@ -61,7 +61,7 @@ const NO_WORDS: [&[&str]; 65] = [
     &["subttx", "listen", "--at", "10:00:00:10"],
     &["subttx", "listen", "b.pes", "--at", "10:00:00:10", "--every", "25"],
     &["subttx", "--page", "888", "check", "a.stl", "b.pes"],
-    // a flag takes no text, stands once, and is one of some commands
+    // a flag has no value, is given once, and belongs to some commands
     &["subttx", "check", "a", "b", "--complete=yes"],
     &["subttx", "check", "a", "b", "--complete", "--complete"],
     &["subttx", "listen", "a", "--at", "10:00:00:10", "--complete=yes"],
@@ -75,13 +75,14 @@ const NO_WORDS: [&[&str]; 65] = [
     &["subttx", "check", "a", "b", "--keeping", "--keeping"],
     &["subttx", "schedule", "a", "b", "--keeping"],
     &["subttx", "listen", "a", "--at", "10:00:00:10", "--keeping"],
-    // frames are allowed once, by a text, and of a check and a receiver
+    // `--within` is given once, with a value, to a check or a receiver
     &["subttx", "check", "a", "b", "--within"],
     &["subttx", "check", "a", "b", "--within", "1", "--within", "2"],
     &["subttx", "listen", "a", "--at", "10:00:00:10", "--within=1", "--within=1"],
     &["subttx", "schedule", "a", "b", "--within", "1"],
     &["subttx", "packets", "a", "--within", "1"],
-    // transport packets and ranges are of those that read PES packets, each once, by a text
+    // transport packets and ranges belong to commands that read PES packets, each given once, with
+    // a value
     &["subttx", "packets", "a", "--pid"],
     &["subttx", "packets", "a", "--pes"],
     &["subttx", "check", "a", "b", "--pid", "1", "--pid", "1"],
@@ -92,7 +93,7 @@ const NO_WORDS: [&[&str]; 65] = [
     &["subttx", "schedule", "a", "b", "--pid", "257"],
     &["subttx", "schedule", "a", "b", "--packet-size", "188"],
     &["subttx", "schedule", "a", "b", "--pes", "0-1"],
-    // what is extracted is all of a PID, which has to be said, and of one recording
+    // the whole of a PID is extracted, which is required, and from one recording
     &["subttx", "extract", "a", "b"],
     &["subttx", "extract", "a", "--pid", "257"],
     &["subttx", "extract", "a", "b", "c", "--pid", "257"],
@@ -118,7 +119,7 @@ fn refuses_digits_that_are_no_packet(rt: HostRuntime) {
         "1515d0d015d015d0021520202020202020202020202020202020202020202020202020202020202020200",
         // 86 digits
         "1515d0d015d015d00215202020202020202020202020202020202020202020202020202020202020202020",
-        // 84, of which one is no digit
+        // 84, one of which is no digit
         "1515d0d015d015d0021520202020202020202020202020202020202020202020202020202020202020 0",
         "g515d0d015d015d002152020202020202020202020202020202020202020202020202020202020202020",
     ];
@@ -127,7 +128,7 @@ fn refuses_digits_that_are_no_packet(rt: HostRuntime) {
     }
 }
 
-// The arguments of a schedule, in the order in which their faults are told, and the line.
+// The arguments of a schedule, in the order in which their faults are reported, and the line.
 #[rattlefmt::skip]
 const SCHEDULES: [[&str; 5]; 18] = [
     // page, every, origin, option, line
@@ -173,7 +174,7 @@ fn tells_the_first_fault_of_a_schedule(rt: HostRuntime) {
     for row in &SCHEDULES {
         assert_refuses_row(&rt, row);
     }
-    // A check may name one file twice.
+    // A check may name the same file twice.
     let options = [
         "subttx", "schedule", "a", "a", "--page", "8FF", "--every", "0", "--origin", "x",
         "--option", "polish",
@@ -187,11 +188,10 @@ fn tells_the_first_fault_of_a_schedule(rt: HostRuntime) {
     assert_refuses(&rt, &["subttx", "normal", "a", "a"], "usage 7 SameFile\n");
 }
 
-// The arguments of a check and of a receiver, of which one is how many frames are allowed, and the
-// lines of both.
+// The arguments of a check and of a receiver, one of which is `--within`, and the lines of both.
 #[rattlefmt::skip]
 const WITHINS: [[&str; 6]; 14] = [
-    // option, frames that are allowed, origin, time, line of the check, line of the receiver
+    // option, within, origin, time, line of the check, line of the receiver
     ["polish", "x", "x", "x", "usage 81 Origin\n", "usage 81 Origin\n"],
     ["polish", "51", "0", "x", "usage 83 BadOption\n", "usage 85 Within\n"],
     ["english", "51", "0", "x", "usage 85 Within\n", "usage 85 Within\n"],
@@ -229,7 +229,7 @@ fn refuses_frames_that_are_not_allowed(rt: HostRuntime) {
     }
 }
 
-// The words for PES packets, in the order in which their faults are told, and the line.
+// The options for PES packets, in the order in which their faults are reported, and the line.
 #[rattlefmt::skip]
 const PES_PACKETS: [[&str; 4]; 20] = [
     // PID, packet size, range, line
@@ -280,7 +280,7 @@ fn refuses_pes_packets_that_can_not_be_meant(rt: HostRuntime) {
     }
 }
 
-// The PES packets and the pace of a check, and the line.
+// The PES packets and the maximum distance of a check, and the line.
 #[rattlefmt::skip]
 const PACES: [[&str; 3]; 7] = [
     // range, pace, line
@@ -319,19 +319,19 @@ fn tells_faults_of_other_words_before_those_of_pes_packets(rt: HostRuntime) {
     assert_refuses(&rt, &option, "usage 83 BadOption\n");
     let origin = ["subttx", "listen", "a", "--at", "x", "--packet-size", "x", "--origin", "x"];
     assert_refuses(&rt, &origin, "usage 81 Origin\n");
-    // The packet size and the range are read without a PID too.
+    // The packet size and the range are also read without a PID.
     let sized = ["subttx", "check", "a", "b", "--packet-size", "190"];
     assert_refuses(&rt, &sized, "usage 87 PacketSize\n");
     assert_refuses(&rt, &["subttx", "packets", "a", "--pes", "1"], "usage 88 Range\n");
-    // A check may name one file twice, also as a recording.
+    // A check may name the same file twice, also as a recording.
     let same = ["subttx", "check", "a", "a", "--pid", "x"];
     assert_refuses(&rt, &same, "usage 86 Pid\n");
 }
 
-// The arguments of a receiver in the order in which their faults are told, and the line.
+// The arguments of a receiver in the order in which their faults are reported, and the line.
 #[rattlefmt::skip]
 const RECEIVERS: [[&str; 8]; 14] = [
-    // page, origin, time, packets passed over, flips, lost packets, receiver, line
+    // page, origin, time, skipped packets, flips, lost packets, receiver, line
     ["8FF", "x", "x", "x", "x", "x", "x", "usage 1 BadPage\n"],
     ["888", "8589934592", "x", "x", "x", "x", "x", "usage 81 Origin\n"],
     ["888", "0", "24:00:00:00", "x", "x", "x", "x", "usage 6 BadTime\n"],
@@ -348,7 +348,7 @@ const RECEIVERS: [[&str; 8]; 14] = [
     ["888", "0", "10:00:00:10", "0", "0:41:8", "1,2", "all", "usage 9 BadReceiver\n"],
 ];
 
-// Asserts the line of a listening with these arguments.
+// Asserts the line of `listen` with these arguments.
 #[rattlefmt::skip]
 fn assert_refuses_receiver(rt: &(impl Abort + Alloc<A = Global>), row: &[&str; 8]) {
     let words = [
@@ -365,7 +365,7 @@ fn tells_the_first_fault_of_a_receiver(rt: HostRuntime) {
     }
 }
 
-// Asserts that words ask for a check of the files `-a` and `-`.
+// Asserts that arguments request a check of the files `-a` and `-`.
 fn assert_checks_dashes<'a>(rt: &(impl Abort + Alloc<A = Global>), words: &'a [&'a str]) {
     let Ok(request) = Request::parse(rt.alloc(), words) else {
         return panic!(rt; "{words:?} is no request");
@@ -378,7 +378,7 @@ fn assert_checks_dashes<'a>(rt: &(impl Abort + Alloc<A = Global>), words: &'a [&
     }
 }
 
-// What `clap` makes of words that begin with a dash, and of options that are repeated.
+// How `clap` handles arguments that begin with a dash, and repeated options.
 #[rattlefmt::skip]
 #[test]
 fn refuses_dashes_as_clap_does(rt: HostRuntime) {

@@ -1,4 +1,4 @@
-//! `normal` and `schedule`: what is written where a device fails, and all of it where none does.
+//! `normal` and `schedule`: what is written if a device fails, and all of it if none does.
 ghost use Rattle.sub_io.specs.Device.{CanFail};
 
 use crate::answers::assert_fills;
@@ -10,7 +10,7 @@ use std::process::Abort;
 use sub_answer::Status;
 use sub_io::{Close, FailAt, MemSink, MemSource, Sink};
 
-// Asserts the line that is printed where a file is written, and the status.
+// Asserts the line that is printed when a file is written, and the status.
 fn assert_writes<'a, F: Close>(
     rt: &(impl Abort + Alloc<A = Global>),
     words: &'a [&'a str],
@@ -28,7 +28,7 @@ fn assert_writes<'a, F: Close>(
     assert!(rt; status == want && out.written() == line, "{words:?}");
 }
 
-// Asserts that a file with less room gets the first of what is written, and is left alone after the
+// Asserts that a file with less room gets the beginning of the output, and is not used after the
 // call that fails.
 fn assert_cuts<'a>(
     rt: &(impl Abort + Alloc<A = Global>),
@@ -47,7 +47,7 @@ fn assert_cuts<'a>(
     );
 }
 
-// Asserts that a file is left alone after the call of this number, which fails.
+// Asserts that a file is not used after the call with this number, which fails.
 fn assert_stops<'a>(
     rt: &(impl Abort + Alloc<A = Global>),
     words: &'a [&'a str],
@@ -61,7 +61,7 @@ fn assert_stops<'a>(
     assert!(rt; file.late_calls == 0, "{words:?}, call {call}");
 }
 
-// Asserts that a file is whole, and what is printed, also into an output that has less room.
+// Asserts that a file is complete, and the line, also to an output with less room.
 fn assert_writes_whole<'a>(
     rt: &(impl Abort + Alloc<A = Global>),
     words: &'a [&'a str],
@@ -76,8 +76,8 @@ fn assert_writes_whole<'a>(
     assert_fills(rt, words, (input, &[]), written, line);
 }
 
-// Asserts what is written and printed where the file has less room, where one of its three calls
-// fails, and where none does.
+// Asserts what is written and printed if the file has less room, if one of its three calls fails,
+// and if none does.
 fn assert_devices<'a>(
     rt: &(impl Abort + Alloc<A = Global>),
     words: &'a [&'a str],

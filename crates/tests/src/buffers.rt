@@ -1,4 +1,5 @@
-//! Devices behind buffers: how often the device inside is called, what it is lent, what reaches it.
+//! Devices behind buffers: how often the inner device is called, what it is given, and what reaches
+//! it.
 ghost use Rattle.std.specs.Prelude.{◌≡◌, ◌+◌, ◌<◌, ◌≤◌, None, length};
 ghost use Rattle.std.specs.Io.{ReadsAtMost};
 ghost use Rattle.sub_io.specs.Device.{CountsFailure, Pulls, Pushes};
@@ -11,8 +12,8 @@ use sub_io::{
     MemSource, Sink, Source,
 };
 
-// A source of which each byte says how long the slice was that the source was lent, and the first
-// of each call how many calls there were.
+// A source of which each byte says how long the slice was that the source got, and the first of
+// each call how many calls there were.
 #[derive(Drop)]
 struct Lent {
     calls: u8,
@@ -42,7 +43,7 @@ impl Source for Lent {
     }
 }
 
-// A sink that takes as many bytes as its last one says, of those that it is lent.
+// A sink that takes as many bytes as the last one that it gets says.
 #[derive(Drop)]
 struct TakesLast;
 
@@ -66,9 +67,10 @@ fn asks_once_and_only_where_it_holds_nothing(rt: HostRuntime) {
     let mut room = [0; 4];
     let mut source = BufferedSource::new(Lent { calls: 0 }, &mut room);
     assert_pulls(&rt, &mut source, Ok(2), &[1, 4], 0);
-    // What is held is less than there is room for, and the source inside is not asked for more.
+    // The buffer has fewer bytes than there is room for, and the inner source is not asked for
+    // more.
     assert_pulls(&rt, &mut source, Ok(2), &[4, 4, 0], 0);
-    // A long pull goes straight through.
+    // A long pull bypasses the buffer.
     assert_pulls(&rt, &mut source, Ok(5), &[2, 5, 5, 5, 5], 0);
     assert_pulls(&rt, &mut source, Ok(3), &[3, 4, 4], 0);
 }

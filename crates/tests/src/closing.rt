@@ -1,4 +1,4 @@
-//! Sinks that are stored, and closed before their value ends.
+//! Sinks that are stored, and closed before they are dropped.
 ghost use Rattle.std.specs.Prelude.{None};
 
 use crate::device_calls::{assert_flushes, assert_pushes, assert_puts, assert_stores};
@@ -8,8 +8,8 @@ use std::io::{self, Cursor, ErrorKind, Write};
 use std::process::Abort;
 use sub_io::{BufferedSink, Close, FailAt, Failed, IntoFile, MemSink};
 
-// A file that takes all bytes, and that the system stores or not: it answers with the error that
-// has this number, or with none at 0.
+// A file that takes all bytes, and that the system stores or not: it returns the error with this
+// number, or none if it is 0.
 #[derive(Drop)]
 struct Answering {
     errno: i32,
@@ -70,7 +70,7 @@ fn what_is_held_back_is_not_written_by_closing(rt: HostRuntime) {
     assert_flushes(&rt, &mut sink, Err(Failed), 1);
 }
 
-// Asserts what a store answers by what the system does, of a file behind a buffer too.
+// Asserts the result of storing a file, also behind a buffer, given what the system does.
 fn assert_stored(rt: &impl Abort, errno: i32, answer: Result<(), Failed>, failures: u64) {
     let mut sink = IntoFile::new(Answering { errno });
     assert_puts(rt, &mut sink, b"sub", Ok(()), 0);
@@ -83,7 +83,7 @@ fn assert_stored(rt: &impl Abort, errno: i32, answer: Result<(), Failed>, failur
 
 #[test]
 fn a_file_is_stored_where_nothing_is_lost(rt: HostRuntime) {
-    // EINVAL, ENOSYS and ENOTSUP: of a pipe, a terminal or a device nothing is stored.
+    // EINVAL, ENOSYS and ENOTSUP: a pipe, a terminal or a device stores nothing.
     for errno in [0, 22, 38, 95] {
         assert_stored(&rt, errno, Ok(()), 0);
     }
@@ -101,7 +101,7 @@ fn what_is_held_back_is_written_before_it_is_stored(rt: HostRuntime) {
     assert_stores(&rt, &mut sink, Ok(()), 0);
     assert!(rt; sink.into_inner().written() == b"sub".as_slice());
 
-    // Its push fails, and nothing is stored then; or else the store itself.
+    // Its push fails, and nothing is stored then; or the store itself fails.
     for call in 0..2 {
         let (mut bytes, mut room) = ([0; 8], [0; 4]);
         let inner = FailAt::new(MemSink::new(&mut bytes), call);

@@ -1,4 +1,4 @@
-//! PES packets that are sent again: what a reader that compares them answers.
+//! PES packets that are sent again: the results of a reader that compares them.
 use crate::asserting::assert_same;
 use fixtures::{Drip, ROW, every_second};
 use std::process::Abort;
@@ -9,7 +9,7 @@ use ttx_pes::{Compared, ComparingReader, FilePieces, PesFault, Unit};
 // The PTS of frame 10:00:00:00.
 const TEN: u64 = 3_240_000_000;
 
-// Asserts what a reader answers of the next PES packet, and the PTS and the number of units then.
+// Asserts the result of a reader for the next PES packet, and the PTS and the number of units then.
 fn assert_compares(
     rt: &impl Abort,
     reader: &mut ComparingReader,
@@ -78,7 +78,7 @@ fn goes_on_behind_a_piece_that_is_refused(rt: HostRuntime) {
     );
 }
 
-// What is answered to the first PES packet of a file, where the pull after that many bytes fails.
+// Returns the result for the first PES packet of a file if the pull after that many bytes fails.
 fn answer_before(file: &[u8; 552], bytes: u64) -> Result<Compared, PesFault> {
     let mut source = FailAt::new(Drip { rest: file }, bytes);
     ComparingReader::new().next(&mut FilePieces::new(&mut source))

@@ -1,4 +1,4 @@
-//! One call of a device: what it answers, and how often the device has failed after it.
+//! One call of a device: its result, and how often the device has failed afterwards.
 ghost use Rattle.std.specs.Prelude.{◌<◌};
 ghost use Rattle.sub_io.specs.Device.{CanFail};
 
@@ -6,7 +6,7 @@ use crate::asserting::assert_same;
 use std::process::Abort;
 use sub_io::{Close, Failed, Flush, Sink, Source, fill, put_all};
 
-/// Asserts what a pull into a slice of zeros answers, and what then stands in the slice.
+/// Asserts the result of a pull into a slice of zeros, and the slice afterwards.
 pub fn assert_pulls<S: Source>(
     rt: &impl Abort,
     source: &mut S,
@@ -24,7 +24,7 @@ pub fn assert_pulls<S: Source>(
     assert!(rt; source.failures() == failures && failures < 9);
 }
 
-/// Asserts what `fill` answers of a slice of zeros, and what then stands in the slice.
+/// Asserts the result of `fill` for a slice of zeros, and the slice afterwards.
 pub fn assert_fills<S: Source>(
     rt: &impl Abort,
     source: &mut S,
@@ -42,7 +42,7 @@ pub fn assert_fills<S: Source>(
     assert!(rt; source.failures() == failures && failures < 9);
 }
 
-/// Asserts what a push answers.
+/// Asserts the result of a push.
 pub fn assert_pushes<K: Sink>(
     rt: &impl Abort,
     sink: &mut K,
@@ -58,7 +58,7 @@ pub fn assert_pushes<K: Sink>(
     assert!(rt; sink.failures() == failures && failures < 9);
 }
 
-/// Asserts what `put_all` answers.
+/// Asserts the result of `put_all`.
 pub fn assert_puts<K: Sink>(
     rt: &impl Abort,
     sink: &mut K,
@@ -73,7 +73,7 @@ pub fn assert_puts<K: Sink>(
     assert!(rt; sink.failures() == failures && failures < 9);
 }
 
-/// Asserts what a flush answers.
+/// Asserts the result of a flush.
 pub fn assert_flushes<F: Flush>(
     rt: &impl Abort,
     sink: &mut F,
@@ -87,7 +87,7 @@ pub fn assert_flushes<F: Flush>(
     assert!(rt; sink.failures() == failures && failures < 9);
 }
 
-/// Asserts what a store answers.
+/// Asserts the result of a store.
 pub fn assert_stores<F: Close>(
     rt: &impl Abort,
     sink: &mut F,

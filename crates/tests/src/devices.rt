@@ -20,7 +20,7 @@ fn gives_its_bytes_and_then_ends(rt: HostRuntime) {
     assert_fills(&rt, &mut source, Ok(0), b"\0\0\0", 0);
 }
 
-// Asserts how many of five bytes are got into this much room, and by how many pulls.
+// Asserts how many of five bytes are read into this much room, and with how many pulls.
 fn assert_gets(rt: &impl Abort, room: usize, got: usize, pulls: u64) {
     let inner = MemSource::new(b"abcde");
     let mut source = Counting { inner, pulls: 0 };
@@ -39,7 +39,7 @@ fn asks_no_more_once_a_pull_gave_nothing(rt: HostRuntime) {
     assert_gets(&rt, 9, 5, 2);
 }
 
-// Asserts what a sink answers to bytes, and all that it has taken then.
+// Asserts the result of a sink for bytes, and its contents then.
 fn assert_takes(
     rt: &impl Abort,
     sink: &mut MemSink,
@@ -78,7 +78,7 @@ fn writes_and_counts_a_call_that_writes_nothing(rt: HostRuntime) {
     let mut sink = IntoWrite::new(Cursor::new([0u8; 5]));
     assert_puts(&rt, &mut sink, b"sub", Ok(()), 0);
     assert_flushes(&rt, &mut sink, Ok(()), 0);
-    // The writer has room for two bytes more, and then writes none.
+    // The writer has room for two more bytes, and then writes none.
     assert_puts(&rt, &mut sink, b"ttx", Err(Failed), 1);
 
     let mut sink = IntoWrite::new(Interrupted { calls: 9 });
@@ -86,7 +86,7 @@ fn writes_and_counts_a_call_that_writes_nothing(rt: HostRuntime) {
     assert_flushes(&rt, &mut sink, Err(Failed), 2);
 }
 
-// Asserts that of four calls of a source this one fails, and no other.
+// Asserts that exactly this one of four calls of a source fails.
 fn assert_fails_to_read(rt: &impl Abort, number: u64) {
     let mut source = FailAt::new(MemSource::new(b"abcdef"), number);
     for call in 0..4 {
@@ -97,7 +97,7 @@ fn assert_fails_to_read(rt: &impl Abort, number: u64) {
     assert_same(rt, &source.failures(), &1);
 }
 
-// Asserts that of four calls of a sink, the second a flush, this one fails, and no other.
+// Asserts that exactly this one of four calls of a sink, the second a flush, fails.
 fn assert_fails_to_write(rt: &impl Abort, number: u64) {
     let mut room = [0; 6];
     let mut sink = FailAt::new(MemSink::new(&mut room), number);

@@ -1,4 +1,4 @@
-//! A receiver that drops rows, at each single wrong bit of a subtitle's first sending.
+//! A receiver that drops rows, with each single wrong bit of a subtitle's first transmission.
 ghost use Rattle.std.specs.Prelude.{◌<◌};
 
 use crate::asserting::{assert_same, assert_same_in};
@@ -17,14 +17,14 @@ const CODES: [u8; 40] = [
     0x20,
 ];
 
-// The page that the packets of a schedule show.
+// Returns the page that the packets of a schedule show.
 fn shown_page() -> Page {
     let mut page = Page::blank();
     page.set_row(22, &CODES);
     page
 }
 
-// The packets of its first sending, of which one byte has these bits wrong.
+// Returns the packets of its first page transmission, with these wrong bits in one byte.
 fn sending(number: usize, place: usize, bits: u8) -> [Packet; 3]
     requires number { number < 3 }
     requires place { place < 42 }
@@ -38,8 +38,8 @@ fn sending(number: usize, place: usize, bits: u8) -> [Packet; 3]
     ]
 }
 
-// Asserts what a receiver shows after a sending in which a byte had these bits wrong, and that its
-// row is whole again after the next.
+// Asserts what a receiver shows after a page transmission with these wrong bits in a byte, and that
+// its row is right again after the next.
 fn assert_drops(rt: &impl Abort, number: usize, place: usize, bits: u8)
     requires number { number < 3 }
     requires place { place < 42 }
@@ -71,7 +71,7 @@ fn keeps_what_the_row_held(rt: HostRuntime) {
     let page_id = PageId::parse("888").expect(&rt, "page 888");
     let mut receiver = DropRow::tune(page_id, old_page());
     assert!(rt; receiver.watched() == page_id && !receiver.heard() && !receiver.open());
-    // The same row, but for byte 20, another code of odd parity, and byte 21, which is even.
+    // The same row, except for byte 20, another code of odd parity, and byte 21, which is even.
     let mut row = ROW;
     (row[20], row[21]) = (0xE9, 0x41);
     receiver.hear_all(&[Packet::new(HEADER), Packet::new(ROW), Packet::new(row)]);

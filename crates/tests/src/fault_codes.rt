@@ -1,4 +1,4 @@
-//! Codes of faults that no command prints. The others are tested by the lines that are printed.
+//! Codes of faults that no command prints. The others are tested by the printed lines.
 use crate::asserting::assert_same;
 use std::process::Abort;
 use stl_file::StlFault;

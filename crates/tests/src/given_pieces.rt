@@ -1,14 +1,14 @@
-//! Pieces as they are given, one after another.
+//! Reads PES packets one after another.
 ghost use Rattle.std.specs.Prelude.{⊤};
 ghost use Rattle.sub_io.specs.Device.{CanFail, CountsFailure};
 
 use sub_io::{Failed, MemSink, Sink, put_all};
 use ttx_pes::{Came, Pieces, TakePiece};
 
-/// Puts the pieces that it takes into a sink, as far as there is room.
+/// Puts the PES packets that it reads into a sink, as far as there is room.
 #[derive(Drop)]
 pub(crate) struct Given<'a> {
-    /// Where they are put.
+    /// The sink.
     pub sink: MemSink<'a>,
 }
 
@@ -24,12 +24,12 @@ impl TakePiece for Given<'_> {
     }
 }
 
-// Whether a piece came.
+// Returns whether a PES packet came.
 fn is_piece(came: &Came<()>) -> bool {
     matches!(came, Came::Piece(()))
 }
 
-// Takes four pieces at most, and answers what came last.
+// Reads at most four PES packets, and returns what came last.
 fn take_four<P: Pieces>(pieces: &mut P, given: &mut Given<'_>) -> Result<Came<()>, Failed>
     requires { CanFail (P.failure_count pieces.old) }
     ensures count { CountsFailure (P.failure_count pieces.old) result
@@ -50,7 +50,7 @@ fn take_four<P: Pieces>(pieces: &mut P, given: &mut Given<'_>) -> Result<Came<()
     pieces.next(given)
 }
 
-/// Takes all pieces, seven at most, and answers what comes then.
+/// Reads all PES packets, at most seven, and returns what comes then.
 pub(crate) fn take_all<P: Pieces>(pieces: &mut P, given: &mut Given<'_>) -> Result<Came<()>, Failed>
     requires { CanFail (P.failure_count pieces.old) }
 {

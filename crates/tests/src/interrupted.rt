@@ -1,13 +1,13 @@
-//! A reader and a writer of which the first calls are interrupted.
+//! A reader and a writer whose first calls are interrupted.
 ghost use Rattle.std.specs.Prelude.{◌≤◌, IfOk, None, length};
 
 use std::fs::{Metadata, OpenFile};
 use std::io::{self, ErrorKind, Read, Write};
 
-/// A reader and a writer of which the first calls are interrupted, a flush too.
+/// A reader and a writer whose first calls are interrupted, including a flush.
 #[derive(Drop)]
 pub struct Interrupted {
-    /// How many calls are interrupted from now on.
+    /// How many more calls are interrupted.
     pub calls: u8,
 }
 

@@ -1,4 +1,5 @@
-//! When a source lends the whole next PES packet, and when what was told is handed on first.
+//! When a source has the whole next PES packet in memory, and when reports are flushed before it is
+//! read.
 ghost use Rattle.std.specs.Prelude.{◌≡◌, nat_eq, true};
 
 use crate::asserting::{assert_same, assert_same_in};
@@ -7,7 +8,7 @@ use std::process::Abort;
 use sub_io::{FailAt, Live, MemSource, Stopped};
 use ttx_pes::{FilePieces, hand_on_first, holds_packet};
 
-// Asserts whether this many bytes hold the packet that they begin.
+// Asserts whether these bytes contain the packet that they begin.
 fn assert_holds(rt: &impl Abort, bytes: &[u8], holds: bool) {
     assert_same_in(rt, &holds_packet(bytes), &holds, &bytes.len());
 }
@@ -19,12 +20,12 @@ fn tells_whether_a_packet_is_lent_whole(rt: HostRuntime) {
     assert_holds(&rt, &FIRST[..6], false);
     assert_holds(&rt, &FIRST[..183], false);
     assert_holds(&rt, &FIRST, true);
-    // Of no packet six bytes are read: a wrong start code, and a length that is none.
+    // Six bytes suffice if they begin no packet: a wrong start code, and an invalid length.
     assert_holds(&rt, &[0; 6], true);
     assert_holds(&rt, &[0, 0, 1, 0xBD, 0, 0], true);
 }
 
-// A device that waits until it was to hand on.
+// A device that waits until it is flushed.
 #[derive(Drop)]
 struct Waiting {
     calls: u64,

@@ -1,6 +1,6 @@
-//! Tests of the libraries, and values from outside programs. Nothing here is part of the product.
+//! Tests of the libraries, and values from other programs. Nothing here is part of the product.
 //!
-//! The libraries keep no tests of their own, since a crate that has some is proved twice.
+//! The libraries have no tests of their own, since a crate with tests is proved twice.
 #![tactic(auto)]
 
 #[cfg(test)]

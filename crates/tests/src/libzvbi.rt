@@ -1,4 +1,4 @@
-//! The codes of single bytes, as libzvbi has them.
+//! The codes of single bytes, compared with libzvbi.
 use crate::asserting::assert_same_in;
 use fixtures::{MIRROR, PAR, UNHAM, UNPAR, WRONG};
 use ttx_packet::{is_odd, mirror, par, unham};

@@ -1,5 +1,5 @@
 //! The letters of each national option: the cells that they draw, and the texts that it refuses.
-//! The characters of the places were got by running libzvbi.
+//! The characters of the places were obtained by running libzvbi.
 use crate::asserting::{assert_same, assert_same_in};
 use fixtures::{TEN, block, file_of_two, gsi, head, put};
 use std::alloc::Global;
@@ -9,13 +9,13 @@ use stl_file::{Scope, Subtitle, TimeCode};
 use stl_rows::{Layout, National, RowFault, RowFaultKind, draw, load};
 use sub_io::MemSource;
 
-// The subtitle of a text, from a row on.
+// Returns the subtitle of a text, from a row on.
 fn subtitle(rt: &impl Abort, vp: u8, jc: u8, text: &[u8]) -> Subtitle {
     let (tci, tco) = (TimeCode::of_frame(TEN), TimeCode::of_frame(TEN + 50));
     Subtitle::new(0, 1, tci, tco, vp, jc, text).expect(rt, "a subtitle")
 }
 
-// A row with cells in a box from a column on.
+// Returns a row with cells in a box from a column on.
 fn boxed(rt: &impl Abort, column: usize, cells: &[u8]) -> [u8; 40] {
     let mut row = [0x20; 40];
     assert!(rt; column <= 16 && cells.len() <= 20);
@@ -26,7 +26,7 @@ fn boxed(rt: &impl Abort, column: usize, cells: &[u8]) -> [u8; 40] {
     row
 }
 
-// Asserts what row 5 shows of texts that begin there: after each text stand its cells.
+// Asserts what row 5 shows of texts that begin there: each text is followed by its cells.
 fn assert_draws(rt: &impl Abort, national: National, texts: &[[&[u8]; 2]]) {
     for text in texts {
         match draw(&subtitle(rt, 5, 0, text[0]), national, Layout::default()) {
@@ -181,7 +181,7 @@ fn refuses_letters_that_an_option_lacks(rt: HostRuntime) {
     assert_refuses(&rt, National::French, 1, &NOT_FRENCH_LATER);
     assert_refuses(&rt, National::Spanish, 0, &NOT_SPANISH);
     assert_refuses(&rt, National::Czech, 0, &NOT_CZECH);
-    // A control code before a mark that has no letter.
+    // A control code before a diacritical mark without a letter.
     let control = draw(
         &subtitle(&rt, 5, 0, &[0x0E, 0xC2]),
         National::French,
@@ -198,14 +198,14 @@ fn refuses_letters_that_an_option_lacks(rt: HostRuntime) {
     );
 }
 
-// Three lines of 36 letters, and a mark at the end of the block.
+// Returns three lines of 36 letters, with a diacritical mark at the end of the block.
 fn mark_at_end() -> [u8; 112] {
     let mut text = [0x41; 112];
     (text[36], text[73], text[110], text[111]) = (0x8A, 0x8A, 0x8A, 0xC2);
     text
 }
 
-// The fields of a block from a row on: one of its subtitle's (EBN), or a comment (CF).
+// Returns the fields of a block from a row on: a block of its subtitle (EBN), or a comment (CF).
 fn fields(vp: u8, ebn: u8, cf: u8) -> [u8; 16] {
     let mut fields = head(TEN, TEN + 50, vp);
     (fields[3], fields[14], fields[15]) = (ebn, 0, cf);
@@ -260,7 +260,7 @@ fn refuses_the_mark_of_such_a_pair(rt: HostRuntime) {
     }
 }
 
-// The words and their options.
+// The texts and their options.
 #[rattlefmt::skip]
 const WORDS: [&str; 7] =
     ["english", "german", "swedish", "italian", "french", "spanish", "czech"];

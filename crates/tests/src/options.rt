@@ -14,7 +14,7 @@ fn refuses_a_bound_before_an_origin(rt: HostRuntime) {
     assert_same(&rt, &origin, &Some(OptionFault::Origin));
 }
 
-// The options of page 888, a bound of 250 and this origin.
+// Returns the options of page 888, a repeat bound of 250 and this origin.
 fn of_origin(rt: &impl Abort, origin: u64) -> Options {
     match options("888", 250, origin) {
         Ok(options) => options,
@@ -22,7 +22,7 @@ fn of_origin(rt: &impl Abort, origin: u64) -> Options {
     }
 }
 
-// Asserts the PTS of a frame by an origin, and which frame has it.
+// Asserts the PTS of a frame with an origin, and which frame has it.
 fn assert_times(rt: &impl Abort, origin: u64, frame: u32, pts: u64) {
     let options = of_origin(rt, origin);
     assert!(rt; frame < 2_160_000);
@@ -50,7 +50,7 @@ fn asks_for_complete_pages_where_it_is_asked_to(rt: HostRuntime) {
     assert!(rt; !plain.asks_complete() && asking.asks_complete() && asking.origin() == 7);
 }
 
-// The options of this origin that allow so many frames.
+// Returns the options with this origin and `within`.
 fn allowing(rt: &impl Abort, origin: u64, frames: u64) -> Options {
     match of_origin(rt, origin).allowing(frames) {
         Ok(options) => options,
@@ -69,7 +69,7 @@ fn allows_two_seconds_at_most(rt: HostRuntime) {
         let fault = of_origin(&rt, 7).allowing(frames).err();
         assert_same(&rt, &fault, &Some(OptionFault::Within));
     }
-    // What was asked before stays, and none are allowed again.
+    // Earlier options stay, and none are allowed again.
     let asking = of_origin(&rt, 7).asking_complete().allowing(3);
     assert!(rt; asking.is_ok_and(|options| options.asks_complete() && options.within() == 3));
     let none = allowing(&rt, 7, 3).allowing(0);
@@ -87,7 +87,7 @@ fn asks_for_a_pace_of_a_day_at_most(rt: HostRuntime) {
     for frames in [0, 2_160_001, u64::MAX] {
         assert_same(&rt, &plain.pacing(frames).err(), &Some(OptionFault::Pace));
     }
-    // What was asked before stays.
+    // Earlier options stay.
     let asking = allowing(&rt, 7, 3).asking_complete().pacing(5);
     assert!(rt; asking.is_ok_and(|options| options.asks_complete() && options.within() == 3));
 }
@@ -106,7 +106,7 @@ fn keeps_whether_repeats_may_keep(rt: HostRuntime) {
     assert!(rt; late.is_ok_and(|options| !options.may_keep() && options.keeping().within() == 3));
 }
 
-// Asserts the frame of a PTS where so many frames are allowed.
+// Asserts the frame of a PTS with this `within`.
 fn assert_read_as(rt: &impl Abort, origin: u64, frames: u64, pts: u64, frame: Option<u32>) {
     let options = allowing(rt, origin, frames);
     assert_same_in(rt, &options.frame_of(pts), &frame, &(origin, frames, pts));
@@ -132,7 +132,7 @@ fn reads_times_between_two_frames_where_frames_are_allowed(rt: HostRuntime) {
         assert_read_as(&rt, 0, frames, 7_775_999_100, None);
         assert_read_as(&rt, 0, frames, 0x2_0000_0000, None); // one bit more than a PTS has
     }
-    // Where none are allowed there is no frame between two.
+    // If `within` is 0, there is no frame between two.
     assert_read_as(&rt, 0, 0, 3600, Some(1));
     assert_read_as(&rt, 0, 0, 2700, None);
     assert_read_as(&rt, 0, 0, 5400, None);

@@ -1,4 +1,4 @@
-//! Packets, page numbers, and codes of which libzvbi printed no table.
+//! Packets, page numbers, and codes for which libzvbi printed no table.
 use crate::asserting::{assert_same, assert_same_in};
 use bitflags::Flags;
 use fixtures::{HEADER, packet_of};
@@ -28,7 +28,8 @@ fn makes_and_reads_a_header(rt: HostRuntime) {
     );
 }
 
-// Asserts what a packet as it is sent says by exact code words: its address, page and header.
+// Asserts the contents of a packet as it is sent, with exact code words: its address, page and
+// header.
 fn assert_says(
     rt: &impl Abort,
     sent: &[u8; 42],
@@ -51,7 +52,7 @@ fn reads_a_header_as_it_is_sent(rt: HostRuntime) {
     let mut sent = packet.mirrored();
     assert_same(&rt, &SentPacket::new(&sent).packet(), &packet);
     assert_says(&rt, &sent, Some((0, 0)), Some(0x88), packet.header());
-    // A bit of the first address byte, and of the last coded byte: corrected by a `Packet` alone.
+    // A bit of the first address byte, and of the last coded byte: corrected only by a `Packet`.
     sent[0] ^= 0x01;
     sent[9] ^= 0x80;
     assert_says(&rt, &sent, None, Some(0x88), None);
@@ -87,7 +88,7 @@ fn makes_and_reads_a_row(rt: HostRuntime) {
     assert_same(&rt, &packet.first_even(), &None);
 }
 
-// The plain form of `first_even`, byte by byte.
+// Returns `first_even`, computed byte by byte.
 fn plain_first_even(packet: &Packet) -> Option<u8> {
     for column in 0..40u8 {
         if !is_odd(packet.data()[column as usize]) {
@@ -111,7 +112,7 @@ fn finds_the_only_even_byte_at_each_place(rt: HostRuntime) {
             &column,
         );
     }
-    // Even bytes in the address are none of the text.
+    // Even bytes in the address are not part of the text.
     let packet = Packet::new([0x20; 42]);
     assert_same(&rt, &packet.first_even(), &plain_first_even(&packet));
 }
@@ -121,7 +122,7 @@ fn codes_hamming_8_4(rt: HostRuntime) {
     assert!(rt; ham(8) == 0xD0 && is_word(0xD0) && !is_word(0xD1));
 }
 
-// Asserts the magazine and the page number that a text names.
+// Asserts the magazine and the page number of a text.
 fn assert_names(rt: &impl Abort, text: &str, magazine: u8, page: u8) {
     let id = PageId::parse(text).expect(rt, "a page");
     assert_same_in(rt, &(id.magazine(), id.page()), &(magazine, page), &text);

@@ -1,5 +1,5 @@
-//! Files of PES packets, read and written: outside values, and failing devices. Each refusal of a
-//! packet is tested by the lines that the program prints.
+//! Files of PES packets, read and written: values from other programs, and failing devices. Each
+//! refusal of a packet is tested by the lines that the program prints.
 ghost use Rattle.std.specs.Prelude.{◌≡◌, ◌<◌, length};
 ghost use Rattle.sub_io.specs.Device.{CanFail};
 
@@ -10,7 +10,7 @@ use sub_io::{FailAt, MemSink, MemSource, Sink, Source};
 use ttx_packet::Packet;
 use ttx_pes::{PesFault, PesFrame, PesReader, PesWriter, RepeatedPacket, Unit, put_frame};
 
-// The value of a schedule's first PES packet, or an empty frame where it is not read.
+// Returns the value of a schedule's first PES packet, or an empty frame if it can't be read.
 fn first_frame() -> PesFrame {
     match PesReader::new().next(&mut MemSource::new(&FIRST)) {
         Ok(Some(frame)) => frame,
@@ -40,8 +40,8 @@ fn writes_a_schedules_first_pes_packet(rt: HostRuntime) {
     assert!(rt; room == FIRST);
 }
 
-// Asserts what a reader answers, and how often the source has failed then. Where no PES packet is
-// given the frame has PTS 0 and no units.
+// Asserts the result of a reader, and how often the source has failed then. If there is no PES
+// packet the frame has PTS 0 and no units.
 fn assert_answers<S: Source>(
     rt: &impl Abort,
     reader: &mut PesReader,
@@ -86,7 +86,7 @@ fn refuses_a_byte_after_the_pes_packets_of_a_day(rt: HostRuntime) {
     assert_same(&rt, &after, &Err(PesFault::TooMany));
 }
 
-// The PES packet of 10:00:00:00 with 25 row packets.
+// Returns the PES packet of 10:00:00:00 with 25 row packets.
 fn put_25(rt: &impl Abort) -> [u8; 1656] {
     let mut room = [0; 1656];
     let mut sink = MemSink::new(&mut room);
@@ -96,7 +96,7 @@ fn put_25(rt: &impl Abort) -> [u8; 1656] {
     room
 }
 
-// Asserts that these bytes stand at a place of others.
+// Asserts the bytes at a place of others.
 fn assert_stands(rt: &impl Abort, bytes: &[u8; 1656], at: usize, want: &[u8]) {
     assert!(rt; at < 1656);
     assert!(rt; bytes[at..].starts_with(want), "at {at}");
@@ -107,7 +107,7 @@ fn puts_25_packets_in_seven_payloads(rt: HostRuntime) {
     let bytes = put_25(&rt);
     assert_stands(&rt, &bytes, 4, &[0x05, 0x02]);
     assert_stands(&rt, &bytes, 9, &[0x27, 0x04, 0x79, 0xF4, 0x01]);
-    // Two stuffing units stand last.
+    // Two stuffing units come last.
     assert_stands(&rt, &bytes, 1196, &[0xFF, 0x2C, 0xFF]);
     assert_stands(&rt, &bytes, 1242, &[0xFF, 0x2C, 0xFF]);
 }
@@ -156,7 +156,7 @@ fn a_frame_gives_back_a_36th_unit(rt: HostRuntime) {
     assert_same(&rt, &frame.add(unit), &Err(unit));
 }
 
-// A schedule's first PES packet, twice.
+// Returns a schedule's first PES packet, twice.
 fn twice() -> [u8; 368]
     ensures { length result ≡ 368 }
 {
@@ -166,8 +166,8 @@ fn twice() -> [u8; 368]
     file
 }
 
-// Asserts that a reader of two PES packets, a byte a pull, gives as many as were pulled whole, and
-// then tells this pull that fails, once.
+// Asserts that a reader of two PES packets, a byte a pull, gives as many as were pulled completely,
+// and then reports the pull that fails, once.
 fn assert_tells_pull(rt: &impl Abort, number: u64, file: &[u8]) {
     let mut source = FailAt::new(Drip { rest: file }, number);
     let mut reader = PesReader::new();
@@ -220,7 +220,7 @@ fn a_failing_push_ends_the_writer(rt: HostRuntime) {
     assert_same(&rt, &answer, &Ok(()));
 }
 
-// Asserts what is written of a frame where there is room for so many bytes.
+// Asserts what is written of a frame if there is room for so many bytes.
 fn assert_leaves(rt: &impl Abort, frame: &PesFrame, len: usize) {
     let mut room = [0; 184];
     assert!(rt; len < 184);

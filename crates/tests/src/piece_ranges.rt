@@ -1,4 +1,4 @@
-//! Part of a PES file, piece by piece.
+//! Part of a PES file, PES packet by PES packet.
 ghost use Rattle.sub_io.specs.Device.{CanFail};
 
 use crate::asserting::{assert_same, assert_same_in};
@@ -11,12 +11,12 @@ use ttx_pes::{
     Pieces, PiecesAhead,
 };
 
-// A range.
+// Returns a range.
 fn range(rt: &impl Abort, first: u64, last: Option<u64>) -> PieceRange {
     PieceRange::new(first, last).expect(rt, "the last one stands behind the first")
 }
 
-// Those of a range.
+// Returns the PES packets of a range.
 fn part_of<P: Pieces>(all: &mut P, range: PieceRange) -> PartOfPieces<'_, P> {
     PartOfPieces {
         inner: LimitedPieces::new(all, range.most()),
@@ -24,7 +24,7 @@ fn part_of<P: Pieces>(all: &mut P, range: PieceRange) -> PartOfPieces<'_, P> {
     }
 }
 
-// Asserts all that comes: these pieces, joined, and then this.
+// Asserts everything that comes: these PES packets, joined, and then this.
 fn assert_comes<P: Pieces>(
     rt: &impl Abort,
     pieces: &mut P,
@@ -42,8 +42,8 @@ fn assert_comes<P: Pieces>(
     assert_same_in(rt, &given.sink.written(), &wanted, case);
 }
 
-// Asserts which bytes of three PES packets of 184 bytes each and a few more the pieces of a range
-// are: from where, and up to where; the number of its first one; and what comes then.
+// Asserts which bytes of three PES packets of 184 bytes each and a few more belong to a range:
+// their beginning and end; the number of its first PES packet; and what comes then.
 fn assert_gives(
     rt: &(impl Abort + Copy),
     cut: usize,
@@ -89,7 +89,7 @@ fn tells_what_follows_the_last_piece(rt: HostRuntime) {
     let cut = Came::Rest(PesFault::Truncated);
     let wrong = Came::Rest(PesFault::Start);
     assert_gives(&rt, 0, (9, Some(9)), (0, 0, 0), Came::End);
-    // It is told where that stands before the last of the range.
+    // Unreadable bytes are reported if they come before the last PES packet of the range.
     assert_gives(&rt, 551, (0, Some(1)), (0, 368, 0), Came::End);
     assert_gives(&rt, 551, (2, Some(2)), (368, 368, 2), cut);
     assert_gives(&rt, 551, (9, Some(9)), (368, 368, 2), cut);
@@ -109,7 +109,7 @@ fn has_no_range_that_ends_before_it_begins(rt: HostRuntime) {
 #[test]
 fn asks_for_nothing_behind_the_last_piece(rt: HostRuntime) {
     let file = every_second();
-    // The first pull behind 368 bytes would fail.
+    // The first pull after 368 bytes would fail.
     let mut source = FailAt::new(Drip { rest: &file }, 368);
     let mut all = FilePieces::new(&mut source);
     let mut pieces = part_of(&mut all, range(&rt, 0, Some(1)));
@@ -147,6 +147,6 @@ fn passes_over_a_piece_that_is_lent_by_one_call(rt: HostRuntime) {
     };
     let mut pieces = FilePieces::new(&mut source);
     assert_comes(&rt, &mut pieces, &file, Came::End, &(552, 0));
-    // One for each of the three pieces, and one at the end.
+    // One for each of the three PES packets, and one at the end.
     assert_same(&rt, &source.pulls, &4);
 }

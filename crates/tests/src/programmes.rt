@@ -1,5 +1,5 @@
-//! Subtitle files and the programmes that they give; memory that is refused. Files that are refused
-//! are tested by the lines that the program prints.
+//! Subtitle files and their programmes; refused allocations. Refused files are tested by the lines
+//! that the program prints.
 ghost use Rattle.std.specs.Prelude.{⊤, false};
 
 use crate::asserting::{assert_same, assert_same_in};
@@ -16,8 +16,8 @@ use stl_rows::{
 use sub_io::{Audience, MemSource, Stopped};
 use ttx_page::Page;
 
-// Asserts the first frame after this one at which another page may be due, and the first cell that
-// isn't a space of the page that is due at this one.
+// Asserts the first frame after this one at which another page may be due, and the first cell other
+// than a space of the page that is due at this one.
 fn assert_due(
     rt: &impl Abort,
     programme: &Programme,
@@ -34,7 +34,7 @@ fn assert_due(
     );
 }
 
-// Asserts both of a programme of two subtitles, of two seconds each.
+// Asserts both for a programme of two subtitles, of two seconds each.
 fn assert_both_due(rt: &impl Abort, programme: &Programme) {
     assert_due(rt, programme, TEN - 1, Some(TEN), None);
     assert_due(rt, programme, TEN, Some(TEN + 50), Some((22, 16)));
@@ -43,7 +43,7 @@ fn assert_both_due(rt: &impl Abort, programme: &Programme) {
     assert_due(rt, programme, TEN + 100, None, None);
 }
 
-// Asserts what it holds.
+// Asserts its contents.
 fn assert_holds(rt: &impl Abort, programme: &Programme) {
     assert_same(rt, &(programme.len(), programme.is_empty()), &(2, false));
     assert_same(rt, &programme.first_in(), &Some(TEN));
@@ -79,7 +79,7 @@ fn loads_subtitles_in_order(rt: HostRuntime) -> Result<(), Fail> {
     Ok(())
 }
 
-// Nine subtitles.
+// Returns a file of nine subtitles.
 fn file_of_nine() -> [u8; 2176] {
     let mut file = [0; 2176];
     put(&mut file, 0, &gsi());
@@ -90,8 +90,8 @@ fn file_of_nine() -> [u8; 2176] {
     file
 }
 
-// Loads the nine subtitles in this much memory: the block at whose end a growth was refused, or
-// none where none was.
+// Loads the nine subtitles in this much memory. Returns the block at whose end an allocation was
+// refused, if one was.
 fn refused_block(rt: &(impl Abort + Alloc<A = Global>), file: &[u8], size: usize) -> Option<u32> {
     let heap = LocalHeap::new(rt.alloc(), size).expect(rt, "memory for the heap");
     let drawing = Drawing {
@@ -114,7 +114,7 @@ fn refused_block(rt: &(impl Abort + Alloc<A = Global>), file: &[u8], size: usize
 #[test]
 fn tells_each_growth_that_is_refused(rt: HostRuntime) {
     let file = file_of_nine();
-    // The blocks that are told in memory of rising size.
+    // The reported blocks, with more and more memory.
     let mut told = [false; 10];
     for size in 0..80 {
         if let Some(block) = refused_block(&rt, &file, 16 * size) {
@@ -129,7 +129,7 @@ fn tells_each_growth_that_is_refused(rt: HostRuntime) {
     assert_same(&rt, &told, &growths);
 }
 
-// A device that counts what it is told.
+// A device that counts its events.
 #[derive(Drop)]
 struct Counts {
     told: u32,
@@ -146,7 +146,7 @@ impl Audience<LoadFault> for Counts {
     }
 }
 
-// Asserts of these frames whether it is known what is due.
+// Asserts whether the due page is known at these frames.
 fn assert_undecided(rt: &impl Abort, judging: &Judging<'_>, frames: &[u32], undecided: bool) {
     for frame in frames {
         assert_same_in(rt, &judging.is_undecided(*frame), &undecided, frame);

@@ -1,4 +1,4 @@
-//! What the two receivers make of short lists of packets, by the standard's rules.
+//! What the two receivers make of short lists of packets, by the rules of the standard.
 use crate::asserting::{assert_same, assert_same_in};
 use fixtures::packet_of;
 use std::process::Abort;
@@ -13,7 +13,7 @@ const HEADER: [u8; 10] = [0x15, 0x15, 0xD0, 0xD0, 0x15, 0xD0, 0x15, 0xD0, 0x02, 
 // Page 888, C6 C7.
 #[rattlefmt::skip]
 const WITHOUT_C4: [u8; 10] = [0x15, 0x15, 0xD0, 0xD0, 0x15, 0x15, 0x15, 0xD0, 0x02, 0x15];
-// Page 888, its page tens two bits wrong.
+// Page 888, with two wrong bits in its page tens.
 #[rattlefmt::skip]
 const TENS_16: [u8; 10] = [0x15, 0x15, 0xD0, 0x16, 0x15, 0xD0, 0x15, 0xD0, 0x02, 0x15];
 // Page 8FF.
@@ -31,7 +31,7 @@ const ROW_22: [u8; 10] = [0x15, 0x9B, 0xC1, 0x41, 0x20, 0x20, 0x20, 0x20, 0x20, 
 // The same row of magazine 1.
 #[rattlefmt::skip]
 const ROW_122: [u8; 10] = [0x02, 0x9B, 0xC1, 0x41, 0x20, 0x20, 0x20, 0x20, 0x20, 0x20];
-// Its address bytes decode to nothing.
+// Its address bytes can't be decoded.
 const NO_ADDRESS: [u8; 10] = [0x16; 10];
 
 fn packet(start: [u8; 10]) -> Packet {
@@ -42,7 +42,7 @@ fn packets(starts: &[[u8; 10]; 3]) -> [Packet; 3] {
     [packet(starts[0]), packet(starts[1]), packet(starts[2])]
 }
 
-/// A page that a receiver may hold from before: 3F, a question mark, in every cell.
+/// Returns a page that a receiver may have from before: 3F, a question mark, in every cell.
 pub(crate) fn old_page() -> Page {
     let mut page = Page::blank();
     for row in 1..25u8 {
@@ -51,7 +51,7 @@ pub(crate) fn old_page() -> Page {
     page
 }
 
-// Asserts what a receiver that holds the old page becomes by three packets, of these first bytes:
+// Asserts the state of a receiver with the old page after three packets with these first bytes:
 // heard and open, and its cells 0 and 1 of row 22.
 fn assert_becomes<R: Receiver + Drop>(
     rt: &impl Abort,
@@ -72,8 +72,8 @@ fn assert_becomes<R: Receiver + Drop>(
     assert_same_in(rt, &[page.cell(22, 0), page.cell(22, 1)], &cells, starts);
 }
 
-// Asserts what both receivers become by three packets: heard and open, cell 0 of row 22, and its
-// cell 1 of `Keep` and of `Blank`.
+// Asserts the states of both receivers after three packets: heard and open, cell 0 of row 22, and
+// its cell 1 of `Keep` and of `Blank`.
 fn assert_both_become(
     rt: &impl Abort,
     starts: &[[u8; 10]; 3],
@@ -91,7 +91,7 @@ fn blanks_at_c4_alone_and_stores_odd_bytes(rt: HostRuntime) {
     assert_both_become(&rt, &[HEADER, NO_ADDRESS, NO_ADDRESS], [true, true], [0x20, 0x20, 0x20]);
     assert_both_become(&rt, &[WITHOUT_C4, NO_ADDRESS, NO_ADDRESS], [true, true],
         [0x3F, 0x3F, 0x3F]);
-    // an even byte; a row before a header; page tens 16
+    // a byte of even parity; a row before a header; page tens 16
     assert_both_become(&rt, &[WITHOUT_C4, ROW_22, NO_ADDRESS], [true, true], [0x41, 0x3F, 0x20]);
     assert_both_become(&rt, &[ROW_22, NO_ADDRESS, NO_ADDRESS], [false, false], [0x3F, 0x3F, 0x3F]);
     assert_both_become(&rt, &[TENS_16, ROW_22, NO_ADDRESS], [false, false], [0x3F, 0x3F, 0x3F]);
@@ -100,7 +100,7 @@ fn blanks_at_c4_alone_and_stores_odd_bytes(rt: HostRuntime) {
 #[rattlefmt::skip]
 #[test]
 fn ends_its_page_by_the_standard(rt: HostRuntime) {
-    // another page ends it; so does one of another magazine with C11 set, and not with C11 clear
+    // another page ends it; so does one of another magazine with C11 set, but not with C11 clear
     assert_both_become(&rt, &[HEADER, CLOSING, ROW_22], [true, false], [0x20, 0x20, 0x20]);
     assert_both_become(&rt, &[HEADER, SERIAL_188, ROW_22], [true, false], [0x20, 0x20, 0x20]);
     assert_both_become(&rt, &[HEADER, PAGE_188, ROW_22], [true, true], [0x41, 0x20, 0x20]);
@@ -108,7 +108,7 @@ fn ends_its_page_by_the_standard(rt: HostRuntime) {
     assert_both_become(&rt, &[HEADER, ROW_122, NO_ADDRESS], [true, true], [0x20, 0x20, 0x20]);
 }
 
-// Asserts cell 0 of row 22 on a screen with nothing on it before, after three packets.
+// Asserts cell 0 of row 22 on an empty screen, after three packets.
 fn assert_shows(rt: &impl Abort, starts: &[[u8; 10]; 3], want: Option<u8>) {
     let page_id = PageId::parse("888").expect(rt, "page 888");
     let mut receiver = Keep::tune(page_id, old_page());
@@ -131,7 +131,7 @@ fn shows_a_page_when_another_page_ends_it(rt: HostRuntime) {
     assert_shows(&rt, &[HEADER, CLOSING, HEADER], Some(0x20));
 }
 
-// Asserts what a packet is to a receiver of page 888.
+// Asserts the kind of a packet for a receiver of page 888.
 fn assert_is(rt: &impl Abort, start: [u8; 10], want: PacketKind) {
     let page_id = PageId::parse("888").expect(rt, "page 888");
     assert_same_in(rt, &PacketKind::of(page_id, &packet(start)), &want, &start);

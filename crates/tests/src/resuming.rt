@@ -1,11 +1,11 @@
-//! A subtitle file that is read on after a subtitle that is refused.
+//! A subtitle file that is read on after a refused subtitle.
 
 use crate::asserting::assert_same;
 use fixtures::file_of_three;
 use stl_file::{Found, ResumingReader, Scope, StlFault, Subtitle};
 use sub_io::MemSource;
 
-// The blocks at which a subtitle, one of two blocks that is refused and the end are found in a
+// Returns the blocks at which a subtitle, a refused one of two blocks and the end are found in a
 // file.
 fn blocks_found(file: &[u8]) -> [u32; 3] {
     let mut source = MemSource::new(file);
@@ -37,8 +37,9 @@ fn finds_what_comes_after_a_refused_subtitle(rt: HostRuntime) {
     assert_same(&rt, &blocks_found(&file), &[1, 2, 3]);
 }
 
-// How many subtitles, two at most, are taken before anything else is found of a file that has three
-// at 900,000, 900,050 and 900,100, where the second is cumulative; 9 where the file is refused.
+// Returns how many subtitles, at most two, are read before anything else is found in a file that
+// has three at 900,000, 900,050 and 900,100, of which the second is cumulative; 9 if the file is
+// refused.
 fn taken(display: u8, takes_open: bool, from: u32, to: u32) -> u32 {
     let mut file = file_of_three(2, 1);
     file[11] = display;

@@ -1,5 +1,5 @@
-//! The schedule of a small subtitle file, byte for byte; what else is written and refused is tested
-//! by the lines that the program prints.
+//! The schedule of a small subtitle file, byte for byte; other outputs and refusals are tested by
+//! the lines that the program prints.
 use crate::asserting::assert_same;
 use fixtures::{every, file_of_hi, schedule_of_hi};
 use std::alloc::Global;
@@ -10,8 +10,8 @@ use stl_rows::{Layout, National, load};
 use sub_io::{MemSink, MemSource};
 use sub_plan::schedule;
 
-// Asserts what is written by an option in a mode: byte 9 of the page's header and of the closing
-// header is this, as it is carried, and each other byte that of the schedule of `Hi`.
+// Asserts what is written with an option in a mode: byte 9 of the page's header and of the closing
+// header, as it is carried; each other byte is that of the schedule of `Hi`.
 fn assert_writes(
     rt: &(impl Abort + Alloc<A = Global>),
     national: National,

@@ -1,5 +1,5 @@
-//! Subtitle files that are read and normalised, one topic a file. Those that are refused are tried
-//! on the built program by `dev/check-every-place`.
+//! Subtitle files that are read and normalised, one topic a file. Refused files are tried on the
+//! built program by `dev/check-every-place`.
 
 mod devices;
 mod fields;

@@ -1,5 +1,5 @@
-//! How the packets of a PID are cut into parts, and what these give: at announced jumps, at the
-//! end, and behind other bytes.
+//! How the packets of a PID are split into parts, and what these give: at announced jumps, at the
+//! end, and after other bytes.
 
 use crate::transport_recordings::{
     BACK_1, BEGINS_0, BEGINS_1, BEGINS_2, BEGINS_9, FILL, FRONT_0, JUMP, JUMP_FILL, MARK_HEAD,
@@ -15,7 +15,7 @@ fn follows_an_announced_jump(rt: HostRuntime) {
         &[&BEGINS_0, &FIRST, &JUMP, &JUMP_FILL, &BEGINS_9, &SECOND],
         &both,
     );
-    // One that another PID announces, or that has no room for the flag, is none.
+    // A jump that another PID announces, or that has no room for the flag, does not count.
     let others: [&[u8]; 6] = [
         &BEGINS_0,
         &FIRST,
@@ -42,7 +42,7 @@ fn follows_an_announced_jump(rt: HostRuntime) {
 
 #[test]
 fn cuts_parts_at_an_announced_jump(rt: HostRuntime) {
-    // Within a PES packet, though the counter goes on.
+    // Within a PES packet, although the counter continues.
     assert_gives(
         &rt,
         &[
@@ -76,7 +76,7 @@ fn cuts_parts_at_an_announced_jump(rt: HostRuntime) {
         ],
         &[&FIRST, &SECOND],
     );
-    // The second one: the PES packet is not whole.
+    // The second one: the PES packet is incomplete.
     assert_gives(
         &rt,
         &[
@@ -134,7 +134,7 @@ fn joins_the_payloads_of_a_pes_packet(rt: HostRuntime) {
 #[test]
 fn tells_a_gap_behind_a_pes_packet(rt: HostRuntime) {
     let long_head: [u8; 6] = [0x47, 0x01, 0x01, 0x31, 83, 0x00];
-    // Bytes behind the PES packet are a gap.
+    // Bytes after the PES packet are a gap.
     assert_gives(
         &rt,
         &[
@@ -172,7 +172,7 @@ fn passes_over_a_part_that_is_not_whole(rt: HostRuntime) {
         &[&FRONT_0, &FILL[..82], &FIRST[..100], &BEGINS_1, &SECOND],
         &[&SECOND],
     );
-    // It begins none, behind a whole one.
+    // It begins none, after a complete one.
     assert_gives(
         &rt,
         &[&BEGINS_0, &FIRST, &[0x47, 0x01, 0x01, 0x11], &SECOND],
@@ -197,7 +197,7 @@ fn ends_at_another_start_or_length(rt: HostRuntime) {
     // Ten payloads are one too many.
     let long: [u8; 6] = [0x00, 0x00, 0x01, 0xBD, 0x07, 0x2A];
     assert_gives(&rt, &[&BEGINS_0, &long, &FIRST[6..]], &[&long, &FIRST[6..]]);
-    // A mark stands before it only behind a PES packet.
+    // A gap marker comes before it only after a PES packet.
     assert_gives(
         &rt,
         &[&BEGINS_0, &FIRST, &BEGINS_2, &start, &FIRST[4..]],
@@ -239,7 +239,7 @@ fn finds_packets_behind_other_bytes(rt: HostRuntime) {
         ],
         &both,
     );
-    // As many bytes as 15 packets may hide some; one less may not, nor may they at the end.
+    // As many bytes as 15 packets may hide some; fewer may not, nor may those at the end.
     assert_gives(
         &rt,
         &[&BEGINS_0, &FIRST, &ZEROS, &NULL, &FILL, &BEGINS_1, &SECOND],
@@ -263,7 +263,7 @@ fn finds_packets_behind_other_bytes(rt: HostRuntime) {
 
 #[test]
 fn finds_packets_where_they_begin_again(rt: HostRuntime) {
-    // Fewer bytes than hide some, twice, with a packet between them.
+    // Fewer bytes than may hide some, twice, with a packet between them.
     assert_gives(
         &rt,
         &[
@@ -288,7 +288,7 @@ fn finds_packets_where_they_begin_again(rt: HostRuntime) {
         &[&FIRST[..88], &NULL, &FILL, &BEGINS_1, &SECOND],
         &[&SECOND],
     );
-    // Out of step a packet is one where another follows it.
+    // Out of step a packet counts if another follows it.
     assert_gives(&rt, &[&FIRST[..88], &BEGINS_1, &SECOND], &[]);
     assert_gives(&rt, &[&BEGINS_0, &FIRST[..183]], &[]);
 }

@@ -1,4 +1,4 @@
-//! What tests of transport streams share: packets, and what the packets of a PID give.
+//! What the tests of transport streams share: packets, and what the packets of a PID give.
 
 ghost use Rattle.std.specs.Prelude.{◌≡◌, ⊤, true};
 ghost use Rattle.sub_io.specs.Device.{CanFail};
@@ -31,33 +31,33 @@ pub(crate) const JUMP: [u8; 6] = [0x47, 0x01, 0x01, 0x20, 0xB7, 0x80];
 pub(crate) const JUMP_FILL: [u8; 182] = [0xFF; 182];
 
 /// Bytes 0 to 5 of packets with an adaptation field: one that begins a PES packet and has 100 bytes
-/// of it, and one that goes on with 84.
+/// of it, and one that continues it with 84.
 pub(crate) const FRONT_0: [u8; 6] = [0x47, 0x41, 0x01, 0x30, 83, 0x00];
 
 pub(crate) const BACK_1: [u8; 6] = [0x47, 0x01, 0x01, 0x31, 99, 0x00];
 
-/// The first bytes of a mark; FILL has more of its others than it needs.
+/// The first bytes of a gap marker; FILL has more of its others than it needs.
 pub(crate) const MARK_HEAD: [u8; 6] = [0x00, 0x00, 0x01, 0xBD, 0x00, 0xB2];
 
 pub(crate) const MARK_REST: [u8; 178] = [0xFF; 178];
 
 pub(crate) const ZEROS: [u8; 2820] = [0; 2820];
 
-/// Puts pieces one after another, as far as there is room.
+/// Puts byte strings one after another, as far as there is room.
 pub(crate) fn put_pieces(sink: &mut MemSink<'_>, pieces: &[&[u8]]) {
     for piece in pieces {
         put_piece(sink, piece);
     }
 }
 
-// Puts a piece, as far as there is room.
+// Puts one of them, as far as there is room.
 fn put_piece(sink: &mut MemSink<'_>, piece: &[u8]) {
     if sink.failures() == 0 {
         let _ = put_all(sink, piece);
     }
 }
 
-// Puts what no piece begins, as far as there is room.
+// Puts the bytes that begin no PES packet, as far as there is room.
 fn put_rest<P: Pieces>(sink: &mut MemSink<'_>, pieces: &mut P)
     requires rest { P.is_rest pieces.old ≡ true }
     requires failures { CanFail (P.failure_count pieces.old) }
@@ -69,7 +69,7 @@ fn put_rest<P: Pieces>(sink: &mut MemSink<'_>, pieces: &mut P)
     }
 }
 
-/// Puts each piece behind those before it, as far as there is room.
+/// Puts each PES packet after those before it, as far as there is room.
 #[derive(Drop)]
 pub(crate) struct Gathered<'a> {
     pub(crate) sink: MemSink<'a>,
@@ -85,7 +85,7 @@ impl TakePiece for Gathered<'_> {
     }
 }
 
-/// Asserts what the packets of a PID give, where the recording is made of these pieces.
+/// Asserts what the packets of a PID give for a recording of these byte strings.
 pub(crate) fn assert_gives_of(
     rt: &impl Abort,
     number: u16,
@@ -120,7 +120,7 @@ pub(crate) fn assert_gives_of(
     assert!(rt; gathered.sink.written() == wanted_bytes.written());
 }
 
-/// The same of PID 101 (hexadecimal) in packets of 188 bytes.
+/// The same for PID 101 (hexadecimal) in packets of 188 bytes.
 pub(crate) fn assert_gives(rt: &impl Abort, recording: &[&[u8]], wanted: &[&[u8]]) {
     assert_gives_of(rt, 0x101, PacketSize::Plain, recording, wanted);
 }

@@ -1,5 +1,5 @@
-//! The PES packets of a PID, taken out of transport streams: what is given where packets are
-//! repeated, lost or wrong. Each stream is written here packet by packet.
+//! The PES packets of a PID in transport streams with repeated, lost or wrong packets. Each stream
+//! is written here packet by packet.
 
 use crate::transport_recordings::{
     BACK_1, BEGINS_0, BEGINS_1, BEGINS_2, BEGINS_9, FILL, FRONT_0, Gathered, JUMP, JUMP_FILL,
@@ -34,9 +34,10 @@ fn gives_a_mark_where_a_packet_is_lost(rt: HostRuntime) {
         &[&BEGINS_0, &FIRST, &BEGINS_2, &SECOND],
         &[&FIRST, &MARK_HEAD, &MARK_REST, &SECOND],
     );
-    // Nothing stands before the first PES packet.
+    // Nothing comes before the first PES packet.
     assert_gives(&rt, &[&WRONG_1, &FIRST, &BEGINS_0, &SECOND], &[&SECOND]);
-    // One mark for all that is missing, and none for a part that the recording ends in.
+    // One gap marker for everything that is missing, and none for a part that the recording cuts
+    // off.
     assert_gives(
         &rt,
         &[
@@ -77,7 +78,7 @@ fn passes_over_one_repeat(rt: HostRuntime) {
         &[&BEGINS_0, &FIRST, &BEGINS_0, &SECOND],
         &[&FIRST, &MARK_HEAD, &MARK_REST, &SECOND],
     );
-    // Across an announced jump none is a repeat.
+    // None is a repeat across an announced jump.
     assert_gives(
         &rt,
         &[&BEGINS_0, &FIRST, &JUMP, &JUMP_FILL, &BEGINS_0, &FIRST],
@@ -87,7 +88,7 @@ fn passes_over_one_repeat(rt: HostRuntime) {
 
 #[test]
 fn tells_a_repeat_by_its_first_four_bytes_and_its_payload(rt: HostRuntime) {
-    // Other bytes of its adaptation field are none of these.
+    // Other bytes of its adaptation field do not matter.
     assert_gives(
         &rt,
         &[
@@ -105,7 +106,7 @@ fn tells_a_repeat_by_its_first_four_bytes_and_its_payload(rt: HostRuntime) {
         ],
         &[&FIRST, &SECOND],
     );
-    // One that does not begin is none of one that does.
+    // A packet that begins no PES packet does not repeat one that does.
     assert_gives(
         &rt,
         &[
@@ -149,8 +150,7 @@ fn takes_no_wrong_packet(rt: HostRuntime) {
         ],
         &[&FIRST, &MARK_HEAD, &MARK_REST, &SECOND],
     );
-    // Without a payload the same adaptation field is nothing wrong, and its counter is not
-    // followed.
+    // Without a payload the same adaptation field is correct, and its counter is not followed.
     assert_gives(
         &rt,
         &[
@@ -182,7 +182,7 @@ fn reads_packets_of_other_sizes(rt: HostRuntime) {
 #[test]
 fn finds_a_hole_of_15_packets_of_their_size(rt: HostRuntime) {
     let zeros: [u8; 4] = [0; 4];
-    // 2876 bytes are skipped, and 2880, behind a time stamp.
+    // 2876 bytes are skipped, and 2880, after a time stamp.
     assert_gives_of(
         &rt,
         0x101,
@@ -263,7 +263,7 @@ fn gives_a_mark_and_then_the_pes_packet_that_is_ready(rt: HostRuntime) {
     }
     let piece = Came::Piece(());
     let rest = Came::Rest(PesFault::Start);
-    // The mark before a PES packet is known with it; what is no PES packet stays.
+    // The gap marker before a PES packet is known with it; bytes that are no PES packet stay.
     assert!(rt; ends == [piece, piece, piece, piece, rest, rest]);
     assert!(rt; ready == [false, false, true, false, true, true]);
     let mut rest_room = [0; REST_ROOM];
@@ -285,7 +285,7 @@ fn gives_a_pes_packet_before_it_asks_for_more(rt: HostRuntime) {
     let Some(pid) = Pid::new(0x101) else {
         return assert!(rt; false);
     };
-    // The second call of the device fails: nothing is taken by it, and the next one goes on.
+    // The second call of the device fails: it takes nothing, and the next one continues.
     let device = FailAt::new(MemSource::new(recorded.written()), 1);
     let mut pieces = RecordingPieces::new(device, pid, PacketSize::Plain);
     let mut room = [0; 1024];

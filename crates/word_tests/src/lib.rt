@@ -1,7 +1,7 @@
-//! Tests of the words that ask for something: requests, and the values in them. Nothing here is
-//! part of the product.
+//! Tests of arguments that make a request: requests, and the values in them. Nothing here is part
+//! of the product.
 //!
-//! They stand apart from those of answers, since the tests of a crate are proved by one job.
+//! They are a crate of their own, since the tests of a crate are proved by one job.
 #![tactic(auto)]
 
 #[cfg(test)]

@@ -1,4 +1,4 @@
-//! The requests that words are read as.
+//! The requests that arguments make.
 use crate::asserting::{assert_same, assert_same_in};
 use fixtures::options;
 use mpeg_ts::{PacketSize, Pid};
@@ -23,7 +23,7 @@ fn reads_the_words_of_files(rt: HostRuntime) {
     }
 }
 
-// Words that ask for help: one for it, alone or with a command beside it.
+// Arguments that request help: a word for it, alone or together with a command.
 #[rattlefmt::skip]
 const HELPS: [&[&str]; 9] = [
     &["subttx", "--help"],
@@ -74,7 +74,7 @@ fn reads_help_behind_a_command_as_the_name_of_a_file(rt: HostRuntime) {
     }
 }
 
-// Asserts that words ask for the schedule of files a and b with these options.
+// Asserts that arguments request the schedule of files a and b with these options.
 fn assert_schedules<'a>(
     rt: &(impl Abort + Alloc<A = Global>),
     words: &'a [&'a str],
@@ -134,7 +134,7 @@ fn assert_writes(rt: &impl Abort, request: &Request<'_>) {
     }
 }
 
-// Asserts that words ask for a check of files a and b with these flags.
+// Asserts that arguments request a check of files a and b with these flags.
 fn assert_checks<'a>(
     rt: &(impl Abort + Alloc<A = Global>),
     words: &'a [&'a str],
@@ -177,8 +177,8 @@ fn reads_the_flags_of_a_check(rt: HostRuntime) {
     assert_checks(&rt, &both, true, true);
 }
 
-// What of a subtitle file words ask for: whether open subtitles too, and from which frame up to
-// before which.
+// Returns the part of a subtitle file that arguments select: whether open subtitles are included,
+// and the frames from which and before which subtitles begin.
 fn scope_of<'a>(alloc: Global, words: &'a [&'a str]) -> Option<(bool, u32, u32)> {
     match Request::parse(alloc, words) {
         Ok(Request::Check { scope, .. }) => Some((scope.takes_open, scope.from, scope.to)),
@@ -200,7 +200,7 @@ fn reads_what_of_a_subtitle_file_is_taken(rt: HostRuntime) {
     assert_same(&rt, &scope_of(rt.alloc(), &part), &Some((true, 1, 900_001)));
 }
 
-// How many frames the options of a request allow.
+// Returns the `within` of a request's options.
 fn allowed(request: &Request<'_>) -> Option<u64> {
     match request {
         Request::Check { options, .. } => Some(options.within()),
@@ -209,7 +209,7 @@ fn allowed(request: &Request<'_>) -> Option<u64> {
     }
 }
 
-// Asserts how many frames words allow.
+// Asserts it for arguments.
 fn assert_allows<'a>(rt: &(impl Abort + Alloc<A = Global>), words: &'a [&'a str], frames: u64) {
     match Request::parse(rt.alloc(), words) {
         Ok(request) => assert_same(rt, &allowed(&request), &Some(frames)),
@@ -229,7 +229,7 @@ fn reads_the_frames_that_are_allowed(rt: HostRuntime) {
     assert_allows(&rt, &["subttx", "listen", "a", "--within", "1", "--at", at], 1);
 }
 
-// The repeat bound and the pace of a check.
+// Returns the repeat bound and the maximum distance of a check.
 fn bounds(request: &Request<'_>) -> Option<(u64, Option<u64>)> {
     match request {
         Request::Check { options, .. } => Some((options.every(), options.pace())),
@@ -237,7 +237,7 @@ fn bounds(request: &Request<'_>) -> Option<(u64, Option<u64>)> {
     }
 }
 
-// Asserts them, by words.
+// Asserts them for arguments.
 fn assert_bounds<'a>(
     rt: &(impl Abort + Alloc<A = Global>),
     words: &'a [&'a str],
@@ -258,7 +258,7 @@ fn reads_a_pace(rt: HostRuntime) {
     assert_bounds(&rt, &day, (2_160_000, Some(2_160_000)));
 }
 
-// Whether repeats may keep the page of a check.
+// Returns whether repeats may keep the page of a check.
 fn keeps(request: &Request<'_>) -> Option<bool> {
     match request {
         Request::Check { options, .. } => Some(options.may_keep()),
@@ -266,7 +266,7 @@ fn keeps(request: &Request<'_>) -> Option<bool> {
     }
 }
 
-// Asserts that, by words.
+// Asserts it for arguments.
 fn assert_keeps<'a>(rt: &(impl Abort + Alloc<A = Global>), words: &'a [&'a str], want: bool) {
     match Request::parse(rt.alloc(), words) {
         Ok(request) => assert_same(rt, &keeps(&request), &Some(want)),
@@ -284,8 +284,8 @@ fn reads_whether_repeats_may_keep(rt: HostRuntime) {
     assert_keeps(&rt, &all, true);
 }
 
-// Asserts that words ask to listen to file a with this page and PTS of frame 0, up to a frame,
-// with this number of packets passed over, and with these flips and lost packets.
+// Asserts that arguments request to listen to file a with this page and PTS of frame 0, up to a
+// frame, with this number of skipped packets, and with these flips and lost packets.
 fn assert_listens<'a>(
     rt: &(impl Abort + Alloc<A = Global>),
     words: &'a [&'a str],
@@ -309,8 +309,8 @@ fn assert_listens<'a>(
     }
 }
 
-// Asserts what is listened to: the page, the PTS of frame 0, up to which frame, and from which
-// packet on.
+// Asserts the request of `listen`: the page, the PTS of frame 0, the last frame, and the first
+// packet.
 fn assert_asks(rt: &impl Abort, listening: &Listening, want: &Options, at: u32, skip: u64) {
     assert!(rt; listening.options.page() == want.page());
     assert!(rt; listening.options.origin() == want.origin());
@@ -365,7 +365,7 @@ fn names_what_is_read_and_what_is_written(rt: HostRuntime) {
     }
 }
 
-// The PES packets that a request reads.
+// Returns the PES packets that a request reads.
 fn read_by<'r, 'a>(request: &'r Request<'a>) -> Option<&'r PesPackets<'a>> {
     match request {
         Request::Packets { pes } => Some(pes),
@@ -375,7 +375,7 @@ fn read_by<'r, 'a>(request: &'r Request<'a>) -> Option<&'r PesPackets<'a>> {
     }
 }
 
-// Asserts which PES packets of a file b words ask for.
+// Asserts which PES packets of a file b arguments select.
 fn assert_reads<'a>(
     rt: &(impl Abort + Alloc<A = Global>),
     words: &'a [&'a str],
@@ -395,7 +395,7 @@ fn assert_reads<'a>(
     }
 }
 
-// The transport packets of a PID.
+// Returns the transport packets of a PID.
 fn stream_of(number: u16, packet_size: PacketSize) -> Option<TransportStream> {
     match Pid::new(number) {
         Some(pid) => Some(TransportStream { pid, packet_size }),
@@ -443,7 +443,7 @@ fn reads_of_which_transport_packets(rt: HostRuntime) {
     assert_reads(&rt, &["subttx", "packets", "b", "--packet-size", "192"], &None, &all);
 }
 
-// Asserts that words ask for the PES packets of file a, to be written into file b.
+// Asserts that arguments request to write the PES packets of file a to file b.
 fn assert_extracts<'a>(
     rt: &(impl Abort + Alloc<A = Global>),
     words: &'a [&'a str],

@@ -1,4 +1,4 @@
-//! Numbers, flips and lists of both, times, receivers, PIDs, packet sizes and ranges, as people
+//! Numbers, flips and lists of both, times, receivers, PIDs, packet sizes and ranges, as users
 //! write them.
 use crate::asserting::{assert_same, assert_same_in};
 use mpeg_ts::PacketSize;
@@ -14,13 +14,13 @@ fn reads_numbers(rt: HostRuntime) {
     assert_same(&rt, &parse_number("0"), &Some(0));
     assert_same(&rt, &parse_number("0000000007"), &Some(7)); // ten digits
     assert_same(&rt, &parse_number("9999999999"), &Some(9_999_999_999));
-    // eleven digits, none, and what is no digit
+    // eleven digits, none, and characters other than digits
     for text in ["00000000007", "10000000000", "", "+1", "-1", "1 ", "1x"] {
         assert_same_in(&rt, &parse_number(text), &None, &text);
     }
 }
 
-// How many numbers a text lists, and the last one.
+// Returns how many numbers a text lists, and the last one.
 fn numbers_in(alloc: Global, text: &str) -> Result<Option<(usize, u64)>, AllocError> {
     match parse_list::<_, u64>(alloc, text)? {
         Some(list) => Ok(Some((list.len(), list.last().copied().unwrap_or(0)))),
@@ -50,7 +50,7 @@ fn reads_lists_of_numbers(rt: HostRuntime) {
         &Ok(Some((3, 9_999_999_999))),
     );
     assert_same(&rt, &numbers_in(alloc, NUMBERS), &Ok(Some((64, 63))));
-    // twice by value, and other texts that are no list
+    // the same value twice, and other texts that are no list
     for text in [
         "1,01",
         "1,2,1",
@@ -65,14 +65,14 @@ fn reads_lists_of_numbers(rt: HostRuntime) {
     }
 }
 
-// Stands where a list has no last flip.
+// The result for a list without a last flip.
 const NO_FLIP: Flip = Flip {
     packet: 0,
     byte: 0,
     bit: 0,
 };
 
-// How many flips a text lists, and the last one.
+// Returns how many flips a text lists, and the last one.
 fn flips_in(alloc: Global, text: &str) -> Result<Option<(usize, Flip)>, AllocError> {
     match parse_list::<_, Flip>(alloc, text)? {
         Some(list) => Ok(Some((list.len(), list.last().copied().unwrap_or(NO_FLIP)))),
@@ -175,7 +175,7 @@ fn reads_receivers(rt: HostRuntime) {
     }
 }
 
-// The number of the PID that a text is.
+// Returns the number of the PID of a text.
 fn pid_in(text: &str) -> Option<u16> {
     match parse_pid(text) {
         Some(pid) => Some(pid.number()),
@@ -207,7 +207,7 @@ fn refuses_pids(rt: HostRuntime) {
         "0xffffffff",
         // eleven digits, and nine
         "00000000257", "0x000000101",
-        // no digits, signs, spaces, another `0x`, and what is no digit
+        // no digits, signs, spaces, another `0x`, and characters other than digits
         "", "0x", "x", "-1", "+1", "0x+1", "0x-1", "-0x101", "+0x101", " 257", "257 ", "0x 101",
         "0X101", "x101", "101h", "0x10g", "0x0x101", "1e2", "$101", "257,258",
     ] {
@@ -230,7 +230,7 @@ fn reads_packet_sizes(rt: HostRuntime) {
     }
 }
 
-// The number of the first piece of a range, and how many it has room for.
+// Returns the number of the first PES packet of a range, and how many it has room for.
 fn range_in(text: &str) -> Option<(u64, Option<u64>)> {
     match parse_range(text) {
         Some(range) => Some((range.first(), range.most())),
@@ -258,7 +258,7 @@ fn refuses_ranges(rt: HostRuntime) {
         "2-1", "10-9", "1-0",
         // one number, none, and three
         "1", "", "-", "-1", "--", "1--2", "1-2-", "1-2-3", "-1-2",
-        // eleven digits, signs, spaces, and what is no number
+        // eleven digits, signs, spaces, and texts that are no numbers
         "00000000001-1", "1-00000000001", "10000000000-", "+1-2", "1-+2", " 1-2", "1 -2", "1- 2",
         "1-2 ", "1- ", "a-b", "1-x", "x-1", "x-", "0x1-2", "1,2", "1:2", "1..2",
     ] {

@@ -7,7 +7,7 @@ use std::process::Abort;
 use stl_file::{Gsi, StlReader, Subtitle, TimeCode, Tti, five_digits_of};
 use sub_io::MemSource;
 
-// The fields of a GSI block that have more than one byte, and what no field takes, in their order.
+// Returns a field of more than one byte of a GSI block, or the bytes between fields, in order.
 fn field(gsi: &Gsi, number: usize) -> &[u8] {
     match number {
         0 => gsi.cpn(),
@@ -40,7 +40,7 @@ fn field(gsi: &Gsi, number: usize) -> &[u8] {
     }
 }
 
-// Where each of them stands in the block, and how long it is.
+// The place of each of them in the block, and its length.
 #[rattlefmt::skip]
 const FIELDS: [[usize; 2]; 27] = [
     [0, 3], // CPN
@@ -75,7 +75,7 @@ const FIELDS: [[usize; 2]; 27] = [
 #[test]
 fn reads_each_gsi_field_at_its_place(rt: HostRuntime) {
     let mut bytes = [0; 1024];
-    // No two bytes less than 251 apart are equal, so that a field at another place differs.
+    // No two bytes less than 251 apart are equal, so a field at another place differs.
     for i in 0..1024 {
         bytes[i] = (i % 251) as u8;
     }
@@ -129,7 +129,7 @@ fn counts_frames_of_the_day(rt: HostRuntime) {
     assert!(rt; TimeCode::new(0, 60, 0, 0).is_none() && TimeCode::new(0, 0, 60, 0).is_none());
 }
 
-// Asserts whether a subtitle is taken of these frames in and out, row and justification, and text.
+// Asserts whether a subtitle with these times, row and justification, and text is accepted.
 fn assert_takes(rt: &impl Abort, times: [u32; 2], [vp, jc]: [u8; 2], text: &[u8], want: bool) {
     assert!(rt; times[0] < 2_160_000 && times[1] < 2_160_000);
     let (tci, tco) = (TimeCode::of_frame(times[0]), TimeCode::of_frame(times[1]));

@@ -1,4 +1,4 @@
-//! Files as bytes, and what a reader says of a whole source.
+//! Files as bytes, and the result of reading a whole source.
 
 ghost use Rattle.sub_io.specs.Device.{CanFail};
 
@@ -15,14 +15,14 @@ pub(crate) const LAST: [u8; 16] = [7, 5, 1, 0xff, 0, 0, 0, 1, 0, 0, 0, 2, 0, 20,
 /// A subtitle of one block, 00:00:02:00 to 00:00:04:24.
 pub(crate) const ALONE: [u8; 16] = [7, 6, 1, 0xff, 0, 0, 0, 2, 0, 0, 0, 4, 24, 1, 0, 0];
 
-/// A comment: CF 1. Its CS, times, VP and JC are not looked at.
+/// A comment: CF 1. Its CS, times, VP and JC are not checked.
 pub(crate) const COMMENT: [u8; 16] = [7, 5, 1, 0xff, 9, 9, 99, 9, 9, 9, 9, 9, 9, 99, 9, 1];
 
 /// User data: EBN FE, whatever its CF.
 pub(crate) const USER_DATA: [u8; 16] = [9, 9, 9, 0xfe, 9, 9, 9, 9, 9, 9, 9, 9, 9, 99, 9, 9];
 
-/// A comment, a subtitle of two blocks with user data between them, and a subtitle of one block
-/// with two bytes of text: 2 subtitles in 5 blocks.
+/// Returns a comment, a subtitle of two blocks with user data between them, and a subtitle of one
+/// block with two bytes of text: 2 subtitles in 5 blocks.
 pub(crate) fn a_file() -> [u8; 1664] {
     let mut file = [0; 1664];
     put(&mut file, 0, &gsi());
@@ -35,7 +35,7 @@ pub(crate) fn a_file() -> [u8; 1664] {
     file
 }
 
-/// How many subtitles a source gives, the fault after them, and the block then.
+/// Returns how many subtitles a source gives, the fault after them, and the block then.
 pub(crate) fn read_all<S: Source>(source: &mut S) -> (u32, Option<StlFault>, u32)
     requires { CanFail (S.failure_count source.old) }
 {

@@ -1,5 +1,4 @@
-//! Normal forms; what a file that is refused or a device that fails leaves is tested by the
-//! program's
+//! Normal forms; what a refused file or a failing device leaves is tested by the program's
 //! `normal`.
 
 use super::files::{ALONE, FIRST, LAST, a_file};
@@ -8,7 +7,7 @@ use fixtures::{block, gsi, put};
 use stl_file::{StlReader, normal, write_subtitle};
 use sub_io::{MemSink, MemSource};
 
-/// The normal form of `a_file`: the comment and the user data are left out.
+/// Returns the normal form of `a_file`: the comment and the user data are left out.
 fn wanted() -> [u8; 1408] {
     let mut file = [0; 1408];
     put(&mut file, 0, &gsi());

@@ -1,4 +1,4 @@
--- What the loop keeps: the source did not fail.
+-- The invariant: the source did not fail.
 use Rattle.std.proofs.Common.{◌≡◌}
 use Rattle.tests.proofs.subtitle_files.files.read_all.Given as goal
 
