@@ -1,12 +1,12 @@
--- The PIDs that are followed: one more that is asked for, one-more-asked; those after a change of
--- one, one_changed, map-same.
+-- The followed PIDs: after one more that is requested, one-more-asked; after a change of one,
+-- one_changed, map-same.
 use Rattle.std.proofs.Common.{◌≡◌, zero, suc, ◌<◌, ◌++◌, ◌∙◌, ◌∷◌, [], ℕ, Bool, List, Option}
 use Rattle.std.proofs.Common.{true, ap, arith, length, map, refl}
 use Rattle.std.proofs.Common.{if◌then◌else◌, slice_index_or, slice_set}
 use Rattle.ts_survey.specs.Asked.{is_asked, not_asked, pid_followed}
 use Rattle.ts_survey.specs.declared.carrier.Carrier.{Carrier}
 
--- Of each a value is as it was, where it is that at the place that changes.
+-- If an element changes but its value does not, all values stay the same.
 pub map-same : {A V : Type 0} (f : A → V) (xs : List A) (i : ℕ) (x d : A)
     → i < length xs
     → f x ≡ f (slice_index_or xs i d)
@@ -16,7 +16,7 @@ map-same f (y ∷ ys) zero x d below is = ap (λ v. v ∷ map f ys) is
 map-same f (y ∷ ys) (suc i) x d below is =
     ap (λ vs. f y ∷ vs) (map-same f ys i x d (omega arith) is)
 
--- One that is asked for is none of the others, wherever it stands.
+-- A requested PID is not among the others, wherever it is.
 passed-over : (is : Bool) (pid : ℕ) (rest : List ℕ)
     → is ≡ true
     → (if is then rest else pid ∷ rest) ≡ rest
@@ -35,7 +35,7 @@ more-asked asked [] one known = passed-over (is_asked asked one.pid) one.pid [] 
 more-asked asked (c ∷ cs) one known =
     same-before (is_asked asked c.pid) c.pid _ _ (more-asked asked cs one known)
 
--- Where one more is followed that is asked for.
+-- One more PID is followed, which is requested.
 pub one-more-asked : (asked : Option ℕ) (pid : ℕ) (old new : List Carrier) (one : Carrier)
     → is_asked asked pid ≡ true
     → one.pid ≡ pid
@@ -45,7 +45,7 @@ one-more-asked asked pid old new one known same more =
     ap (λ l. not_asked asked (map pid_followed l)) more
     ∙ more-asked asked old one (ap (is_asked asked) same ∙ known)
 
--- Where one changes that keeps its PID, the PIDs are the same.
+-- If a stream changes that keeps its PID, the PIDs stay the same.
 pub pids-kept : (carriers : List Carrier) (i : ℕ) (one other : Carrier)
     → i < length carriers
     → one.pid ≡ (slice_index_or carriers i other).pid

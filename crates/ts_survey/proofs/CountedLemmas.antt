@@ -1,5 +1,5 @@
--- Where the packets of a stream stand was told of all bytes that came: stands-start, stands-next,
--- stands-kept; and at the end they are counted: counted-all.
+-- The packets of a stream were found in all bytes that came: stands-start, stands-next,
+-- stands-kept; at the end they are counted: counted-all.
 use Rattle.std.proofs.Common.{◌≡◌, ◌≤◌, ◌+◌, ◌-◌, ◌*◌, ◌∙◌, Bool, List, [], ◌∷◌, ◌++◌, ℕ, ap}
 use Rattle.std.proofs.Common.{append-nil, arith, drop, drop-drop, false, length, length-append}
 use Rattle.std.proofs.Common.{length-drop, refl, subst, sym, true}
@@ -20,13 +20,13 @@ use Rattle.ts_survey.specs.declared.recording.Kind.{Kind}
 use Rattle.ts_survey.specs.declared.recording.Kind.TheVariants.{Nothing, Pes, Stream, Unknown}
 use Rattle.ts_survey.proofs.InStepLemmas.{law_of_two_calls}
 
--- ---- whatever takes the packets
+-- ---- whatever receives the packets
 
 runs-any : (packets : List (List ℕ)) → RunsBy {S = Unit {0}} any_piece (tt {0}) packets (tt {0})
 runs-any [] = refl
 runs-any (p ∷ ps) = (tt, tt, runs-any ps)
 
--- They stand where they do.
+-- They are found in any case.
 taken-any :
     (old new : PacketsInStep) (before after : Multiplex) (bytes : List ℕ) (is_end : Bool) (used : ℕ)
     → TakesAll keeps_asked old before bytes is_end used new after
@@ -49,7 +49,7 @@ taken-any old new before after bytes is_end used takes = record {
 
 -- ---- more bytes came
 
--- A stream that has begun takes them.
+-- A stream that has begun processes them.
 begun-read :
     (passed : ℕ) (first new : PacketsInStep) (start after : Multiplex)
     (came bytes held : List ℕ) (is_end : Bool) (used : ℕ)
@@ -72,7 +72,7 @@ begun-read passed first new start after came bytes held is_end used within is le
       left = left ∙ ap (drop used) is;
     }
 
--- So does one of which packets were taken before.
+-- So does one of which packets were processed before.
 read-on :
     (mid new : PacketsInStep) (told after : Multiplex) (came more held bytes next : List ℕ)
     (is_end : Bool) (used : ℕ)
@@ -106,9 +106,9 @@ read-on mid new told after came more held bytes next is_end used read is left ta
           ∙ drop-drop used read.used all;
     }
 
--- ---- what a recording is
+-- ---- the kind of a recording
 
--- A stream that was begun before the bytes that are taken now.
+-- A stream that began before the bytes that are processed now.
 pub takes-begun : (passed : ℕ) (mid new : Kind) (bytes : List ℕ) (is_end : Bool) (used : ℕ)
     → BeginsStream passed mid
     → TakesOn mid bytes is_end used new
@@ -132,7 +132,7 @@ takes-begun passed Nothing (Pes g) bytes is_end used begins takes on = tt
 takes-begun passed Nothing (Stream q n) bytes is_end used begins takes on = absurd on
 takes-begun passed Nothing Nothing bytes is_end used begins takes on = tt
 
--- More of what was not known came.
+-- More of a recording of unknown kind came.
 stands-begun :
     (new : Kind) (skipped skipped_now used : ℕ) (came more held bytes next : List ℕ)
     (is_end : Bool)
@@ -238,7 +238,7 @@ stands-on
     Nothing Nothing skipped skipped_now used came more held bytes next is_end stands whole left
     fits known begun on = tt
 
--- More came behind what was held, and so much of it is passed over.
+-- More came after the bytes that were kept, and so much of it is processed.
 pub stands-next :
     (old new : Kind) (skipped skipped_now used : ℕ) (came more held now bytes next : List ℕ)
     (is_end : Bool)
@@ -340,7 +340,7 @@ counted-stream came held packets read =
           ∙ ap (λ s. lead_size (bytes_of s) + bytes_of s * count + skipped) (sym same));
     }
 
--- All was read of a recording.
+-- All of a recording was read.
 pub counted-all : (kind : Kind) (skipped : ℕ) (came held : List ℕ)
     → StandsAt kind skipped came held true
     → CountsRecording came kind

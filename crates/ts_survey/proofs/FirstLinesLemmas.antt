@@ -1,5 +1,5 @@
--- What is told of a recording before what is in it: found-behind-head, found-with-head; when more
--- was looked at: told-on, told-kept; and the bytes that came: came-all, still-held.
+-- The output for a recording before its contents: found-behind-head, found-with-head; after more
+-- was read: told-on, told-kept; the bytes that came: came-all, still-held.
 use Rattle.std.proofs.Common.{◌≡◌, Bool, false, List, [], ◌++◌, ℕ, ◌∷◌, ◌∙◌, ap, append-nil}
 use Rattle.std.proofs.Common.{append_assoc, arith, refl, subst, sym, ◌≤◌, drop, length-append, take}
 use Rattle.std.proofs.Common.{true}
@@ -24,9 +24,9 @@ pub no-items : (xs : List ℕ) → length xs ≡ 0 → xs ≡ []
 no-items [] none = refl
 no-items (x ∷ xs) none = absurd (omega arith)
 
--- ---- what it is
+-- ---- the kind
 
--- A recording that goes on is what it was, and so it is told.
+-- A recording keeps its kind, and so its line.
 kinds-on : (old new : Kind)
     → GoesOn old new
     → (kind_words new ≡ kind_words old)
@@ -54,7 +54,7 @@ kinds-on Nothing (Pes g) on = absurd on
 kinds-on Nothing (Stream q n) on = absurd on
 kinds-on Nothing Nothing on = (refl, refl, refl)
 
--- What is not known is not told.
+-- An unknown kind has no line.
 unknown-words : (kind : Kind) → is_unknown kind ≡ true → kind_words kind ≡ []
 unknown-words Unknown is = refl
 unknown-words (Pes f) is = absurd cc
@@ -67,7 +67,7 @@ pub adds-nothing : (kind : Kind) (text : Text)
 adds-nothing kind text is =
     subst (λ words. AddsWords text words text) (sym (unknown-words kind is)) (adds-none text)
 
--- Nothing is told of what has not come.
+-- Before any bytes nothing is printed.
 pub told-start : (recording : Recording)
     → recording.kind ≡ Unknown
     → recording.has_head ≡ false
@@ -88,7 +88,7 @@ same-head : (has : Bool) (head other : List ℕ)
 same-head true head other same = ap head_words (same refl)
 same-head false head other same = refl
 
--- More was told of what is known.
+-- More was printed for a known kind.
 told-more : (old new : Recording) (came all listing more : List ℕ)
     → IsTold old came listing
     → GoesOn old.kind new.kind
@@ -119,7 +119,7 @@ told-more old new came all listing more told on same begins none =
           ∙ ap begins_pes (sym (begins had));
     }
 
--- Nothing more was told.
+-- Nothing more was printed.
 pub told-kept : (old new : Recording) (came listing : List ℕ)
     → IsTold old came listing
     → GoesOn old.kind new.kind
@@ -129,7 +129,7 @@ told-kept old new came listing told on same =
     subst (λ l. IsTold new came l) (append-nil listing)
     (told-more old new came came listing [] told on same (λ has. refl) (λ is. refl))
 
--- The head that is told: the one that was, or else the first bytes.
+-- The head that is printed: the earlier one, or else the first bytes.
 heads : (before after : Bool) (came all bytes : List ℕ)
     → (before ≡ true → after ≡ true)
     → (before ≡ true → take head_size all ≡ take head_size came)
@@ -142,7 +142,7 @@ heads true false came all bytes stays begins first = let e = stays refl in cc
 heads false after came all bytes stays begins first =
     ap (λ l. head_so_far after (take head_size l)) (first refl)
 
--- The head was told, and then what it is: for `find_kind`.
+-- The head was printed, and then the kind: for `find_kind`.
 pub found-behind-head :
     (old mid new : Recording) (bytes : List ℕ) (before between after : Text)
     → old.has_head ≡ false
@@ -174,7 +174,7 @@ found-behind-head
       not_pes = λ had. not;
     }
 
--- It had been told.
+-- It had been printed.
 pub found-with-head : (old new : Recording) (bytes : List ℕ) (before after : Text)
     → old.has_head ≡ true
     → new.has_head ≡ old.has_head
@@ -219,7 +219,7 @@ found-pes
     false old new came all bytes listing first last had told is finds enough begins same has =
     finds.pes enough had has ∙ ap (λ l. begins_pes (take head_size l)) (sym (same had))
 
--- It was found what a recording is, or some of it was looked at.
+-- The kind of a recording was determined, or some of it was read.
 told-found : (old new : Recording) (came all bytes listing text : List ℕ) (first last : Text)
     → IsTold old came listing
     → is_unknown old.kind ≡ true
@@ -289,7 +289,7 @@ told-by
     (told-more old new came all listing text told on.2 on.1 begins
     (λ unknown. none ((kinds-on old.kind new.kind on.2).1 ∙ unknown)))
 
--- More of a recording was looked at.
+-- More of a recording was read.
 pub told-on : (old new : Recording) (came all bytes listing text : List ℕ) (first last : Text)
     → IsTold old came listing
     → (is_unknown old.kind ≡ true → FindsKind old bytes first last new)
@@ -308,7 +308,7 @@ told-on old new came all bytes listing text first last told finds goes enough em
 
 -- ---- the bytes that came
 
--- Those that are told have come, so more of them change nothing.
+-- The bytes of the head have come, so more of them change nothing.
 pub begins-as : (has : Bool) (came more : List ℕ)
     → (has ≡ true → head_size ≤ length came)
     → has ≡ true
@@ -324,7 +324,7 @@ long-on true has came more long enough is =
     let e = length-append came more in omega (arith, e, long refl)
 long-on false has came more long enough is = enough refl is
 
--- While nothing is told, what came is held.
+-- While nothing is printed, what came is kept.
 pub came-all : (came held now bytes more : List ℕ)
     → held ≡ came
     → now ≡ held ++ more
@@ -333,7 +333,7 @@ pub came-all : (came held now bytes more : List ℕ)
 came-all came held now bytes more is more_is same =
     ap (λ l. l ++ more) (sym is) ∙ sym more_is ∙ sym same
 
--- And none of it is passed over.
+-- None of it is dropped.
 pub still-held : (came held now after more : List ℕ) (used : ℕ)
     → held ≡ came
     → now ≡ held ++ more

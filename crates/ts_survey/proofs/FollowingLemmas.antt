@@ -1,5 +1,5 @@
--- What is taken, piece after piece: for `give_ready` first-taken; and that it is what the packets
--- of a PID carry, law_of_following.
+-- Receiving in parts: for `give_ready` first-taken; and it is what the packets of a PID carry,
+-- law_of_following.
 use Rattle.std.proofs.Common.{◌≡◌, ◌<◌, ℕ, Bool, true, false, List, [], ◌∷◌, ◌++◌, length}
 use Rattle.std.proofs.Common.{refl, sym, ap, ◌∙◌, subst, arith, length-append}
 use Rattle.std.proofs.lemmas.List.Folds.{concat-append}
@@ -13,13 +13,13 @@ use Rattle.mpeg_ts.proofs.CarriedLemmas.{carried_given}
 use Rattle.ttx_page.proofs.RunLemmas.{RunsBy-append}
 use Rattle.ts_survey.specs.Following.{FollowsNotes, GivesNext, LawOfFollowing, TakesBytes}
 
--- What was taken so far, and then the rest, is all.
+-- What was received so far, followed by the rest, is everything.
 abbrev pub Continues :
     {T : Type 0} → (T → List ℕ → T → Type 0) → T → List ℕ → T → List ℕ → Type 0
 Continues {T} IsTaken old whole now left =
     (new : T) → TakesBytes IsTaken now left new → TakesBytes IsTaken old whole new
 
--- One piece more.
+-- One more part.
 pub first-taken :
     {T : Type 0} (IsTaken : T → List ℕ → T → Type 0) (before after : JoiningValue)
     (old mid new : T)
@@ -48,7 +48,7 @@ fewer_ready IsTaken before after old new first some =
         let sum : length all ≡ length (x ∷ (piece ++ rest)) = ap length joined in
         omega (arith, sum, length-append piece rest)
 
--- Some bytes, and then others.
+-- Some bytes followed by others.
 taken-after :
     {T : Type 0} (IsTaken : T → List ℕ → T → Type 0) (old mid new : T) (first more : List ℕ)
     → TakesBytes IsTaken old first mid
@@ -62,7 +62,7 @@ taken-after IsTaken old mid new first more one other = record {
   run = RunsBy-append IsTaken one.pieces other.pieces old mid new one.run other.run;
 }
 
--- Nothing is given any more once it has ended.
+-- Nothing more is given after the end.
 given_later-ended : (j : JoiningValue) (all : List Note)
     → has_ended j.part ≡ true
     → given_later j all ≡ []
@@ -70,7 +70,7 @@ unfolding given_later
 given_later-ended j [] ended = refl
 given_later-ended j (note ∷ more) ended = rw ended refl
 
--- What is kept beside what is ready stays.
+-- The rest of the state stays the same.
 pub same-rest : (first before after : JoiningValue) (left : List ℕ)
     → before ≡ record first { pending = before.pending }
     → after ≡ record before { pending = left }
@@ -81,7 +81,7 @@ same-rest first before after left same passed =
     ∙ ap (λ (l : List ℕ). record first { pending = l })
     (sym (ap (λ (j : JoiningValue). j.pending) passed))
 
--- What is taken of a note, and then of those behind it.
+-- What is received for a note, and then for those after it.
 follows-note :
     {T : Type 0} (IsTaken : T → List ℕ → T → Type 0) (j : JoiningValue) (note : Note)
     (more : List Note) (old new : T) (b : Bool)
@@ -101,7 +101,7 @@ follows-note IsTaken j note more old new false begun is over going =
     let here = rw begun at is in
     rw begun (taken-after IsTaken old here.0 new _ _ here.1 (going here.0 here.2))
 
--- What is taken of notes is what they give.
+-- What is received for notes is what they give.
 follows :
     {T : Type 0} (IsTaken : T → List ℕ → T → Type 0) (j : JoiningValue) (all : List Note)
     (old new : T)

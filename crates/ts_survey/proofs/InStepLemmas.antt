@@ -1,5 +1,5 @@
--- What stands in bytes that come bit by bit, and what was found in them: starts, skipped_on,
--- found_none, found_packet and found_skips; that two calls find what one does: law_of_two_calls.
+-- Packets in bytes that come bit by bit: starts, skipped_on, found_none, found_packet and
+-- found_skips; two calls find what one does: law_of_two_calls.
 use Rattle.std.proofs.Common.{◌≡◌, ℕ, zero, suc, ◌+◌, ◌-◌, ◌*◌, ◌<◌, ◌≤◌, Bool, true, false}
 use Rattle.std.proofs.Common.{List, [], ◌∷◌, ◌++◌, ◌∙◌, drop, take, length, replicate}
 use Rattle.std.proofs.Common.{refl, sym, ap, subst, arith, append-nil, append_assoc}
@@ -22,7 +22,7 @@ use Rattle.ts_survey.specs.InStep.{hole_told, items_from, packet_count, skipped_
 use Rattle.ts_survey.specs.InStep.{told_of}
 use Rattle.ts_survey.specs.declared.packets_in_step.PacketsInStep.{PacketsInStep}
 
--- The bytes from one packet to the next.
+-- The distance of packets.
 pub size_near : (size : PacketSize) → 188 ≤ bytes_of size
 size_near Plain = omega arith
 size_near TimeStamped = omega arith
@@ -35,7 +35,7 @@ size_far ErrorCorrected = omega arith
 
 pub ruleset sizes = (size_near, size_far)
 
--- A packet begins by the bytes that have come, and by what follows.
+-- Whether a packet begins depends on the bytes that have come, and on what follows.
 pub begins_by : (distance place : ℕ) (in_step : Bool) (bytes more : List ℕ)
     → place < length bytes
     → begins_packet distance in_step (drop place (bytes ++ more))
@@ -49,8 +49,6 @@ pub nothing_more : (bytes more : List ℕ) → more ≡ [] → bytes ++ more ≡
 nothing_more bytes more none = ap (λ l. bytes ++ l) none ∙ append-nil bytes
 
 pub ruleset starts = (index-append, index-behind, begins_by, nothing_more)
-
--- ---- items
 
 -- Bytes that begin with a packet.
 front_packet : (distance : ℕ) (in_step : Bool) (bytes : List ℕ)
@@ -73,7 +71,7 @@ unfolding items_from
 front_skipped distance in_step bytes h1 h2 h3 =
     grind (arith, nat_tests, items_skipped, items_room, length-drop)
 
--- Fewer than a packet has.
+-- Fewer bytes than a packet has.
 pub front_end : (distance : ℕ) (in_step : Bool) (bytes : List ℕ)
     → length bytes < 188
     → items_from distance in_step bytes ≡ []
@@ -109,16 +107,15 @@ skipped_on distance place start bytes more near from there skips so_far =
     ∙ ap (λ n. replicate n Skipped ++ items_from distance false (drop (start + 1) (bytes ++ more)))
     count
 
--- ---- what was found
+-- ---- the items that were found
 
--- Sums.
 zero_first : (a : ℕ) → 0 + a ≡ a
 zero_first a = omega arith
 
 suc_first : (a b : ℕ) → suc a + b ≡ suc (a + b)
 suc_first a b = omega arith
 
--- Items, and then others.
+-- Items followed by others.
 skipped_after-append : (run : ℕ) (xs ys : List Item)
     → skipped_after run (xs ++ ys) ≡ skipped_after (skipped_after run xs) ys
 unfolding skipped_after
@@ -161,7 +158,7 @@ skipped_in-append (Packet p ∷ xs) ys = skipped_in-append xs ys
 skipped_in-append (Skipped ∷ xs) ys =
     ap suc (skipped_in-append xs ys) ∙ sym (suc_first (skipped_in xs) (skipped_in ys))
 
--- Bytes that belong to none.
+-- Bytes that belong to no packet.
 skipped_after-skipped : (k run : ℕ)
     → run ≤ 0xFFFF_FFFF_FFFF_FFFF
     → skipped_after run (replicate k Skipped) ≡ counted_on run k
@@ -170,7 +167,7 @@ skipped_after-skipped zero run small = grind (arith, nat_tests)
 skipped_after-skipped (suc k) run small =
     grind (arith, nat_tests, skipped_after-skipped k (counted_on run 1))
 
--- A hole is told once among them, where it ends there.
+-- A gap is reported once among them, if it ends there.
 told_of-skipped : (distance k run : ℕ)
     → distance ≤ 204
     → run ≤ 0xFFFF_FFFF_FFFF_FFFF
@@ -192,7 +189,7 @@ unfolding skipped_in
 skipped_in-skipped zero = refl
 skipped_in-skipped (suc k) = ap suc (skipped_in-skipped k)
 
--- They end a hole, or they end none: they are before its end, or behind it.
+-- They end a gap or not: they are before its end, or after it.
 pub hole_taken :
     {T : Type 0} (IsTaken : T → List ℕ → T → Type 0) (distance k run : ℕ) (old new : T)
     → distance ≤ 204
@@ -255,7 +252,6 @@ found_none IsTaken old before bytes is_end number skipped = record {
   size = refl;
 }
 
--- Sizes add up.
 sums : (lead d a b s t : ℕ) → ((lead + d * a + s) + d * b) + t ≡ lead + d * (a + b) + (s + t)
 sums lead d a b s t = grind arith
 
@@ -343,7 +339,7 @@ found_packet IsTaken old mid new before told after bytes packet is_end at first 
     (omega arith)
     (after, taken, refl) refl refl (grind (arith, nat_tests)) refl)
 
--- Bytes that belong to none: one, and those behind it.
+-- Bytes that belong to no packet: one, and those after it.
 pub found_skips :
     {T : Type 0} (IsTaken : T → List ℕ → T → Type 0) (old mid new : PacketsInStep)
     (before told after : T) (bytes : List ℕ) (is_end : Bool) (at next : ℕ)
@@ -399,7 +395,7 @@ found_skips IsTaken old mid new before told after bytes is_end at next first the
 
 -- ---- bytes that come in two calls
 
--- What was found in bytes is found in them and more.
+-- What was found in bytes is also found in a longer list.
 found_ahead :
     {T : Type 0} (IsTaken : T → List ℕ → T → Type 0) (old new : PacketsInStep) (before after : T)
     (bytes more : List ℕ) (is_end : Bool) (place : ℕ)

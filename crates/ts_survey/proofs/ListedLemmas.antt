@@ -1,4 +1,5 @@
--- What a recording is stays as it was asked, what_goes_on and as-asked-on; and the end: told-end.
+-- A recording keeps its kind and the requested options, what_goes_on and as-asked-on; and the end:
+-- told-end.
 use Rattle.std.proofs.Common.{◌≡◌, Bool, false, List, [], ◌++◌, ℕ, Option, Some, None, ◌∷◌, ◌∙◌, ap}
 use Rattle.std.proofs.Common.{append-nil, append_assoc, refl, subst, sym, take, true}
 use Rattle.std.proofs.KnownBytes.{Appends-trans}
@@ -25,9 +26,9 @@ use Rattle.ts_survey.specs.declared.text.Text.{Text}
 use Rattle.ts_survey.proofs.CountedLemmas.{counted-all, takes-begun}
 use Rattle.ts_survey.proofs.FirstLinesLemmas.{no-items}
 
--- ---- what a recording is
+-- ---- the kind of a recording
 
--- What is asked for is kept by a run of packets, as it is by each.
+-- A run of packets keeps what is requested, as each packet does.
 runs-keep : (old new : Multiplex) (packets : List (List ℕ))
     → RunsBy keeps_asked old packets new
     → KeepsAsked old new
@@ -37,7 +38,7 @@ runs-keep old new (p ∷ ps) run =
     let rest = runs-keep run.0 new ps run.2 in
     (rest.0 ∙ run.1.0, rest.1 ∙ run.1.1, rest.2 ∙ run.1.2)
 
--- A stream of which packets were taken goes on.
+-- A stream of which packets were processed stays one.
 pub goes-on :
     (packets after : PacketsInStep) (multiplex told : Multiplex) (bytes : List ℕ) (is_end : Bool)
     (used : ℕ)
@@ -46,14 +47,14 @@ pub goes-on :
 goes-on packets after multiplex told bytes is_end used takes =
     record { size = takes.found.size; keeps = runs-keep multiplex told _ takes.found.taken }
 
--- What is not looked at is what it was.
+-- What is not read stays the same.
 pub goes-same : (kind : Kind) → GoesOn kind kind
 goes-same Unknown = tt
 goes-same (Pes f) = tt
 goes-same (Stream p m) = record { size = refl; keeps = (refl, refl, refl) }
 goes-same Nothing = tt
 
--- Packets are taken by a stream, and nothing by others: for `hand_on`, `flush` and `pause`.
+-- A stream processes packets, and other kinds none: for `hand_on`, `flush` and `pause`.
 pub ruleset what_goes_on = (goes-on, goes-same)
 
 size-on : (asked : Option PacketSize) (old new : PacketSize)
@@ -62,7 +63,7 @@ size-on : (asked : Option PacketSize) (old new : PacketSize)
     → IfSome asked (λ size. new ≡ size)
 size-on asked old new same is = subst (λ one. IfSome asked (λ size. one ≡ size)) (sym same) is
 
--- What goes on is as it was asked.
+-- A recording keeps the requested options.
 pub as-asked-on : (options : SurveyOptions) (old new : Kind)
     → GoesOn old new
     → IsAsAsked options old
@@ -102,7 +103,7 @@ pub ruleset stays_as_asked = (as-asked-as, goes-same)
 
 pub ruleset takes_as_asked = (as-asked-as, goes-same, takes-begun)
 
--- ---- what is told of it
+-- ---- its output
 
 pub appends-kept : (old mid new : Option (List ℕ)) (bytes : List ℕ)
     → Appends old mid bytes
@@ -142,7 +143,7 @@ has-head : (is : Bool) (kind : Kind)
 has-head true kind known none = refl
 has-head false kind known none = let e = sym (none refl) ∙ known in cc
 
--- Then the two numbers.
+-- Then come the two numbers.
 pub ends-told : (recording : Recording) (mid new : Text) (skipped number : ℕ)
     → skipped ≡ skipped_of recording
     → number ≡ packets_in recording.kind

@@ -1,4 +1,4 @@
--- What came stands behind what was held, holds_more; what is passed over is held no longer,
+-- New bytes come after those that were kept, holds_more; dropped bytes are no longer kept,
 -- held_without.
 use Rattle.std.proofs.Common.{◌≡◌, ℕ, ◌+◌, ◌-◌, ◌≤◌, List, ◌++◌, length, take, drop, Option}
 use Rattle.std.proofs.Common.{ap, sym, ◌∙◌, append_assoc, arith, length-drop, length-take-le}
@@ -9,7 +9,7 @@ use Rattle.std.proofs.lemmas.List.Edits.{take-paste}
 use lib.Seq.{paste}
 use Rattle.ts_survey.specs.Room.{HoldsMore}
 
--- So many bytes of a piece that was put behind others.
+-- So many bytes of a part that was put after others.
 came_behind : (front to post rest : List ℕ) (size n : ℕ)
     → length front + n ≤ size
     → n ≤ length to
@@ -21,7 +21,7 @@ came_behind front to post rest size n fits some =
     ∙ ap (λ l. front ++ l)
     (ap (take n) (append_assoc to post rest) ∙ take-append-le n to (post ++ rest) some)
 
--- A piece came behind the bytes that were held.
+-- New bytes came after those that were kept.
 pub holds_more : (items slice to post rest : List ℕ) (size len n : ℕ) (left next : Option (List ℕ))
     → slice ≡ items
     → len ≤ length items
@@ -41,7 +41,7 @@ holds_more items slice to post rest size len n left next same within fits some c
       consumed = consumed;
     }
 
--- The bytes behind those that are passed over were moved to the front.
+-- The bytes after those that are dropped were moved to the front.
 pub held_without : (items slice moved rest : List ℕ) (size len count : ℕ)
     → slice ≡ items
     → count ≤ len

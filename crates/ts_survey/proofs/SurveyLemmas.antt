@@ -1,4 +1,4 @@
--- What is told goes into the sink behind what it has taken: for `hand_on` and `survey`.
+-- The output is written to the sink after its earlier contents: for `hand_on` and `survey`.
 use Rattle.std.proofs.Common.{ℕ, List, [], ◌++◌, Option, Some, None, sym}
 use Rattle.std.proofs.Common.{append-nil}
 use Rattle.std.proofs.KnownBytes.{Appends-trans}
@@ -9,7 +9,7 @@ pub grows-none : (old : Option (List ℕ)) → Grows old old
 grows-none None = ([], tt)
 grows-none (Some xs) = ([], sym (append-nil xs))
 
--- A text, and then another.
+-- A text followed by another.
 pub grows-more : (old mid new : Option (List ℕ)) → Grows old mid → Grows mid new → Grows old new
 grows-more old mid new one more =
     (one.0 ++ more.0, Appends-trans old mid new one.0 more.0 one.1 more.1)

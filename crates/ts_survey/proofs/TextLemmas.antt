@@ -8,19 +8,19 @@ use Rattle.ts_survey.specs.Lines.{AddsWords}
 use Rattle.ts_survey.specs.Text.{Adds}
 use Rattle.ts_survey.specs.declared.text.Text.{Text}
 
--- What is whole in the end was whole before.
+-- A text that is complete at the end was complete before.
 was_whole : (a b : Bool) → (a ≡ true → b ≡ true) → b ≡ false → a ≡ false
 was_whole false b stays whole = refl
 was_whole true b stays whole = let e = sym (stays refl) ∙ whole in cc
 
--- Nothing is told.
+-- No words.
 pub adds-none : (text : Text) → AddsWords text [] text
 adds-none text = record {
   added = λ whole. sym (append-nil text.bytes.items);
   stays_lost = λ lost. lost;
 }
 
--- A word, and then others.
+-- A word followed by others.
 pub adds-word : {old mid new : Text} {word more : List ℕ}
     → Adds old word mid
     → Adds mid more new
@@ -38,7 +38,7 @@ pub adds-last : {old new : Text} {word : List ℕ} → Adds old word new → Add
 adds-last {old = old} {new = new} {word = word} last =
     subst (λ bytes. Adds old bytes new) (sym (append-nil word)) last
 
--- Words, and then others.
+-- Words followed by others.
 pub adds-words : {old mid new : Text} (words more : List (List ℕ))
     → AddsWords old words mid
     → AddsWords mid more new

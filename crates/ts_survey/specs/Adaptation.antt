@@ -1,15 +1,15 @@
--- What an adaptation field says (ISO/IEC 13818-1, adaptation_field):
+-- The fields of an adaptation field (ISO/IEC 13818-1, adaptation_field):
 --
 --   4      adaptation_field_length
 --   5      discontinuity_indicator (1 bit), random_access_indicator (1),
 --          elementary_stream_priority_indicator (1), PCR_flag (1) and four more flags
---   6..11  where PCR_flag is set: program_clock_reference_base (33 bits), reserved (6),
+--   6..11  if PCR_flag is set: program_clock_reference_base (33 bits), reserved (6),
 --          extension (9)
 --
--- And the times of a PES packet's header (ISO/IEC 13818-1, PES_packet):
+-- The times in the header of a PES packet (ISO/IEC 13818-1, PES_packet):
 --
---   7      PTS_DTS_flags (2 bits): the first says that there is a PTS, the second beside it a DTS
---   8      PES_header_data_length: the bytes of the header behind this one
+--   7      PTS_DTS_flags (2 bits): the first one for a PTS, the second for a DTS as well
+--   8      PES_header_data_length: the bytes of the header after this one
 --   9..13  four bits, PTS 32..30, a marker bit, PTS 29..15, a marker bit, PTS 14..0, a marker bit
 --   14..18 the DTS, in the same way
 use Rattle.std.specs.Prelude.{ℕ, ◌+◌, ◌*◌, ◌/◌, ◌%◌, ◌==◌, ◌&&◌, ◌||◌, not, nat_lt, Bool}
@@ -26,7 +26,7 @@ begins_access p =
 abbrev pub is_scrambled : List ℕ → Bool
 is_scrambled p = not (slice_index p 3 / 0x40 == 0)
 
--- program_clock_reference_base, where there is one.
+-- program_clock_reference_base, if there is one.
 abbrev pub pcr_base : List ℕ → Option ℕ
 pcr_base p =
     if not (has_adaptation p) || nat_lt (slice_index p 4) 7 || (slice_index p 5 / 0x10 % 2 == 0)
@@ -34,7 +34,7 @@ pcr_base p =
     else Some (slice_index p 6 * 0x200_0000 + slice_index p 7 * 0x2_0000 + slice_index p 8 * 0x200
     + slice_index p 9 * 2 + slice_index p 10 / 0x80)
 
--- The payload of a packet: none where it has none, or nothing may be taken from it.
+-- The payload of a packet; empty if it has none, or if the packet is wrong.
 abbrev pub payload_in : List ℕ → List ℕ
 payload_in p = if has_payload p && not (is_wrong p) then payload p else []
 
@@ -45,15 +45,15 @@ time_at pes n =
     + slice_index pes (n + 2) / 2 * 0x8000 + slice_index pes (n + 3) * 0x80
     + slice_index pes (n + 4) / 2
 
--- The PTS that a PES packet says. In a mark byte 6 is FF.
+-- The PTS of a PES packet. Byte 6 of a gap marker is FF.
 abbrev pub pts_said : List ℕ → Option ℕ
 pts_said pes =
     if nat_lt (length pes) 14 || nat_lt (slice_index pes 7) 0x80 || (slice_index pes 6 == 0xFF)
     then None
     else Some (time_at pes 9)
 
--- When the first picture of a PES packet with that PTS is decoded: its DTS, or its PTS where
--- PTS_DTS_flags tell of none (ISO/IEC 13818-1). None where its bytes end within the DTS.
+-- When the first picture of a PES packet with that PTS is decoded: its DTS, or its PTS if
+-- PTS_DTS_flags announce no DTS (ISO/IEC 13818-1). `None` if its bytes end within the DTS.
 abbrev pub time_beside : List ℕ → Option ℕ → Option ℕ
 time_beside pes None = None
 time_beside pes (Some pts) =
@@ -61,6 +61,6 @@ time_beside pes (Some pts) =
     else if nat_lt (length pes) 19 then None
     else Some (time_at pes 14)
 
--- So of a PES packet: none where it says no PTS.
+-- The same for a PES packet; `None` if it has no PTS.
 abbrev pub decoding_time : List ℕ → Option ℕ
 decoding_time pes = time_beside pes (pts_said pes)

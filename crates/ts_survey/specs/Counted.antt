@@ -1,5 +1,5 @@
--- A transport stream is read from a place of a recording on, to its end: its packets are counted,
--- and so are the bytes that belong to none.
+-- A transport stream is read from a place of a recording to its end: its packets are counted, and
+-- the bytes that belong to none.
 use Rattle.std.specs.Prelude.{◌≡◌, ◌≤◌, ⊤, ℕ, ◌+◌, ◌-◌, ◌*◌, Bool, true, List, drop, length}
 use Rattle.mpeg_ts.specs.PacketSize.{bytes_of}
 use Rattle.mpeg_ts.specs.PacketsInStep.{Item, lead_size}
@@ -11,9 +11,9 @@ use Rattle.ts_survey.specs.declared.packets_in_step.PacketsInStep.{PacketsInStep
 use Rattle.ts_survey.specs.declared.recording.Kind.{Kind}
 use Rattle.ts_survey.specs.declared.recording.Kind.TheVariants.{Stream, Unknown}
 
--- ---- while it is read
+-- ---- while it is being read
 
--- Nothing was found yet of a stream before which so many bytes were passed over.
+-- The state at the beginning of a stream, after so many other bytes.
 pub record BeginsAt (passed : ℕ) (packets : PacketsInStep) : Type 0 where
   pub lead : packets.lead ≡ lead_size (bytes_of packets.size)
   pub in_step : packets.in_step ≡ true
@@ -21,17 +21,17 @@ pub record BeginsAt (passed : ℕ) (packets : PacketsInStep) : Type 0 where
   pub run : packets.run ≡ 0
   pub skipped : packets.skipped ≡ passed
 
--- A recording that is a stream is one that begins there.
+-- A recording that is a stream is at that beginning.
 abbrev pub BeginsStream : ℕ → Kind → Type 0
 BeginsStream passed (Stream packets multiplex) = BeginsAt passed packets
 BeginsStream passed _ = ⊤
 
--- The packets that bytes have were taken, whatever takes them.
+-- The packets of these bytes were processed, by whatever receives them.
 abbrev pub TakesAny : PacketsInStep → List ℕ → Bool → ℕ → PacketsInStep → Type 0
 TakesAny old bytes is_end used new =
     TakesAll {T = Unit {0}} any_piece old (tt {0}) bytes is_end used new (tt {0})
 
--- A stream begins there, and the packets were taken that these bytes of it have.
+-- A stream begins there, and the packets of these bytes of it were processed.
 pub record TakesStream
     (passed : ℕ) (bytes : List ℕ) (is_end : Bool) (used : ℕ) (packets : PacketsInStep)
     (multiplex : Multiplex)
@@ -41,14 +41,14 @@ pub record TakesStream
   pub start : Multiplex
   pub taken : TakesAll keeps_asked first start bytes is_end used packets multiplex
 
--- So of a recording that was found to be one.
+-- The same for a recording that was recognised as a stream.
 abbrev pub TakesBegun : ℕ → List ℕ → Bool → ℕ → Kind → Type 0
 TakesBegun passed bytes is_end used (Stream packets multiplex) =
     TakesStream passed bytes is_end used packets multiplex
 TakesBegun passed bytes is_end used _ = ⊤
 
--- Where the packets of a stream stand was told of the bytes that came, up to those that are held:
--- of all of them at the end.
+-- The packets of a stream were found in the bytes that came, except for those still kept; in all of
+-- them at the end.
 pub record ReadsStream (came held : List ℕ) (is_end : Bool) (packets : PacketsInStep) : Type 0 where
   pub passed : ℕ
   pub within : passed ≤ length came
@@ -58,21 +58,21 @@ pub record ReadsStream (came held : List ℕ) (is_end : Bool) (packets : Packets
   pub taken : TakesAny first (drop passed came) is_end used packets
   pub left : held ≡ drop used (drop passed came)
 
--- So it is of a recording: what is no stream yet holds all but the bytes that were passed over.
+-- The same for a recording; while its kind is unknown, all bytes after the skipped ones are kept.
 abbrev pub StandsAt : Kind → ℕ → List ℕ → List ℕ → Bool → Type 0
 StandsAt Unknown skipped came held is_end = (skipped ≤ length came) × (held ≡ drop skipped came)
 StandsAt (Stream packets multiplex) skipped came held is_end = ReadsStream came held is_end packets
 StandsAt _ skipped came held is_end = ⊤
 
--- Nothing more of it was looked at.
+-- Nothing more of it was read.
 abbrev pub StaysRead : Kind → Kind → Type 0
 StaysRead (Stream packets multiplex) (Stream after told) = after ≡ packets
 StaysRead _ _ = ⊤
 
 -- ---- at its end
 
--- All packets that stand there from that place on were counted, each once, and the bytes that
--- belong to none: those before it, between packets, and behind the last one.
+-- All packets from that place on were counted, each once, and the bytes that belong to none: those
+-- before it, between packets, and after the last one.
 pub record CountsStream (came : List ℕ) (packets : PacketsInStep) : Type 0 where
   pub passed : ℕ
   pub within : passed ≤ length came
@@ -86,7 +86,7 @@ pub record CountsStream (came : List ℕ) (packets : PacketsInStep) : Type 0 whe
       + (length (drop passed came) - (lead_size (bytes_of packets.size)
       + bytes_of packets.size * packet_count found + skipped_in found)))
 
--- So they were of a recording that is a stream.
+-- The same for a recording that is a stream.
 abbrev pub CountsRecording : List ℕ → Kind → Type 0
 CountsRecording came (Stream packets multiplex) = CountsStream came packets
 CountsRecording came _ = ⊤

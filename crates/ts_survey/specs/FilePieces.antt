@@ -1,9 +1,9 @@
--- The pieces of a file of PES packets: each as long as its PES_packet_length says (ISO/IEC 13818-1,
--- PES_packet), and what stands behind the last whole one (own; docs/manual/survey.md).
+-- The PES packets of a file: each is as long as its PES_packet_length says (ISO/IEC 13818-1,
+-- PES_packet), followed by what comes after the last complete one (own; docs/manual/survey.md).
 use Rattle.std.specs.Prelude.{ℕ, ◌&&◌, not, nat_le, Bool}
 use Rattle.std.specs.Prelude.{List, length}
 use Rattle.ttx_pes.specs.Reading.{is_start}
 
--- Another start stands there.
+-- The bytes have another start code.
 abbrev pub has_other_start : List ℕ → Bool
 has_other_start bytes = nat_le 6 (length bytes) && not (is_start bytes)

@@ -1,4 +1,4 @@
--- The lines that a survey begins with: what the recording is, and what of it is asked for (own;
+-- The first lines of a survey: the kind of the recording, and the requested PID (own;
 -- docs/manual/survey.md).
 use Rattle.std.specs.Prelude.{◌≡◌, ◌==◌, ◌&&◌, ◌||◌, not, nat_le, nat_lt, ℕ, Bool, true, false}
 use Rattle.std.specs.Prelude.{if◌then◌else◌, List, [], ◌∷◌, ◌++◌, Option, Some, None, codes, length}
@@ -14,11 +14,11 @@ use Rattle.ts_survey.specs.declared.text.Text.{Text}
 
 -- ---- the lines
 
--- The bytes of a recording that are told.
+-- The number of bytes of a recording that are printed.
 abbrev pub head_size : ℕ
 head_size = 11
 
--- A space before a word, if it is one.
+-- A space before a word, if there is one.
 abbrev pub space_of : List ℕ → List ℕ
 space_of word = if length word == 0 then [] else codes " "
 
@@ -27,7 +27,7 @@ abbrev pub head_words : List ℕ → List (List ℕ)
 head_words head =
     codes "survey 1\nhead" ∷ space_of head ∷ hex_word head ∷ line_end ∷ []
 
--- `size N`: the bytes from one packet to the next.
+-- `size N`: the distance of packets.
 abbrev pub size_line : ℕ → List (List ℕ)
 size_line size = codes "size" ∷ number_word size ∷ line_end ∷ []
 
@@ -35,12 +35,12 @@ size_line size = codes "size" ∷ number_word size ∷ line_end ∷ []
 abbrev pub teletext_line : ℕ → List (List ℕ)
 teletext_line pid = codes "teletext" ∷ number_word pid ∷ line_end ∷ []
 
--- The one that is asked for is followed from the first packet on.
+-- The requested PID is followed from the first packet on.
 abbrev pub asked_words : Option ℕ → List (List ℕ)
 asked_words None = []
 asked_words (Some pid) = teletext_line pid
 
--- What a recording is: a file of PES packets, a transport stream, or none of both.
+-- The kind of a recording: a file of PES packets, a transport stream, or neither.
 abbrev pub kind_words : Kind → List (List ℕ)
 kind_words Unknown = []
 kind_words (Pes file) = codes "size 0\n" ∷ []
@@ -48,10 +48,10 @@ kind_words (Stream packets multiplex) =
     size_line (bytes_of packets.size) ++ asked_words multiplex.asked
 kind_words Nothing = codes "nothing\n" ∷ []
 
--- ---- when they are told
+-- ---- when they are printed
 
 -- A file of PES packets begins with packet_start_code_prefix and the stream_id of private_stream_1
--- (EN 300 472). So may a time stamp before the first transport packet, and then its sync byte
+-- (EN 300 472). A time stamp before the first transport packet may do so, too; then the sync byte
 -- follows.
 abbrev pub begins_pes : List ℕ → Bool
 begins_pes head =
@@ -59,20 +59,20 @@ begins_pes head =
     && (slice_index head 2 == 1) && (slice_index head 3 == 0xBD)
     && (nat_lt (length head) 5 || not (slice_index head 4 == 0x47))
 
--- A recording is one.
+-- A recording is such a file.
 abbrev pub is_pes : Kind → Bool
 is_pes (Pes file) = true
 is_pes _ = false
 
--- `survey 1` and `head` are told as soon as there are bytes for them.
+-- `survey 1` and `head` are printed as soon as their bytes have come.
 abbrev pub head_so_far : Bool → List ℕ → List (List ℕ)
 head_so_far has_head head = if has_head then head_words head else []
 
--- And then no more.
+-- They are printed only once.
 abbrev pub head_told : Bool → List ℕ → Bool → List (List ℕ)
 head_told before bytes after = if before then [] else head_so_far after (take head_size bytes)
 
--- It was looked at what a recording is: the lines of what was found are told, and no others.
+-- After the kind of a recording was determined, exactly its lines were printed.
 pub record FindsKind (old : Recording) (bytes : List ℕ) (before after : Text) (new : Recording)
     : Type 0 where
   pub told :

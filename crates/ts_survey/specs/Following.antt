@@ -1,4 +1,4 @@
--- What the packets of a PID carry is taken piece after piece: what was taken, joined, is that.
+-- What the packets of a PID carry is received in parts: the joined parts are all of it.
 use Rattle.std.specs.Prelude.{◌≡◌, ℕ, List, [], ◌∷◌, ◌++◌, MatchBool}
 use Rattle.std.specs.List.{concat}
 use Rattle.mpeg_ts.specs.Carried.{carried}
@@ -7,11 +7,11 @@ use Rattle.mpeg_ts.specs.Joining.{JoiningValue, after_note, handed_over, has_end
 use Rattle.mpeg_ts.specs.PacketsInStep.{items_of}
 use Rattle.ttx_page.specs.Receiver.{RunsBy}
 
--- Any state before, any piece, any state after.
+-- Any state before, any part, any state afterwards.
 abbrev pub any_piece : {T : Type 0} → T → List ℕ → T → Type 0
 any_piece old piece new = Unit {0}
 
--- Bytes were taken, piece after piece.
+-- Bytes were received in parts.
 pub record TakesBytes
     {T : Type 0} (IsTaken : T → List ℕ → T → Type 0) (old : T) (bytes : List ℕ) (new : T)
     : Type 0 where
@@ -19,7 +19,7 @@ pub record TakesBytes
   pub joined : concat pieces ≡ bytes
   pub run : RunsBy IsTaken old pieces new
 
--- What is given next of what is ready was taken: none of it where nothing was.
+-- The next part of the bytes that are ready was received; nothing, if none were.
 pub record GivesNext
     {T : Type 0} (IsTaken : T → List ℕ → T → Type 0) (before : JoiningValue) (old : T)
     (after : JoiningValue) (new : T)
@@ -30,8 +30,8 @@ pub record GivesNext
   pub some : piece ≡ [] → before.pending ≡ []
   pub taken : IsTaken old piece new
 
--- The notes of a PID come one after another to who puts its PES packets together and has them
--- taken: after each all that it makes ready is taken, until nothing comes any more.
+-- The notes of a PID are processed one after another: after each, everything that it completes is
+-- received, until nothing more is ready.
 abbrev pub FollowsNotes :
     {T : Type 0} → (T → List ℕ → T → Type 0) → JoiningValue → T → List Note → T → Type 0
 FollowsNotes IsTaken j old [] new = new ≡ old
@@ -41,7 +41,7 @@ FollowsNotes {T} IsTaken j old (note ∷ more) new =
     ((mid : T) × TakesBytes IsTaken old (after_note j note).pending mid
     × FollowsNotes IsTaken (handed_over (after_note j note)) mid more new)
 
--- What is taken of the packets of a PID is what they carry in the recording.
+-- What is received of the packets of a PID is what they carry in the recording.
 abbrev pub LawOfFollowing : {T : Type 0} → (T → List ℕ → T → Type 0) → Type 0
 LawOfFollowing {T} IsTaken =
     (number distance : ℕ) (recording : List ℕ) (old new : T)

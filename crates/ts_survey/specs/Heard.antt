@@ -1,12 +1,12 @@
--- What is heard in a PES packet, whatever else stands in it (EN 300 472, data field syntax): the
--- Teletext packets of its data units, one after another, each behind the end of the one before.
+-- The Teletext packets of a PES packet, whatever else it contains (EN 300 472, data field syntax):
+-- those of its data units, one after another, each unit after the end of the one before.
 use Rattle.std.specs.Prelude.{ℕ, ◌+◌, ◌==◌, ◌&&◌, ◌||◌, nat_lt, Bool}
 use Rattle.std.specs.Prelude.{if◌then◌else◌, List, [], ◌∷◌, length, drop, map}
 use Rattle.std.specs.Prelude.{slice_index, Option, Some, None}
 use Rattle.std.specs.Borrow.{Bor}
 use Rattle.ttx_packet.specs.BitOrder.{mirror}
 
--- Where the first data unit stands: behind the header and data_identifier.
+-- The place of the first data unit: after the header and data_identifier.
 abbrev pub first_place : List ℕ → ℕ
 first_place pes = if nat_lt 9 (length pes) then 10 + slice_index pes 8 else length pes
 
@@ -15,11 +15,11 @@ abbrev pub is_teletext_unit : List ℕ → Bool
 is_teletext_unit unit =
     (slice_index unit 1 == 0x2C) && ((slice_index unit 0 == 2) || (slice_index unit 0 == 3))
 
--- The packet of a data unit, if it has one: its bits come in the other order.
+-- The packet of a data unit, if it has one, with the bits of each byte reversed.
 unfoldable pub unit_packets : List ℕ → List (List ℕ)
 unit_packets unit = if is_teletext_unit unit then map mirror (drop 4 unit) ∷ [] else []
 
--- A packet that is lent as it is sent, if there is one.
+-- A borrowed packet in the bit order of the data unit, if there is one.
 unfoldable pub lent_packets : Option (Bor (List ℕ)) → List (List ℕ)
 lent_packets None = []
 lent_packets (Some packet) = map mirror packet.now ∷ []

@@ -1,5 +1,5 @@
--- What is found in bytes of a transport stream that come bit by bit: packets in step, and bytes
--- that belong to none, as mpeg_ts.specs.PacketsInStep has them; and what is told of them.
+-- Finding packets in bytes of a transport stream that come bit by bit: packets in step, and bytes
+-- that belong to none, as in mpeg_ts.specs.PacketsInStep; and what is passed on of them.
 use Rattle.std.specs.Prelude.{◌≡◌, ℕ, suc, ◌+◌, ◌-◌, ◌*◌, ◌<◌, ◌≤◌, ◌==◌, min, Bool, true, false}
 use Rattle.std.specs.Prelude.{if◌then◌else◌, List, [], ◌∷◌, ◌++◌, length, drop}
 use Rattle.mpeg_ts.specs.GoodPackets.{hole_size}
@@ -8,54 +8,53 @@ use Rattle.mpeg_ts.specs.PacketsInStep.{Item, Packet, Skipped, bytes_needed, ite
 use Rattle.ttx_page.specs.Receiver.{RunsBy}
 use Rattle.ts_survey.specs.declared.packets_in_step.PacketsInStep.{PacketsInStep}
 
--- A number, and some more: it stays at the last number of 64 bits.
+-- A count plus some more, which stays at the greatest number of 64 bits.
 abbrev pub counted_on : ℕ → ℕ → ℕ
 counted_on number more = min (number + more) 0xFFFF_FFFF_FFFF_FFFF
 
--- The items that bytes begin with.
+-- The items with which the bytes begin.
 unfoldable pub items_from : ℕ → Bool → List ℕ → List Item
 items_from distance in_step bytes = items distance in_step (length bytes) bytes
 
--- How many packets are among items.
+-- The number of packets among items.
 unfoldable pub packet_count : List Item → ℕ
 packet_count [] = 0
 packet_count (Packet p ∷ more) = suc (packet_count more)
 packet_count (Skipped ∷ more) = packet_count more
 
--- And how many bytes that belong to none.
+-- The number of bytes that belong to none.
 unfoldable pub skipped_in : List Item → ℕ
 skipped_in [] = 0
 skipped_in (Packet p ∷ more) = skipped_in more
 skipped_in (Skipped ∷ more) = suc (skipped_in more)
 
--- So many are skipped in a row behind items, where so many were before them.
+-- How many bytes in a row are skipped at the end of these items, after `run` before them.
 unfoldable pub skipped_after : ℕ → List Item → ℕ
 skipped_after run [] = run
 skipped_after run (Packet p ∷ more) = skipped_after 0 more
 skipped_after run (Skipped ∷ more) = skipped_after (counted_on run 1) more
 
--- A hole is told at its last byte, by [], for there is no packet. 15 packets of a PID may have
--- stood there unseen. Fewer show in the next continuity_counter (4 bits; ISO/IEC 13818-1, 2.4.3.3):
--- it is neither the last one, as that of a repeat, nor the one behind that.
+-- Missing packets are reported at the last byte of a gap, as []. 15 packets of a PID may have been
+-- there unseen. Fewer show in the next continuity_counter (4 bits; ISO/IEC 13818-1, 2.4.3.3): it is
+-- neither the last one, as for a repeat, nor the one after it.
 abbrev pub hole_told : ℕ → ℕ → List (List ℕ)
 hole_told distance run = if run == hole_size distance then [] ∷ [] else []
 
--- What is told of items, where so many bytes were skipped in a row before them: each packet, and
--- each hole.
+-- What is passed on for items, after `run` skipped bytes: each packet, and each gap.
 unfoldable pub told_of : ℕ → ℕ → List Item → List (List ℕ)
 told_of distance run [] = []
 told_of distance run (Packet p ∷ more) = p ∷ told_of distance 0 more
 told_of distance run (Skipped ∷ more) =
     hole_told distance (counted_on run 1) ++ told_of distance (counted_on run 1) more
 
--- The bytes behind the place up to which they were found belong to none at the end.
+-- At the end, the bytes after the place up to which the search came belong to no packet.
 abbrev pub behind : Bool → List ℕ → ℕ → ℕ
 behind is_end bytes place = if is_end then length bytes - place else 0
 
--- Items were found in bytes, from the place where they are looked at up to another one: whatever
--- bytes follow, and none does at the end, it is they that stand there, before those from that place
--- on. The packets and holes among them were taken. They are counted, and so are the bytes that
--- belong to none, with so many behind them.
+-- Items were found in the bytes, from the start of the search up to `place`: whatever bytes follow
+-- (at the end none do), the bytes begin with these items, followed by those from `place` on. The
+-- packets and gaps among them were processed. They are counted, and so are the bytes that belong to
+-- none, with `rest` more after them.
 pub record AreFound
     {T : Type 0} (IsTaken : T → List ℕ → T → Type 0) (old : PacketsInStep) (before : T)
     (bytes : List ℕ) (is_end : Bool) (place rest : ℕ) (new : PacketsInStep) (after : T)
@@ -73,8 +72,8 @@ pub record AreFound
   pub skipped : new.skipped ≡ counted_on old.skipped (skipped_in found + rest)
   pub size : new.size ≡ old.size
 
--- The packets that bytes have were taken, and so many bytes are not needed any more. Fewer are left
--- than tell what stands next; at the end no packet is left.
+-- The packets of the bytes were processed, and `used` bytes are no longer needed. Too few bytes are
+-- left to decide what comes next; at the end no packet is left.
 pub record TakesAll
     {T : Type 0} (IsTaken : T → List ℕ → T → Type 0) (old : PacketsInStep) (before : T)
     (bytes : List ℕ) (is_end : Bool) (used : ℕ) (new : PacketsInStep) (after : T)
@@ -88,9 +87,8 @@ pub record TakesAll
       is_end ≡ true
       → items_from (bytes_of new.size) new.in_step (drop (used + new.lead) bytes) ≡ []
 
--- Bytes that come in two calls, what is left of the first ones before the others, are taken as they
--- are in one.
--- So what is told rests on all packets, whatever pieces a recording comes in.
+-- Bytes that come in two calls, with the rest of the first ones before the others, are processed as
+-- in one. So the output depends on all packets, whatever parts a recording comes in.
 abbrev pub LawOfTwoCalls : {T : Type 0} → (T → List ℕ → T → Type 0) → Type 0
 LawOfTwoCalls {T} IsTaken =
     (old mid new : PacketsInStep) (before told after : T) (bytes more : List ℕ) (is_end : Bool)

@@ -1,4 +1,4 @@
--- The lines of which something is kept back until all of it is known, each word by word (own;
+-- The lines of which something is kept back until all of it is known, word by word (own;
 -- docs/manual/survey.md).
 use Rattle.std.specs.Prelude.{ℕ, List, [], ◌∷◌}
 use Rattle.std.specs.Prelude.{decimal}

@@ -1,5 +1,6 @@
--- What `survey` prints begins with what the recording is, as it was asked, and ends with how many
--- packets it has, and bytes that belong to none (own; docs/manual/survey.md).
+-- The output of `survey` begins with the kind of the recording, with the requested options, and
+-- ends with the number of its packets and of the bytes that belong to none (own;
+-- docs/manual/survey.md).
 use Rattle.std.specs.Prelude.{◌≡◌, ⊤, true, false, ℕ, List, [], ◌∷◌, ◌++◌, Option, IfSome}
 use Rattle.std.specs.Prelude.{codes, take}
 use Rattle.std.specs.Io.KnownBytes.{Appends}
@@ -20,8 +21,8 @@ use Rattle.ts_survey.specs.declared.text.Text.{Text}
 
 -- ---- what is followed
 
--- The packets of a stream have the distance that is asked for, and what is asked for is followed
--- and looked for in it, and no other PID.
+-- The packets of a stream have the requested distance, the requested PID and page are followed and
+-- searched for, and no other PID is followed.
 abbrev pub IsAsAsked : SurveyOptions → Kind → Type 0
 IsAsAsked options (Stream packets multiplex) =
     (IfSome options.packet_size (λ size. packets.size ≡ size))
@@ -30,13 +31,13 @@ IsAsAsked options (Stream packets multiplex) =
     × (others_followed multiplex ≡ [])
 IsAsAsked options _ = ⊤
 
--- Packets of a stream were taken.
+-- Packets of a stream were processed.
 pub record TakesMore (packets : PacketsInStep) (multiplex : Multiplex) (after : PacketsInStep)
     (told : Multiplex) : Type 0 where
   pub size : after.size ≡ packets.size
   pub keeps : KeepsAsked multiplex told
 
--- More of a recording was looked at, which is what it was.
+-- More of a recording was read, whose kind stays the same.
 abbrev pub GoesOn : Kind → Kind → Type 0
 GoesOn Unknown Unknown = ⊤
 GoesOn (Pes file) (Pes after) = ⊤
@@ -47,12 +48,13 @@ GoesOn _ _ = ⊥
 
 -- ---- the end
 
--- The packets that came: none of what is no stream.
+-- The number of packets; 0 if it is no stream.
 abbrev pub packets_in : Kind → ℕ
 packets_in (Stream packets multiplex) = packets.number
 packets_in _ = 0
 
--- The bytes that belong to no packet: all of what is no stream and no file of PES packets.
+-- The number of bytes that belong to no packet: all of what is neither a stream nor a file of PES
+-- packets.
 abbrev pub skipped_by : Kind → ℕ → ℕ
 skipped_by (Pes file) skipped = 0
 skipped_by (Stream packets multiplex) skipped = packets.skipped
@@ -67,14 +69,14 @@ over_line skipped number =
 abbrev pub skipped_of : Recording → ℕ
 skipped_of r = skipped_by r.kind r.skipped
 
--- Whatever was told, the last line is that the recording is over.
+-- Whatever was printed before, the last line says that the recording is over.
 pub record TellsEnd (r : Recording) (new : Text) : Type 0 where
   pub before : Text
   pub over : AddsWords before (over_line (skipped_of r) (packets_in r.kind)) new
 
 -- ---- the lines of a recording
 
--- What was told of a recording of which those bytes came: what it is, and then what is in it.
+-- What was printed for a recording after these bytes: its kind, and then its contents.
 pub record IsTold (recording : Recording) (came listing : List ℕ) : Type 0 where
   pub more : List ℕ
   pub told :
@@ -85,8 +87,9 @@ pub record IsTold (recording : Recording) (came listing : List ℕ) : Type 0 whe
   pub pes :
       recording.has_head ≡ true → is_pes recording.kind ≡ begins_pes (take head_size came)
 
--- The lines of a recording of which all bytes came: the first of them; what it is, as it was asked;
--- others; and at its end how many bytes belong to no packet, and its packets.
+-- The lines of a recording after all its bytes: the first ones; its kind, with the requested
+-- options; others; and at the end how many bytes belong to no packet, and how many packets there
+-- are.
 pub record IsSurveyed
     (options : SurveyOptions) (recording : Option (List ℕ)) (listing : List ℕ) : Type 0 where
   pub came : List ℕ
@@ -101,7 +104,7 @@ pub record IsSurveyed
       listing ≡ concat (head_words (take head_size came) ++ kind_words last.kind) ++ between
       ++ concat (over_line (skipped_of last) (packets_in last.kind))
 
--- They were told behind what was there.
+-- They were printed after what was there.
 abbrev pub TellsSurvey :
     SurveyOptions → Option (List ℕ) → Option (List ℕ) → Option (List ℕ) → Type 0
 TellsSurvey options recording old new =

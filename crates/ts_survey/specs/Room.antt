@@ -1,4 +1,4 @@
--- Room for bytes of a recording that are to be looked at.
+-- Room for bytes of a recording that are to be examined.
 use Rattle.std.specs.Prelude.{◌≡◌, ℕ, List, ◌++◌, Option}
 use Rattle.std.specs.Io.KnownBytes.{Consumes}
 
@@ -6,12 +6,12 @@ use Rattle.std.specs.Io.KnownBytes.{Consumes}
 abbrev pub room_size : ℕ
 room_size = 135168
 
--- So many bytes are kept at most of those that were looked at: the longest PES packet of a file but
--- its last byte, or more.
+-- At most so many bytes are kept of those that were examined: the longest PES packet of a file
+-- without its last byte, or more.
 abbrev pub most_kept : ℕ
 most_kept = 65541
 
--- Bytes came from a source, and are held behind those that were.
+-- Bytes came from a source, and are kept after those before.
 pub record HoldsMore (old new : List ℕ) (left next : Option (List ℕ)) : Type 0 where
   pub came : List ℕ
   pub held : new ≡ old ++ came

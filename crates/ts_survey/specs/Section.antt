@@ -1,13 +1,13 @@
--- Sections of tables (ISO/IEC 13818-1, 2.4.4), and of what those of a PAT and of a PMT say:
+-- Sections of tables (ISO/IEC 13818-1, 2.4.4), and the contents of those of a PAT and of a PMT:
 --
 --   0      table_id: 00 of a PAT, 02 of a PMT
---   1..2   section_syntax_indicator (1 bit), 0, reserved (2), section_length (12): the bytes behind
+--   1..2   section_syntax_indicator (1 bit), 0, reserved (2), section_length (12): the bytes after it
 --   3..4   transport_stream_id of a PAT, program_number of a PMT
 --   6      section_number
 --   8..    of a PAT, for each programme: program_number (16 bits), reserved (3), the PID of its PMT
 --          (13); the program_number 0 names a network instead
 --   8..9   of a PMT: reserved (3 bits), PCR_PID (13)
---   10..11 of a PMT: reserved (4 bits), program_info_length (12), and so many bytes behind
+--   10..11 of a PMT: reserved (4 bits), program_info_length (12), and so many bytes after it
 --   ..     then for each stream: stream_type (8 bits), reserved (3), elementary_PID (13), reserved
 --          (4), ES_info_length (12), and so many bytes of descriptors
 --   ..     CRC_32
@@ -33,7 +33,7 @@ length_at bytes place = slice_index bytes place % 0x10 * 0x100 + slice_index byt
 abbrev pub pid_at : List ℕ → ℕ → ℕ
 pid_at bytes place = slice_index bytes place % 0x20 * 0x100 + slice_index bytes (place + 1)
 
--- The size of a section by its first bytes.
+-- The size of a section, from its first bytes.
 abbrev pub section_size : List ℕ → Option ℕ
 section_size bytes = if nat_lt (length bytes) 3 then None else Some (3 + length_at bytes 1)
 
@@ -50,13 +50,13 @@ crc_after crc byte =
     crc_shifted (crc_shifted (crc_shifted (crc_shifted (crc_shifted (crc_shifted (crc_shifted
     (crc_shifted (bit_xor crc (byte * 0x100_0000)))))))))
 
--- Of bytes.
+-- The CRC_32 of bytes.
 abbrev pub crc_of : List ℕ → ℕ
 crc_of bytes = fold crc_after 0xFFFF_FFFF bytes
 
--- ---- what sections say
+-- ---- the contents of sections
 
--- What tells one from others.
+-- What distinguishes a section from others.
 abbrev pub name_of : List ℕ → Option SectionName
 name_of s =
     if nat_lt (length s) 12 then None
@@ -66,7 +66,7 @@ name_of s =
       section = slice_index s 6;
     })
 
--- The PID of the PMT that a PAT names at a place, 1FFF where it names a network.
+-- The PID of the PMT that a PAT names at a place; 1FFF if it names a network.
 abbrev pub pmt_pid_at : List ℕ → ℕ → Option ℕ
 pmt_pid_at s place =
     if nat_lt (length s) (place + 8) then None
@@ -103,7 +103,7 @@ descriptor_at bytes place end =
       end = min (place + 2 + slice_index bytes (place + 1)) (min end (length bytes));
     })
 
--- A descriptor names pages of Teletext: by its descriptor_tag it is a VBI_teletext_descriptor, 46,
+-- The descriptor lists Teletext pages: by its descriptor_tag it is a VBI_teletext_descriptor, 46,
 -- or a teletext_descriptor, 56 (ETSI EN 300 468).
 abbrev pub is_of_teletext : Descriptor → Bool
 is_of_teletext d = (d.tag == 0x46) || (d.tag == 0x56)

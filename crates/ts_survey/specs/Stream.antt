@@ -1,17 +1,17 @@
--- What is read of a recording that is a transport stream.
+-- Reading a recording that is a transport stream.
 use Rattle.std.specs.Prelude.{ℕ, Bool, true, false, List}
 use Rattle.ts_survey.specs.Asked.{keeps_asked}
 use Rattle.ts_survey.specs.InStep.{TakesAll}
 use Rattle.ts_survey.specs.declared.recording.Kind.{Kind}
 use Rattle.ts_survey.specs.declared.recording.Kind.TheVariants.{Stream, Unknown}
 
--- What the recording is, is not known yet.
+-- The kind of the recording is not known yet.
 abbrev pub is_unknown : Kind → Bool
 is_unknown Unknown = true
 is_unknown _ = false
 
--- The packets that bytes of a stream have were taken, in order, each once, and so many bytes are
--- not needed any more.
+-- The packets of these bytes of a stream were processed, in order, each once, and `used` bytes are
+-- no longer needed.
 abbrev pub TakesOn : Kind → List ℕ → Bool → ℕ → Kind → Type 0
 TakesOn (Stream packets multiplex) bytes is_end used (Stream after told) =
     TakesAll keeps_asked packets multiplex bytes is_end used after told

@@ -1,4 +1,4 @@
--- What is told of a recording goes into a sink, behind what that has taken.
+-- The output for a recording is written to a sink, after its earlier contents.
 use Rattle.std.specs.Prelude.{ℕ, Bool, true, false, List, Option}
 use Rattle.std.specs.Io.KnownBytes.{Appends}
 use Rattle.ts_survey.specs.declared.telling.SurveyFault.{SurveyFault}

@@ -4,7 +4,7 @@ use Rattle.std.specs.Prelude.{false, List, ◌++◌}
 use Rattle.hex.specs.Hex.{encode_lower}
 use Rattle.ts_survey.specs.declared.text.Text.{Text}
 
--- Bytes were added to a text, or memory ran out: then nothing is added any more.
+-- Bytes were added to a text, or memory ran out: then nothing more is added.
 pub record Adds (old : Text) (bytes : List ℕ) (new : Text) : Type 0 where
   pub added : new.is_lost ≡ false → new.bytes.items ≡ old.bytes.items ++ bytes
   pub stays_lost : old.is_lost ≡ true → new.is_lost ≡ true

@@ -1,4 +1,4 @@
--- What was taken stood first.
+-- The received bytes came first.
 use Rattle.ts_survey.proofs.pid_packets.give_next.Goals as goal
 
 pub returns : goal.returns

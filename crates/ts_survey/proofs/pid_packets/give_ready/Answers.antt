@@ -1,4 +1,4 @@
--- A piece more was taken: first-taken, same-rest.
+-- One more part was received: first-taken, same-rest.
 use Rattle.ts_survey.proofs.FollowingLemmas.{first-taken, same-rest}
 use Rattle.ts_survey.proofs.pid_packets.give_ready.Goals as goal
 

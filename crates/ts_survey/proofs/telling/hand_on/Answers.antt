@@ -1,4 +1,4 @@
--- The first lines, and then the others: grows-more; what is flushed stays: appends-kept.
+-- The first lines followed by the others: grows-more; what is flushed stays: appends-kept.
 use Rattle.ts_survey.proofs.ListedLemmas.{appends-kept}
 use Rattle.ts_survey.proofs.SurveyLemmas.{grows-more}
 use Rattle.ts_survey.proofs.telling.hand_on.Goals as goal

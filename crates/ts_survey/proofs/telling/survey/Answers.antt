@@ -1,4 +1,4 @@
--- What was told before, and then more: grows-more, told-on and told-kept; and the end: told-end.
+-- Earlier output, followed by more: grows-more, told-on and told-kept; and the end: told-end.
 use Rattle.std.proofs.Common.{◌≡◌, ◌≤◌, ◌++◌, ◌∙◌, [], ap, false, length, refl, rules, subst}
 use Rattle.std.proofs.Common.{sym, take}
 use Rattle.std.proofs.KnownBytes.{Appends-trans, Consumes-nil, Consumes-trans}

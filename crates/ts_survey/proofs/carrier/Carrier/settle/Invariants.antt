@@ -1,4 +1,4 @@
--- Its PID is as it was.
+-- Its PID stays the same.
 use Rattle.std.proofs.Common.{◌≡◌}
 use Rattle.ts_survey.proofs.carrier.Carrier.settle.Given as goal
 

@@ -1,4 +1,4 @@
--- The one that is followed now is asked for, one-more-asked; word by word, adds-word.
+-- The new PID is requested, one-more-asked; word by word, adds-word.
 use Rattle.std.proofs.Common.{refl, rules}
 use Rattle.ts_survey.proofs.AskedLemmas.{one-more-asked}
 use Rattle.ts_survey.proofs.TextLemmas.{adds-last, adds-word}

@@ -1,4 +1,4 @@
--- One more has its PID: map-same.
+-- One more keeps its PID: map-same.
 use Rattle.std.proofs.Common.{◌<◌, ◌∙◌, length, rules}
 use Rattle.ts_survey.specs.Asked.{pid_followed}
 use Rattle.ts_survey.proofs.AskedLemmas.{map-same}

@@ -1,4 +1,4 @@
--- What is asked for is as it was.
+-- The requested PID and page stay the same.
 use Rattle.ts_survey.specs.Asked.{KeepsAsked}
 use Rattle.ts_survey.proofs.multiplex.Multiplex.read_pmt.Given as goal
 

@@ -1,4 +1,4 @@
--- Each has its PID.
+-- Each keeps its PID.
 use Rattle.std.proofs.Common.{◌≡◌, map}
 use Rattle.ts_survey.specs.Asked.{pid_followed}
 use Rattle.ts_survey.proofs.multiplex.MultiplexTakesPackets.note_hole.Given as goal

@@ -1,4 +1,4 @@
--- What was found so far; each time at least a byte more.
+-- The items found so far; each turn processes at least one more byte.
 use Rattle.std.proofs.Common.{◌≤◌}
 use Rattle.ts_survey.specs.InStep.{AreFound}
 use Rattle.ts_survey.proofs.packets_in_step.PacketsInStep.find.Given as goal

@@ -1,4 +1,4 @@
--- A byte at least goes with each turn.
+-- Each turn processes at least one byte.
 use Rattle.std.proofs.Common.{◌+◌, ◌≤◌, length}
 use Rattle.ts_survey.proofs.pes_file.PesFile.take_whole.Given as goal
 

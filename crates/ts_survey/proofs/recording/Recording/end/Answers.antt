@@ -1,4 +1,4 @@
--- Whatever was told, and then the two numbers: ends-told.
+-- Whatever was printed before, the two numbers follow: ends-told.
 use Rattle.ts_survey.proofs.ListedLemmas.{ends-told}
 use Rattle.ts_survey.proofs.recording.Recording.end.Goals as goal
 

@@ -1,4 +1,4 @@
--- The head was told now, found-behind-head, or before, found-with-head.
+-- The head was printed now, found-behind-head, or before, found-with-head.
 use Rattle.std.proofs.Common.{◌≡◌, ◌∙◌, ap, false, rules, subst}
 use Rattle.ts_survey.specs.FirstLines.{kind_words}
 use Rattle.ts_survey.specs.Lines.{AddsWords}

@@ -1,4 +1,4 @@
--- A stream of which packets were taken goes on: goes-on.
+-- A stream of which packets were processed stays one: goes-on.
 use Rattle.ts_survey.proofs.ListedLemmas.{goes-on}
 use Rattle.ts_survey.proofs.recording.Recording.hand_on.Goals as goal
 

@@ -1,4 +1,4 @@
--- A stream that was begun is known; what is not known is not told: adds-nothing.
+-- A stream that has begun is known; an unknown kind has no line: adds-nothing.
 use Rattle.std.proofs.Common.{◌∙◌, sym}
 use Rattle.ts_survey.proofs.FirstLinesLemmas.{adds-nothing}
 use Rattle.ts_survey.proofs.recording.Recording.look.Goals as goal

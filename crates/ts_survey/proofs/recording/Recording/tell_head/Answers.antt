@@ -1,4 +1,4 @@
--- The head, and then what it says: adds-words.
+-- The head, followed by its bytes: adds-words.
 use Rattle.std.proofs.Common.{subst}
 use Rattle.std.specs.Prelude.{◌++◌, ◌∷◌, [], codes}
 use Rattle.ts_survey.specs.FirstLines.{head_words}

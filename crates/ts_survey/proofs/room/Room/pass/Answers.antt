@@ -1,4 +1,4 @@
--- What is left was moved to the front: held_without.
+-- The rest was moved to the front: held_without.
 use Rattle.std.proofs.Common.{rules}
 use Rattle.ts_survey.proofs.RoomLemmas.{held_without}
 use Rattle.ts_survey.proofs.room.Room.pass.Goals as goal

@@ -1,4 +1,4 @@
--- What came stands behind what was held: holds_more.
+-- New bytes come after those that were kept: holds_more.
 use Rattle.std.proofs.Common.{rules}
 use Rattle.ts_survey.proofs.RoomLemmas.{holds_more}
 use Rattle.ts_survey.proofs.room.Room.pull.Goals as goal
