@@ -1,4 +1,4 @@
--- The due page and the next edge follow from the first subtitle whose TCO is after a frame:
+-- The expected page and the next cue follow from the first subtitle whose TCO is after a frame:
 -- due_is_shown, none_is_blank and next_edge-tci.
 use Rattle.std.proofs.Common.{rules, ◌≡◌, ◌≢◌, ℕ, zero, suc, ◌+◌, ◌-◌, ◌<◌, ◌≤◌, Bool, true, false}
 use Rattle.std.proofs.Common.{List, [], ◌∷◌, Option, Some, None, MatchOption, option_map, length}
@@ -21,7 +21,7 @@ use Rattle.stl_rows.specs.DuePage.{LawOfDueSubtitles, LawOfEdges, TellsLastEdge,
 use Rattle.stl_rows.specs.DuePage.{due, ends_at, is_due, tci_of_ending}
 use Rattle.stl_rows.specs.Programme.{IsProgramme}
 
--- ---- the due page
+-- ---- the expected page
 
 -- A subtitle is not due before its TCI, nor from its TCO on.
 not_due : (f : ℕ) (t : SubtitleValue) → (f < t.tci) ⊎ (t.tco ≤ f) → is_due f t ≡ false
@@ -76,7 +76,7 @@ pub edges_alone : LawOfEdges
 unfolding due
 edges_alone n ts f first none = search (rules, find_same, get_or_default)
 
--- What holds of the blank page, and of each page that a subtitle draws, holds of each due page.
+-- A property of the blank page and of each drawn page holds of each expected page.
 pub due_has : (P : Rows → Type 0) (n : Drawing) (ts : List SubtitleValue) (f : ℕ)
     → P blank
     → ((t : SubtitleValue) (page : Rows) → drawn n t ≡ Ok page → P page)
@@ -113,7 +113,7 @@ module _ (n : Drawing) (ts : List SubtitleValue) (f at : ℕ) (t : SubtitleValue
   none-between gap k d b =
       let cases = placed (get_or ts k d) (Contains-get_or ts k d b) in grind arith
 
-  -- An edge after the frame is its TCI, or is at its TCO or later.
+  -- A cue after the frame is its TCI, or is at its TCO or later.
   later_edge : (x : ℕ) → IsEdge ts x → f < x → (x ≡ t.tci) ⊎ (t.tco ≤ x)
   later_edge x edge after =
       let s : SubtitleValue = edge.1 in
@@ -121,7 +121,7 @@ module _ (n : Drawing) (ts : List SubtitleValue) (f at : ℕ) (t : SubtitleValue
       let order : s.tci < s.tco = (All-contains IsSubtitle ts s ok.each member).times in
       grind (arith, placed s member, order, edge.4)
 
-  -- Before it the next edge is its TCI: for `edge_after`.
+  -- Before it the next cue is its TCI: for `edge_after`.
   pub next_edge-tci : f < t.tci → IsNextEdge ts f t.tci
   next_edge-tci gap = record {
     is_edge = (at, t, inside, sym is, inl refl);
@@ -134,7 +134,7 @@ module _ (n : Drawing) (ts : List SubtitleValue) (f at : ℕ) (t : SubtitleValue
         );
   }
 
-  -- Within it the next edge is its TCO: for `edge_after`.
+  -- During it the next cue is its TCO: for `edge_after`.
   pub next_edge-tco : t.tci ≤ f → IsNextEdge ts f t.tco
   next_edge-tco low = record {
     is_edge = (at, t, inside, sym is, inr refl);
@@ -160,10 +160,10 @@ module _ (n : Drawing) (ts : List SubtitleValue) (f at : ℕ) (t : SubtitleValue
       (rw (← is) (own_end g t own))
       ∙ ap Some (sym is)))
 
--- ---- the edges up to a frame
+-- ---- the cues up to a frame
 
 module _ (n : Drawing) (ts : List SubtitleValue) (f at : ℕ) (ok : IsProgramme n ts) where
-  -- An edge is the TCI or TCO of a subtitle in the list, whose TCI is before its TCO.
+  -- A cue is the TCI or TCO of a subtitle in the list, whose TCI is before its TCO.
   times_of_edge : (x : ℕ) (edge : IsEdge ts x)
       → (edge.1.tci < edge.1.tco) × ((x ≡ edge.1.tci) ⊎ (x ≡ edge.1.tco))
   times_of_edge x edge =
@@ -189,7 +189,7 @@ module _ (n : Drawing) (ts : List SubtitleValue) (f at : ℕ) (ok : IsProgramme 
           let after : at < edge.0 → f < edge.1.tci = grind (arith, get_or_read) in
           grind (arith, nat_tests, cases_lt)
 
-  -- If the first subtitle after a frame starts after it, so do those that follow.
+  -- If the first subtitle after a frame starts after it, so do all later ones.
   pub starts_after : (t : SubtitleValue) → IsFirstAfter ts f at → at < length ts
       → t ≡ get_or ts at t → f < t.tci
       → (k : ℕ) (d : SubtitleValue)
@@ -239,7 +239,8 @@ module _ (n : Drawing) (ts : List SubtitleValue) (f at : ℕ) (ok : IsProgramme 
           λ l. let behind = after edge.0 edge.1 l edge.2 in grind arith in
           grind (arith, nat_tests, cases_lt)
 
--- If no edge lies between, the same page is due: for a checker that goes back from a frame.
+-- Without a cue between two frames the expected page is the same: for a checker that goes back
+-- from a frame.
 pub due_back : (n : Drawing) (ts : List SubtitleValue) (f j : ℕ)
     → j ≤ f
     → ((e : ℕ) → IsEdge ts e → f < e + j → e ≤ f → ⊥)

@@ -1,5 +1,5 @@
 -- Each reliable subtitle draws a page: judged_drawn; without a fault, all subtitles are reliable:
--- all_decided. The frames at which the due page is not known: undecided-last, undecided-next.
+-- all_decided. Frames whose expected page is unknown: undecided-last, undecided-next.
 use Rattle.std.proofs.Common.{◌≡◌, ℕ, Bool, false, true, List, [], ◌∷◌, ◌++◌, Option, Some, None}
 use Rattle.std.proofs.Common.{map, refl, ap, arith, Result, Ok, Err, zero, suc, ◌<◌, ◌≤◌}
 use Rattle.std.proofs.Common.{get_or, length}
@@ -56,7 +56,7 @@ judged_drawn drawing file = each_drawn drawing None false (findings_for drawing.
 
 -- ---- files without a fault
 
--- The due page is known at every frame.
+-- The expected page is known at every frame.
 abbrev AllDecided : AllJudged → Type 0
 AllDecided all =
     (all.is_before_other ≡ false)

@@ -202,8 +202,8 @@ abbrev is_followed : Option Times → Findings → Bool
 is_followed None left = true
 is_followed (Some times) left = is_followed_in_order times left
 
--- The reliable subtitles of a file: those that are kept, without the last if the next record is
--- early or overlaps it, and those of the rest.
+-- The reliable subtitles of a file: the kept ones, without the last if the next record is early or
+-- overlaps it, and those of the rest.
 abbrev pub judged_on : Drawing → Option Times → KeptRecords → Findings → AllJudged
 judged_on drawing before k left =
     if k.is_latest && not (is_followed before left)
@@ -379,7 +379,7 @@ pub kept-refused : {drawing : Drawing} {before : Option Times} {early : List Loa
     → AreKept drawing before (early ++ fault ∷ []) (refused_one k)
 kept-refused fault kept = grind (arith, nat_tests, not_whole, told_some, not_empty)
 
--- The bits are not all unset if one was set.
+-- If a bit was set, not all bits are unset.
 some_bits : (bits more : List Bool) → are_none (bits ++ (more ++ true ∷ [])) ≡ false
 some_bits [] [] = refl
 some_bits [] (bit ∷ more) = refl
@@ -431,7 +431,7 @@ module _ {drawing : Drawing} {before : Option Times} {early : List LoadFault} {k
             );
       })
 
-  -- A record with a fault is not; the one before it is kept or not.
+  -- A record with a fault is not kept; the record before it may be dropped too.
   kept_told : (early_then : List LoadFault) (drops : Bool)
       → is_none (first_of early_then) ≡ false
       → AreKept drawing (Some (times_of t)) early_then

@@ -52,7 +52,7 @@ pub cell_of_pair-small : (n : National) (byte : ℕ) (next : Option ℕ)
 unfolding cell_of_pair
 cell_of_pair-small n byte next = grind (arith, nat_tests, cell_in-small)
 
--- For `text_code_at` and for due pages.
+-- For `text_code_at` and for expected pages.
 pub code_before-small : (n : National) (b : ℕ) (bytes : List ℕ)
     → HasSevenBits (code_before n b bytes).0
 code_before-small n b bytes =

@@ -1,4 +1,4 @@
--- The due page stays the same between edges: still_due.
+-- The expected page stays the same between cues: still_due.
 use Rattle.std.proofs.Common.{◌≡◌, ℕ, ◌-◌, ◌<◌, ◌≤◌, List, ◌∙◌, arith, inl, inr}
 use Rattle.std.proofs.lemmas.Bool.{cases_lt}
 use Rattle.ttx_page.specs.Page.{Rows}
@@ -6,11 +6,12 @@ use Rattle.stl_file.specs.Subtitle.{SubtitleValue}
 use Rattle.stl_rows.specs.DuePage.{IsEdge}
 use Rattle.sub_plan.proofs.ScheduleBases.{stays}
 
--- At each frame that is no edge, the due page is that of the frame before.
+-- At each frame that is not a cue, the expected page is the same as at the frame before.
 abbrev pub StaysBetweenEdges : (ℕ → Rows) → List SubtitleValue → Type 0
 StaysBetweenEdges due records = (f : ℕ) → 1 ≤ f → (IsEdge records f → ⊥) → due f ≡ due (f - 1)
 
--- If one page was due up to a frame, it is due up to the next edge. For `next_change`.
+-- If the expected page is the same up to a frame, it is the same up to the next cue. For
+-- `next_change`.
 pub still_due : (due : ℕ → Rows) (records : List SubtitleValue) (start at end : ℕ)
     → StaysBetweenEdges due records
     → ((e : ℕ) → IsEdge records e → at < e → end ≤ e)

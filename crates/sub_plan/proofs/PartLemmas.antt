@@ -80,7 +80,7 @@ flat_same f g [] h = refl
 flat_same f g (x ∷ xs) h =
     rw (All-head (λ y. f y ≡ g y) x xs h, flat_same f g xs (All-tail (λ y. f y ≡ g y) x xs h)) refl
 
--- In a stretch, the page due at its base is due at each frame.
+-- In a stretch, the expected page at its base is that of each frame.
 pub stretch-bytes : (due : ℕ → Rows) (o : OptionsValue) (national : National) (serial : Bool)
     (first b end last : ℕ)
     → IsStretch due first b end last

@@ -32,7 +32,7 @@ range_all P a (suc n) h =
     (range_all P (a + 1) n (λ j b c. h j (omega arith) (omega arith)))
 
 -- A value that is the same at each number as at the one before is the same at all of them. For
--- bases and edges.
+-- bases and cues.
 pub stays : {X : Type 0} (value : ℕ → X) (s f : ℕ) → s ≤ f
     → ((k : ℕ) → s < k → k ≤ f → value k ≡ value (k - 1)) → value f ≡ value s
 stays value s zero low step = let e : zero ≡ s = omega arith in ap value e
@@ -165,7 +165,7 @@ sends-again due every first last s low high sent none =
     let e : s + every - b ≡ s - b + every = omega (arith, (last_base due first s low).high) in
     grind (arith, nat_tests, last_base, sends, base_stays, add-mod_right)
 
--- The last page transmission up to a frame shows the page that is still due there.
+-- The last page transmission up to a frame shows the page that is still expected there.
 pub last_sending : (due : ℕ → Rows) (every first last f : ℕ) → 1 ≤ every → first ≤ f → (g : ℕ)
     × IsLastSending due every first last f g
 last_sending due every first last f some low =
@@ -206,7 +206,7 @@ sending_in_gap due every first last g some low room =
           ∙ sends-base due every first last k some b))))
     ]
 
--- The page transmitted last is the due page.
+-- The page transmitted last is the expected page.
 pub law_of_last_sending : LawOfLastSending
 law_of_last_sending = last_sending
 

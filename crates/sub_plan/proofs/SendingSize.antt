@@ -65,7 +65,7 @@ rows_but_last magazine page e =
       rows,
     ) (short_filter test (range_with_len 1 23))
 
--- The transmission of a due page: its header, at most 23 rows, the closing header.
+-- The transmission of an expected page: its header, at most 23 rows, the closing header.
 pub law_of_due_size : LawOfDueSize
 unfolding sending
 law_of_due_size w serial programme frame =

@@ -64,7 +64,7 @@ steps-more every from end some inside =
 
 -- ---- from base to base
 
--- A stretch: a base and the frames after it, up to an end, at which the same page is due.
+-- A stretch: a base and the frames after it that have the same expected page, up to an end.
 pub record IsStretch (due : ℕ → Rows) (first b end last : ℕ) : Type 0 where
   pub low : first ≤ b
   pub some : b < end

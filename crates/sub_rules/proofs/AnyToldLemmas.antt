@@ -1,6 +1,6 @@
 -- If no event of a frame's end or of a packet passes a test, the other events of the frame decide
--- whether any does: `any_frame`. So each event names its own PES packet, and none of them is
--- `Trusted`: `own_frame`.
+-- whether any does: `any_frame`. So each event names its own PES packet, and none of them reports
+-- trusted frames: `own_frame`.
 use Rattle.std.proofs.lemmas.Bool.Decides.{nat_tests}
 use Rattle.std.proofs.Common.{◌≡◌, ℕ, zero, suc, ◌+◌, ◌==◌, Bool, true, false, not, List, [], ◌∷◌}
 use Rattle.std.proofs.Common.{◌++◌, map, length, Option, refl, ◌∙◌, ap₂, arith}
@@ -60,7 +60,7 @@ module _ (test : Event → Bool)
         only_first _ _ (at_end _ _ _ _) ∙ only_first _ _ header
         ∙ only_first _ _ (no_packet _ _ _ _ _ _) ∙ only_first _ _ (no_gap i _)
 
--- ---- events that name their PES packet, and are not `Trusted`
+-- ---- events that name their PES packet, and report no trusted frames
 
 -- If each frame is one PES packet: an event that names another packet than `pes`, or is `Trusted`.
 abbrev pub is_foreign : ℕ → Event → Bool

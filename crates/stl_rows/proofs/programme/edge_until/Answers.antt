@@ -1,4 +1,4 @@
--- The edge is that of the first subtitle whose TCO is after the frame, or of the one before it:
+-- The cue belongs to the first subtitle whose TCO is after the frame, or to the one before it:
 -- last_edge-tci, last_edge-gap.
 use Rattle.std.proofs.Common.{arith, rules}
 use Rattle.stl_rows.proofs.DuePageLemmas.{last_edge-gap, last_edge-tci, starts_after}

@@ -1,4 +1,4 @@
--- From edge to edge, by still_due.
+-- From cue to cue, by still_due.
 use Rattle.std.proofs.Common.{arith, inl, inr}
 use Rattle.std.proofs.lemmas.Bool.Decides.{nat_tests}
 use Rattle.std.proofs.lemmas.Bool.{cases_lt}

@@ -1,4 +1,4 @@
--- The same page is due up to the edge reached so far.
+-- The expected page is the same up to the cue reached so far.
 use Rattle.std.proofs.Common.{◌≡◌, ℕ, ◌-◌, ◌<◌, ◌≤◌}
 use Rattle.sub_plan.specs.Schedule.{due_in}
 use Rattle.sub_plan.proofs.scheduling.next_change.Given as goal
