@@ -79,7 +79,7 @@ class Air(Case):
         """Return the arguments of a call of `judge`."""
         line = [self.path("schedule"), self.path("segments"), "-o", self.path("out"), "--margin",
                 f"{MARGIN}", "-p", "/bin/true", *more]
-        return read_options(main.judge_parser(""), line, {}, {})
+        return read_options(main.judge_parser(), line, {}, {})
 
     def make_judge(self, checker: FakeChecker, *more: str) -> judge.Judge:
         """Return a judge that asks a checker of tests, and does not look at disks."""

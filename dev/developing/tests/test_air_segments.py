@@ -12,6 +12,8 @@ from subtitles.air.recorder import Limits, Recorder
 from subtitles.air.segments import (
     Segment, Unbroken, begin_in, names_in, segment_name, segments_between, stretches_in)
 from .air import Air, DAY
+from .muxed import in_frames, spaced
+from .programmes import BEGIN
 
 NAMES = {
     "20261201T080000.000Z.ts": DAY,
@@ -45,6 +47,22 @@ STRETCHES = {
     "new ones": ("!0-10 10-20 !20-30 30-40", 2, "0-20 20-40"),
 }
 
+# Two segments of one feed: before which of its TS packets the first one ends and the second one
+# begins; their seconds, as above; and the stretches.
+JOINTS = {
+    "the feed goes on": (900.5, 900.5, "0-10 10-20", "0-20"),
+    "the recorder stalled": (900.5, 900.5, "0-10 18-20", "0-20"),
+    "it started again, and lost nothing": (900.5, 900.5, "0-10 !11-20", "0-20"),
+    "it started again, and lost a packet": (900, 901, "0-10 !11-20", "0-10 11-20"),
+    "a packet is lost in a stall": (900, 901, "0-10 18-20", "0-10 18-20"),
+    "a frame is lost in a stall": (900, 917, "0-10 18-20", "0-10 18-20"),
+    "a packet is lost on air": (900, 901, "0-10 10-20", "0-20"),
+    "the first is cut in a packet": (880.3, 900.5, "0-10 10-20", "10-20"),
+    "the first is cut between packets": (880, 900, "0-10 10-20", "10-20"),
+    "the second is cut, and starts later": (900.5, 930.3, "0-10 18-20", "0-10 18-20"),
+    "the first is too short to tell": (3.5, 3.5, "0-10 18-20", "0-10 18-20"),
+}
+
 # A segment of 100 bytes from second 10 to 20, and the bytes of it up to a time.
 OFFSETS = {"before it": (5, 0), "its beginning": (10, 0), "a tenth": (11, 10), "half": (15, 50),
            "its end": (20, 100), "after it": (99, 100)}
@@ -67,13 +85,24 @@ class Segments(Air):
 
     def test_divides_where_something_may_be_missing(self) -> None:
         for name, (text, pause, expected) in STRETCHES.items():
-            self.delete_all("segments")
-            for word in text.split():
-                begin, end = map(float, word.strip("!").split("-"))
-                self.put_segment(begin, end, is_new=word[0] == "!")
-            found = stretches_in(segments_between(self.path("segments"), 0, DAY + 99), pause)
-            self.check(name, " ".join(f"{one.begin - DAY:.0f}-{one.end - DAY:.0f}"
-                                      for one in found), expected)
+            self.check(name, self.divided(text, pause), expected)
+
+    def test_follows_the_packets_from_one_segment_to_the_next(self) -> None:
+        feed = b"".join(in_frames([], BEGIN, 110, 1))
+        for name, (end, begin, text, expected) in JOINTS.items():
+            for size in (188, 192, 204):
+                data = spaced(feed, size)
+                found = self.divided(text, 5, data[:int(end * size)], data[int(begin * size):])
+                self.check(f"{name}, {size} bytes a packet", found, expected)
+
+    def divided(self, text: str, pause: float, *data: bytes) -> str:
+        """Return the stretches of some segments, perhaps with some data."""
+        self.delete_all("segments")
+        for number, word in enumerate(text.split()):
+            begin, end = map(float, word.strip("!").split("-"))
+            self.put_segment(begin, end, b"".join(data[number:number + 1]), word[0] == "!")
+        found = stretches_in(segments_between(self.path("segments"), 0, DAY + 99), pause)
+        return " ".join(f"{one.begin - DAY:.0f}-{one.end - DAY:.0f}" for one in found)
 
     def test_finds_the_segments_of_a_time(self) -> None:
         """As a plain loop does; an empty segment holds nothing."""

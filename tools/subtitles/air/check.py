@@ -20,7 +20,7 @@ from ..judging.status import ACCEPTED, NOT_JUDGED, REFUSED, RELATIVE, WAIVED
 from ..judging.verdict import Verdict
 from ..request.commands import CommandWords
 from ..request.request import Request, Unclear
-from ..results.files import ENDING, left_by_call, unjudged
+from ..results.files import ENDING, left_by_call
 from ..stream.survey import survey
 from .schedule import RECORDING
 from .segments import Unbroken
@@ -58,11 +58,6 @@ class Outcome(NamedTuple):
         is_file_refused = self.verdict == REFUSED and self.result["inputs"]["recording"] is None
         return self.verdict in CORRECT or is_file_refused or (
             self.verdict != NOT_JUDGED and self.is_finished)
-
-
-def not_judged(name: str, reason: str) -> Outcome:
-    """Return the outcome of a programme that can't be judged any more."""
-    return Outcome(unjudged(name, reason), reason)
 
 
 class BeginCheck(NamedTuple):
@@ -112,16 +107,12 @@ def seconds_before_first(part: Part) -> float:
     return ticks_between(begin, first) / PTS_SECOND
 
 
-def has_end(part: Part) -> bool:
-    """Return whether a PES packet comes after those that are judged with the last subtitle."""
-    return part.pes is None or part.packets.count > part.pes[1] + 1
-
-
 def exit_status(verdict: Verdict) -> int:
     """Return the exit status of the process that has judged."""
     if not verdict.is_final:
         return FAILED
-    is_finished = verdict.parts and has_end(verdict.parts[-1])
+    part = verdict.parts[-1] if verdict.parts else None  # it has ended if a PES packet comes later
+    is_finished = part and (part.pes is None or part.packets.count > part.pes[1] + 1)
     return UNFINISHED if verdict.status == 1 and not is_finished else verdict.status
 
 

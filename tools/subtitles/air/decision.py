@@ -5,8 +5,8 @@ from __future__ import annotations
 from typing import NamedTuple, Sequence
 
 from ..cli.single import now as date
-from .check import Outcome, not_judged
-from .schedule import Programme
+from ..results.files import unjudged
+from .check import Outcome
 from .segments import Unbroken
 
 SOON = 10.0  # seconds after its end at which a programme is tried first
@@ -32,21 +32,10 @@ class Window(NamedTuple):
     def last(self) -> float:
         return self.end + self.margin + self.more
 
-    @property
-    def longer(self) -> Window:
-        """The window in which a programme ends that has begun in time, also with long breaks."""
-        return self._replace(more=self.length)
-
     def may_hold(self, stretch: Unbroken) -> bool:
         """Return whether the programme fits into a stretch, and can begin there in time."""
         has_room = stretch.end - stretch.begin >= self.length - SLACK
         return has_room and stretch.begin < self.begin + self.margin
-
-
-def window_of(programme: Programme, length: float, margin: float) -> Window:
-    """Return the window of a programme; an END before that of the subtitle file is not believed."""
-    end = max(programme.end or 0.0, programme.begin + length)
-    return Window(programme.begin, end, length, margin)
 
 
 def gaps_in(window: Window, stretches: Sequence[Unbroken], longest_pause: float) -> list[str]:
@@ -71,7 +60,8 @@ def decide(name: str, outcomes: Sequence[Outcome], gaps: Sequence[str], has_pass
     more = f" and {len(gaps) - MOST_GAPS} more" if len(gaps) > MOST_GAPS else ""
     rest = f"; of the rest: {outcomes[0].reason}" if outcomes else ""
     before = f"; before that: {failure}" if failure else ""
-    return not_judged(name, f"not recorded: {shown}{more}{rest}{before}")
+    reason = f"not recorded: {shown}{more}{rest}{before}"
+    return Outcome(unjudged(name, reason), reason)
 
 
 def seconds_to_next_try(window: Window, now: float) -> float:

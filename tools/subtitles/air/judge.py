@@ -14,9 +14,9 @@ from ..cli.single import heed_signals, locking, now as date
 from ..common.command_line import Stop, error_line, say
 from ..common.files import BEGIN, result_file
 from ..request.commands import CommandWords
-from ..results.files import ENDING, object_text
-from .check import Checker, Outcome, not_judged
-from .decision import SOON, Window, decide, gaps_in, seconds_to_next_try, window_of
+from ..results.files import ENDING, object_text, unjudged
+from .check import Checker, Outcome
+from .decision import SOON, Window, decide, gaps_in, seconds_to_next_try
 from .schedule import Programme, Schedule, length_of, read_schedule
 from .segments import segments_between, stretches_in
 from .state import Monitor, write_state
@@ -89,7 +89,7 @@ class Judge:
                 return False
             outcome = self.judge(programme, window, now)
             if outcome and outcome.result and not outcome.is_finished:
-                window = window.longer
+                window = window._replace(more=window.length)  # it has begun, perhaps with breaks
                 outcome = self.judge(programme, window, now)
             if outcome is None:
                 tries.next = now + seconds_to_next_try(window, now)
@@ -103,11 +103,12 @@ class Judge:
 
     def window(self, programme: Programme) -> Window:
         """Return when a programme is looked for; as if it had no length if its subtitle file is not
-        there."""
+        there. An END before that of the subtitle file is not believed."""
         length = 0.0
         with contextlib.suppress(OSError):
             length = length_of(programme.request)
-        return window_of(programme, length, self.args.margin)
+        end = max(programme.end or 0.0, programme.begin + length)
+        return Window(programme.begin, end, length, self.args.margin)
 
     def judge(self, programme: Programme, window: Window, now: float) -> Outcome | None:
         """Judge each stretch that may hold a programme, until one is final."""
@@ -115,8 +116,8 @@ class Judge:
         segments = segments_between(self.segments, window.first, window.last)
         if not os.path.exists(programme.request.stl):
             reason = f"{programme.request.stl} is not there"
-            return not_judged(name, reason) if has_passed and not segments else \
-                Outcome(None, reason)
+            is_over = has_passed and not segments
+            return Outcome(unjudged(name, reason) if is_over else None, reason)
         stretches, outcomes = [*stretches_in(segments, self.args.pause)], list[Outcome]()
         for stretch in filter(window.may_hold, stretches):
             outcomes.append(self.checker.check(programme.request, name, window.begin, stretch))
@@ -129,7 +130,8 @@ class Judge:
         """Try a programme again later, since the machine failed; report each reason once."""
         tries, spent = self.tries[programme.name], time.monotonic() - started
         if reason != tries.reason:
-            say(f"{date()}  {programme.name}: will be tried again: {first_line(reason)}")
+            line, *_ = reason.split("\n")
+            say(f"{date()}  {programme.name}: will be tried again: {line}")
         delay = min(RETRY * 2 ** min(tries.failures, 10), MOST_RETRY)
         tries.next, tries.reason = now + max(delay, SHARE * spent), reason
         tries.failures += 1
@@ -151,7 +153,8 @@ class Judge:
         self.checker.clear()
         self.tries.pop(name, None)
         self.monitor.last_result = f"{name}: {outcome.reason}"
-        say(f"{date()}  {name}  {outcome.verdict}: {first_line(outcome.reason)}")
+        line, *_ = outcome.reason.split("\n")
+        say(f"{date()}  {name}  {outcome.verdict}: {line}")
         self.call_hook(os.path.join(self.out, main), outcome.result["verdict"])
 
     def call_hook(self, *words: str) -> None:
@@ -159,11 +162,6 @@ class Judge:
         if self.args.on_result:
             with contextlib.suppress(OSError, subprocess.SubprocessError):
                 subprocess.run([self.args.on_result, *words], timeout=HOOK_SECONDS, check=False)
-
-
-def first_line(text: str) -> str:
-    """Return the first line of a text."""
-    return text.partition("\n")[0]
 
 
 def judge_schedule(args: argparse.Namespace, program_name: str) -> int:

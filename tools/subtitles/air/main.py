@@ -12,15 +12,13 @@ from ..request.request import add_options
 from .judge import judge_schedule
 from .recorder import Limits, record
 
-RECORD = "Records a feed in segments that are named by time, and deletes the oldest."
-JUDGE = "Judges the programmes of a schedule from segments of a feed, each once it is over."
 hours_word = number_word("hours", 1, 99_999)
 megabytes_word = number_word("megabytes", 0, 999_999_999)
 
 
-def record_parser(text: str = RECORD) -> Words:
+def record_parser() -> Words:
     """Return the parser of `record`."""
-    parser = Words(text)
+    parser = Words("Records a feed in segments that are named by time, and deletes the oldest.")
     parser.add_argument("segments", metavar="SEGMENTS", help="the folder of the segments")
     parser.add_argument("--length", metavar="S", type=seconds_word, default=10,
                         help="seconds of a segment; without it: 10")
@@ -31,9 +29,10 @@ def record_parser(text: str = RECORD) -> Words:
     return parser
 
 
-def judge_parser(text: str = JUDGE) -> Words:
+def judge_parser() -> Words:
     """Return the parser of `judge`."""
-    parser = Words(text)
+    parser = Words("Judges the programmes of a schedule from segments of a feed, each once it is "
+                   "over.")
     parser.add_argument("schedule", metavar="SCHEDULE", help="the file with times of air")
     parser.add_argument("segments", metavar="SEGMENTS", help="the folder of the segments")
     parser.add_argument("-o", dest="out", metavar="OUT", required=True,

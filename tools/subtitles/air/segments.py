@@ -9,13 +9,18 @@ import errno
 import functools
 import os
 import re
-from typing import Iterable, Iterator, NamedTuple
+from typing import Iterable, Iterator, NamedTuple, Sequence
+
+from ..common.times import ticks_between
 
 # As 20261129T201500.250Z.ts, news-20261129-201500.ts or feed_2026-11-29_20-15-00.ts.
 NAME = re.compile(r"(?:.*\D)?(\d{4})-?(\d\d)-?(\d\d)[T_-]?(\d\d)[-.:]?(\d\d)[-.:]?(\d\d)"
                   r"(\.\d{1,6})?Z?(?:-new)?\.(?:ts|m2ts|mts|trp)", re.ASCII | re.DOTALL)
 NEW = "-new.ts"  # ends the name of a segment if something may be missing before it
 BLOCK = 1 << 20  # bytes that are read at a time
+PACKET_SIZES, SYNC, NULL_PID = (188, 192, 204), 0x47, 0x1FFF
+LEAST_PACKETS = 5  # whose sync bytes tell where the TS packets begin
+Sides = tuple[list[int], list[int]]  # numbers before and after the middle
 
 
 class Segment(NamedTuple):
@@ -44,13 +49,11 @@ def segment_name(time: float, is_new: bool = False) -> str:
 @functools.lru_cache(maxsize=100_000)
 def begin_in(name: str) -> float | None:
     """Return when the segment with a name begins; `None` for the name of any other file."""
-    found = NAME.fullmatch(name)
-    if not found:
-        return None
-    *fields, fraction = found.groups()
-    with contextlib.suppress(ValueError):
-        date = datetime.datetime(*map(int, fields), tzinfo=datetime.timezone.utc)  # type: ignore
-        return date.timestamp() + float(fraction or 0)
+    if found := NAME.fullmatch(name):
+        *numbers, fraction = found.groups("0")
+        with contextlib.suppress(ValueError):
+            date = datetime.datetime(*map(int, numbers))  # type: ignore
+            return date.replace(tzinfo=datetime.timezone.utc).timestamp() + float(fraction)
     return None
 
 
@@ -117,13 +120,56 @@ def read_range(path: str, first: int, end: int) -> Iterator[bytes]:
             yield block
 
 
+@functools.lru_cache(maxsize=10_000)
+def is_continued(before: Segment, after: Segment) -> bool | None:
+    """Return whether no TS packet is missing between two segments: `True` if all continuity
+    counters and PCR go on, `False` if most counters do not, or one and a PCR; else `None`."""
+    middle, data = min(before.size, BLOCK), b""
+    with contextlib.suppress(OSError):  # one of them has been deleted
+        data = b"".join((*read_range(before.path, before.size - middle, before.size),
+                         *read_range(after.path, 0, min(after.size, BLOCK))))
+    size, first = next(((size, first) for size in PACKET_SIZES for first in range(size)
+                        if {*data[first:middle:size]} == {SYNC}), (BLOCK, 0))
+    packets = [data[at:at + 188] for at in range(first, len(data) - 187, size)]
+    count = len(range(first, middle, size))
+    if min(count, len(packets) - count) < LEAST_PACKETS:
+        return None
+    counters, clocks = dict[int, Sides](), dict[int, Sides]()
+    for number, packet in enumerate(packets):
+        pid = int.from_bytes(packet[1:3], "big") & NULL_PID
+        if packet[3] & 0x10 and pid != NULL_PID:  # with a payload, so its counter goes on
+            counters.setdefault(pid, ([], []))[number >= count].append(packet[3] & 15)
+        if packet[3] & 0x20 and packet[4] > 6 and packet[5] & 0x10:
+            pcr = int.from_bytes(packet[6:11], "big") >> 7
+            clocks.setdefault(pid, ([], []))[number >= count].append(pcr)
+    out = sum(packet[0] != SYNC for packet in packets[count:count + LEAST_PACKETS])
+    lost = [(new[0] - old[-1]) % 16 != 1 for old, new in counters.values() if old and new]
+    usual = [is_usual(*pcrs) for pcrs in clocks.values() if all(pcrs) and sum(map(len, pcrs)) > 2]
+    is_cut = 2 * out > LEAST_PACKETS or 2 * sum(lost) > len(lost) or not all(usual)
+    if out or any(lost):
+        return False if is_cut else None
+    return True if lost and usual and all(usual) else None
+
+
+def is_usual(before: Sequence[int], after: Sequence[int]) -> bool:
+    """Return whether the step from some PCR to others is about as long as those within them."""
+    step, *steps = (ticks_between(first, second) for pcrs in (
+        [before[-1], after[0]], before, after) for first, second in zip(pcrs, pcrs[1:]))
+    return 0 <= 2 * step <= 3 * max(steps)
+
+
 def stretches_in(segments: Iterable[Segment], longest_pause: float) -> Iterator[Unbroken]:
-    """Divide segments where something may be missing: where the next one begins more than so many
-    seconds after the last byte, since it was not recorded or has been deleted; and where a name
-    says so."""
+    """Divide segments where something may be missing: where a name says so, and where the next one
+    begins more than so many seconds after the last byte, unless the TS packets go on; and where
+    they do not. If only they show it the first segment was cut, so it is left out."""
     stretch = list[Segment]()
     for segment in segments:
-        if stretch and (segment.is_new or segment.begin - stretch[-1].end > longest_pause):
+        is_next = is_continued(stretch[-1], segment) if stretch else None
+        is_expected = bool(stretch) and (
+            segment.is_new or segment.begin - stretch[-1].end > longest_pause)
+        if is_next is False and not is_expected:
+            stretch.pop()
+        if stretch and not is_next and (is_expected or is_next is False):
             yield Unbroken(tuple(stretch))
             stretch = []
         stretch.append(segment)
