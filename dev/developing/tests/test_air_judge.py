@@ -38,36 +38,36 @@ TRIALS = {
     "all is there": Trial((0, 900), (), Sent(600, 660), "relative", 10),
     "wrong": Trial((0, 900), (), Sent(600, 660, False), "refused", 10),
     "it begins late": Trial((0, 900), (), Sent(640, 700), "relative", 40),
-    "it begins late, wrong": Trial((0, 900), (), Sent(640, 700, False), "refused", 60),
+    "it begins late, wrong": Trial((0, 900), (), Sent(640, 700, False), "refused", 70),
     "it begins early": Trial((0, 900), (), Sent(560, 620), "relative", 10),
-    "it begins at the end of the margin": Trial((0, 900), (), Sent(660, 720), "relative", 60),
-    "it begins after the margin": Trial((0, 900), (), Sent(661, 721), "not judged", 60,
+    "it begins at the end of the margin": Trial((0, 900), (), Sent(660, 720), "relative", 70),
+    "it begins after the margin": Trial((0, 900), (), Sent(661, 721), "not judged", 70,
                                         "it began later"),
-    "it begins long after it": Trial((0, 2000), (), Sent(900, 960), "not judged", 60, "no cue"),
-    "it begins before the margin": Trial((0, 900), (), Sent(530, 590), "not judged", 60,
+    "it begins long after it": Trial((0, 2000), (), Sent(900, 960), "not judged", 70, "no cue"),
+    "it begins before the margin": Trial((0, 900), (), Sent(530, 590), "not judged", 70,
                                          "its beginning is missing"),
-    "the same, wrong": Trial((0, 900), (), Sent(530, 590, False), "not judged", 60),
-    "with long breaks": Trial((0, 900), (), Sent(610, 770), "relative", 120),
-    "with long breaks, wrong": Trial((0, 900), (), Sent(610, 770, False), "refused", 120),
-    "it never ends": Trial((0, 2000), (), Sent(600, 1900), "refused", 120, "refused 74"),
-    "never sent": Trial((0, 900), (), None, "not judged", 60, "no cue"),
-    "nothing is recorded": Trial((0, 0), (), None, "not judged", 60, "not recorded: "
+    "the same, wrong": Trial((0, 900), (), Sent(530, 590, False), "not judged", 70),
+    "with long breaks": Trial((0, 900), (), Sent(610, 770), "relative", 130),
+    "with long breaks, wrong": Trial((0, 900), (), Sent(610, 770, False), "refused", 130),
+    "it never ends": Trial((0, 2000), (), Sent(600, 1900), "refused", 130, "refused 74"),
+    "never sent": Trial((0, 900), (), None, "not judged", 70, "no cue"),
+    "nothing is recorded": Trial((0, 0), (), None, "not judged", 70, "not recorded: "
                                  "2026-12-01T08:09:00Z to 2026-12-01T08:12:00Z"),
-    "a gap in it": Trial((0, 900), ((630, 640),), Sent(600, 660), "not judged", 60,
+    "a gap in it": Trial((0, 900), ((630, 640),), Sent(600, 660), "not judged", 70,
                          "not recorded: 2026-12-01T08:10:30Z to 2026-12-01T08:10:40Z"),
     "a gap before it": Trial((0, 900), ((580, 590),), Sent(600, 660), "relative", 10),
     "a gap before it, wrong": Trial((0, 900), ((580, 590),), Sent(600, 660, False), "refused", 10),
     "a gap in one that begins early": Trial(
-        (0, 900), ((580, 590),), Sent(570, 630, False), "not judged", 60, "not recorded: "
+        (0, 900), ((580, 590),), Sent(570, 630, False), "not judged", 70, "not recorded: "
         "2026-12-01T08:09:40Z to 2026-12-01T08:09:50Z; of the rest: its beginning is missing"),
     "a gap after it": Trial((0, 900), ((670, 680),), Sent(600, 660), "relative", 10),
     "a gap after it, wrong": Trial((0, 900), ((670, 680),), Sent(600, 660, False), "refused", 10),
     "a gap as soon as it ends, wrong": Trial(
-        (0, 900), ((660, 680),), Sent(600, 660, False), "not judged", 60, "not recorded: "
+        (0, 900), ((660, 680),), Sent(600, 660, False), "not judged", 70, "not recorded: "
         "2026-12-01T08:11:00Z to 2026-12-01T08:11:20Z; of the rest: refused 74"),
-    "a gap in a late one": Trial((0, 900), ((680, 690),), Sent(640, 700), "not judged", 60),
-    "the feed ends in it": Trial((0, 640), (), Sent(600, 660), "not judged", 60),
-    "the feed begins in it": Trial((620, 900), (), Sent(600, 660), "not judged", 60),
+    "a gap in a late one": Trial((0, 900), ((680, 690),), Sent(640, 700), "not judged", 70),
+    "the feed ends in it": Trial((0, 640), (), Sent(600, 660), "not judged", 70),
+    "the feed begins in it": Trial((620, 900), (), Sent(600, 660), "not judged", 70),
     "the feed begins before it": Trial((590, 900), (), Sent(600, 660), "relative", 10),
     "the feed ends after it": Trial((0, 670), (), Sent(600, 660), "relative", 10),
 }
@@ -76,7 +76,7 @@ TRIALS = {
 class Judged(Air):
     """One programme of a minute."""
 
-    now = 0
+    now = lag = 0
 
     def setUp(self) -> None:
         super().setUp()
@@ -97,8 +97,9 @@ class Judged(Air):
 
     def recorded_so_far(self, folder: str, begin: float, end: float) -> list[Segment]:
         """Return the segments as they are at this time."""
-        found = segments_between(folder, begin, min(end, DAY + self.now))
-        return [one._replace(end=min(one.end, DAY + self.now)) for one in found]
+        now = DAY + self.now - self.lag
+        found = segments_between(folder, begin, min(end, now))
+        return [one._replace(end=min(one.end, now)) for one in found]
 
     def test_each_trial_has_its_verdict_in_time(self) -> None:
         """Whether it is looked at all the time, or once long after."""
@@ -115,6 +116,14 @@ class Judged(Air):
                 os.unlink(self.path(f"out/{NAME}.json"))
             self.run_judge(checker, 2000, 1900)
             self.check(f"{name}: once", self.verdicts().get(NAME), trial.verdict)
+
+    def test_the_recorder_may_lag(self) -> None:
+        """What it still has to write at the end of the window was not lost."""
+        self.put_segments(0, 900)
+        self.lag = 9
+        with mock.patch.object(judging, "segments_between", self.recorded_so_far):
+            self.run_judge(FakeChecker({}), 1500)
+        self.check("reason", self.result(NAME)["reason"], "no cue agrees")
 
     def test_is_not_tried_too_often(self) -> None:
         self.put_segments(0, 900)

@@ -9,7 +9,7 @@ from ..results.files import unjudged
 from .check import Outcome
 from .segments import Unbroken
 
-SOON = 10.0  # seconds after its end at which a programme is tried first
+SOON = 10.0  # seconds after its end, and its window, at which it is tried: the recorder may lag
 SLACK = 1.0  # seconds by which a stretch may seem shorter than the programme in it
 MOST_GAPS = 3  # that a result names
 
@@ -67,4 +67,4 @@ def decide(name: str, outcomes: Sequence[Outcome], gaps: Sequence[str], has_pass
 def seconds_to_next_try(window: Window, now: float) -> float:
     """Return when to try again what may still be on air: twice as long after its end as now, and in
     any case once its window has passed."""
-    return min(max(now - window.end, SOON), max(window.last - now, 0.0))
+    return min(max(now - window.end, SOON), max(window.last + SOON - now, 0.0))

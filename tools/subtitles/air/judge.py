@@ -112,7 +112,7 @@ class Judge:
 
     def judge(self, programme: Programme, window: Window, now: float) -> Outcome | None:
         """Judge each stretch that may hold a programme, until one is final."""
-        name, has_passed = programme.name, now >= window.last
+        name, has_passed = programme.name, now >= window.last + SOON
         segments = segments_between(self.segments, window.first, window.last)
         if not os.path.exists(programme.request.stl):
             reason = f"{programme.request.stl} is not there"
