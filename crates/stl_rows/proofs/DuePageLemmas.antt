@@ -101,7 +101,6 @@ module _ (n : Drawing) (ts : List SubtitleValue) (f at : ℕ) (t : SubtitleValue
       let own : t ≡ get_or ts at x = get_or_read ts at t inside is x in
       grind (arith, nat_tests, get_or_read)
 
-  -- -
   pub ends_after : f < t.tco
   ends_after = rw (← is) at (first.after at t (omega arith) inside)
 

@@ -19,11 +19,9 @@ module _ (cells : List ℕ) (at : ℕ) where
   abbrev pub AreOnto : Type 0
   AreOnto = cut_lines cells ≡ onto (take at cells) (cut_lines (drop at cells))
 
-  -- -
   here : at < length cells → drop at cells ≡ get_or cells at 0 ∷ drop (at + 1) cells
   here low = rw (add-one, drop-cons cells at 0) refl
 
-  -- -
   one_more : at < length cells
       → take (at + 1) cells ≡ take at cells ++ get_or cells at 0 ∷ []
   one_more low = rw add-one (take-suc cells at 0 low)

@@ -117,7 +117,6 @@ module _ (items : LayoutItems) (jc off : ℕ) (place : Place) (line : List ℕ) 
   unfolding fault_at place_behind
   taken some = grind (arith, nat_tests)
 
-  -- -
   same_length : length page ≡ 24 → length (page_with items jc off place line page) ≡ 24
   unfolding page_with
   same_length long = grind (arith, nat_tests, length-set)

@@ -163,7 +163,6 @@ module _ (items : LayoutItems) (jc off : ℕ) where
       → shown_row items jc off (place ∷ rest) at ≡ shown_row items jc off rest at
   others place rest at other = grind (arith, nat_tests)
 
-  -- -
   show-empty : (place : PlacedLine) (rest : List PlacedLine) (row count : ℕ)
       → has_cells place.cells ≡ false
       → Show row count rest

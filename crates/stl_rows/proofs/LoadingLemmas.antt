@@ -201,7 +201,6 @@ module _ {D : Type 0} {IsTold : D → LoadFault → D → Type 0} {old mid new :
         rw here (Tells-trans old mid new early (take s.0 items) told s.3),
       )
 
-  -- -
   pub of_file-stopped : (early items : List LoadFault) {block : ℕ}
       → All (IsToldBy block) (early ++ items)
       → Tells IsTold old mid early

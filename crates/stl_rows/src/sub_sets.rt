@@ -13,7 +13,7 @@ pub(crate) struct NationalCharacter {
     pub(crate) cell: u8,
     /// The diacritical mark before the byte, if there is one.
     pub(crate) mark: Option<u8>,
-    /// The byte; after a mark, that of the letter.
+    /// The byte; with a diacritical mark, that of the letter after it.
     pub(crate) byte: u8,
 }
 

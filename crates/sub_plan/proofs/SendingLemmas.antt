@@ -169,7 +169,6 @@ module _ (w : PageIdValue) (national : National) (serial : Bool) (page : Rows) (
   cut_span : (m : ℕ) → span (kind w) (opener w national serial ∷ take m rest) ≡ take m rows
   cut_span m = grind (arith, nat_tests, after-here, opener, rest, no_header, opens, rows_before_end)
 
-  -- -
   pub sending_holds : holds_header (kind w) (sending w national serial page) ≡ true
   unfolding sending
   sending_holds = or_left _ _ opens

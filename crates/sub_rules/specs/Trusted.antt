@@ -94,7 +94,7 @@ doubted_by past (Told f) =
     doubted_frame (last_begun past) (late_of past) (fault_row f).doubts (fault_row f).place
 doubted_by past event = None
 
--- The event says that a frame is not after the one before.
+-- The step reports that a frame is not after the frame before.
 unfoldable pub tells_fall : CheckStep → Bool
 tells_fall (Says (Told (fault.Order pes))) = true
 tells_fall m = false
