@@ -1,7 +1,7 @@
 -- Sections of tables (ISO/IEC 13818-1, 2.4.4), and the contents of those of a PAT and of a PMT:
 --
 --   0      table_id: 00 of a PAT, 02 of a PMT
---   1..2   section_syntax_indicator (1 bit), 0, reserved (2), section_length (12): the bytes after it
+--   1..2   section_syntax_indicator (1 bit), 0, reserved (2), section_length (12): bytes after it
 --   3..4   transport_stream_id of a PAT, program_number of a PMT
 --   6      section_number
 --   8..    of a PAT, for each programme: program_number (16 bits), reserved (3), the PID of its PMT

@@ -1,26 +1,26 @@
-//! What an adaptation field says (ISO/IEC 13818-1, adaptation_field), and the PTS of a PES packet
-//! that begins.
+//! Reads adaptation fields (ISO/IEC 13818-1, adaptation_field), and the times in the header of a
+//! PES packet.
 ghost use Rattle.std.specs.Prelude.{◌≡◌, ◌≤◌, ◌<◌, ◌+◌, ◌^◌, length, IfSome};
 ghost use Rattle.ts_survey.specs.Adaptation.{begins_access, decoding_time};
 ghost use Rattle.ts_survey.specs.Adaptation.{is_scrambled, payload_in, pcr_base, pts_said, time_at};
 
 use mpeg_ts::{PACKET, has_adaptation, has_payload, is_wrong, payload_of};
 
-/// random_access_indicator: a picture that can be shown alone begins here.
+/// Returns random_access_indicator: a picture that can be shown alone begins here.
 pub fn begins_access(packet: &[u8; PACKET]) -> bool
     ensures { result ≡ begins_access packet.now }
 {
     has_adaptation(packet) && packet[4] != 0 && packet[5] / 0x40 % 2 == 1
 }
 
-/// transport_scrambling_control is not 00.
+/// Returns whether transport_scrambling_control is not 00.
 pub fn is_scrambled(packet: &[u8; PACKET]) -> bool
     ensures { result ≡ is_scrambled packet.now }
 {
     packet[3] / 0x40 != 0
 }
 
-/// program_clock_reference_base, 33 bits, of a packet that has one.
+/// Returns program_clock_reference_base, 33 bits, if the packet has one.
 pub fn pcr_base(packet: &[u8; PACKET]) -> Option<u64>
     ensures value { result ≡ pcr_base packet.now }
     ensures range { IfSome result (λ pcr. pcr < 2 ^ 33) }
@@ -37,7 +37,7 @@ pub fn pcr_base(packet: &[u8; PACKET]) -> Option<u64>
     )
 }
 
-/// The payload of a packet, none where it has none or nothing may be taken from it.
+/// Returns the payload of a packet; empty if it has none, or if the packet is wrong.
 pub fn payload_in(packet: &[u8; PACKET]) -> &[u8]
     ensures { result.now ≡ payload_in packet.now }
 {
@@ -48,8 +48,8 @@ pub fn payload_in(packet: &[u8; PACKET]) -> &[u8]
     }
 }
 
-/// The PTS that the first bytes of a PES packet say (ISO/IEC 13818-1, PES_packet): none where the
-/// header has none, or it is a mark. Marker bits are not looked at.
+/// Returns the PTS in the first bytes of a PES packet (ISO/IEC 13818-1, PES_packet); `None` if the
+/// header has none, or for a gap marker. Marker bits are not checked.
 pub fn pts_said(pes: &[u8]) -> Option<u64>
     ensures value { result ≡ pts_said pes.now }
     ensures range { IfSome result (λ pts. pts < 2 ^ 33) }
@@ -60,7 +60,7 @@ pub fn pts_said(pes: &[u8]) -> Option<u64>
     Some(time_at(pes, 9))
 }
 
-// The time at a place of a PES header, 33 bits of a clock of 90 kHz.
+// Returns the time at a place of a PES header, 33 bits of a clock of 90 kHz.
 fn time_at(pes: &[u8], place: usize) -> u64
     requires { place + 5 ≤ length pes.now }
     ensures value { result ≡ time_at pes.now place }
@@ -73,8 +73,8 @@ fn time_at(pes: &[u8], place: usize) -> u64
         + (pes[place + 4] / 2) as u64
 }
 
-/// When the first picture of a PES packet is decoded: its DTS, or its PTS where it has no DTS.
-/// `None` where the first bytes do not say it.
+/// Returns when the first picture of a PES packet is decoded: its DTS, or its PTS if it has no DTS;
+/// `None` if the first bytes do not contain it.
 pub fn decoding_time(pes: &[u8]) -> Option<u64>
     ensures value { result ≡ decoding_time pes.now }
     ensures range { IfSome result (λ time. time < 2 ^ 33) }

@@ -1,4 +1,4 @@
-//! What is told of a PMT: its programme, its streams, and the pages that they announce.
+//! Prints the contents of a PMT: its programme, its streams, and the pages that they announce.
 ghost use Rattle.std.specs.Prelude.{◌≤◌, length};
 
 use crate::section::{
@@ -6,7 +6,7 @@ use crate::section::{
 };
 use crate::text::Text;
 
-/// Tells a programme.
+/// Prints the line of a programme.
 pub fn tell_programme(programme: &Programme, text: &mut Text) {
     text.put(b"programme");
     text.number(programme.number as u64);
@@ -14,7 +14,7 @@ pub fn tell_programme(programme: &Programme, text: &mut Text) {
     text.put(b"\n");
 }
 
-/// Tells a stream of a programme.
+/// Prints the line of a stream of a programme.
 pub fn tell_stream(stream: &Stream, text: &mut Text) {
     text.put(b"stream");
     text.number(stream.pid as u64);
@@ -22,8 +22,8 @@ pub fn tell_stream(stream: &Stream, text: &mut Text) {
     text.put(b"\n");
 }
 
-/// Tells the pages that a stream announces; whether there are any. A section has 4,098 bytes at
-/// most.
+/// Prints the pages that a stream announces, and returns whether there are any. A section has at
+/// most 4,098 bytes.
 pub fn tell_pages(section: &[u8], stream: &Stream, text: &mut Text) -> bool {
     let end = stream.end.min(section.len());
     let mut has_pages = false;
@@ -39,7 +39,7 @@ pub fn tell_pages(section: &[u8], stream: &Stream, text: &mut Text) -> bool {
     has_pages
 }
 
-// Tells the pages that a descriptor names; whether there are any.
+// Prints the pages of a descriptor, and returns whether there are any.
 fn tell_named(section: &[u8], descriptor: &Descriptor, pid: u16, text: &mut Text) -> bool
     requires { descriptor.now.end ≤ length section.now }
 {
@@ -49,7 +49,7 @@ fn tell_named(section: &[u8], descriptor: &Descriptor, pid: u16, text: &mut Text
     tell_from(section, descriptor.first, descriptor.end, pid, text)
 }
 
-// Tells the pages that stand between two places; whether there are any.
+// Prints the pages between two places, and returns whether there are any.
 fn tell_from(section: &[u8], first: usize, end: usize, pid: u16, text: &mut Text) -> bool
     requires { end ≤ length section.now }
 {
@@ -66,7 +66,7 @@ fn tell_from(section: &[u8], first: usize, end: usize, pid: u16, text: &mut Text
     has_pages
 }
 
-// Tells a page that is announced.
+// Prints the line of an announced page.
 fn tell_page(pid: u16, page: &Announced, text: &mut Text) {
     text.put(b"announce");
     text.number(pid as u64);

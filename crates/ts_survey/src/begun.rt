@@ -1,4 +1,4 @@
-//! What a PTS that began in a PID with Teletext is held against: the pictures, and the clock.
+//! Compares a PTS that began in a PID with Teletext with the pictures and the clock.
 ghost use Rattle.std.specs.Prelude.{◌≡◌};
 
 use crate::carrier::Carrier;
@@ -6,8 +6,8 @@ use crate::clock::Clock;
 use crate::lead::Picture;
 use crate::text::Text;
 
-/// A PTS began in a PID, in the packet with that number: it is compared with the last picture of
-/// its programme, and with the PCR of the clock at a place.
+/// Compares a PTS that began in the packet with this number of a PID with the last picture of its
+/// programme, and with the PCR of its clock.
 pub fn begin_beside(
     carrier: &mut Carrier,
     picture: Option<Picture>,
@@ -26,7 +26,7 @@ pub fn begin_beside(
     carrier.note_begun(pts, pcr, text);
 }
 
-// The PCR that is near a PTS of a PID, where it is to be held against one.
+// Returns the PCR close to a PTS of a PID, if they are to be compared.
 fn near_if_due(
     carrier: &Carrier,
     clocks: &[Clock],

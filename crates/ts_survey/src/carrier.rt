@@ -15,13 +15,13 @@ use mpeg_ts::{PACKET, announces_jump, begins, counter_of, has_payload, is_wrong,
 use std::alloc::Global;
 use ttx_packet::PageId;
 
-/// Strange PCR of which not all is known.
+/// The maximum number of irregular PCRs that wait for more data.
 const PENDING: usize = 4;
 
-/// Packets behind a strange PCR up to which counters tell what happened.
+/// The number of packets after an irregular PCR up to which counters show what happened.
 pub const LOOKED_AT: u64 = 5000;
 
-/// A strange PCR, and the PTS around it.
+/// An irregular PCR, and the PTS around it.
 #[derive(Clone, Copy, Default)]
 struct Pending {
     strange: Strange,
@@ -34,13 +34,13 @@ struct Pending {
 pub struct Carrier {
     pid: u16,
     packets_of: PidPackets<Given>,
-    // The last good packet's counter, and whether a jump was announced since.
+    // The counter of the last good packet, and whether a jump was announced since then.
     counter: Option<u8>,
     has_jump: bool,
     packets: u64,
     scrambled: u64,
     header: PesHeader,
-    // PTS: of the last PES packet that began, of the last that was held against the clock, and of
+    // PTS: of the last PES packet that began, of the last that was compared with the clock, and of
     // the one that had begun before the last PCR.
     begun: Option<u64>,
     sampled: Option<u64>,
@@ -50,7 +50,7 @@ pub struct Carrier {
 }
 
 impl Carrier {
-    /// Before the first packet. `None` where memory runs out.
+    /// Returns the state before the first packet; `None` if memory runs out.
     pub fn new(alloc: Global, pid: u16, page: PageId) -> Option<Carrier>
         ensures { IfSome result (λ carrier. carrier.pid ≡ pid) }
     {
@@ -71,12 +71,12 @@ impl Carrier {
         })
     }
 
-    /// Its PID.
+    /// Returns its PID.
     pub fn pid(&self) -> u16 {
         self.pid
     }
 
-    /// A packet of the PID came. The PTS that begins in it, if one does.
+    /// Processes a packet of the PID, and returns the PTS that begins in it, if one does.
     pub fn take(&mut self, packet: &[u8; PACKET], text: &mut Text) -> Option<u64>
         ensures { self.new.pid ≡ self.old.pid }
     {
@@ -88,7 +88,7 @@ impl Carrier {
         begun
     }
 
-    // Counts a packet where it is scrambled.
+    // Counts a packet if it is scrambled.
     fn note_scrambled(&mut self, packet: &[u8; PACKET])
         ensures { self.new.pid ≡ self.old.pid }
     {
@@ -99,7 +99,7 @@ impl Carrier {
     }
 
     // Counts what is lost before a packet, and notes a seam before it. Returns the PTS whose PES
-    // header is complete with the packet. A repeat of the last good packet is nothing new.
+    // header is complete with the packet. A repeat of the last good packet changes nothing.
     fn note(&mut self, packet: &[u8; PACKET]) -> Option<u64>
         ensures { self.new.pid ≡ self.old.pid }
     {
@@ -126,7 +126,7 @@ impl Carrier {
         }
     }
 
-    // A PES packet began: its PTS, if it has one and is of private_stream_1.
+    // Returns the PTS of a PES packet that began, if it has one and is of private_stream_1.
     fn begin(&mut self) -> Option<u64>
         ensures { self.new.pid ≡ self.old.pid }
     {
@@ -151,14 +151,14 @@ impl Carrier {
         lost == 0 && !is_jump
     }
 
-    /// So many bytes were skipped that packets may be missing.
+    /// Notes that packets may be missing, since so many bytes were skipped.
     pub fn note_hole(&mut self)
         ensures { self.new.pid ≡ self.old.pid }
     {
         self.packets_of.note_hole();
     }
 
-    /// A PCR of its programme came: the next one is held against what has begun.
+    /// Notes a PCR of its programme: the next one is compared with what has begun.
     pub fn note_pcr(&mut self, strange: Option<Strange>, pids: &Pids, text: &mut Text)
         ensures { self.new.pid ≡ self.old.pid }
     {
@@ -168,7 +168,7 @@ impl Carrier {
         self.before_pcr = self.begun;
     }
 
-    // Keeps a strange PCR. Where there is no room, the oldest is told at once.
+    // Keeps an irregular PCR. If there is no room, the oldest is printed at once.
     fn add_pending(&mut self, strange: Strange, pids: &Pids, text: &mut Text)
         ensures { self.new.pid ≡ self.old.pid }
     {
@@ -182,8 +182,8 @@ impl Carrier {
         });
     }
 
-    /// A PTS began in a packet: strange PCR before it know it, and where a second has gone by since
-    /// the last such look, it is held against the clock.
+    /// Notes a PTS that began in a packet: irregular PCRs before it use it, and if a second has
+    /// passed since the last comparison, it is compared with the clock.
     pub fn note_begun(&mut self, pts: u64, pcr: Option<u64>, text: &mut Text)
         ensures { self.new.pid ≡ self.old.pid }
     {
@@ -199,8 +199,8 @@ impl Carrier {
         }
     }
 
-    /// Whether a PTS is a second from the last one that was held against the clock, and nothing is
-    /// missing before it.
+    /// Returns whether a PTS is a second from the last one that was compared with the clock, and
+    /// nothing is missing before it.
     pub fn is_due(&self, pts: u64) -> bool {
         if self.packets_of.to.is_broken() {
             return false;
@@ -211,14 +211,15 @@ impl Carrier {
         }
     }
 
-    /// A PTS began in a packet, behind a picture of its programme.
+    /// Notes a PTS that began in a packet after a picture of its programme.
     pub fn take_lead(&mut self, pts: u64, picture: &Picture, text: &mut Text)
         ensures { self.new.pid ≡ self.old.pid }
     {
         self.lead.take(self.pid, pts, picture, text);
     }
 
-    /// Tells the strange PCR of which all is known, by the number of the last packet; or all.
+    /// Prints the irregular PCRs for which no more data is needed at the packet with this number;
+    /// or all.
     pub fn settle(&mut self, number: Option<u64>, pids: &Pids, text: &mut Text)
         ensures { self.new.pid ≡ self.old.pid }
     {
@@ -229,7 +230,7 @@ impl Carrier {
         }
     }
 
-    // Tells the first strange PCR, where all is known of it, and answers whether it did.
+    // Prints the first irregular PCR if no more data is needed for it, and returns whether it did.
     fn settle_first(&mut self, number: Option<u64>, pids: &Pids, text: &mut Text) -> bool
         ensures { self.new.pid ≡ self.old.pid }
     {
@@ -247,7 +248,7 @@ impl Carrier {
         is_known
     }
 
-    // Tells the first strange PCR, where there is one.
+    // Prints the first irregular PCR, if there is one.
     fn tell_first(&mut self, pids: &Pids, text: &mut Text)
         ensures { self.new.pid ≡ self.old.pid }
     {
@@ -259,25 +260,25 @@ impl Carrier {
         let _ = self.pending.remove(0);
     }
 
-    /// Whether a strange PCR waits.
+    /// Returns whether an irregular PCR waits.
     pub fn waits(&self) -> bool {
         !self.pending.is_empty()
     }
 
-    /// Tells what is not told yet of the PES packets, since nothing more is there for now.
+    /// Prints the PES packets that were not printed yet, since no more data is there for now.
     pub fn flush(&mut self, text: &mut Text)
         ensures { self.new.pid ≡ self.old.pid }
     {
         self.packets_of.to.flush(text);
     }
 
-    /// The recording is over: the last that is told is the line of the PID.
+    /// Ends the recording: the line of the PID is the last one.
     pub fn end(&self, text: &mut Text) {
         self.packets_of.to.end(text);
         self.tell_end(text);
     }
 
-    // Tells how many packets came, and what of them is given.
+    // Prints how many packets came, and what they gave.
     fn tell_end(&self, text: &mut Text) {
         let given = &self.packets_of.to;
         text.put(b"end");
@@ -293,7 +294,7 @@ impl Carrier {
     }
 }
 
-// How many packets are lost before a good one that is no repeat.
+// Returns how many packets are lost before a good one that is no repeat.
 fn lost_before(counter: Option<u8>, is_jump: bool, packet: &[u8; PACKET]) -> u8 {
     match counter {
         Some(last) if !is_jump => {
@@ -303,7 +304,7 @@ fn lost_before(counter: Option<u8>, is_jump: bool, packet: &[u8; PACKET]) -> u8 
     }
 }
 
-// Tells how far a PTS is ahead of a PCR.
+// Prints how far a PTS is ahead of a PCR.
 fn tell_ahead(pid: u16, pts: u64, pcr: u64, text: &mut Text) {
     text.put(b"ahead");
     text.number(pid as u64);
@@ -312,7 +313,7 @@ fn tell_ahead(pid: u16, pts: u64, pcr: u64, text: &mut Text) {
     text.put(b"\n");
 }
 
-// Tells a strange PCR, with what the counters of other PIDs tell of it.
+// Prints an irregular PCR, with what the counters of other PIDs show.
 fn tell_clock(pid: u16, one: &Pending, told: &[u8], text: &mut Text) {
     text.put(b"clock");
     text.number(pid as u64);
@@ -326,7 +327,7 @@ fn tell_clock(pid: u16, one: &Pending, told: &[u8], text: &mut Text) {
     text.put(b"\n");
 }
 
-// Whether the last PES packet that began did not come whole, as a word.
+// Returns as a word whether the last PES packet that began is incomplete.
 fn cut_word(begun: Option<u64>, last: Option<u64>) -> &'static [u8] {
     if begun.is_some() && last != begun {
         b" 1"

@@ -6,24 +6,25 @@ ghost use Rattle.ts_survey.specs.CharacterSets as specs;
 use crate::text::Text;
 use ttx_packet::{Packet, unham};
 
-/// Each line is told once: packet 28 or 29, designation 0 or 4, 128 sets or one that can't be read.
+/// Each line is printed once: packet 28 or 29, designation 0 or 4, 128 sets or one that can't be
+/// read.
 const LINES: usize = 1024;
 
-/// The lines that were told.
+/// The lines that were printed.
 #[derive(Drop)]
 pub struct CharacterSets {
     told: [bool; LINES],
 }
 
-// The 18 bits of three Hamming 24/18 bytes (EN 300 706, 8.3), one wrong bit corrected. `None` where
-// two are wrong.
+// Returns the 18 data bits of three Hamming 24/18 bytes (EN 300 706, 8.3), with one wrong bit
+// corrected; `None` if two are wrong.
 fn triplet(first: u8, second: u8, third: u8) -> Option<u32>
     ensures { result ≡ specs.triplet first second third }
 {
     carried_bits(first as u32 + second as u32 * 0x100 + third as u32 * 0x1_0000)
 }
 
-// So of their 24 bits.
+// Returns the data bits of the 24 bits.
 fn carried_bits(word: u32) -> Option<u32>
     ensures { result ≡ specs.carried_bits word }
 {
@@ -41,7 +42,7 @@ fn carried_bits(word: u32) -> Option<u32>
     Some(data_bits(turned(word, wrong)))
 }
 
-// The place of the bit that is wrong, where one is: 0 for the last.
+// Returns the place of a single wrong bit, 0 for the last.
 fn wrong_place(word: u32) -> u32
     ensures { result ≡ specs.wrong_place word }
 {
@@ -52,7 +53,7 @@ fn wrong_place(word: u32) -> u32
         + failed(word, 0x7F_8000, 16)
 }
 
-// A digit, where the test of some bits fails.
+// Returns the digit if the test of some bits fails, otherwise 0.
 fn failed(word: u32, bits: u32, digit: u32) -> u32
     ensures value { result ≡ specs.digit_if_failed word bits digit }
     ensures range { result ≤ digit }
@@ -64,7 +65,7 @@ fn failed(word: u32, bits: u32, digit: u32) -> u32
     }
 }
 
-// A word with the other bit at a place.
+// Returns a word with the bit at a place flipped.
 fn turned(word: u32, place: u32) -> u32
     requires { place ≤ 23 }
     ensures { result ≡ specs.turned word place }
@@ -76,15 +77,15 @@ fn turned(word: u32, place: u32) -> u32
     }
 }
 
-// The data bits of a word: those at no power of two, counted from 1.
+// Returns the data bits of a word: those at no power of two, counted from 1.
 fn data_bits(word: u32) -> u32
     ensures { result ≡ specs.data_bits word }
 {
     word / 4 % 2 + word / 0x10 % 8 * 2 + word / 0x100 % 0x80 * 0x10 + word / 0x1_0000 % 0x80 * 0x800
 }
 
-// The set that bits say. `None` where they are of another page function than that of rows that are
-// shown.
+// Returns the set in the bits; `None` if they are of another page function than that of rows that
+// are shown.
 fn set_in(number: u8, bits: Option<u32>) -> Option<Option<u32>>
     ensures { result ≡ specs.set_in number bits }
 {
@@ -99,7 +100,7 @@ fn set_in(number: u8, bits: Option<u32>) -> Option<Option<u32>>
     }
 }
 
-// The designation of a packet, and the set that it says.
+// Returns the designation of a packet, and its set.
 fn set_said(packet: &Packet, number: u8, is_own: bool) -> Option<(u8, Option<u32>)>
     ensures { result ≡ specs.set_said number is_own packet.now }
 {
@@ -115,12 +116,11 @@ fn set_said(packet: &Packet, number: u8, is_own: bool) -> Option<(u8, Option<u32
     Some((designation, set))
 }
 
-// None was told.
 fn none_told() -> [bool; LINES] {
     [false; LINES]
 }
 
-// The place of a set among those that may be told.
+// Returns the index of a line among all possible ones.
 fn line_place(number: u8, designation: u8, set: Option<u32>) -> usize
     ensures value { result ≡ specs.line_place number designation set }
     ensures range { result < 1024 }
@@ -133,7 +133,7 @@ fn line_place(number: u8, designation: u8, set: Option<u32>) -> usize
     }
 }
 
-// Tells a set.
+// Prints the line of a set.
 fn tell_set(number: u8, designation: u8, set: Option<u32>, pid: u16, text: &mut Text) {
     text.put(b"set");
     text.number(pid as u64);
@@ -142,7 +142,7 @@ fn tell_set(number: u8, designation: u8, set: Option<u32>, pid: u16, text: &mut 
     end_set(set, text);
 }
 
-// Tells which region and option a set is of, at the end of its line.
+// Prints the region and option of a set at the end of its line.
 fn end_set(set: Option<u32>, text: &mut Text) {
     match set {
         Some(set) => {
@@ -155,12 +155,12 @@ fn end_set(set: Option<u32>, text: &mut Text) {
 }
 
 impl CharacterSets {
-    /// None.
+    /// Returns the state before the first line.
     pub fn new() -> CharacterSets {
         CharacterSets { told: none_told() }
     }
 
-    /// A packet of the page's magazine came, which is no header: `is_own` where the last header of
+    /// Processes a packet of the page's magazine that is no header. `is_own`: the last header of
     /// the magazine is one of the page.
     pub fn hear(&mut self, packet: &Packet, number: u8, is_own: bool, pid: u16, text: &mut Text) {
         if let Some((designation, set)) = set_said(packet, number, is_own) {
@@ -168,7 +168,7 @@ impl CharacterSets {
         }
     }
 
-    // Tells a set, where that was not told.
+    // Prints a set, unless it was printed before.
     fn tell(&mut self, number: u8, designation: u8, set: Option<u32>, pid: u16, text: &mut Text) {
         let place = line_place(number, designation, set);
         let was_told = self.told[place];

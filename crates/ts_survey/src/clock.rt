@@ -1,15 +1,15 @@
-//! The clock of a programme: its PCR, and which of them are strange.
+//! The clock of a programme: its PCRs, and the irregular ones among them.
 
 use crate::text::{CLOCK, Text, forward};
 use mpeg_ts::{PACKET, announces_jump};
 
-/// Ticks of a second.
+/// The ticks of a second.
 pub const SECOND: u64 = 90_000;
 
-/// Ticks up to which a PCR is never late: 0.1 s (ISO/IEC 13818-1).
+/// A PCR is never late before so many ticks: 0.1 s (ISO/IEC 13818-1).
 const LEAST: u64 = 9_000;
 
-/// Intervals of which the middle one is what is usual; so few tell nothing.
+/// The number of intervals whose median is the usual one; fewer say nothing.
 const KNOWN: usize = 100;
 
 const FEWEST: usize = 5;
@@ -23,7 +23,7 @@ struct Numbers {
 }
 
 impl Numbers {
-    // None.
+    // Returns an empty list.
     fn new() -> Numbers {
         Numbers {
             kept: [0; KNOWN],
@@ -32,7 +32,7 @@ impl Numbers {
         }
     }
 
-    // One more, in place of the oldest where there are as many as are kept.
+    // Adds a number, in place of the oldest if the list is full.
     fn add(&mut self, number: u64) {
         put_at(&mut self.kept, self.next, number);
         self.next = (self.next % KNOWN + 1) % KNOWN;
@@ -41,7 +41,7 @@ impl Numbers {
         }
     }
 
-    // The one in the middle, the upper of two; 0 where there are none.
+    // Returns the median, the upper of two; 0 if there are no numbers.
     fn middle(&self) -> u64 {
         let mut sorted = self.kept;
         let (some, _) = sorted.split_at_mut(self.count.min(KNOWN));
@@ -49,14 +49,14 @@ impl Numbers {
     }
 }
 
-// Puts a number at a place, where there is that place.
+// Puts a number at a place, if there is that place.
 fn put_at(kept: &mut [u64; KNOWN], place: usize, number: u64) {
     if place < KNOWN {
         kept[place] = number;
     }
 }
 
-// The one in the middle of numbers, which are sorted for that; 0 where there are none.
+// Returns the median of numbers, which it sorts; 0 if there are none.
 fn middle_of(numbers: &mut [u64]) -> u64 {
     numbers.sort_unstable();
     match numbers.get(numbers.len() / 2) {
@@ -65,8 +65,8 @@ fn middle_of(numbers: &mut [u64]) -> u64 {
     }
 }
 
-// Whether a PCR comes as others do, so many ticks after the one before, where so many intervals are
-// known, of which this is the middle one.
+// Returns whether an interval of so many ticks is usual, given the number of known intervals and
+// their median.
 fn is_usual(ticks: u64, count: usize, middle: u64) -> bool {
     if ticks >= CLOCK / 2 {
         return false;
@@ -84,7 +84,7 @@ pub struct Strange {
     pub usual_packets: u64,
 }
 
-/// The PCR of a PID.
+/// The PCRs of a PID.
 #[derive(Drop)]
 pub struct Clock {
     pid: u16,
@@ -96,7 +96,7 @@ pub struct Clock {
 }
 
 impl Clock {
-    /// Of this PID, before the first.
+    /// Returns the state of a PID before the first PCR.
     pub fn new(pid: u16) -> Clock {
         Clock {
             pid,
@@ -108,18 +108,18 @@ impl Clock {
         }
     }
 
-    /// Its PID.
+    /// Returns its PID.
     pub fn pid(&self) -> u16 {
         self.pid
     }
 
-    /// A packet of the PID came: it may announce that the clock goes on elsewhere.
+    /// Notes a packet of the PID, which may announce that the clock continues elsewhere.
     pub fn note(&mut self, packet: &[u8; PACKET]) {
         self.is_announced = self.is_announced || announces_jump(packet);
     }
 
-    /// A PCR came in the packet with that number; it is told once a second. Where it is strange,
-    /// how.
+    /// Processes a PCR in the packet with this number, and prints it once a second. Returns in
+    /// which way it is irregular, if it is.
     pub fn take(&mut self, pcr: u64, number: u64, text: &mut Text) -> Option<Strange> {
         let is_due = match self.told {
             None => true,
@@ -156,13 +156,13 @@ impl Clock {
         })
     }
 
-    // Whether a PCR comes as others do: the first ones tell how that is.
+    // Returns whether the interval of a PCR is usual; the first ones determine what that means.
     fn is_usual(&self, ticks: u64) -> bool {
         is_usual(ticks, self.ticks.count, self.ticks.middle())
     }
 
-    /// The last PCR, where one came lately: at most four times as many packets ago as there usually
-    /// are between two, and at least 256.
+    /// Returns the last PCR, if it is recent: fewer packets ago than four times the usual number
+    /// between two, or than 256 if that is more.
     pub fn near(&self, number: u64) -> Option<u64> {
         let Some((pcr, at)) = self.last else {
             return None;
@@ -182,7 +182,7 @@ impl Clock {
         text.put(b"\n");
     }
 
-    /// The recording is over: the last PCR is told.
+    /// Ends the recording: prints the last PCR.
     pub fn end(&self, text: &mut Text) {
         if let Some((pcr, _)) = self.last {
             self.tell(pcr, text);

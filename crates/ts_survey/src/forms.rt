@@ -1,5 +1,5 @@
-//! Whether the pictures that are shown before the flagged one of a group can be decoded without
-//! the group before it, by the first bytes of the flagged one.
+//! Whether the pictures that are shown before the flagged one of a group can be decoded without the
+//! group before, from the first bytes of the flagged one.
 ghost use Rattle.std.specs.Prelude.{◌≤◌, length};
 // What the reader keeps, not the standard's.
 
@@ -12,29 +12,30 @@ const H_264: u8 = 0x1B;
 
 const HEVC: u8 = 0x24;
 
-/// Of a group of pictures.
+/// The form of a group of pictures.
 #[derive(Clone, Copy, PartialEq, Eq)]
 pub enum Form {
     /// They can be decoded, if there are any.
     Closed,
     /// They can't.
     Open,
-    /// Nothing tells it.
+    /// Unknown.
     Unknown,
 }
 
-/// The bytes of a picture are read up to what tells the form of its group.
+/// Reads the bytes of a picture up to those that determine the form of its group.
 #[derive(Clone, Copy, Drop)]
 pub struct FormReader {
     kind: u8,
     // The last eight bytes.
     window: [u8; 8],
-    // What was found.
+    // The form, once it is found.
     form: Option<Form>,
 }
 
 impl FormReader {
-    /// Before the first byte of a picture of that stream_type: 0 where none is known.
+    /// Returns the state before the first byte of a picture of this stream_type; 0 if it is
+    /// unknown.
     pub fn new(kind: u8) -> FormReader {
         FormReader {
             kind,
@@ -43,7 +44,7 @@ impl FormReader {
         }
     }
 
-    /// The form.
+    /// Returns the form.
     pub fn form(&self) -> Form {
         match self.form {
             Some(form) => form,
@@ -51,7 +52,7 @@ impl FormReader {
         }
     }
 
-    /// Reads on.
+    /// Reads more bytes.
     pub fn read(&mut self, bytes: &[u8]) {
         for byte in bytes {
             *self = reader_after(self, *byte);
@@ -59,7 +60,7 @@ impl FormReader {
     }
 }
 
-// The form that stream_type alone tells: in H.264 nothing says that a group is closed.
+// Returns the form that stream_type alone determines: in H.264 nothing says that a group is closed.
 fn known_form(kind: u8) -> Option<Form> {
     match kind {
         MPEG_1 | MPEG_2 | HEVC => None,
@@ -68,7 +69,7 @@ fn known_form(kind: u8) -> Option<Form> {
     }
 }
 
-// The reader after one more byte: nothing more is read once the form is found.
+// Returns the reader after one more byte; it reads no more after the form is found.
 fn reader_after(reader: &FormReader, byte: u8) -> FormReader {
     if reader.form.is_some() {
         return *reader;
@@ -84,7 +85,7 @@ fn reader_after(reader: &FormReader, byte: u8) -> FormReader {
     }
 }
 
-// The form that the last eight bytes tell.
+// Returns the form that the last eight bytes determine.
 fn form_at(kind: u8, window: &[u8; 8]) -> Option<Form> {
     if kind == HEVC {
         form_of_unit(&[window[4], window[5], window[6], window[7]])
@@ -93,7 +94,7 @@ fn form_at(kind: u8, window: &[u8; 8]) -> Option<Form> {
     }
 }
 
-// Whether start_code_prefix stands at the front.
+// Returns whether the bytes begin with start_code_prefix.
 fn has_prefix(bytes: &[u8]) -> bool
     requires { 4 ≤ length bytes.now }
 {
@@ -101,7 +102,8 @@ fn has_prefix(bytes: &[u8]) -> bool
 }
 
 // MPEG-1 and MPEG-2 (ISO/IEC 13818-2, 6.2.2.6): group_start_code 00 00 01 B8, time_code (25 bits),
-// closed_gop. A picture without it before tells nothing: picture_start_code is 00 00 01 00.
+// closed_gop. A picture without it before leaves the form unknown: picture_start_code is 00 00 01
+// 00.
 fn form_of_group(bytes: &[u8; 8]) -> Option<Form> {
     if !has_prefix(bytes) {
         return None;

@@ -1,29 +1,30 @@
-//! What the packets of a PID carry, piece after piece: PES packets, marks, and what is none.
+//! What the packets of a PID carry, one after another: PES packets, gap markers, and bytes that are
+//! neither.
 
 use crate::pes_lines::PesLines;
 use crate::pid_packets::TakesPieces;
 use crate::text::Text;
 use ttx_pes::{is_mark, size_of};
 
-/// What was given of a PID.
+/// What came from a PID.
 #[derive(Drop)]
 pub struct Given {
     lines: PesLines,
-    // Whether a mark was due at any time since the last packet came.
+    // Whether a gap marker was pending at any time since the last packet came.
     is_broken: bool,
-    // Since the last PES packet: whether a mark is due, and the packets that were lost or
+    // Since the last PES packet: whether a gap marker is pending, and the packets that were lost or
     // scrambled.
     has_mark: bool,
     lost: u64,
     scrambled: u64,
-    // Whether a seam stands behind the last PES packet.
+    // Whether there is a seam after the last PES packet.
     has_seam: bool,
-    // Why nothing comes any more; 0 where something may.
+    // Why nothing more comes; 0 if something may.
     refusal: u16,
 }
 
 impl Given {
-    /// Nothing yet.
+    /// Returns the state before the first packet.
     pub fn new(lines: PesLines) -> Given {
         Given {
             lines,
@@ -36,42 +37,42 @@ impl Given {
         }
     }
 
-    /// So many packets were lost.
+    /// Adds lost packets.
     pub fn add_lost(&mut self, count: u64) {
         self.lost = self.lost.saturating_add(count);
     }
 
-    /// A packet came behind a seam, or behind none.
+    /// Notes whether a packet came after a seam.
     pub fn note_seam(&mut self, is_seam: bool) {
         self.has_seam = self.has_seam || is_seam;
     }
 
-    /// A packet came that is scrambled.
+    /// Counts a scrambled packet.
     pub fn add_scrambled(&mut self) {
         self.scrambled = self.scrambled.saturating_add(1);
     }
 
-    /// Why; 0 where something may come.
+    /// Returns why nothing more comes; 0 if something may.
     pub fn refusal(&self) -> u16 {
         self.refusal
     }
 
-    /// Another packet came.
+    /// Notes another packet.
     pub fn go_on(&mut self) {
         self.is_broken = self.has_mark;
     }
 
-    /// Whether something is missing before what the last packet carries.
+    /// Returns whether something is missing before what the last packet carries.
     pub fn is_broken(&self) -> bool {
         self.is_broken
     }
 
-    /// The PTS of the last PES packet.
+    /// Returns the PTS of the last PES packet.
     pub fn last(&self) -> Option<u64> {
         self.lines.last()
     }
 
-    // Tells a mark that is due.
+    // Prints a pending gap marker.
     fn tell_mark(&mut self, text: &mut Text) {
         if !self.has_mark {
             return;
@@ -80,7 +81,7 @@ impl Given {
         self.lines.mark(self.lost, self.scrambled, text);
     }
 
-    // Tells the seams before a PES packet, where there are any.
+    // Prints the seams before a PES packet, if there are any.
     fn tell_seam(&mut self, text: &mut Text) {
         if !self.has_seam {
             return;
@@ -89,7 +90,7 @@ impl Given {
         self.lines.tell_seam(text);
     }
 
-    // Takes a mark, or a PES packet, before which a mark that is due is told.
+    // Processes a gap marker, or a PES packet, before which a pending gap marker is printed.
     fn take_known(&mut self, piece: &[u8], text: &mut Text) {
         if is_mark(piece) {
             self.has_mark = true;
@@ -100,7 +101,7 @@ impl Given {
         self.take_packet(piece, text);
     }
 
-    // Takes a PES packet.
+    // Processes a PES packet.
     fn take_packet(&mut self, pes: &[u8], text: &mut Text) {
         self.tell_seam(text);
         self.lines.take(pes, text);
@@ -108,12 +109,12 @@ impl Given {
         self.scrambled = 0;
     }
 
-    /// Tells what is not told yet of the PES packets.
+    /// Prints the PES packets that were not printed yet.
     pub fn flush(&mut self, text: &mut Text) {
         self.lines.flush(text);
     }
 
-    /// Nothing comes any more: tells what is kept back.
+    /// Ends the recording: prints what was kept back.
     pub fn end(&self, text: &mut Text) {
         if self.has_mark {
             self.lines.end_at_mark(self.lost, self.scrambled, text);
@@ -122,19 +123,19 @@ impl Given {
         }
     }
 
-    /// PES packets and marks, with one that is due.
+    /// Returns the number of PES packets and gap markers, with a pending one.
     pub fn count(&self) -> u64 {
         self.lines.count().saturating_add(self.has_mark as u64)
     }
 
-    /// How many of them are marks.
+    /// Returns how many of them are gap markers.
     pub fn marks(&self) -> u64 {
         self.lines.marks().saturating_add(self.has_mark as u64)
     }
 }
 
 impl TakesPieces for Given {
-    /// Takes a PES packet, a mark, or what is none, behind which nothing comes.
+    /// Processes a PES packet, a gap marker, or other bytes, after which nothing comes.
     fn take(&mut self, piece: &[u8], text: &mut Text) {
         match refusal_of(piece) {
             Some(number) => {
@@ -146,7 +147,8 @@ impl TakesPieces for Given {
     }
 }
 
-// The refusal of bytes that are no PES packet with Teletext; `None` of one, and of a mark.
+// Returns the refusal of bytes that are no PES packet with Teletext; `None` for one, and for a gap
+// marker.
 fn refusal_of(bytes: &[u8]) -> Option<u16> {
     let head = bytes.first_chunk()?;
     match size_of(head) {

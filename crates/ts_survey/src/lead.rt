@@ -1,9 +1,9 @@
-//! How far the Teletext of a PID leads the pictures of its programme, once a second.
+//! How far the Teletext of a PID is ahead of the pictures of its programme, once a second.
 
 use crate::clock::SECOND;
 use crate::text::{Text, forward};
 
-/// The last picture of a video PID that has a decoding time, and the number of its PES packet.
+/// The last picture of a video PID with a decoding time, and the number of its PES packet.
 #[derive(Clone, Copy)]
 pub struct Picture {
     pub video: u16,
@@ -14,14 +14,14 @@ pub struct Picture {
 /// What was printed of the lead of a PID.
 #[derive(Drop)]
 pub struct Lead {
-    // The video PID, and the PES packet of it behind which one with Teletext began last.
+    // The video PID, and its PES packet after which one with Teletext began last.
     behind: Option<(u16, u64)>,
     // The PTS of the last line.
     last: Option<u64>,
 }
 
 impl Lead {
-    /// Nothing was printed.
+    /// Returns the state before the first line.
     pub fn new() -> Lead {
         Lead {
             behind: None,
@@ -29,8 +29,8 @@ impl Lead {
         }
     }
 
-    /// A PES packet of the PID began, with that PTS, behind a picture. It is printed if it is the
-    /// first one behind that picture, and a second from the last line.
+    /// Processes a PES packet of the PID with this PTS, after a picture. It is printed if it is the
+    /// first one after that picture, and a second from the last line.
     pub fn take(&mut self, pid: u16, pts: u64, picture: &Picture, text: &mut Text) {
         if !self.go_to(picture) || !self.is_due(pts) {
             return;
@@ -39,8 +39,8 @@ impl Lead {
         put_lead(pid, pts, picture, text);
     }
 
-    // Goes to a picture, and returns whether it is another one than before. Another PID of video
-    // is printed at once.
+    // Moves to a picture, and returns whether it is another one than before. After a change of the
+    // video PID the next line is printed at once.
     fn go_to(&mut self, picture: &Picture) -> bool {
         let before = self.behind;
         self.behind = Some((picture.video, picture.number));
@@ -53,7 +53,7 @@ impl Lead {
         }
     }
 
-    // Whether a PTS is a second or more from the last line, or before it.
+    // Returns whether a PTS is a second or more after the last line, or before it.
     fn is_due(&self, pts: u64) -> bool {
         match self.last {
             Some(last) => forward(last, pts) >= SECOND,
@@ -62,7 +62,7 @@ impl Lead {
     }
 }
 
-// Prints how far a PES packet of Teletext leads a picture.
+// Prints how far a PES packet of Teletext is ahead of a picture.
 fn put_lead(pid: u16, pts: u64, picture: &Picture, text: &mut Text) {
     text.put(b"lead");
     text.number(pid as u64);

@@ -1,8 +1,8 @@
-//! What there is in a recording of a transport stream (ISO/IEC 13818-1), told line by line: tables,
-//! PIDs with Teletext, their PES packets and what a page holds, clocks, first pictures.
+//! Lists the contents of a recording of a transport stream (ISO/IEC 13818-1) line by line: tables,
+//! PIDs with Teletext, their PES packets and the decoded page, clocks, first pictures.
 //!
-//! Stands on `mpeg_ts` for what the packets of a PID carry, on `ttx_pes` for what a PES packet is
-//! refused for, and on `ttx_page` for what a receiver holds.
+//! `mpeg_ts` defines what the packets of a PID carry, `ttx_pes` why a PES packet is refused, and
+//! `ttx_page` what a receiver decodes.
 //!
 //! ```text
 //! let options = SurveyOptions { page, pid: None, packet_size: None };

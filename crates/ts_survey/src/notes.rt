@@ -1,4 +1,4 @@
-//! What is told of the packets that a receiver of the page hears.
+//! What is reported of the packets that a receiver of the page gets.
 ghost use Rattle.std.specs.Prelude.{◌≡◌, ◌≤◌, ◌<◌, ℕ};
 ghost use Rattle.ttx_page.specs.PacketKind.{kind};
 
@@ -11,16 +11,17 @@ use std::alloc::Global;
 use ttx_packet::{Control, Header, Packet, PageId};
 use ttx_page::{Blank, PacketKind, Page, Receiver};
 
-/// Pages: eight magazines of 256.
+/// The number of pages: eight magazines of 256.
 const PAGES: usize = 2048;
 
-/// What is noted.
+/// The notes.
 #[derive(Drop)]
 pub struct Notes {
-    // The rows that the receiver heard, with their hits; and those that were told last.
+    // The rows that the receiver got, with their hits; and those that were printed last.
     rows: Rows,
     told: Option<Rows>,
-    // Rows that came in this PES packet behind the end of the page; and those that were told last.
+    // Rows that came in this PES packet after the end of the page; and those that were printed
+    // last.
     strays: Rows,
     told_strays: Rows,
     has_stray: bool,
@@ -33,7 +34,7 @@ pub struct Notes {
 }
 
 impl Notes {
-    /// Nothing yet. `None` where memory runs out.
+    /// Returns the state before the first packet; `None` if memory runs out.
     pub fn new(alloc: Global) -> Option<Notes> {
         let Ok(subtitles) = vec![in alloc; 0u64; PAGES] else {
             return None;
@@ -51,7 +52,7 @@ impl Notes {
         })
     }
 
-    /// A PES packet begins.
+    /// Begins a PES packet.
     pub fn begin(&mut self) {
         self.is_opened = false;
         if self.has_stray {
@@ -60,7 +61,7 @@ impl Notes {
         }
     }
 
-    /// A PES packet is over: what is told of the receiver behind it.
+    /// Ends a PES packet, and adds the state of the receiver after it.
     pub fn end(&self, receiver: &Blank, heard: &mut Heard) {
         let is_blank = is_blank(receiver.page());
         heard.add_if(receiver.open(), b'o');
@@ -68,7 +69,7 @@ impl Notes {
         heard.add_if(self.has_stray, b's');
     }
 
-    /// A packet comes, which the receiver has not heard yet.
+    /// Notes a packet, before the receiver gets it.
     pub fn note(
         &mut self,
         receiver: &Blank,
@@ -84,7 +85,7 @@ impl Notes {
         self.note_other(watched, packet, header, pid, text);
     }
 
-    // A packet comes that is of that kind to a receiver of the page.
+    // Notes a packet of this kind for a receiver of the page.
     fn note_kind(&mut self, kind: &PacketKind, is_open: bool, packet: &Packet, heard: &mut Heard)
         requires { (row : ℕ) → kind.now ≡ PacketKind.Row row → (1 ≤ row) × (row ≤ 24) }
     {
@@ -96,7 +97,7 @@ impl Notes {
         }
     }
 
-    // A packet comes, with its header of any page, if it has one.
+    // Notes a packet, with its header of any page, if it has one.
     fn note_other(
         &mut self,
         watched: PageId,
@@ -119,7 +120,7 @@ impl Notes {
         }
     }
 
-    // A row of the page's magazine.
+    // Notes a row of the page's magazine.
     fn note_row(&mut self, row: u8, is_open: bool, packet: &Packet)
         requires first { 1 ≤ row }
         requires last { row ≤ 24 }
@@ -132,7 +133,7 @@ impl Notes {
         }
     }
 
-    // A header of the page.
+    // Notes a header of the page.
     fn note_header(&mut self, packet: &Packet, header: &Header, heard: &mut Heard) {
         self.is_opened = true;
         heard.add(b'h');
@@ -146,7 +147,7 @@ impl Notes {
         heard.add_numbers(coded);
     }
 
-    // A header of any page: it is counted where it is one of subtitles.
+    // Counts a header of any page if it is one of subtitles.
     fn count_header(&mut self, magazine: u8, header: &Header, pid: u16, text: &mut Text)
         requires { magazine < 8 }
     {
@@ -158,7 +159,7 @@ impl Notes {
         tell_first(before, pid, magazine, header.page, text);
     }
 
-    /// Whether the rows are others than those told last, or none were told.
+    /// Returns whether the rows differ from those printed last, or none were printed.
     pub fn is_changed(&self) -> bool {
         match &self.told {
             None => true,
@@ -166,24 +167,24 @@ impl Notes {
         }
     }
 
-    /// Whether strays have to be told.
+    /// Returns whether stray rows have to be printed.
     pub fn has_new_strays(&self) -> bool {
         self.has_stray && self.strays != self.told_strays
     }
 
-    /// Tells the page that the receiver holds.
+    /// Prints the decoded page of the receiver.
     pub fn tell_rows(&mut self, receiver: &Blank, text: &mut Text) {
         self.told = Some(self.rows);
         self.rows.tell_held(receiver.page(), text);
     }
 
-    /// Tells the strays.
+    /// Prints the stray rows.
     pub fn tell_strays(&mut self, text: &mut Text) {
         self.told_strays = self.strays;
         self.strays.tell(text);
     }
 
-    /// Tells how many headers with the subtitle bit came, of each page.
+    /// Prints how many headers with the subtitle bit came for each page.
     pub fn tell_pages(&self, pid: u16, text: &mut Text) {
         let counts = self.subtitles.as_slice();
         for place in 0..counts.len() {
@@ -192,12 +193,12 @@ impl Notes {
     }
 }
 
-// Whether a page is blank.
+// Returns whether a page is blank.
 fn is_blank(page: &Page) -> bool {
     page.first_difference(&Page::blank()).is_none()
 }
 
-// Counts one more at a place, and answers how many there were. `None` where there is no such place.
+// Counts one more at a place, and returns the count before; `None` if there is no such place.
 fn count_at(counts: &mut Vec<u64>, place: usize) -> Option<u64> {
     let count = counts.get_mut(place)?;
     let before = *count;
@@ -205,7 +206,7 @@ fn count_at(counts: &mut Vec<u64>, place: usize) -> Option<u64> {
     Some(before)
 }
 
-// Tells a page of which no header with the subtitle bit came before.
+// Prints a page at its first header with the subtitle bit.
 fn tell_first(before: Option<u64>, pid: u16, magazine: u8, page: u8, text: &mut Text)
     requires { magazine < 8 }
 {
@@ -223,7 +224,7 @@ fn tell_sub(pid: u16, magazine: u8, page: u8, text: &mut Text)
     text.put(b"\n");
 }
 
-// Tells how many headers with the subtitle bit came of a page, where any did.
+// Prints how many headers with the subtitle bit came for a page, if any did.
 fn tell_count(pid: u16, place: usize, count: u64, text: &mut Text) {
     if count == 0 {
         return;

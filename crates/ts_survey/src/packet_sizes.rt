@@ -1,11 +1,11 @@
-//! The bytes from one packet to the next, found in the first bytes of a recording.
+//! Detects the distance of packets in the first bytes of a recording.
 
 use mpeg_ts::{PACKET, PacketSize, SYNC_BYTE};
 
-/// Packets in a row that tell the distance.
+/// The number of packets in a row that determine the distance.
 const IN_A_ROW: usize = 5;
 
-// Whether a packet may stand at a place, or the recording ended before it.
+// Returns whether a packet may be at a place, or the recording ended before it.
 fn may_stand(bytes: &[u8], place: usize, is_end: bool) -> bool {
     if place >= bytes.len() {
         return is_end;
@@ -13,8 +13,8 @@ fn may_stand(bytes: &[u8], place: usize, is_end: bool) -> bool {
     bytes[place] == SYNC_BYTE
 }
 
-// Whether packets stand at a place and behind it at a distance, as many as tell it, or up to the
-// end of the recording.
+// Returns whether packets are at a place and after it at this distance, as many as determine it, or
+// up to the end of the recording.
 fn is_at(bytes: &[u8], place: usize, distance: usize, is_end: bool) -> bool {
     let mut at = place;
     for _ in 0..IN_A_ROW {
@@ -26,7 +26,7 @@ fn is_at(bytes: &[u8], place: usize, distance: usize, is_end: bool) -> bool {
     true
 }
 
-// The distance at a place. `None` where packets stand at none.
+// Returns the distance of the packets from a place on; `None` if there are none.
 fn size_at(bytes: &[u8], place: usize, is_end: bool) -> Option<PacketSize> {
     if !may_stand(bytes, place, is_end) {
         return None;
@@ -43,7 +43,7 @@ fn size_at(bytes: &[u8], place: usize, is_end: bool) -> Option<PacketSize> {
     None
 }
 
-/// The distance at the first place at which packets stand so. `None` where there is none yet.
+/// Returns the distance at the first place with such packets; `None` if there is none yet.
 pub fn find_size(bytes: &[u8], is_end: bool) -> Option<PacketSize> {
     for place in 0..bytes.len().saturating_sub(PACKET - 1) {
         match size_at(bytes, place, is_end) {

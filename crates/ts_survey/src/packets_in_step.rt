@@ -1,9 +1,9 @@
-//! The packets of a transport stream, found in bytes that come bit by bit; bytes that belong to
-//! none are skipped and counted.
+//! Finds the packets of a transport stream in bytes that come bit by bit; bytes that belong to none
+//! are skipped and counted.
 //!
-//! `Stream` of `mpeg_ts` finds the packets of one PID by its own walk. A walk for both would look
-//! at the byte behind a packet without taking it, and break the clause that what `extract` took
-//! gives what came.
+//! `Stream` of `mpeg_ts` finds the packets of one PID by a search of its own. A common search would
+//! look at the byte after a packet without consuming it, and break the clause that what `extract`
+//! took gives what came.
 ghost use Rattle.std.specs.Prelude.{◌≡◌, ◌≤◌, ◌<◌, ◌+◌, ◌-◌, List, [], ◌++◌, ℕ, length};
 ghost use Rattle.std.specs.Prelude.{IfNone, IfSome, drop, false, replicate, take, true};
 ghost use Rattle.mpeg_ts.specs.PacketSize.{bytes_of};
@@ -17,32 +17,33 @@ ghost use Rattle.ts_survey.specs.Room.{most_kept};
 use crate::text::Text;
 use mpeg_ts::{PACKET, PacketSize, SYNC_BYTE};
 
-/// Packets as long as so many skipped bytes in a row may be missing of any PID.
+/// If as many bytes in a row are skipped as so many packets have, packets of any PID may be
+/// missing.
 const HOLE: u64 = 15;
 
-/// Takes the packets of a transport stream, one after another.
+/// Processes the packets of a transport stream, one after another.
 pub trait TakesPackets {
-    // Which calls go so, where it says that: its state before, the packet or [] for a hole, its
-    // state after.
+    // The relation of its state before a call, the packet or [] for missing ones, and its state
+    // afterwards.
     ghost is_taken: { Self → List ℕ → Self → Type 0 } = { any_piece };
 
-    /// Takes the packet with that number, and tells what there is to tell of it.
+    /// Processes the packet with this number, and prints what there is to report.
     fn take(&mut self, number: u64, packet: &[u8; PACKET], text: &mut Text)
         ensures { is_taken self.old packet.now self.new };
 
-    /// So many bytes were skipped that packets of any PID may be missing.
+    /// Notes that packets of any PID may be missing, since so many bytes were skipped.
     fn note_hole(&mut self)
         ensures { is_taken self.old [] self.new };
 }
 
-/// How far the packets were found.
+/// How far packets were found.
 #[derive(Drop)]
 pub struct PacketsInStep {
     size: PacketSize,
-    // So many bytes are passed over before the next one that is looked at.
+    // So many bytes are skipped before the next one that is examined.
     lead: usize,
     in_step: bool,
-    // Packets so far.
+    // The number of packets so far.
     number: u64,
     // Bytes that were skipped in a row, and in all.
     run: u64,
@@ -54,11 +55,11 @@ pub struct PacketsInStep {
 enum Begins {
     Yes,
     No,
-    // The bytes that tell it have not come.
+    // The bytes that decide it have not come.
     Unknown,
 }
 
-// The packet at a place, where it is there whole.
+// Returns the packet at a place, if it is complete.
 #[inline(always)]
 fn packet_at(bytes: &[u8], place: usize) -> Option<&[u8; PACKET]>
     ensures some { IfSome result (λ packet. (place + 188 ≤ length bytes.now)
@@ -73,8 +74,8 @@ fn packet_at(bytes: &[u8], place: usize) -> Option<&[u8; PACKET]>
 }
 
 impl PacketsInStep {
-    /// At the start of a recording whose packets have that distance. So many bytes before it were
-    /// skipped.
+    /// Returns the state at the start of a stream with this distance of packets, after so many
+    /// skipped bytes.
     pub fn new(size: PacketSize, skipped: u64) -> PacketsInStep
         ensures size { result.size ≡ size }
         ensures lead { result.lead ≡ lead_size (bytes_of size) }
@@ -95,21 +96,21 @@ impl PacketsInStep {
         }
     }
 
-    /// Packets so far.
+    /// Returns the number of packets so far.
     pub fn number(&self) -> u64
         ensures { result ≡ self.now.number }
     {
         self.number
     }
 
-    /// Bytes that belong to no packet.
+    /// Returns the number of bytes that belong to no packet.
     pub fn skipped(&self) -> u64
         ensures { result ≡ self.now.skipped }
     {
         self.skipped
     }
 
-    // The bytes from one packet to the next.
+    // Returns the distance of packets.
     #[inline(always)]
     #[tactic(auto, using(crate::proofs::InStepLemmas::sizes))]
     fn distance(&self) -> usize
@@ -120,8 +121,8 @@ impl PacketsInStep {
         self.size.bytes()
     }
 
-    // Whether a packet begins at a place of bytes: in step, at a sync byte; else at one that has
-    // another one at the distance behind it.
+    // Returns whether a packet begins at a place of the bytes: in step, at a sync byte; otherwise
+    // at one with another sync byte at the distance after it.
     #[inline(always)]
     #[tactic(auto, using(crate::proofs::InStepLemmas::starts))]
     fn begins(&self, bytes: &[u8], place: usize, is_end: bool) -> Begins
@@ -152,7 +153,7 @@ impl PacketsInStep {
         }
     }
 
-    /// Takes the packets that the bytes have, and answers how many bytes are not needed any more.
+    /// Processes the packets of the bytes, and returns how many bytes are no longer needed.
     pub fn take<M: TakesPackets>(
         &mut self,
         bytes: &[u8],
@@ -160,8 +161,8 @@ impl PacketsInStep {
         to: &mut M,
         text: &mut Text,
     ) -> usize
-        // What is taken are the packets that stand there, in order, each once, and holes; they and
-        // the bytes that are skipped are counted.
+        // Exactly the packets of the bytes are processed, in order, each once, and the gaps; they
+        // and the skipped bytes are counted.
         ensures all { TakesAll M.is_taken self.old to.old bytes.now is_end result self.new to.new }
         ensures kept { length bytes.now ≤ result + most_kept }
     {
@@ -175,7 +176,7 @@ impl PacketsInStep {
         used
     }
 
-    // Takes the packets that the bytes have, and answers the place behind what stands there.
+    // Processes the packets of the bytes, and returns the place after them.
     #[inline(always)]
     fn find<M: TakesPackets>(
         &mut self,
@@ -208,7 +209,7 @@ impl PacketsInStep {
         at
     }
 
-    // Takes a packet.
+    // Processes a packet.
     #[inline(always)]
     fn take_packet<M: TakesPackets>(&mut self, packet: &[u8; PACKET], to: &mut M, text: &mut Text)
         ensures same { self.new ≡ record self.old {
@@ -224,8 +225,8 @@ impl PacketsInStep {
         to.take(self.number, packet, text);
     }
 
-    // Skips a byte, and those up to where the next packet may begin or none has room. Answers the
-    // place behind them.
+    // Skips a byte, and those up to where the next packet may begin or none has room. Returns the
+    // place after them.
     #[inline(never)]
     fn skip<M: TakesPackets>(&mut self, bytes: &[u8], place: usize, to: &mut M) -> usize
         requires { place + 188 ≤ length bytes.now }
@@ -252,7 +253,7 @@ impl PacketsInStep {
         next
     }
 
-    // Notes a hole where so many skipped bytes end one.
+    // Notes missing packets if so many skipped bytes complete a gap.
     #[inline(always)]
     #[tactic(auto, using(crate::proofs::InStepLemmas::holes))]
     fn note_skipped<M: TakesPackets>(&self, count: u64, to: &mut M)
@@ -271,8 +272,8 @@ impl PacketsInStep {
     }
 }
 
-// The first place from one on at which a packet may begin out of step, as far as one has room; the
-// place itself where that is behind.
+// Returns the first place from `place` on at which a packet may begin out of step, as far as one
+// has room; `place` itself if none has.
 fn next_start(bytes: &[u8], place: usize, distance: usize) -> usize
     requires near { 188 ≤ distance }
     requires far { distance ≤ 204 }
@@ -295,8 +296,8 @@ fn next_start(bytes: &[u8], place: usize, distance: usize) -> usize
     limit
 }
 
-// Whether a packet may begin at a place out of step: at a sync byte that has another one at the
-// distance behind it, or behind which that byte has not come.
+// Returns whether a packet may begin at a place out of step: at a sync byte with another one at the
+// distance after it, or after which that byte has not come.
 #[inline(always)]
 #[tactic(auto, using(crate::proofs::InStepLemmas::starts))]
 fn may_begin(bytes: &[u8], place: usize, distance: usize) -> bool

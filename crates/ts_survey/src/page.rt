@@ -1,4 +1,4 @@
-//! What a receiver of the page hears in PES packets, and what it holds then.
+//! A receiver of the page for PES packets, and what it decodes.
 
 use crate::heard::Heard;
 use crate::notes::Notes;
@@ -8,7 +8,7 @@ use std::alloc::Global;
 use ttx_packet::{PageId, SentPacket};
 use ttx_page::{Blank, Page, Receiver};
 
-/// A page that is followed: a receiver of it, and what is told of what that hears.
+/// A page that is followed: a receiver of it, and the notes of what it gets.
 #[derive(Drop)]
 pub struct Following {
     receiver: Blank,
@@ -16,7 +16,7 @@ pub struct Following {
 }
 
 impl Following {
-    /// Of this page. `None` where memory runs out.
+    /// Returns the state before the first packet; `None` if memory runs out.
     pub fn new(alloc: Global, page: PageId) -> Option<Following> {
         let notes = Notes::new(alloc)?;
         Some(Following {
@@ -25,7 +25,7 @@ impl Following {
         })
     }
 
-    /// Hears a PES packet of a PID.
+    /// Processes a PES packet of a PID.
     pub fn hear(&mut self, pes: &[u8], pid: u16, heard: &mut Heard, text: &mut Text) {
         self.notes.begin();
         let mut rest = units_of(pes);
@@ -39,7 +39,7 @@ impl Following {
         self.notes.end(&self.receiver, heard);
     }
 
-    // Hears the packet of a data unit, where it has one.
+    // Processes the packet of a data unit, if it has one.
     fn hear_unit(&mut self, sent: Option<&[u8; 42]>, pid: u16, heard: &mut Heard, text: &mut Text) {
         match sent {
             None => {}
@@ -51,23 +51,23 @@ impl Following {
         }
     }
 
-    /// Whether rows have to be told after a PES packet: at the first header of the page, and where
-    /// they are others than those told last.
+    /// Returns whether rows have to be printed after a PES packet: at the first header of the page,
+    /// and if they differ from those printed last.
     pub fn is_changed(&self) -> bool {
         self.receiver.heard() && self.notes.is_changed()
     }
 
-    /// What is told of what was heard.
+    /// Returns the notes.
     pub fn notes(&self) -> &Notes {
         &self.notes
     }
 
-    /// Tells the rows of the page that the receiver holds.
+    /// Prints the decoded page of the receiver.
     pub fn tell_rows(&mut self, text: &mut Text) {
         self.notes.tell_rows(&self.receiver, text);
     }
 
-    /// Tells rows that came behind the end of the page.
+    /// Prints rows that came after the end of the page.
     pub fn tell_strays(&mut self, text: &mut Text) {
         self.notes.tell_strays(text);
     }

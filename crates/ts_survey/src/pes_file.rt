@@ -18,7 +18,7 @@ pub struct PesFile {
     is_damaged: bool,
 }
 
-// Whether six bytes or more begin with the start of a PES packet with private data.
+// Returns whether the bytes, six or more, begin with the start of a PES packet with private data.
 fn is_start(bytes: &[u8]) -> bool
     requires { 6 ≤ length bytes.now }
     ensures { result ≡ reading.is_start bytes.now }
@@ -26,14 +26,14 @@ fn is_start(bytes: &[u8]) -> bool
     bytes[0] == 0 && bytes[1] == 0 && bytes[2] == 1 && bytes[3] == 0xBD
 }
 
-// Whether bytes begin with another start.
+// Returns whether the bytes begin with another start code.
 fn has_other_start(bytes: &[u8]) -> bool
     ensures { result ≡ pieces.has_other_start bytes.now }
 {
     bytes.len() >= 6 && !is_start(bytes)
 }
 
-// The size of the whole PES packet that the bytes begin with, by its length.
+// Returns the size of the complete PES packet at the beginning of the bytes, from its length field.
 fn whole_size(bytes: &[u8]) -> Option<usize>
     ensures some { IfSome result (λ size. (6 ≤ size) × (size ≤ length bytes.now)) }
     ensures unfinished { IfNone result (pieces.has_other_start bytes.now ≡ false
@@ -53,7 +53,7 @@ fn whole_size(bytes: &[u8]) -> Option<usize>
 }
 
 impl PesFile {
-    /// Before the first. `None` where memory runs out.
+    /// Returns the state before the first PES packet; `None` if memory runs out.
     pub fn new(alloc: Global, page: PageId) -> Option<PesFile> {
         let lines = PesLines::new(alloc, 0, page)?;
         Some(PesFile {
@@ -62,8 +62,7 @@ impl PesFile {
         })
     }
 
-    /// Takes the PES packets that the bytes have, and answers how many bytes are not needed any
-    /// more.
+    /// Processes the PES packets of the bytes, and returns how many bytes are no longer needed.
     pub fn take(&mut self, bytes: &[u8], is_end: bool, text: &mut Text) -> usize
         ensures within { result ≤ length bytes.now }
         ensures kept { length bytes.now ≤ result + most_kept }
@@ -80,14 +79,14 @@ impl PesFile {
         bytes.len() - rest.len()
     }
 
-    // The file can't be read on where bytes are left at its end.
+    // Prints that the file can't be read on if bytes are left at its end.
     fn end_at(&mut self, rest: &[u8], is_end: bool, text: &mut Text) {
         if is_end && !rest.is_empty() {
             self.tell_damage(b" cut\n", text);
         }
     }
 
-    // Takes the whole PES packets that the bytes begin with, and answers what stands behind them.
+    // Processes the complete PES packets at the beginning of the bytes, and returns the rest.
     fn take_whole<'a>(&mut self, bytes: &'a [u8], text: &mut Text) -> &'a [u8]
         ensures unfinished { pieces.has_other_start result.now ≡ false
             → length result.now < most_kept }
@@ -105,7 +104,7 @@ impl PesFile {
         rest
     }
 
-    // A PES packet, or a mark.
+    // Processes a PES packet, or a gap marker.
     fn take_piece(&mut self, piece: &[u8], text: &mut Text) {
         if is_mark(piece) {
             self.lines.mark(0, 0, text);
@@ -114,7 +113,7 @@ impl PesFile {
         self.lines.take(piece, text);
     }
 
-    // The file can't be read on.
+    // Prints that the file can't be read on.
     fn tell_damage(&mut self, why: &[u8], text: &mut Text) {
         self.is_damaged = true;
         self.lines.flush(text);
@@ -123,18 +122,18 @@ impl PesFile {
         text.put(why);
     }
 
-    /// Tells what is not told yet, since nothing more is there for now.
+    /// Prints what was not printed yet, since no more data is there for now.
     pub fn flush(&mut self, text: &mut Text) {
         self.lines.flush(text);
     }
 
-    /// The file is over.
+    /// Ends the file.
     pub fn end(&self, text: &mut Text) {
         self.lines.end(text);
         self.tell_end(text);
     }
 
-    // Tells how many PES packets came.
+    // Prints how many PES packets came.
     fn tell_end(&self, text: &mut Text) {
         text.put(b"end 0");
         text.number(self.lines.count());

@@ -1,10 +1,10 @@
-//! The header of a PES packet up to its times, which may be spread over several TS packets
-//! (ISO/IEC 13818-1, PES_packet).
+//! The header of a PES packet up to its times, which may be spread over several TS packets (ISO/IEC
+//! 13818-1, PES_packet).
 
 use crate::adaptation::{decoding_time, pts_said};
 use arrayvec::ArrayVec;
 
-/// The bytes of a header up to the end of its DTS.
+/// The number of bytes of a header up to the end of its DTS.
 const MOST: usize = 19;
 
 /// The header of the PES packet that began last in a PID.
@@ -16,7 +16,7 @@ pub struct PesHeader {
 }
 
 impl PesHeader {
-    /// No PES packet has begun.
+    /// Returns the state before the first PES packet.
     pub fn new() -> PesHeader {
         PesHeader {
             bytes: ArrayVec::new(),
@@ -24,24 +24,24 @@ impl PesHeader {
         }
     }
 
-    /// Whether more bytes of it are needed.
+    /// Returns whether more bytes of it are needed.
     pub fn is_open(&self) -> bool {
         self.is_open
     }
 
-    /// The bytes of it that have come: all of them, as long as it is open.
+    /// Returns how many bytes of it have come: all of them, as long as it is open.
     pub fn len(&self) -> usize {
         self.bytes.len()
     }
 
-    /// Forgets it: its bytes can't be read, or their rest is lost.
+    /// Drops the header: its bytes can't be read, or the rest of them is lost.
     pub fn clear(&mut self) {
         self.bytes.clear();
         self.is_open = false;
     }
 
-    /// Takes the payload of the next packet, and returns whether the header is complete with it:
-    /// once for each PES packet, and never if its rest does not follow.
+    /// Processes the payload of the next packet, and returns whether the header is complete with
+    /// it: once for each PES packet, and never if its rest does not follow.
     pub fn take(&mut self, payload: &[u8], begins: bool, follows: bool) -> bool {
         if begins || !follows {
             self.clear();
@@ -54,22 +54,22 @@ impl PesHeader {
         !self.is_open
     }
 
-    /// stream_id; `None` if the bytes are no PES packet.
+    /// Returns stream_id; `None` if the bytes are no PES packet.
     pub fn stream_id(&self) -> Option<u8> {
         stream_id_in(self.bytes.as_slice())
     }
 
-    /// Its PTS.
+    /// Returns its PTS.
     pub fn pts(&self) -> Option<u64> {
         pts_said(self.bytes.as_slice())
     }
 
-    /// Its DTS, or its PTS if it has no DTS.
+    /// Returns its DTS, or its PTS if it has no DTS.
     pub fn decoding_time(&self) -> Option<u64> {
         decoding_time(self.bytes.as_slice())
     }
 
-    /// The bytes of the whole header, by PES_header_data_length.
+    /// Returns the size of the whole header, from PES_header_data_length.
     pub fn size(&self) -> usize {
         match self.bytes.as_slice().get(8) {
             Some(more) => 9 + *more as usize,
@@ -85,7 +85,7 @@ fn add_front(bytes: &mut ArrayVec<u8, MOST>, payload: &[u8]) {
     let _ = bytes.try_extend_from_slice(front);
 }
 
-// How many bytes a header needs up to its times, by PTS_DTS_flags if they are there.
+// Returns how many bytes a header needs up to its times, by PTS_DTS_flags if they are there.
 fn needed(bytes: &[u8]) -> usize {
     if bytes.len() < 9 || bytes[7] < 0x80 {
         9
@@ -96,7 +96,7 @@ fn needed(bytes: &[u8]) -> usize {
     }
 }
 
-/// stream_id of the PES packet with these first bytes; `None` if they do not begin with
+/// Returns stream_id of the PES packet with these first bytes; `None` if they do not begin with
 /// packet_start_code_prefix, 00 00 01.
 pub fn stream_id_in(bytes: &[u8]) -> Option<u8> {
     if bytes.len() > 3 && bytes[0] == 0 && bytes[1] == 0 && bytes[2] == 1 {

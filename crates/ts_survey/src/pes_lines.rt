@@ -1,4 +1,4 @@
-//! The lines of the PES packets of a PID: runs of them, marks, and what the page holds.
+//! The lines of the PES packets of a PID: runs of them, gap markers, and the decoded page.
 
 use crate::adaptation::pts_said;
 use crate::heard::Heard;
@@ -9,7 +9,7 @@ use sub_io::MemSource;
 use ttx_packet::PageId;
 use ttx_pes::{PesFrame, PesReader};
 
-/// PES packets in a row with one step, in which the same was heard.
+/// Consecutive PES packets with the same step and the same events.
 #[derive(Drop)]
 struct Run {
     first: u64,
@@ -34,7 +34,7 @@ pub struct PesLines {
     last: Option<u64>,
 }
 
-// The refusal by which a PES packet is not read; 0 for none.
+// Returns the refusal of a PES packet; 0 for none.
 fn refusal(pes: &[u8], frame: &mut PesFrame) -> u16 {
     let mut source = MemSource::new(pes);
     let mut reader = PesReader::new();
@@ -45,7 +45,7 @@ fn refusal(pes: &[u8], frame: &mut PesFrame) -> u16 {
 }
 
 impl PesLines {
-    /// Before the first. `None` where memory runs out.
+    /// Returns the state before the first PES packet; `None` if memory runs out.
     pub fn new(alloc: Global, pid: u16, page: PageId) -> Option<PesLines> {
         let page = Following::new(alloc, page)?;
         Some(PesLines {
@@ -67,22 +67,22 @@ impl PesLines {
         })
     }
 
-    /// PES packets and marks so far.
+    /// Returns the number of PES packets and gap markers so far.
     pub fn count(&self) -> u64 {
         self.count
     }
 
-    /// How many of them are marks.
+    /// Returns how many of them are gap markers.
     pub fn marks(&self) -> u64 {
         self.marks
     }
 
-    /// The PTS of the last PES packet.
+    /// Returns the PTS of the last PES packet.
     pub fn last(&self) -> Option<u64> {
         self.last
     }
 
-    /// A PES packet came.
+    /// Processes a PES packet.
     pub fn take(&mut self, pes: &[u8], text: &mut Text) {
         let pts = pts_said(pes);
         self.hear(pes, pts, text);
@@ -92,17 +92,17 @@ impl PesLines {
         self.last = pts.or(self.last);
     }
 
-    // Whether rows have to be told behind a PES packet with that PTS.
+    // Returns whether rows have to be printed after a PES packet with this PTS.
     fn tells_rows(&self, pts: Option<u64>) -> bool {
         pts.is_some() && self.page.is_changed()
     }
 
-    // Whether strays have to be.
+    // Returns whether stray rows have to be printed.
     fn tells_strays(&self, pts: Option<u64>) -> bool {
         pts.is_some() && self.page.notes().has_new_strays()
     }
 
-    // Hears a PES packet with a PTS.
+    // Passes a PES packet with a PTS to the receiver.
     fn hear(&mut self, pes: &[u8], pts: Option<u64>, text: &mut Text) {
         self.heard.begin(refusal(pes, &mut self.frame));
         if pts.is_some() {
@@ -110,8 +110,7 @@ impl PesLines {
         }
     }
 
-    // Puts a PES packet that was heard into the run, or tells it where rows or strays are told
-    // behind it.
+    // Adds a PES packet to the run, or prints it if rows or stray rows follow it.
     fn put(&mut self, pts: Option<u64>, is_changed: bool, has_strays: bool, text: &mut Text) {
         let number = self.count;
         self.count = self.count.saturating_add(1);
@@ -124,7 +123,7 @@ impl PesLines {
         }
     }
 
-    // Tells the run, then a PES packet for itself, then what the page holds, and strays, behind it.
+    // Prints the run, then a PES packet on its own, then the decoded page and stray rows after it.
     fn tell_alone(
         &mut self,
         number: u64,
@@ -139,7 +138,7 @@ impl PesLines {
         self.tell_page(number, is_changed, has_strays, text);
     }
 
-    // Adds a PES packet to the run, where it goes on with it; whether it does.
+    // Adds a PES packet to the run if it continues it, and returns whether it does.
     fn join(&mut self, pts: Option<u64>) -> bool {
         let Some(now) = pts else {
             return false;
@@ -167,19 +166,19 @@ impl PesLines {
         self.run.heard.copy(&self.heard);
     }
 
-    /// Tells the run, where there is one.
+    /// Prints the run, if there is one.
     pub fn flush(&mut self, text: &mut Text) {
         self.tell_kept(text);
         self.run.count = 0;
     }
 
-    // Tells what the page holds, and strays, behind the PES packet.
+    // Prints the decoded page and stray rows after the PES packet.
     fn tell_page(&mut self, number: u64, is_changed: bool, has_strays: bool, text: &mut Text) {
         self.tell_rows(number, is_changed, text);
         self.tell_strays(number, has_strays, text);
     }
 
-    // Tells what the page holds, where that is to be told.
+    // Prints the decoded page, if it has to be printed.
     fn tell_rows(&mut self, number: u64, is_told: bool, text: &mut Text) {
         if !is_told {
             return;
@@ -190,7 +189,7 @@ impl PesLines {
         self.page.tell_rows(text);
     }
 
-    // Tells strays, where they are to be told.
+    // Prints stray rows, if they have to be printed.
     fn tell_strays(&mut self, number: u64, is_told: bool, text: &mut Text) {
         if !is_told {
             return;
@@ -201,7 +200,7 @@ impl PesLines {
         self.page.tell_strays(text);
     }
 
-    /// A jump of the counter was announced before the next PES packet.
+    /// Prints that a jump of the counter was announced before the next PES packet.
     pub fn tell_seam(&self, text: &mut Text) {
         text.put(b"seam");
         text.number(self.pid as u64);
@@ -209,7 +208,7 @@ impl PesLines {
         text.put(b"\n");
     }
 
-    /// A mark came: so many packets were lost and scrambled.
+    /// Prints a gap marker: so many packets were lost and scrambled.
     pub fn mark(&mut self, lost: u64, scrambled: u64, text: &mut Text) {
         self.flush(text);
         tell_gap(self.pid, self.count, lost, scrambled, text);
@@ -217,20 +216,20 @@ impl PesLines {
         self.marks = self.marks.saturating_add(1);
     }
 
-    /// They are over: tells the run, where there is one, and the pages with subtitles.
+    /// Ends the PES packets: prints the run, if there is one, and the pages with subtitles.
     pub fn end(&self, text: &mut Text) {
         self.tell_kept(text);
         self.page.notes().tell_pages(self.pid, text);
     }
 
-    /// They are over, and a mark is due: so many packets were lost and scrambled.
+    /// Ends the PES packets with a pending gap marker: so many packets were lost and scrambled.
     pub fn end_at_mark(&self, lost: u64, scrambled: u64, text: &mut Text) {
         self.tell_kept(text);
         tell_gap(self.pid, self.count, lost, scrambled, text);
         self.page.notes().tell_pages(self.pid, text);
     }
 
-    // Tells the run, where there is one.
+    // Prints the run, if there is one.
     fn tell_kept(&self, text: &mut Text) {
         if self.run.count == 0 {
             return;
@@ -239,7 +238,7 @@ impl PesLines {
     }
 }
 
-// Tells a run of PES packets.
+// Prints a run of PES packets.
 fn tell_run(pid: u16, run: &Run, text: &mut Text) {
     text.put(b"pes");
     text.number(pid as u64);
@@ -250,7 +249,7 @@ fn tell_run(pid: u16, run: &Run, text: &mut Text) {
     run.heard.tell(text);
 }
 
-// Tells a mark.
+// Prints a gap marker.
 fn tell_gap(pid: u16, number: u64, lost: u64, scrambled: u64, text: &mut Text) {
     text.put(b"gap");
     text.number(pid as u64);

@@ -11,14 +11,14 @@ use crate::pid_state::Link;
 use crate::text::{CLOCK, Text, forward};
 use mpeg_ts::{PACKET, announces_jump, begins, has_adaptation, has_payload, is_wrong};
 
-/// How far it has come.
+/// How far the first pictures have come.
 #[derive(Clone, Copy, PartialEq, Eq)]
 enum Reach {
     /// No picture that can be shown alone has begun.
     Before,
     /// One has.
     Within,
-    /// The next one has, or ten seconds have gone by.
+    /// The next one has, or ten seconds have passed.
     Over,
 }
 
@@ -29,7 +29,7 @@ pub struct Pictures {
     reach: Reach,
     // Whether each packet is of interest, not only one in which a PES packet begins.
     needs_each: bool,
-    // The last packet that was taken, and whether it was sent twice.
+    // The last packet that was processed, and whether it was sent twice.
     packet: [u8; PACKET],
     has_repeat: bool,
     // Of the PES packet that began last: its header, and whether random_access_indicator was set;
@@ -40,20 +40,20 @@ pub struct Pictures {
     // PES packets that began, and the last one with a decoding time.
     count: u64,
     last: Option<Picture>,
-    // Whether the flagged picture goes on, and the bytes up to the end of its header.
+    // Whether the flagged picture continues, and the bytes up to the end of its header.
     is_first: bool,
     header_left: usize,
     passed: u64,
     lost: u64,
     scrambled: u64,
-    // Of the group: the PTS of the flagged picture, the least one, and what its bytes say.
+    // Of the group: the PTS of the flagged picture, the least PTS, and what its bytes say.
     flagged: Option<u64>,
     first: Option<u64>,
     reader: FormReader,
 }
 
 impl Pictures {
-    /// Of this PID, before the first.
+    /// Returns the state of a PID before the first picture.
     pub fn new(pid: u16) -> Pictures {
         Pictures {
             pid,
@@ -77,24 +77,24 @@ impl Pictures {
         }
     }
 
-    /// Its PID.
+    /// Returns its PID.
     pub fn pid(&self) -> u16 {
         self.pid
     }
 
-    /// The last one with a decoding time.
+    /// Returns the last picture with a decoding time.
     pub fn last(&self) -> Option<Picture> {
         self.last
     }
 
-    /// Whether each packet is of interest. Once the first ones are over, only the headers of PES
-    /// packets are.
+    /// Returns whether each packet is of interest. After the first pictures, only the headers of
+    /// PES packets are.
     #[inline(always)]
     pub fn needs_each(&self) -> bool {
         self.needs_each
     }
 
-    /// A packet of the PID came that is of interest, which the PMT says is of that stream_type.
+    /// Processes a packet of interest of the PID, whose stream_type in the PMT is `kind`.
     pub fn take(&mut self, packet: &[u8; PACKET], kind: u8, link: Link, text: &mut Text) {
         if packet[1] >= 0x80 {
             return;
@@ -106,7 +106,7 @@ impl Pictures {
         }
     }
 
-    // A packet with a payload came, perhaps a second time.
+    // Processes a packet with a payload, which may be a repeat.
     fn take_once(&mut self, packet: &[u8; PACKET], kind: u8, link: Link, text: &mut Text) {
         if self.is_repeat(packet, link) {
             self.has_repeat = true;
@@ -119,7 +119,7 @@ impl Pictures {
         self.needs_each = !is_over(self.reach) || self.header.is_open();
     }
 
-    // Whether a packet repeats the last one.
+    // Returns whether a packet repeats the last one.
     fn is_repeat(&self, packet: &[u8; PACKET], link: Link) -> bool {
         match link {
             Link::Same => {}
@@ -133,7 +133,7 @@ impl Pictures {
             && behind_adaptation(packet) == behind_adaptation(&self.packet)
     }
 
-    // Counts what is lost by its counter, and what is scrambled, among the pictures.
+    // Counts breaks of the counter and scrambled packets among the pictures.
     fn count_lost(&mut self, packet: &[u8; PACKET], link: Link) {
         match self.reach {
             Reach::Within => {
@@ -144,7 +144,7 @@ impl Pictures {
         }
     }
 
-    // A packet goes on with a picture, or begins one.
+    // Processes a packet that continues a picture, or begins one.
     fn go_on(&mut self, packet: &[u8; PACKET], kind: u8, link: Link, text: &mut Text) {
         if begins(packet) {
             self.is_flagged = self.flags_next || begins_access(packet);
@@ -158,7 +158,8 @@ impl Pictures {
         }
     }
 
-    // The payload can't be read. If it is scrambled, a picture may begin in it, without a time.
+    // Processes a payload that can't be read. If it is scrambled, a picture may begin in it,
+    // without a time.
     fn go_on_unread(&mut self, packet: &[u8; PACKET], kind: u8, text: &mut Text) {
         self.header.clear();
         self.header_left = 0;
@@ -181,7 +182,7 @@ impl Pictures {
         self.read_on(payload);
     }
 
-    // A picture begins.
+    // Begins a picture.
     fn begin_picture(&mut self, kind: u8, text: &mut Text) {
         self.count = self.count.saturating_add(1);
         if let Some(time) = self.header.decoding_time() {
@@ -210,7 +211,7 @@ impl Pictures {
         }
     }
 
-    // The flagged picture goes on in a payload, where no other one has begun.
+    // Processes a payload with more of the flagged picture, if no other one has begun.
     fn read_on(&mut self, payload: &[u8]) {
         if !self.is_first {
             return;
@@ -220,7 +221,7 @@ impl Pictures {
         self.reader.read(picture);
     }
 
-    // The flagged picture begins: it is told.
+    // Begins the flagged picture, and prints it.
     fn begin(&mut self, kind: u8, text: &mut Text) {
         self.tell_video(text);
         self.show(text);
@@ -236,7 +237,7 @@ impl Pictures {
         text.put(b"\n");
     }
 
-    // A picture begins: it is told.
+    // Begins a picture, and prints it.
     fn show(&mut self, text: &mut Text) {
         self.reach = Reach::Within;
         let pts = self.header.pts();
@@ -253,7 +254,7 @@ impl Pictures {
         text.put(b"\n");
     }
 
-    // Keeps the least PTS, and ends ten seconds behind it.
+    // Keeps the least PTS, and ends the pictures ten seconds after it.
     fn move_to(&mut self, now: u64, text: &mut Text) {
         let first = least_of(self.first, now);
         self.first = Some(first);
@@ -262,7 +263,7 @@ impl Pictures {
         }
     }
 
-    // They are over.
+    // Ends the first pictures.
     fn close(&mut self, text: &mut Text) {
         self.reach = Reach::Over;
         self.tell_group(text);
@@ -270,7 +271,7 @@ impl Pictures {
         text.put(b"\n");
     }
 
-    // What both lines of pictures begin with.
+    // Prints the beginning of both lines of pictures.
     fn tell_counts(&self, text: &mut Text) {
         text.put(b"pictures");
         text.number(self.pid as u64);
@@ -278,7 +279,7 @@ impl Pictures {
         text.number(self.scrambled);
     }
 
-    // Tells the group of the flagged picture.
+    // Prints the group of the flagged picture.
     fn tell_group(&self, text: &mut Text) {
         text.put(b"group");
         text.number(self.pid as u64);
@@ -287,7 +288,7 @@ impl Pictures {
         text.put(form_word(self.reader.form()));
     }
 
-    /// The recording is over: what is not over is told.
+    /// Ends the recording: prints what has not ended.
     pub fn end(&self, text: &mut Text) {
         match self.reach {
             Reach::Over => {}
@@ -313,7 +314,7 @@ fn is_over(reach: Reach) -> bool {
     }
 }
 
-// Whether a packet is known to be the next one of its PID.
+// Returns whether a packet is known to be the next one of its PID.
 fn follows(link: Link) -> bool {
     match link {
         Link::Next => true,
@@ -321,7 +322,7 @@ fn follows(link: Link) -> bool {
     }
 }
 
-// Whether something is lost before a packet that is no repeat.
+// Returns whether something is lost before a packet that is no repeat.
 fn is_behind_loss(packet: &[u8; PACKET], link: Link) -> bool {
     match link {
         Link::Broken => true,
@@ -330,7 +331,7 @@ fn is_behind_loss(packet: &[u8; PACKET], link: Link) -> bool {
     }
 }
 
-// Whether stream_id is that of video: E0 to EF.
+// Returns whether stream_id is that of video: E0 to EF.
 fn is_video(stream_id: Option<u8>) -> bool {
     match stream_id {
         Some(id) => id / 0x10 == 0xE,
@@ -338,7 +339,7 @@ fn is_video(stream_id: Option<u8>) -> bool {
     }
 }
 
-// The bytes of a packet behind its adaptation field, scrambled or not.
+// Returns the bytes of a packet after its adaptation field, scrambled or not.
 fn behind_adaptation(packet: &[u8; PACKET]) -> &[u8] {
     let place = if has_adaptation(packet) {
         5 + packet[4] as usize
@@ -349,7 +350,7 @@ fn behind_adaptation(packet: &[u8; PACKET]) -> &[u8] {
     behind
 }
 
-// One more where that is so.
+// Adds one if the condition holds.
 fn counted_if(is_so: bool, number: u64) -> u64 {
     if is_so {
         number.saturating_add(1)
@@ -358,7 +359,8 @@ fn counted_if(is_so: bool, number: u64) -> u64 {
     }
 }
 
-// The least PTS, with one more: one is less where it is behind on the nearest way.
+// Returns the lesser of the least PTS so far and a new one: a PTS is less if it is before the other
+// on the shorter way around the clock.
 fn least_of(first: Option<u64>, now: u64) -> u64 {
     match first {
         Some(first) => {
@@ -372,7 +374,7 @@ fn least_of(first: Option<u64>, now: u64) -> u64 {
     }
 }
 
-// The form of a group, as a word.
+// Returns the form of a group, as a word.
 fn form_word(form: Form) -> &'static [u8] {
     match form {
         Form::Closed => b" closed\n",

@@ -1,4 +1,4 @@
-//! The packets of a PID, and who takes what they carry, piece after piece.
+//! The packets of a PID, and the receiver of what they carry.
 ghost use Rattle.std.specs.Prelude.{◌≡◌, List, ℕ, [], false, true};
 ghost use Rattle.mpeg_ts.specs.GoodPackets.{Hole, note_of};
 ghost use Rattle.mpeg_ts.specs.Joining.{after_note, handed_over, has_ended, nothing_joined};
@@ -10,13 +10,13 @@ ghost use Rattle.ts_survey.specs.Following.{GivesNext, TakesBytes, any_piece};
 use crate::text::Text;
 use mpeg_ts::{Joining, PACKET};
 
-/// Takes the pieces that the packets of a PID carry: PES packets and marks; and at last perhaps
-/// bytes that are none.
+/// Receives what the packets of a PID carry: PES packets and gap markers; and at the end perhaps
+/// bytes that are neither.
 pub trait TakesPieces {
-    // Which calls go so, where it says that: its state before, the piece, its state after.
+    // The relation of its state before a call, the bytes, and its state afterwards.
     ghost is_taken: { Self → List ℕ → Self → Type 0 } = { any_piece };
 
-    /// Takes a piece, and tells what there is to tell of it.
+    /// Processes a PES packet, a gap marker or other bytes, and prints what there is to report.
     fn take(&mut self, piece: &[u8], text: &mut Text)
         ensures { is_taken self.old piece.now self.new };
 }
@@ -31,7 +31,7 @@ pub struct PidPackets<T> {
 }
 
 impl<T: TakesPieces> PidPackets<T> {
-    /// Before the first packet.
+    /// Returns the state before the first packet.
     pub fn new(to: T) -> Self
         ensures joining { result.joining ≡ nothing_joined }
         ensures to { result.to ≡ to }
@@ -42,7 +42,7 @@ impl<T: TakesPieces> PidPackets<T> {
         }
     }
 
-    /// Whether a packet repeats the last good one.
+    /// Returns whether a packet repeats the last good one.
     pub fn is_repeat(&self, packet: &[u8; PACKET]) -> bool
         requires payload { has_payload packet.now ≡ true }
         requires valid { is_wrong packet.now ≡ false }
@@ -51,15 +51,15 @@ impl<T: TakesPieces> PidPackets<T> {
         self.joining.is_repeat(packet)
     }
 
-    /// Whether a jump of the counter was announced between the last good packet and this one, and
-    /// nothing is known to be lost.
+    /// Returns whether a jump of the counter was announced between the last good packet and this
+    /// one, and nothing is known to be lost.
     pub fn is_behind_seam(&self, packet: &[u8; PACKET]) -> bool
         ensures { result ≡ is_seam (link_after self.now.joining self.now.joining.last packet.now) }
     {
         self.joining.is_behind_seam(packet)
     }
 
-    /// So many bytes were skipped that packets may be missing.
+    /// Notes that packets may be missing, since so many bytes were skipped.
     pub fn note_hole(&mut self)
         ensures joining { self.new.joining ≡ after_note self.old.joining Hole }
         ensures to { self.new.to ≡ self.old.to }
@@ -67,8 +67,8 @@ impl<T: TakesPieces> PidPackets<T> {
         self.joining.note_hole();
     }
 
-    /// A packet came. What it makes ready is taken at once, piece after piece; behind what is no
-    /// PES packet nothing is.
+    /// Processes a packet. Everything that it completes is passed on at once; after bytes that are
+    /// no PES packet nothing is.
     pub fn take(&mut self, packet: &[u8; PACKET], text: &mut Text)
         ensures ended { has_ended self.old.joining.part ≡ true → self.new ≡ self.old }
         ensures joining { has_ended self.old.joining.part ≡ false → self.new.joining
@@ -85,7 +85,7 @@ impl<T: TakesPieces> PidPackets<T> {
     }
 }
 
-// Hands on all that is ready.
+// Passes on everything that is ready.
 #[tactic(auto, using(crate::proofs::FollowingLemmas::fewer_ready))]
 fn give_ready<T: TakesPieces>(joining: &mut Joining, to: &mut T, text: &mut Text)
     ensures joining { joining.new ≡ handed_over joining.old }
@@ -96,7 +96,7 @@ fn give_ready<T: TakesPieces>(joining: &mut Joining, to: &mut T, text: &mut Text
     }
 }
 
-// Hands on what is given next of what is ready.
+// Passes on the next part of what is ready.
 fn give_next<T: TakesPieces>(joining: &mut Joining, to: &mut T, text: &mut Text)
     ensures { GivesNext T.is_taken joining.old to.old joining.new to.new }
 {

@@ -1,25 +1,25 @@
-//! What is kept of every PID: its counter, and what it carries.
+//! The state of every PID: its counter, and what it carries.
 
 use mpeg_ts::{PACKET, announces_jump, counter_of, has_payload};
 use std::alloc::Global;
 
-/// PIDs: 13 bits.
+/// The number of PIDs: 13 bits.
 pub const PIDS: usize = 8192;
 
 /// The PID of null packets.
 pub const NULL_PID: u16 = 0x1FFF;
 
-/// In place of the place of something of which there is none.
+/// The index of nothing.
 pub const NONE: u8 = 0xFF;
 
-/// In a counter: a jump was announced behind its packet (discontinuity_indicator), by one without a
-/// payload.
+/// A flag of a counter: a jump was announced after its packet (discontinuity_indicator), by one
+/// without a payload.
 const JUMP: u8 = 0x80;
 
 /// How a packet follows the one before it in its PID, by continuity_counter.
 #[derive(Clone, Copy, PartialEq, Eq)]
 pub enum Link {
-    /// The counter goes on, or nothing came before.
+    /// The counter continues, or nothing came before.
     Next,
     /// A jump of the counter is announced, here or since the one before.
     Announced,
@@ -29,28 +29,28 @@ pub enum Link {
     Broken,
 }
 
-/// What is kept of a PID.
+/// The state of a PID.
 #[derive(Clone, Copy)]
 pub struct PidState {
     /// The counter of the last packet with a payload, perhaps with `JUMP`, and of the one before.
     pub counter: u8,
     pub before: u8,
-    /// The numbers of the first packet with a payload and of the last: 0 for none.
+    /// The numbers of the first and the last packet with a payload; 0 for none.
     pub first: u64,
     pub last: u64,
-    /// The PCR_PID of the programme that names it last, and stream_type there: 0 for none.
+    /// The PCR_PID of the programme that named it last, and stream_type there; 0 for none.
     pub clock_pid: u16,
     pub kind: u8,
-    /// The places of its sections, its clock, its pictures and its PES packets; `NONE` for none.
+    /// The indices of its sections, its clock, its pictures and its PES packets; `NONE` for none.
     pub table: u8,
     pub clock: u8,
     pub video: u8,
     pub carrier: u8,
-    /// Whether something else than Teletext began in it.
+    /// Whether something other than Teletext began in it.
     pub is_other: bool,
 }
 
-/// A break of a counter: between two packets, by their numbers.
+/// A break of a counter, between the packets with these two numbers.
 #[derive(Clone, Copy)]
 pub struct Break {
     pub pid: u16,
@@ -58,7 +58,7 @@ pub struct Break {
     pub at: u64,
 }
 
-/// Breaks that are kept: the last ones.
+/// The number of last breaks that are kept.
 const BREAKS: usize = 256;
 
 /// All PIDs, and the last breaks of their counters.
@@ -69,7 +69,7 @@ pub struct Pids {
     next: usize,
 }
 
-// Nothing is known of a PID.
+// Returns the state of an unknown PID.
 fn unknown() -> PidState {
     PidState {
         counter: 0,
@@ -86,7 +86,7 @@ fn unknown() -> PidState {
     }
 }
 
-// So many PIDs, of which nothing is known. `None` where memory runs out.
+// Returns so many unknown PIDs; `None` if memory runs out.
 fn all_unknown(alloc: Global, count: usize) -> Option<Vec<PidState>> {
     let mut states = Vec::new(alloc);
     for _ in 0..count {
@@ -98,7 +98,6 @@ fn all_unknown(alloc: Global, count: usize) -> Option<Vec<PidState>> {
     Some(states)
 }
 
-// No counter broke.
 fn no_breaks() -> [Break; BREAKS] {
     let none = Break {
         pid: NULL_PID,
@@ -108,7 +107,7 @@ fn no_breaks() -> [Break; BREAKS] {
     [none; BREAKS]
 }
 
-// Notes a packet with a payload and that number: in place, since most packets of a recording come
+// Notes a packet with a payload and this number, in place, since most packets of a recording come
 // here.
 #[inline(always)]
 fn note_packet(state: &mut PidState, packet: &[u8; PACKET], number: u64) {
@@ -120,7 +119,7 @@ fn note_packet(state: &mut PidState, packet: &[u8; PACKET], number: u64) {
     state.last = number;
 }
 
-// Notes a packet of which no counter counts: it may announce a jump.
+// Notes a packet whose counter does not count: it may announce a jump.
 #[inline(never)]
 fn note_jump(state: &mut PidState, packet: &[u8; PACKET]) {
     if packet[1] < 0x80 && announces_jump(packet) {
@@ -128,20 +127,21 @@ fn note_jump(state: &mut PidState, packet: &[u8; PACKET]) {
     }
 }
 
-// Whether the counter of a packet counts: it is not damaged, and has a payload.
+// Returns whether the counter of a packet counts: it is not damaged, and has a payload.
 #[inline(always)]
 fn is_counted(packet: &[u8; PACKET]) -> bool {
     packet[1] < 0x80 && has_payload(packet)
 }
 
-/// How far the counter of a PID went from one packet to the next: 1 if it goes on, 0 if it is the
-/// same; else packets are missing.
+/// Returns how far the counter of a PID went from one packet to the next: 1 if it continues, 0 if
+/// it is the same; otherwise packets are missing.
 #[inline(always)]
 pub fn counter_distance(last: u8, next: u8) -> u8 {
     (next % 0x10 + 0x10 - last % 0x10) % 0x10
 }
 
-// Whether the counter of a PID breaks at a packet with a payload, by what was known before it.
+// Returns whether the counter of a PID breaks at a packet with a payload, given the state before
+// it.
 #[inline(always)]
 fn is_break(before: &PidState, packet: &[u8; PACKET]) -> bool {
     counter_distance(before.counter, counter_of(packet)) > 1
@@ -150,7 +150,7 @@ fn is_break(before: &PidState, packet: &[u8; PACKET]) -> bool {
         && !announces_jump(packet)
 }
 
-/// How the last packet with a payload, which is this one, follows the one before.
+/// Returns how the last packet with a payload, which is this one, follows the one before.
 pub fn link_of(state: &PidState, packet: &[u8; PACKET]) -> Link {
     let distance = counter_distance(state.before, state.counter);
     if state.first == state.last {
@@ -169,7 +169,7 @@ pub fn link_of(state: &PidState, packet: &[u8; PACKET]) -> Link {
 }
 
 impl Pids {
-    /// Nothing is known of any. `None` where memory runs out.
+    /// Returns the state with all PIDs unknown; `None` if memory runs out.
     pub fn new(alloc: Global) -> Option<Pids> {
         let states = all_unknown(alloc, PIDS)?;
         Some(Pids {
@@ -179,7 +179,7 @@ impl Pids {
         })
     }
 
-    /// What is known of a PID.
+    /// Returns the state of a PID.
     #[inline(always)]
     pub fn get(&self, pid: u16) -> PidState {
         match self.states.get(pid as usize) {
@@ -188,7 +188,7 @@ impl Pids {
         }
     }
 
-    /// Sets what is known of a PID.
+    /// Sets the state of a PID.
     #[inline(always)]
     pub fn set(&mut self, pid: u16, state: PidState) {
         if let Some(place) = self.states.get_mut(pid as usize) {
@@ -196,7 +196,7 @@ impl Pids {
         }
     }
 
-    /// A PMT names a PID: the PCR_PID of its programme, and stream_type, are known of it.
+    /// Notes that a PMT names a PID, with the PCR_PID of its programme, and stream_type.
     pub fn note_stream(&mut self, pid: u16, clock_pid: u16, kind: u8) {
         let mut state = self.get(pid);
         state.clock_pid = clock_pid;
@@ -204,8 +204,7 @@ impl Pids {
         self.set(pid, state);
     }
 
-    /// Follows the counter of a PID, and answers what is known of it. A packet of no PID but this
-    /// has the number.
+    /// Follows the counter of a PID, and returns the state. Only this packet has the number.
     #[inline(always)]
     pub fn count(&mut self, pid: u16, packet: &[u8; PACKET], number: u64) -> PidState {
         let Some(state) = self.states.get_mut(pid as usize) else {
@@ -222,7 +221,7 @@ impl Pids {
         *state
     }
 
-    // So of a packet before which others are missing: out of line, since few are.
+    // Does the same for a packet before which others are missing; out of line, since few are.
     #[inline(never)]
     fn count_break(&mut self, pid: u16, packet: &[u8; PACKET], number: u64) -> PidState {
         let mut state = self.get(pid);
@@ -243,8 +242,8 @@ impl Pids {
         self.next = (place + 1) % BREAKS;
     }
 
-    /// What the counters of other PIDs tell of the packets between two: `broken`, `whole`, or
-    /// nothing.
+    /// Returns what the counters of other PIDs show of the packets between two: `broken`, `whole`,
+    /// or nothing.
     pub fn told_between(&self, pid: u16, first: u64, second: u64) -> &'static [u8] {
         if is_broken_between(&self.breaks, pid, first, second) {
             return b" broken";
@@ -256,7 +255,7 @@ impl Pids {
     }
 }
 
-// Whether the counter of another PID broke between two packets.
+// Returns whether the counter of another PID broke between two packets.
 fn is_broken_between(breaks: &[Break], pid: u16, first: u64, second: u64) -> bool {
     breaks.iter().any(|one| one.pid != pid
         && one.before != 0
@@ -264,7 +263,7 @@ fn is_broken_between(breaks: &[Break], pid: u16, first: u64, second: u64) -> boo
         && first < one.at)
 }
 
-// Whether packets of another PID came up to a packet, and behind it.
+// Returns whether packets of another PID came up to a packet, and after it.
 fn others_go_over(states: &[PidState], pid: usize, first: u64) -> bool {
     if pid >= states.len() {
         return goes_over(states, first);
@@ -274,7 +273,7 @@ fn others_go_over(states: &[PidState], pid: usize, first: u64) -> bool {
     goes_over(before, first) || goes_over(behind, first)
 }
 
-// Whether packets of one of these PIDs came up to a packet, and behind it.
+// Returns whether packets of one of these PIDs came up to a packet, and after it.
 fn goes_over(states: &[PidState], first: u64) -> bool {
     states.iter().any(|state| state.first != 0 && state.first <= first && first < state.last)
 }

@@ -1,4 +1,4 @@
-//! A recording, whatever it is: bytes come, and lines are made.
+//! A recording of any kind: bytes come, and lines are made.
 ghost use Rattle.std.specs.Prelude.{◌≡◌, ◌≤◌, ◌+◌, ◌++◌, IfSome, false, length, take, true};
 ghost use Rattle.mpeg_ts.specs.PacketSize.{bytes_of};
 ghost use Rattle.ts_survey.specs.Counted.{BeginsStream, StaysRead, TakesBegun};
@@ -18,18 +18,20 @@ use crate::text::Text;
 use mpeg_ts::{PacketSize, Pid, SurveyOptions};
 use std::alloc::Global;
 
-/// The bytes that are told of the recording.
+/// The number of first bytes that are printed.
 const HEAD: usize = 11;
 
-/// Bytes that are looked at together for the distance of packets; and how many at most.
+/// The number of bytes that are examined together for the distance of packets; and how many at
+/// most.
 const LOOKED_AT: usize = 65_536;
 
 const MOST_LOOKED_AT: u64 = 0x100_0000;
 
-// What is not needed again of bytes in which no distance was found: the last ones may begin one.
+// Bytes in which no distance was found are not needed again, except for the last ones, which may
+// begin one.
 const KEPT: usize = 1024;
 
-/// What a recording is.
+/// The kind of a recording.
 #[derive(Drop)]
 enum Kind {
     /// Not known yet.
@@ -38,7 +40,7 @@ enum Kind {
     Pes(PesFile),
     /// A transport stream.
     Stream(PacketsInStep, Multiplex),
-    /// None of both.
+    /// Neither.
     Nothing,
 }
 
@@ -54,7 +56,7 @@ pub struct Recording {
 }
 
 impl Recording {
-    /// Before the first byte.
+    /// Returns the state before the first byte.
     pub fn new(alloc: Global, asked: SurveyOptions) -> Recording
         ensures asked { result.asked ≡ asked }
         ensures kind { result.kind ≡ Kind.Unknown }
@@ -71,7 +73,7 @@ impl Recording {
         }
     }
 
-    /// Whether memory ran out.
+    /// Returns whether memory ran out.
     pub fn out_of_memory(&self) -> bool
         ensures { result ≡ false → self.now.out_of_memory ≡ false }
     {
@@ -82,8 +84,9 @@ impl Recording {
             }
     }
 
-    /// Takes bytes: those that were not needed before, and what has come. Answers how many are not
-    /// needed any more. The lines that a survey begins with are told apart, since they come first.
+    /// Processes bytes: those that are still needed, and those that have come. Returns how many are
+    /// no longer needed. The first lines of a survey go to a text of their own, since they come
+    /// first.
     #[tactic(auto, using(crate::proofs::ListedLemmas::takes_as_asked))]
     pub fn take(&mut self, bytes: &[u8], is_end: bool, first: &mut Text, text: &mut Text) -> usize
         ensures within { result ≤ length bytes.now }
@@ -94,11 +97,11 @@ impl Recording {
             → IsAsAsked self.new.asked self.new.kind }
         ensures finds { is_unknown self.old.kind ≡ true
             → FindsKind self.old bytes.now first.old first.new self.new }
-        // Until it is known what it is, nothing else is told; at the end it is known.
+        // Until the kind is known, nothing else is printed; at the end it is known.
         ensures unknown { is_unknown self.new.kind ≡ true → text.new ≡ text.old }
         ensures known { is_end ≡ true → self.new.out_of_memory ≡ false
             → is_unknown self.new.kind ≡ false }
-        // The first bytes are told once, when all of them are there.
+        // The first bytes are printed once, when all of them have come.
         ensures stays { self.old.has_head ≡ true → self.new.has_head ≡ true }
         ensures waits { is_unknown self.new.kind ≡ true → self.new.has_head ≡ false
             → result ≡ 0 }
@@ -107,7 +110,7 @@ impl Recording {
         ensures goes_on { is_unknown self.old.kind ≡ false → (first.new ≡ first.old)
             × (self.new.has_head ≡ self.old.has_head)
             × GoesOn self.old.kind self.new.kind }
-        // Of a stream all packets that the bytes have are taken, in order, each once.
+        // All packets of a stream in the bytes are processed, in order, each once.
         ensures taken { is_unknown self.old.kind ≡ false
             → TakesOn self.old.kind bytes.now is_end result self.new.kind }
         ensures begun { is_unknown self.old.kind ≡ true
@@ -124,7 +127,7 @@ impl Recording {
         self.hand_on(bytes, is_end, text)
     }
 
-    // Finds what the recording is, and answers how many bytes need not be looked at again.
+    // Determines the kind of the recording, and returns how many bytes need not be examined again.
     fn find_kind(&mut self, bytes: &[u8], is_end: bool, first: &mut Text) -> usize
         ensures within { result ≤ length bytes.now }
         ensures kept { is_unknown self.new.kind ≡ true → self.new.out_of_memory ≡ false
@@ -157,14 +160,13 @@ impl Recording {
         0
     }
 
-    // Hands on what the bytes have, and answers how many of them are not needed any more.
+    // Passes the contents of the bytes on, and returns how many of them are no longer needed.
     #[inline(always)]
     #[tactic(auto, using(crate::proofs::ListedLemmas::what_goes_on))]
     fn hand_on(&mut self, bytes: &[u8], is_end: bool, text: &mut Text) -> usize
         ensures within { result ≤ length bytes.now }
         ensures kept { length bytes.now ≤ result + most_kept }
-        // Of a stream they are all packets that it has, in order, each once; at the end none is
-        // left.
+        // For a stream these are all its packets, in order, each once; at the end none is left.
         ensures taken { TakesOn self.old.kind bytes.now is_end result self.new.kind }
         ensures kind { GoesOn self.old.kind self.new.kind }
         ensures asked { self.new.asked ≡ self.old.asked }
@@ -181,7 +183,7 @@ impl Recording {
         }
     }
 
-    // Tells the first bytes, and what they say.
+    // Prints the first bytes, and what they show.
     fn tell_head(&mut self, bytes: &[u8], first: &mut Text)
         ensures asked { self.new.asked ≡ self.old.asked }
         ensures as_asked { IsAsAsked self.old.asked self.old.kind
@@ -210,7 +212,7 @@ impl Recording {
         }
     }
 
-    // Looks for the distance of packets. Answers how many bytes need not be looked at again.
+    // Searches for the distance of packets. Returns how many bytes need not be examined again.
     fn look(&mut self, bytes: &[u8], is_end: bool, first: &mut Text) -> usize
         ensures within { result ≤ length bytes.now }
         ensures kept { is_unknown self.new.kind ≡ true → self.new.out_of_memory ≡ false
@@ -249,7 +251,7 @@ impl Recording {
         used
     }
 
-    // It is a transport stream.
+    // Begins a transport stream.
     fn begin(&mut self, size: PacketSize, first: &mut Text)
         ensures known { self.new.out_of_memory ≡ false → is_unknown self.new.kind ≡ false }
         ensures same { self.new.asked ≡ self.old.asked }
@@ -276,7 +278,7 @@ impl Recording {
         }
     }
 
-    /// Tells what is not told yet, where nothing more is there for now, or nothing at all any more.
+    /// Prints what was not printed yet, if no more data is there for now, or none will come.
     #[tactic(auto, using(crate::proofs::ListedLemmas::stays_as_asked))]
     pub fn pause(&mut self, is_end: bool, has_no_more: bool, text: &mut Text)
         ensures end { is_end ≡ true → TellsEnd self.old text.new }
@@ -297,7 +299,7 @@ impl Recording {
         }
     }
 
-    // Tells what is not told yet, since nothing more is there for now.
+    // Prints what was not printed yet, since no more data is there for now.
     #[tactic(auto, using(crate::proofs::ListedLemmas::what_goes_on))]
     fn flush(&mut self, text: &mut Text)
         ensures kind { GoesOn self.old.kind self.new.kind }
@@ -315,7 +317,7 @@ impl Recording {
         }
     }
 
-    // The recording is over.
+    // Ends the recording.
     fn end(&mut self, text: &mut Text)
         ensures told { TellsEnd self.old text.new }
         ensures asked { self.new.asked ≡ self.old.asked }
@@ -325,8 +327,8 @@ impl Recording {
         put_over(skipped, number, text);
     }
 
-    // Tells all that was kept until then. Answers how many bytes belong to no packet, and how many
-    // packets came.
+    // Prints everything that was kept until then. Returns how many bytes belong to no packet, and
+    // how many packets came.
     fn tell_last(&mut self, text: &mut Text) -> (u64, u64)
         ensures skipped { result.0 ≡ skipped_of self.old }
         ensures packets { result.1 ≡ packets_in self.old.kind }
@@ -347,7 +349,7 @@ impl Recording {
     }
 }
 
-// The first bytes of a recording, as many as are told.
+// Returns the first bytes of a recording, as many as are printed.
 fn head_in(bytes: &[u8]) -> &[u8]
     ensures bytes { result.now ≡ take head_size bytes.now }
     ensures few { length result.now ≤ head_size }
@@ -356,7 +358,7 @@ fn head_in(bytes: &[u8]) -> &[u8]
     head
 }
 
-// Tells the first bytes of a recording.
+// Prints the first bytes of a recording.
 fn put_head(head: &[u8], text: &mut Text)
     requires { length head.now ≤ head_size }
     ensures { AddsWords text.old (head_words head.now) text.new }
@@ -367,7 +369,7 @@ fn put_head(head: &[u8], text: &mut Text)
     text.put(b"\n");
 }
 
-// A space, where something stands behind it.
+// Returns a space if something follows it.
 fn space_before(word: &[u8]) -> &'static [u8]
     ensures { result.now ≡ space_of word.now }
 {
@@ -377,7 +379,7 @@ fn space_before(word: &[u8]) -> &'static [u8]
     b" "
 }
 
-// Tells the distance of the packets of a stream.
+// Prints the distance of the packets of a stream.
 fn put_size(size: PacketSize, text: &mut Text)
     ensures { AddsWords text.old (size_line (bytes_of size)) text.new }
 {
@@ -386,7 +388,7 @@ fn put_size(size: PacketSize, text: &mut Text)
     text.put(b"\n");
 }
 
-// Tells that a recording is over: the bytes that belong to no packet, and its packets.
+// Prints that a recording is over: the bytes that belong to no packet, and its packets.
 fn put_over(skipped: u64, number: u64, text: &mut Text)
     ensures { AddsWords text.old (over_line skipped number) text.new }
 {
@@ -396,7 +398,7 @@ fn put_over(skipped: u64, number: u64, text: &mut Text)
     text.put(b"\n");
 }
 
-// The distance of packets: the one that is asked for, or else the one that is found.
+// Returns the distance of packets: the requested one, or else the one that is found.
 fn size_in(asked: Option<PacketSize>, bytes: &[u8], is_end: bool) -> Option<PacketSize>
     ensures found { IfSome result (λ size. IfSome asked (λ other. size ≡ other)) }
 {
@@ -406,7 +408,7 @@ fn size_in(asked: Option<PacketSize>, bytes: &[u8], is_end: bool) -> Option<Pack
     }
 }
 
-// The number of a PID.
+// Returns the number of a PID.
 fn number_of(pid: Option<Pid>) -> Option<u16>
     ensures { result ≡ pid }
 {
@@ -416,8 +418,8 @@ fn number_of(pid: Option<Pid>) -> Option<u16>
     }
 }
 
-// Whether a recording is a file of PES packets, by its first bytes. A time stamp before the first
-// packet may be the same.
+// Returns whether a recording is a file of PES packets, from its first bytes. A time stamp before
+// the first packet may look the same.
 fn is_pes_file(head: &[u8]) -> bool
     ensures { result ≡ begins_pes head.now }
 {

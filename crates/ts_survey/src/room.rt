@@ -1,4 +1,4 @@
-//! Room for bytes of a recording that are to be looked at.
+//! Room for bytes of a recording that are to be examined.
 ghost use Rattle.std.specs.Prelude.{◌≡◌, ◌≤◌, ◌<◌, ◌-◌, length, vec_len, take, drop, IfOk, IfSome};
 ghost use Rattle.std.specs.Prelude.{true};
 ghost use Rattle.std.specs.Io.KnownBytes.{IsAtEnd};
@@ -12,20 +12,20 @@ use sub_io::{Failed, Source};
 /// Room for the longest PES packet of a file, 65,541 bytes, and for what is read at once.
 const ROOM: usize = 135_168;
 
-/// Bytes that are read at once: fewer come of a feed. A source that reads ahead as many, or fewer,
-/// puts them here straight from its device.
+/// The number of bytes that are read at once; fewer come from a feed. A source that reads ahead at
+/// most as many puts them here directly from its device.
 const AT_ONCE: usize = 65_536;
 
-/// What has come.
+/// The result of reading.
 #[derive(Clone, Copy)]
 pub struct Came {
-    /// Nothing: the recording is at its end.
+    /// Nothing came: the recording is at its end.
     pub is_end: bool,
-    /// Less than was asked for: nothing more is there for now.
+    /// Less than requested came: no more data is there for now.
     pub has_no_more: bool,
 }
 
-/// Bytes that were read and are still to be looked at.
+/// Bytes that were read and are still to be examined.
 #[derive(Drop)]
 pub struct Room {
     bytes: Vec<u8>,
@@ -35,7 +35,7 @@ pub struct Room {
 }
 
 impl Room {
-    /// None. `None` where memory runs out.
+    /// Returns an empty room; `None` if memory runs out.
     pub fn new(alloc: Global) -> Option<Room>
         ensures { IfSome result (λ room. (room.len ≡ 0) × (vec_len room.bytes ≡ room_size)) }
     {
@@ -45,11 +45,11 @@ impl Room {
         }
     }
 
-    /// Reads on, once: all lines were handed on, also the first ones and those of the text.
+    /// Reads once. All lines have been flushed before.
     ///
     /// # Errors
     ///
-    /// `Failed` where the source failed.
+    /// Returns `Failed` if the source failed.
     pub fn pull<S: Source>(
         &mut self,
         source: &mut S,
@@ -61,11 +61,11 @@ impl Room {
         requires none { length _text.now.bytes.items ≡ 0 }
         ensures count { CountsFailure (S.failure_count source.old) result
             (S.failure_count source.new) }
-        // What came stands behind what was held.
+        // New bytes come after those that were kept.
         ensures held { IfOk result (λ _. HoldsMore
             (take self.old.len self.old.bytes.items) (take self.new.len self.new.bytes.items)
             (S.remaining source.old) (S.remaining source.new)) }
-        // It is the end only where nothing is left to be read.
+        // It is the end only if nothing is left to be read.
         ensures end { IfOk result (λ came. came.is_end ≡ true
             → self.old.len < vec_len self.old.bytes → IsAtEnd (S.remaining source.new)) }
         ensures size { vec_len self.new.bytes ≡ vec_len self.old.bytes }
@@ -81,7 +81,7 @@ impl Room {
         })
     }
 
-    /// The bytes.
+    /// Returns the bytes.
     pub fn held(&self) -> &[u8]
         ensures bytes { result.now ≡ take self.now.len self.now.bytes.items }
         ensures len { length result.now ≡ self.now.len }
@@ -90,7 +90,7 @@ impl Room {
         held
     }
 
-    /// The first so many are not needed any more.
+    /// Drops the first bytes, which are no longer needed.
     pub fn pass(&mut self, count: usize)
         requires { count ≤ self.old.len }
         ensures held { take self.new.len self.new.bytes.items

@@ -5,24 +5,24 @@ use crate::text::Text;
 use ttx_packet::{Packet, is_odd};
 use ttx_page::Page;
 
-/// What stands for a space whose byte had even parity.
+/// The mark of a space whose byte had even parity.
 pub const HIT: u8 = 0xA0;
 
 /// A row without text.
 const SPACES: [u8; 40] = [0x20; 40];
 
-/// Rows 1 to 24: each cell its code, or `HIT`.
+/// Rows 1 to 24: each cell has its code, or `HIT`.
 #[derive(Clone, Copy, PartialEq, Eq)]
 pub struct Rows {
     cells: [[u8; 40]; 24],
 }
 
-/// The cells of a row, as its packet has them: each code, or `HIT` where the parity is even.
+/// Returns the cells of a row from its packet: each code, or `HIT` if the parity is even.
 pub fn cells_of(packet: &Packet) -> [u8; 40] {
     cells_of_bytes(packet.data())
 }
 
-// The cells of the bytes of a row.
+// Returns the cells for the bytes of a row.
 fn cells_of_bytes(bytes: &[u8; 40]) -> [u8; 40] {
     let mut cells = *bytes;
     for column in 0..40usize {
@@ -31,13 +31,13 @@ fn cells_of_bytes(bytes: &[u8; 40]) -> [u8; 40] {
     cells
 }
 
-// The cell of a byte.
+// Returns the cell for a byte.
 fn cell_of(byte: u8) -> u8 {
     if is_odd(byte) { byte % 0x80 } else { HIT }
 }
 
 impl Rows {
-    /// None.
+    /// Returns blank rows.
     pub fn none() -> Rows {
         Rows {
             cells: [SPACES; 24],
@@ -52,7 +52,7 @@ impl Rows {
         self.cells[row as usize - 1] = cells;
     }
 
-    /// Tells them.
+    /// Prints the rows.
     pub fn tell(&self, text: &mut Text) {
         let mut sign = b' ';
         for row in 0..24usize {
@@ -61,7 +61,7 @@ impl Rows {
         text.put(end_word(sign));
     }
 
-    /// Tells the page that a receiver holds, which heard these rows.
+    /// Prints the page of a receiver that got these rows.
     pub fn tell_held(&self, page: &Page, text: &mut Text) {
         let mut sign = b' ';
         for row in 0..24usize {
@@ -72,8 +72,8 @@ impl Rows {
     }
 }
 
-// What is told of a row: its codes as the receiver holds them, and which spaces are there since
-// their bytes were hit.
+// Returns what is printed of a row: its codes in the receiver, with `HIT` for spaces whose bytes
+// were hit.
 fn told_cells(held: &[u8; 40], heard: &[u8; 40]) -> [u8; 40] {
     let mut cells = *held;
     for column in 0..40usize {
@@ -82,8 +82,7 @@ fn told_cells(held: &[u8; 40], heard: &[u8; 40]) -> [u8; 40] {
     cells
 }
 
-// What is told of a cell: the code that the receiver holds, or `HIT` for a space of a byte that was
-// hit.
+// Returns what is printed of a cell: the receiver's code, or `HIT` for a space whose byte was hit.
 fn told_cell(held: u8, heard: u8) -> u8 {
     if held == 0x20 && heard == HIT {
         HIT
@@ -92,7 +91,7 @@ fn told_cell(held: u8, heard: u8) -> u8 {
     }
 }
 
-// Tells a row, behind a sign, if it is not blank; answers the sign for the next one.
+// Prints a row after a sign, unless it is blank; returns the sign for the next one.
 fn tell_row(sign: u8, row: usize, cells: &[u8; 40], text: &mut Text) -> u8
     requires { row < 24 }
 {
@@ -103,12 +102,12 @@ fn tell_row(sign: u8, row: usize, cells: &[u8; 40], text: &mut Text) -> u8
     b','
 }
 
-// Whether a row is blank.
+// Returns whether a row is blank.
 fn is_blank(cells: &[u8; 40]) -> bool {
     *cells == [0x20; 40]
 }
 
-// Tells the cells of a row, behind a sign.
+// Prints the cells of a row after a sign.
 fn tell_cells(sign: u8, row: usize, cells: &[u8; 40], text: &mut Text)
     requires { row < 24 }
 {
@@ -117,7 +116,7 @@ fn tell_cells(sign: u8, row: usize, cells: &[u8; 40], text: &mut Text)
     text.hex(cells);
 }
 
-// How the line ends, where that sign would come next.
+// Returns the end of the line, if this sign would come next.
 fn end_word(sign: u8) -> &'static [u8] {
     if sign == b' ' { b" -\n" } else { b"\n" }
 }

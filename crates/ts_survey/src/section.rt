@@ -1,10 +1,10 @@
-//! Sections of tables, and what those of a PAT and of a PMT say (ISO/IEC 13818-1, 2.4.4).
+//! Sections of tables, and the contents of those of a PAT and of a PMT (ISO/IEC 13818-1, 2.4.4).
 ghost use Rattle.std.specs.Prelude.{◌≡◌, ◌≤◌, ◌<◌, ◌+◌, length, IfSome};
 ghost use Rattle.ts_survey.specs.Section.{crc_after, crc_of, crc_shifted, descriptor_at, length_at};
 ghost use Rattle.ts_survey.specs.Section.{name_of, number_at, page_at, pid_at, pmt_pid_at};
 ghost use Rattle.ts_survey.specs.Section.{is_of_teletext, programme_of, section_size, stream_at};
 
-/// The bytes before the first thing that a PAT names, and before the descriptors of a PMT.
+/// The number of bytes before the first entry of a PAT, and before the descriptors of a PMT.
 const PAT_HEAD: usize = 8;
 
 const PMT_HEAD: usize = 12;
@@ -12,8 +12,8 @@ const PMT_HEAD: usize = 12;
 /// The bytes of a CRC_32.
 const CRC: usize = 4;
 
-/// The size of the section that begins the bytes, by its section_length, 3 to 4098. `None` where
-/// fewer than three are there.
+/// Returns the size of the section at the beginning of the bytes, from its section_length, 3 to
+/// 4098; `None` if there are fewer than three bytes.
 pub fn section_size(bytes: &[u8]) -> Option<usize>
     ensures value { result ≡ section_size bytes.now }
     ensures range { IfSome result (λ size. (3 ≤ size) × (size ≤ 4098)) }
@@ -25,7 +25,7 @@ pub fn section_size(bytes: &[u8]) -> Option<usize>
     Some(3 + length_at(bytes, 1))
 }
 
-// A length of twelve bits.
+// Returns a length of twelve bits.
 fn length_at(bytes: &[u8], place: usize) -> usize
     requires { place + 2 ≤ length bytes.now }
     ensures value { result ≡ length_at bytes.now place }
@@ -34,7 +34,7 @@ fn length_at(bytes: &[u8], place: usize) -> usize
     (bytes[place] % 0x10) as usize * 0x100 + bytes[place + 1] as usize
 }
 
-// A PID: thirteen bits.
+// Returns a PID: thirteen bits.
 fn pid_at(bytes: &[u8], place: usize) -> u16
     requires { place + 2 ≤ length bytes.now }
     ensures value { result ≡ pid_at bytes.now place }
@@ -43,7 +43,7 @@ fn pid_at(bytes: &[u8], place: usize) -> u16
     (bytes[place] % 0x20) as u16 * 0x100 + bytes[place + 1] as u16
 }
 
-// A number of sixteen bits.
+// Returns a number of sixteen bits.
 fn number_at(bytes: &[u8], place: usize) -> u16
     requires { place + 2 ≤ length bytes.now }
     ensures { result ≡ number_at bytes.now place }
@@ -51,7 +51,7 @@ fn number_at(bytes: &[u8], place: usize) -> u16
     bytes[place] as u16 * 0x100 + bytes[place + 1] as u16
 }
 
-/// The CRC_32 of bytes (ISO/IEC 13818-1, annex A): 0 of a section that came whole.
+/// Returns the CRC_32 of bytes (ISO/IEC 13818-1, annex A): 0 for a correct section.
 pub fn crc_of(bytes: &[u8]) -> u32
     ensures { result ≡ crc_of bytes.now }
 {
@@ -60,7 +60,7 @@ pub fn crc_of(bytes: &[u8]) -> u32
         .fold(0xFFFF_FFFF, |crc, byte| crc_after(crc, *byte))
 }
 
-// The CRC after one more byte.
+// Returns the CRC after one more byte.
 #[tactic(auto, unfolding(crate::specs::Section::crc_after))]
 fn crc_after(crc: u32, byte: u8) -> u32
     ensures { result ≡ crc_after crc byte }
@@ -69,7 +69,7 @@ fn crc_after(crc: u32, byte: u8) -> u32
     crc_shifted(crc_shifted(crc_shifted(crc_shifted(half))))
 }
 
-// The CRC after one more bit.
+// Returns the CRC after one more bit.
 #[tactic(auto, unfolding(crate::specs::Section::crc_shifted))]
 fn crc_shifted(crc: u32) -> u32
     ensures { result ≡ crc_shifted crc }
@@ -81,8 +81,8 @@ fn crc_shifted(crc: u32) -> u32
     }
 }
 
-/// What tells a section from others: table_id, the number behind it (of a programme in a PMT), and
-/// section_number; and which one it is, by its CRC_32.
+/// What distinguishes a section from others: table_id, the number after it (of a programme in a
+/// PMT), and section_number. Its version is known by its CRC_32.
 #[derive(Clone, Copy, PartialEq, Eq)]
 pub struct SectionName {
     pub table: u8,
@@ -90,7 +90,7 @@ pub struct SectionName {
     pub section: u8,
 }
 
-/// The name of a section. `None` where it is too short to have one and a CRC.
+/// Returns the name of a section; `None` if it is too short to have one and a CRC.
 pub fn name_of(section: &[u8]) -> Option<SectionName>
     ensures value { result ≡ name_of section.now }
     ensures there { IfSome result (λ _. 12 ≤ length section.now) }
@@ -105,8 +105,8 @@ pub fn name_of(section: &[u8]) -> Option<SectionName>
     })
 }
 
-/// The PID of the PMT at a place of a PAT section, 8 and then each fourth byte: `None` behind the
-/// last, and `NULL_PID` where a network is named in place of a programme.
+/// Returns the PID of the PMT at a place of a PAT section, 8 and then each fourth byte; `None`
+/// after the last, and `NULL_PID` if the entry is a network instead of a programme.
 pub fn pmt_pid_at(section: &[u8], place: usize) -> Option<u16>
     requires { place < 4096 }
     ensures value { result ≡ pmt_pid_at section.now place }
@@ -121,11 +121,10 @@ pub fn pmt_pid_at(section: &[u8], place: usize) -> Option<u16>
     Some(pid_at(section, place + 2))
 }
 
-/// The first place of a PAT section at which a PMT may be named.
+/// The first place of a PAT section with a PMT.
 pub const FIRST_PMT: usize = PAT_HEAD;
 
-/// What a section of a PMT says of its programme: program_number, PCR_PID, and the place of its
-/// first stream.
+/// The programme of a PMT section: program_number, PCR_PID, and the place of its first stream.
 #[derive(Clone, Copy)]
 pub struct Programme {
     pub number: u16,
@@ -133,7 +132,7 @@ pub struct Programme {
     pub first: usize,
 }
 
-/// The programme of a PMT section. `None` where it is too short.
+/// Returns the programme of a PMT section; `None` if it is too short.
 pub fn programme_of(section: &[u8]) -> Option<Programme>
     ensures value { result ≡ programme_of section.now }
     ensures range { IfSome result (λ p. (p.clock_pid < 8192) × (p.first < 4200)) }
@@ -148,7 +147,7 @@ pub fn programme_of(section: &[u8]) -> Option<Programme>
     })
 }
 
-/// A stream of a PMT: stream_type, elementary_PID, and where its descriptors begin and end.
+/// A stream of a PMT: stream_type, elementary_PID, and the beginning and end of its descriptors.
 #[derive(Clone, Copy)]
 pub struct Stream {
     pub kind: u8,
@@ -157,7 +156,7 @@ pub struct Stream {
     pub end: usize,
 }
 
-/// The stream at a place of a PMT section. `None` behind the last.
+/// Returns the stream at a place of a PMT section; `None` after the last.
 pub fn stream_at(section: &[u8], place: usize) -> Option<Stream>
     requires { place < 0x1_0000 }
     ensures value { result ≡ stream_at section.now place }
@@ -176,7 +175,7 @@ pub fn stream_at(section: &[u8], place: usize) -> Option<Stream>
     })
 }
 
-/// A descriptor: descriptor_tag, and where what follows its length begins and ends.
+/// A descriptor: descriptor_tag, and the beginning and end of what follows its length.
 #[derive(Clone, Copy)]
 pub struct Descriptor {
     pub tag: u8,
@@ -184,8 +183,8 @@ pub struct Descriptor {
     pub end: usize,
 }
 
-/// The descriptor at a place of bytes, of those up to an end: it is cut where it is longer. `None`
-/// where none has room.
+/// Returns the descriptor at a place of bytes, up to an end, where it is cut if it is longer;
+/// `None` if there is no room for one.
 pub fn descriptor_at(bytes: &[u8], place: usize, end: usize) -> Option<Descriptor>
     requires { place < 0x1_0000 }
     ensures value { result ≡ descriptor_at bytes.now place end }
@@ -204,16 +203,16 @@ pub fn descriptor_at(bytes: &[u8], place: usize, end: usize) -> Option<Descripto
     })
 }
 
-/// Whether a descriptor names pages of Teletext: VBI_teletext_descriptor, teletext_descriptor (ETSI
-/// EN 300 468).
+/// Returns whether a descriptor lists Teletext pages: VBI_teletext_descriptor, teletext_descriptor
+/// (ETSI EN 300 468).
 pub fn names_pages(descriptor: &Descriptor) -> bool
     ensures { result ≡ is_of_teletext descriptor.now }
 {
     descriptor.tag == 0x46 || descriptor.tag == 0x56
 }
 
-/// A page that a descriptor names: ISO_639_language_code, teletext_type, teletext_magazine_number
-/// and teletext_page_number.
+/// A page in a descriptor: ISO_639_language_code, teletext_type, teletext_magazine_number and
+/// teletext_page_number.
 #[derive(Clone, Copy)]
 pub struct Announced {
     pub language: [u8; 3],
@@ -222,7 +221,7 @@ pub struct Announced {
     pub page: u8,
 }
 
-/// The page at a place of bytes, of those up to an end. `None` behind the last.
+/// Returns the page at a place of bytes, up to an end; `None` after the last.
 pub fn page_at(bytes: &[u8], place: usize, end: usize) -> Option<Announced>
     requires place { place < 0x1_0000 }
     requires end { end ≤ length bytes.now }

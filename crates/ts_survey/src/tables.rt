@@ -1,4 +1,4 @@
-//! The tables of a recording: sections that are put together, and which of them are new.
+//! The tables of a recording: joins sections, and finds the new ones.
 ghost use Rattle.std.specs.Prelude.{◌≤◌, IfSome};
 ghost use Rattle.std.specs.Prelude.{length};
 
@@ -7,7 +7,7 @@ use arrayvec::ArrayVec;
 use mpeg_ts::{PACKET, begins};
 use std::alloc::Global;
 
-/// PIDs of tables that are read, and sections that are known.
+/// The maximum number of PIDs with tables that are read, and of known sections.
 const MOST_PIDS: usize = 128;
 
 const MOST_SECTIONS: usize = 1024;
@@ -32,7 +32,7 @@ struct Known {
     crc: [u8; 4],
 }
 
-/// All that is kept of the tables.
+/// The state of the tables.
 #[derive(Drop)]
 pub struct Tables {
     partials: Vec<Partial>,
@@ -40,20 +40,20 @@ pub struct Tables {
 }
 
 impl Partial {
-    // A section begins: what came before it is forgotten.
+    // Begins a section, and drops what came before it.
     fn open(&mut self) {
         self.is_open = true;
         self.bytes.clear();
     }
 
-    // Bytes came behind those that came before.
+    // Adds bytes after those that came before.
     fn add(&mut self, bytes: &[u8]) {
         if self.is_open {
             add_to(&mut self.bytes, bytes);
         }
     }
 
-    // Puts the next section that is whole into the room; whether there is one.
+    // Puts the next complete section into the room, and returns whether there is one.
     fn next(&mut self, room: &mut Section) -> bool {
         match next_size(self.bytes.as_slice()) {
             Some(size) => {
@@ -67,7 +67,7 @@ impl Partial {
         }
     }
 
-    // Where stuffing comes next, no section goes on.
+    // Ends the sections if stuffing comes next.
     fn end_at_stuffing(&mut self) {
         if has_stuffing(self.bytes.as_slice()) {
             self.is_open = false;
@@ -76,7 +76,7 @@ impl Partial {
     }
 }
 
-// Adds bytes, where there is room for them.
+// Adds bytes, if there is room for them.
 fn add_to(came: &mut Section, bytes: &[u8]) {
     if bytes.len() > SECTION_ROOM - came.len() {
         return;
@@ -84,12 +84,12 @@ fn add_to(came: &mut Section, bytes: &[u8]) {
     let _ = came.try_extend_from_slice(bytes);
 }
 
-// Whether stuffing stands where a section would begin: FF in place of table_id.
+// Returns whether there is stuffing instead of a section: FF as table_id.
 fn has_stuffing(came: &[u8]) -> bool {
     came.len() >= 3 && came[0] == 0xFF
 }
 
-// The size of the section that comes next, where it is whole.
+// Returns the size of the next section, if it is complete.
 fn next_size(came: &[u8]) -> Option<usize>
     ensures { IfSome result (λ size. size ≤ length came.now) }
 {
@@ -103,7 +103,7 @@ fn next_size(came: &[u8]) -> Option<usize>
     Some(size)
 }
 
-// Puts so many of the first bytes into the room.
+// Moves so many of the first bytes into the room.
 fn move_out(came: &mut Section, size: usize, room: &mut Section)
     requires { size ≤ length came.old.items }
 {
@@ -116,7 +116,7 @@ fn move_out(came: &mut Section, size: usize, room: &mut Section)
 }
 
 impl Tables {
-    /// None.
+    /// Returns the state before the first section.
     pub fn new(alloc: Global) -> Tables {
         Tables {
             partials: Vec::new(alloc),
@@ -124,7 +124,8 @@ impl Tables {
         }
     }
 
-    /// Room for the sections of one more PID, by its place. `None` where there is none.
+    /// Makes room for the sections of one more PID, and returns its index; `None` if there is no
+    /// room.
     pub fn add(&mut self) -> Option<u8> {
         let place = self.partials.as_slice().len();
         if place >= MOST_PIDS {
@@ -140,7 +141,7 @@ impl Tables {
         }
     }
 
-    /// Bytes of a PID came: behind those that came before, or at the start of a section.
+    /// Adds bytes of a PID: after those that came before, or at the start of a section.
     pub fn take(&mut self, place: u8, bytes: &[u8], begins: bool) {
         let Some(partial) = self.partials.get_mut(place as usize) else {
             return;
@@ -151,7 +152,7 @@ impl Tables {
         partial.add(bytes);
     }
 
-    /// Puts the next section that is whole into the room; whether there is one.
+    /// Puts the next complete section into the room, and returns whether there is one.
     pub fn next(&mut self, place: u8, room: &mut Section) -> bool {
         match self.partials.get_mut(place as usize) {
             Some(partial) => partial.next(room),
@@ -159,7 +160,7 @@ impl Tables {
         }
     }
 
-    /// Whether a section that came whole says something new: it is kept then.
+    /// Returns whether a complete section is new, and keeps it then.
     pub fn is_new(&mut self, section: &[u8]) -> bool {
         let Some(name) = name_of(section) else {
             return false;
@@ -174,7 +175,7 @@ impl Tables {
         self.keep(name, *crc, is_there)
     }
 
-    // Keeps a section, in place of the one of its name; whether there was room.
+    // Keeps a section, in place of the one with its name; returns whether there was room.
     fn keep(&mut self, name: SectionName, crc: [u8; 4], is_there: bool) -> bool {
         if is_there {
             self.replace(name, crc);
@@ -186,7 +187,7 @@ impl Tables {
         self.known.push(Known { name, crc }).is_ok()
     }
 
-    // A section came in place of the one of its name.
+    // Replaces the section with this name.
     fn replace(&mut self, name: SectionName, crc: [u8; 4]) {
         for section in self.known.iter_mut() {
             set_crc(section, name, crc);
@@ -194,32 +195,32 @@ impl Tables {
     }
 }
 
-// The CRC_32 of a section that is known, where one with that name and CRC_32 came.
+// Sets the CRC_32 of a known section if it has this name.
 fn set_crc(one: &mut Known, name: SectionName, crc: [u8; 4]) {
     if is_same_name(one.name, name) {
         one.crc = crc;
     }
 }
 
-// Whether two sections have one name.
+// Returns whether two sections have the same name.
 fn is_same_name(one: SectionName, other: SectionName) -> bool {
     one.table == other.table && one.number == other.number && one.section == other.section
 }
 
-// Whether a section of that name is known.
+// Returns whether a section with this name is known.
 fn is_named(known: &[Known], name: SectionName) -> bool {
     known.iter().any(|one| is_same_name(one.name, name))
 }
 
-// Whether a section of that name and CRC_32 is known.
+// Returns whether a section with this name and CRC_32 is known.
 fn is_known(known: &[Known], name: SectionName, crc: &[u8; 4]) -> bool {
     known
         .iter()
         .any(|one| is_same_name(one.name, name) && one.crc == *crc)
 }
 
-/// The two parts of a payload with sections: the end of those that began before, and what begins
-/// here, where that is so (ISO/IEC 13818-1, pointer_field).
+/// Returns the two parts of a payload with sections: the end of those that began before, and what
+/// begins here, if anything does (ISO/IEC 13818-1, pointer_field).
 pub fn parts_of<'a>(packet: &[u8; PACKET], payload: &'a [u8]) -> (&'a [u8], Option<&'a [u8]>) {
     if !begins(packet) || payload.is_empty() {
         return (payload, None);
@@ -229,7 +230,7 @@ pub fn parts_of<'a>(packet: &[u8; PACKET], payload: &'a [u8]) -> (&'a [u8], Opti
     (before, Some(behind))
 }
 
-// So many bytes, and those behind them.
+// Splits the bytes at a place.
 fn split_there(bytes: &[u8], place: u8) -> (&[u8], &[u8]) {
     bytes.split_at((place as usize).min(bytes.len()))
 }

@@ -1,4 +1,4 @@
-//! `survey`: a recording is read once, and a line told for each fact.
+//! `survey`: reads a recording once, and prints a line for each fact.
 ghost use Rattle.std.specs.Prelude.{◌≡◌, ◌++◌, IfErr, OnOk, false, length};
 ghost use Rattle.std.specs.Io.KnownBytes.{Appends, IsAtEnd};
 ghost use Rattle.sub_io.specs.Device.{CanFail, CountsIf, failed};
@@ -23,15 +23,15 @@ pub enum SurveyFault {
     Memory,
 }
 
-/// Reads a recording to its end, and puts a line for each fact (own; `docs/manual/survey.md`).
+/// Reads a recording to its end, and writes a line for each fact (own; `docs/manual/survey.md`).
 ///
-/// What is told is handed on before the recording is asked for more. Memory does not grow with the
+/// All output is flushed before more of the recording is read. Memory does not grow with the
 /// recording.
 ///
 /// # Errors
 ///
-/// `Read` where the recording failed: what was known until then was put. `Write` where the sink
-/// failed: it has a prefix. `Memory` where memory ran out.
+/// Returns `Read` if the recording failed; the lines known until then were written. Returns `Write`
+/// if the sink failed, which has a prefix. Returns `Memory` if memory ran out.
 #[tactic(auto, using(crate::proofs::SurveyLemmas::growing))]
 pub fn survey<S: Source, K: Flush>(
     alloc: Global,
@@ -45,15 +45,14 @@ pub fn survey<S: Source, K: Flush>(
     ensures source_count { CountsIf S.failure_count source.old (failed is_survey_read result)
         source.new }
     ensures out_count { CountsIf K.failure_count out.old (failed is_survey_write result) out.new }
-    // Where the source may have to ask its device, all that was told before is handed on: each
-    // such call may fail.
+    // Before the source may ask its device, which may fail, all output is flushed.
     ensures followed { K.held out.old ≡ 0
         → failed is_survey_write result ≡ false
         → K.held out.new ≡ 0 }
-    // It is read to its end: nothing is left that is not looked at.
+    // It is read to its end, and all of it is examined.
     ensures ended { OnOk result (IsAtEnd (S.remaining source.new)) }
-    // Then all lines were told: the first ones say what it begins with and what it is, with the
-    // packet size and the PID that are asked for, the last one that it is over.
+    // Then all lines were written: the first ones have its first bytes and its kind, with the
+    // requested packet size and PID, and the last one says that it is over.
     ensures listed { OnOk result (TellsSurvey options (S.remaining source.old)
         (K.contents out.old) (K.contents out.new)) }
 {
@@ -82,7 +81,7 @@ pub fn survey<S: Source, K: Flush>(
     Err(SurveyFault::Memory)
 }
 
-// Puts all lines, the first ones before the others, and has them handed on.
+// Writes all lines, the first ones before the others, and flushes them.
 #[tactic(auto, using(crate::proofs::SurveyLemmas::growing))]
 fn hand_on<K: Flush>(first: &mut Text, text: &mut Text, out: &mut K) -> Result<(), SurveyFault>
     requires { CanFail (K.failure_count out.old) }
@@ -108,7 +107,7 @@ fn hand_on<K: Flush>(first: &mut Text, text: &mut Text, out: &mut K) -> Result<(
     }
 }
 
-// Puts all lines of a text.
+// Writes all lines of a text.
 #[tactic(auto, using(crate::proofs::ListedLemmas::all_told))]
 fn put_lines<K: Flush>(text: &mut Text, out: &mut K) -> Result<(), SurveyFault>
     requires { CanFail (K.failure_count out.old) }

@@ -1,4 +1,4 @@
-//! The lines that are made and not yet handed on.
+//! Lines in memory that are not written yet.
 ghost use Rattle.std.specs.Prelude.{◌≡◌, ◌≤◌, ◌<◌, ◌∷◌, decimal, false, length, true};
 ghost use Rattle.ts_survey.specs.Text.{Adds, hex_word};
 
@@ -11,7 +11,7 @@ pub const CLOCK: u64 = 1 << 33;
 // Room for a space, a sign and a number in decimal.
 type Word = ArrayVec<u8, 32>;
 
-/// Lines in memory. Where memory ran out, what was to be added is lost, and so is all after it.
+/// Lines in memory. If memory ran out, what was to be added is lost, and so is everything after it.
 #[derive(Drop)]
 pub struct Text {
     bytes: Vec<u8>,
@@ -19,7 +19,7 @@ pub struct Text {
 }
 
 impl Text {
-    /// None.
+    /// Returns an empty text.
     pub fn new(alloc: Global) -> Text
         ensures empty { length result.bytes.items ≡ 0 }
         ensures whole { result.is_lost ≡ false }
@@ -30,28 +30,28 @@ impl Text {
         }
     }
 
-    /// Whether memory ran out.
+    /// Returns whether memory ran out.
     pub fn is_lost(&self) -> bool
         ensures { result ≡ self.now.is_lost }
     {
         self.is_lost
     }
 
-    /// Whether there is none.
+    /// Returns whether there are no lines.
     pub fn is_empty(&self) -> bool
         ensures { result ≡ true → length self.now.bytes.items ≡ 0 }
     {
         self.bytes.is_empty()
     }
 
-    /// The bytes.
+    /// Returns the bytes.
     pub fn as_slice(&self) -> &[u8]
         ensures { result.now ≡ self.now.bytes.items }
     {
         self.bytes.as_slice()
     }
 
-    /// Forgets them: they were handed on.
+    /// Drops the lines, which were written.
     pub fn clear(&mut self)
         ensures empty { length self.new.bytes.items ≡ 0 }
         ensures same { self.new.is_lost ≡ self.old.is_lost }
@@ -72,14 +72,14 @@ impl Text {
         }
     }
 
-    /// Adds a number in decimal, behind a space.
+    /// Adds a space and a number in decimal.
     pub fn number(&mut self, number: u64)
         ensures { Adds self.old (0x20 ∷ decimal number) self.new }
     {
         self.number_behind(b' ', number);
     }
 
-    /// Adds a number in decimal, behind a sign.
+    /// Adds a sign and a number in decimal.
     pub fn number_behind(&mut self, sign: u8, number: u64)
         ensures { Adds self.old (sign ∷ decimal number) self.new }
     {
@@ -90,8 +90,8 @@ impl Text {
         self.put(word.as_slice());
     }
 
-    /// Adds ticks that are counted forward around the clock, behind a space, as the distance on the
-    /// nearest way: half the clock and more is negative.
+    /// Adds a space and ticks that are counted forward around the clock, as the distance on the
+    /// shorter way: half the clock and more is negative.
     pub fn ticks(&mut self, forward: u64) {
         if forward < CLOCK / 2 || forward > CLOCK {
             return self.number(forward);
@@ -103,7 +103,7 @@ impl Text {
         self.put(word.as_slice());
     }
 
-    /// Adds a time, behind a space: a hyphen where there is none.
+    /// Adds a space and a time, or a hyphen if there is none.
     pub fn time(&mut self, time: Option<u64>) {
         match time {
             Some(time) => self.number(time),
@@ -122,7 +122,7 @@ impl Text {
         self.put(digits);
     }
 
-    /// Adds a page, behind a space: magazine 0 is 8.
+    /// Adds a space and a page; magazine 0 is 8.
     pub fn page(&mut self, magazine: u8, page: u8)
         requires { magazine < 8 }
     {
@@ -131,7 +131,7 @@ impl Text {
     }
 }
 
-/// The hexadecimal digit of a number below 16, in upper case.
+/// Returns the hexadecimal digit of a number below 16, in upper case.
 pub fn upper_digit(number: u8) -> u8
     requires { number < 16 }
 {
@@ -142,7 +142,7 @@ pub fn upper_digit(number: u8) -> u8
     }
 }
 
-/// How many ticks a time is after another, forward around the clock.
+/// Returns how many ticks a time is after another, forward around the clock.
 pub fn forward(first: u64, second: u64) -> u64 {
     second.wrapping_sub(first) % CLOCK
 }

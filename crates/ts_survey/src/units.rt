@@ -1,19 +1,19 @@
-//! The Teletext packets of a PES packet, whatever else stands in it (EN 300 472, data units).
+//! The Teletext packets of a PES packet, whatever else it contains (EN 300 472, data units).
 ghost use Rattle.std.specs.Prelude.{◌≡◌, ◌+◌, ◌≤◌, ◌<◌, length, slice_index, IfNone, IfSome, drop};
 ghost use Rattle.std.specs.Prelude.{take};
 ghost use Rattle.ts_survey.specs.Heard.{first_place, lent_packets, unit_packets};
 
-/// The bytes of a data unit with a Teletext packet.
+/// The size of a data unit with a Teletext packet.
 const UNIT: usize = 46;
 
-/// The data units of a PES packet: what stands behind its header and data_identifier.
+/// Returns the data units of a PES packet: what follows its header and data_identifier.
 pub fn units_of(pes: &[u8]) -> &[u8]
     ensures { result.now ≡ drop (first_place pes.now) pes.now }
 {
     behind(pes, first_place(pes))
 }
 
-// Where the first data unit stands.
+// Returns the place of the first data unit.
 fn first_place(pes: &[u8]) -> usize
     ensures { result ≡ first_place pes.now }
 {
@@ -24,7 +24,7 @@ fn first_place(pes: &[u8]) -> usize
     }
 }
 
-/// What stands behind the first so many bytes.
+/// Returns what follows the first `count` bytes.
 pub fn behind(bytes: &[u8], count: usize) -> &[u8]
     ensures { result.now ≡ drop count bytes.now }
 {
@@ -32,14 +32,14 @@ pub fn behind(bytes: &[u8], count: usize) -> &[u8]
     rest
 }
 
-/// A data unit: its bytes, and its packet as it is sent, where it has one.
+/// A data unit: its size, and its packet in the bit order of the data unit, if it has one.
 #[derive(Clone, Copy)]
 pub struct DataUnit<'a> {
     pub size: usize,
     pub packet: Option<&'a [u8; 42]>,
 }
 
-/// The data unit that begins the bytes, as long as these have room for one with Teletext.
+/// Returns the data unit at the beginning of the bytes, if these have room for one with Teletext.
 pub fn unit_of(bytes: &[u8]) -> Option<DataUnit<'_>>
     ensures none { IfNone result (length bytes.now < 46) }
     ensures some { IfSome result (λ _. 46 ≤ length bytes.now) }
@@ -57,7 +57,7 @@ pub fn unit_of(bytes: &[u8]) -> Option<DataUnit<'_>>
     })
 }
 
-// The packet of a data unit, where it has one.
+// Returns the packet of a data unit, if it has one.
 #[tactic(auto, unfolding(crate::specs::Heard::lent_packets, crate::specs::Heard::unit_packets))]
 fn packet_of(unit: &[u8]) -> Option<&[u8; 42]>
     requires { length unit.now ≡ 46 }
