@@ -315,7 +315,7 @@ Agrees v s all =
     given_later (handed_over v) all
     ≡ joined (handed_over v) (good_after s all).wrong_behind (good_after s all).packets
 
--- This also holds with a packet without a payload in front,
+-- This also holds with a packet without a payload in front.
 agree_no_payload : (v : JoiningValue) (s : Since) (p : List ℕ) (more : List Note)
     → has_payload p ≡ false
     → Agrees (record v { has_jump = v.has_jump || announces_jump p })
@@ -334,7 +334,7 @@ agree_no_payload v s p more none rest =
     ∙ ap (λ (g : GoodPackets). joined (handed_over v) g.wrong_behind g.packets)
     (sym (good-no_payload s p more none)))
 
--- with a repeat,
+-- It holds with a repeated packet in front.
 agree_repeat : (v : JoiningValue) (s : Since) (p : List ℕ) (more : List Note)
     → has_payload p ≡ true
     → repeats v p ≡ true
@@ -361,7 +361,7 @@ joined-next : (v : JoiningValue) (wrong : Bool) (g : GoodPacket) (more : List Go
     ++ joined (handed_over (after_good g.link v g.packet)) wrong more
 joined-next v wrong g more going = rw going refl
 
--- and with a good packet.
+-- It holds with a good packet in front.
 agree_good : (v : JoiningValue) (s : Since) (p : List ℕ) (more : List Note)
     → has_payload p ≡ true
     → repeats v p ≡ false

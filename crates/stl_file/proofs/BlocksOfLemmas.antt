@@ -25,7 +25,7 @@ pub block_parts : (s : SubtitleValue) (e : ℕ) (piece : List ℕ)
 unfolding block_of
 block_parts s e piece = search (rules, drop-replicate, append_assoc)
 
--- What `push_block` needs.
+-- Lemmas for `push_block`.
 pub ruleset pushed = (append_assoc, block_parts)
 
 -- A block that is written has its EBN and its text.

@@ -46,7 +46,7 @@ pub has_no_unused-before_unused : (xs : List ℕ) → has_no_unused (before_unus
 has_no_unused-before_unused [] = refl
 has_no_unused-before_unused (x ∷ xs) = grind (arith, nat_tests, has_no_unused-before_unused xs)
 
--- What `push_text` needs.
+-- Lemmas for `push_text`.
 pub ruleset cleaned = (has_no_unused-append, has_no_unused-before_unused)
 
 -- The joined text of blocks has no unused space.

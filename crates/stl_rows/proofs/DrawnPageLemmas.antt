@@ -40,7 +40,7 @@ get_or_push-none : (ls : List (List ℕ)) (k : ℕ) → get_or ls k [] ≡ get_o
 get_or_push-none [] k = grind (arith, nat_tests)
 get_or_push-none (l ∷ ls) k = grind (arith, nat_tests, get_or_push-none ls)
 
--- The row after those of lines is that of the line that follows them.
+-- The line that follows other lines is on the row after theirs.
 line_on-last : (vp row : ℕ) (done : List (List ℕ)) (line : List ℕ)
     → row ≡ vp + length done
     → line_on vp (done ++ line ∷ []) row ≡ line

@@ -137,7 +137,7 @@ pub in_order-early : (last : ℕ) (t : SubtitleValue) (ts : List SubtitleValue)
     → InOrderFrom last (t ∷ ts) ≡ false
 in_order-early last t ts early = grind (arith, nat_tests)
 
--- The test of the rest is that of the next one, and then of those after it.
+-- The test of the rest: first of the next subtitle, then of the others.
 pub in_order-next : (last i : ℕ) (ts : List SubtitleValue) (t : SubtitleValue)
     → i < length ts
     → get_or ts i t ≡ t
@@ -156,7 +156,7 @@ pub in_order-end : (last i : ℕ) (ts : List SubtitleValue) (t : SubtitleValue)
 in_order-end last i ts t inside is early =
     rw (drop-cons ts i t inside, is) (in_order-early last t (drop (suc i) ts) early)
 
--- The test from frame 0 is only that of the order.
+-- From frame 0 only the order is tested.
 pub in_order-all : (ts : List SubtitleValue) → InOrderFrom 0 ts ≡ are_in_order (with_bits ts [])
 in_order-all ts = rw (start_from-0 (with_bits ts [])) refl
 

@@ -238,7 +238,7 @@ lines_of_subtitle national items t = placed_lines items t.vp (lines_by national 
 abbrev pub off_of_subtitle : National → LayoutItems → SubtitleValue → ℕ
 off_of_subtitle national items t = rows_off items (lines_by national items t.text)
 
--- The drawn page is that of lines without a fault.
+-- A drawn page shows lines without a fault.
 pub drawn_by-lines : (national : National) (items : LayoutItems) (t : SubtitleValue) (page : Rows)
     → drawn_by national items t ≡ Ok page
     → (placed_faults items (off_of_subtitle national items t) (lines_of_subtitle national items t)

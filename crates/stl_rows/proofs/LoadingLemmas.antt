@@ -217,7 +217,7 @@ module _ {D : Type 0} {IsTold : D → LoadFault → D → Type 0} {old mid new :
         told = stops.3;
       }
 
-  -- The fault that ends reading is one of the file too.
+  -- The fault that ends reading is a fault of the file too.
   pub of_file-end : (early : List LoadFault) (fault : StlFault) {from block : ℕ}
       → All (IsToldBy from) early
       → is_file_read fault ≡ false

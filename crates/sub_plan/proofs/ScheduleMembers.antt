@@ -46,7 +46,7 @@ unfolding is_sending
 is_sending-Decides due every first last f low =
     grind (arith, nat_tests, Decides-or, Decides-eqb, Decides-like, last_base, base-last)
 
--- The frames with a page transmission are those of the definition in words.
+-- The frames with a page transmission are those that `IsSending` describes.
 pub law_of_sendings : LawOfSendings
 unfolding sendings_from
 law_of_sendings due every first last f = (

@@ -1,7 +1,7 @@
 -- All events of a transmission in order (own): each broken rule with its place; for the rules of a
--- frame's end, which may stay broken from one frame to the next, where they begin to be broken, and
--- the last frame at which they are. The order is that of the checks, so the first event is the
--- reason for rejecting the file.
+-- frame's end, which may stay broken from one frame to the next, the first and the last frame at
+-- which they are broken. The order is that of the checks, so the first event is the reason for
+-- rejecting the file.
 --
 -- Beginning and end are separate events, since a wrong page stays until something else is sent: a
 -- single event with both frames would come only then.
