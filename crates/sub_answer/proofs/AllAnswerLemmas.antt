@@ -1,4 +1,4 @@
--- The answer of `check --all`, given what a printer was told, and its counts. Main lemmas:
+-- The answer of `check --all`, given what was reported to a printer, and its counts. Main lemmas:
 -- answers_cut, answers_end, counts.
 use Rattle.std.proofs.Common.{◌≡◌, ◌≢◌, ◌∙◌, ap, refl, sym, subst, arith, inl, inr, ℕ, ◌+◌, ◌==◌}
 use Rattle.std.proofs.Common.{List, [], ◌++◌, Bool, true, false, Option, Some, None, Result, Ok}
@@ -200,7 +200,7 @@ done-exactly drawing options file bytes pes first events (Ok (Some a)) Means kno
 
 -- ---- the answer
 
--- The sink failed while events were told. For `print_every_fault`.
+-- The sink failed while events were reported. For `print_every_fault`.
 pub answers_cut :
     (drawing : Drawing) (options : OptionsValue) (stl pes : SourceCall) (first : FirstNumber)
     (Untouched : Type 0) (old new : PrinterValue) (given : Result (Option Accepted) CheckFault)
@@ -211,7 +211,7 @@ pub answers_cut :
 answers_cut drawing options stl pes first Untouched old new given t failing =
     grind (arith, nat_tests, printed-cut)
 
--- All events were told, and the last line was printed or cut. For `print_every_fault`.
+-- All events were reported, and the last line was printed or cut. For `print_every_fault`.
 pub answers_end :
     (drawing : Drawing) (options : OptionsValue) (stl pes : SourceCall) (first : FirstNumber)
     (Untouched : Type 0) (old new : PrinterValue) (given : Result (Option Accepted) CheckFault)

@@ -1,4 +1,4 @@
--- The events of a subtitle file, and of a PES file after it, that a printer was told, and the
+-- The events of a subtitle file, and of a PES file after it, reported to a printer, and the
 -- answer. Main lemmas: after_error, after_faults, after_unhanded, after_judged.
 use Rattle.std.proofs.lemmas.Bool.Decides.{nat_tests}
 use Rattle.std.proofs.Common.{◌≡◌, ◌∙◌, ap, refl, sym, subst, arith, inl, inr, ℕ, ◌<◌, ◌≤◌}
@@ -66,7 +66,7 @@ module _ {D : Type 0} (IsTold : D → LoadFault → D → Type 0) (value : D →
       → PrintsEvents (value old) (subtitle_events items) (value new)
   printed items told = prints_all IsTold value subtitle_event one old new items goes few told
 
-  -- The subtitle file can't be read on: these were told before.
+  -- The subtitle file can't be read on: these were reported before.
   ended_at : (block : ℕ) (kind : LoadFaultKind) (items : List LoadFault)
       → (value new).failed ≡ false
       → Tells IsTold old new items
@@ -149,7 +149,7 @@ module _ {D : Type 0} (IsTold : D → LoadFault → D → Type 0) (value : D →
   after_error block kind quiet kinds some count memory read =
       grind (arith, nat_tests, at_memory, at_read)
 
-  -- What was told of a list, whether the sink failed or not.
+  -- The part of a list that was reported, whether the sink failed or not.
   prints-faults : (items : List LoadFault) (stopped b : Bool)
       → (value new).failed ≡ b
       → (b ≡ false → stopped ≡ false)
@@ -211,7 +211,7 @@ module _ {D : Type 0} (IsTold : D → LoadFault → D → Type 0) (value : D →
             (ap subtitle_events (items.2 file heard), rw (refusals-subtitles items.0) items.1.1);
       }
 
-  -- These faults were told, at least one, and the sink failed when their lines were to be flushed.
+  -- At least one fault was reported, and the sink failed when the lines were to be flushed.
   -- For `tell_every_fault`.
   pub after_unhanded : (fs : List LoadFault)
       → (value new).failed ≡ true
@@ -252,7 +252,7 @@ pub stops_failed : (old new : PrinterValue) (events : List Event)
     → new.failed ≡ true
 stops_failed old new events prints room stopped = grind (arith, nat_tests, still_goes)
 
--- One that waits was told something. For `tell_every_fault`.
+-- Something was reported to a printer that waits. For `tell_every_fault`.
 pub some_told : {D : Type 0} (IsTold : D → LoadFault → D → Type 0) (waits : D → Bool)
     (old new : D) (fs : List LoadFault)
     → Tells IsTold old new fs
@@ -332,7 +332,7 @@ module _ (drawing : Drawing) (options : OptionsValue) (stl pes : SourceCall) (fi
       subst (λ gs. IsAnswer programme options bytes (first_answer (subtitle_events gs ++ events) a))
       (sym nothing) (checked bytes told programme (whole.1 ∙ ap known one))
 
-  -- The faults of the subtitle file were told, and then the events of the PES file. For
+  -- The faults of the subtitle file were reported, and then the events of the PES file. For
   -- `tell_every_fault`.
   pub after_judged : (given : Result (Option Accepted) CheckFault)
       → TellsPes judged options pes first mid new given

@@ -1,4 +1,4 @@
--- The events of a PES file that a printer was told, and the answer. Main lemmas: after_pes,
+-- The events of a PES file reported to a printer, and the answer. Main lemmas: after_pes,
 -- all_answers.
 use Rattle.std.proofs.Common.{◌≡◌, ◌∙◌, ap, refl, sym, subst, arith, ℕ, ◌+◌, ◌≤◌}
 use Rattle.std.proofs.Common.{zero, suc, List, take, length, Bool, true, false, Option}

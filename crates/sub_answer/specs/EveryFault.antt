@@ -135,7 +135,7 @@ abbrev pub read_answer : Result Accepted ℕ → Result (Option Accepted) CheckF
 read_answer (Ok a) = Ok (Some a)
 read_answer (Err n) = Err (Pes n Read)
 
--- The events of the PES file that a printer was told, and the answer, which is the given one unless
+-- The events of the PES file reported to a printer, and the answer, which is the given one unless
 -- its sink failed.
 pub record TellsPes
     (judged : JudgedValue) (options : OptionsValue) (pes : SourceCall) (first : FirstNumber)
@@ -169,7 +169,7 @@ TellsBothSources stl pes Untouched answer =
     TellsSources (FailsAtBlock stl.known stl.left) (λ index. FailsAtPiece index pes.known pes.left)
     Untouched (is_of_subtitles answer) stl pes answer
 
--- The events of both files that a printer was told, and the answer, which is the given one unless
+-- The events of both files reported to a printer, and the answer, which is the given one unless
 -- its sink failed.
 pub record TellsBoth
     (drawing : Drawing) (options : OptionsValue) (stl pes : SourceCall) (first : FirstNumber)

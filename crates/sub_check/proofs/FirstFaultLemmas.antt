@@ -32,8 +32,8 @@ use Rattle.ttx_pes.specs.declared.fault.PesFault.TheVariants as Pes
 use Rattle.sub_rules.specs.declared.fault.CheckFault.TheVariants as fault
 use Rattle.sub_check.proofs.AnsweredLemmas.{IsAnswered, accepted_none, answered, refused_first}
 
--- The bytes are read as PES packets, and an audience that keeps the first fault was told their
--- events.
+-- The bytes are read as PES packets, whose events are reported to an audience that keeps the first
+-- fault.
 abbrev TellsFirst : ProgrammeValue → OptionsValue → List ℕ → Option CheckFault → Option CheckFault
     → Result (Option Accepted) CheckFault → Type 0
 TellsFirst programme options bytes empty kept r =
@@ -62,7 +62,7 @@ module _ (programme : ProgrammeValue) (options : OptionsValue) (bytes : List ℕ
             (λ g h. front_of_rule programme options bytes n g h) first.in_turn,
       )
 
-  -- If all events were told and no fault was kept, there is none. This lemma and the next are
+  -- If all events were reported and no fault was kept, there is none. This lemma and the next are
   -- separate from the answers that use them, which would otherwise check each case again.
   none_told : (empty kept : Option CheckFault) (a : Accepted)
       → empty ≡ None
@@ -93,7 +93,7 @@ module _ (programme : ProgrammeValue) (options : OptionsValue) (bytes : List ℕ
       ∙ is)
 
   module _ (fine : IsOptions options) (p : IsProgramme programme.drawing programme.records) where
-    -- No fault was kept, and all events were told. For `check`.
+    -- No fault was kept, and all events were reported. For `check`.
     pub nothing_kept : (empty kept : Option CheckFault) (a : Accepted)
         → empty ≡ None
         → is_some kept ≡ false

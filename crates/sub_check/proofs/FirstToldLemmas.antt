@@ -57,7 +57,7 @@ no_read f pes own is =
 
 -- ---- what the audience keeps
 
--- After it has kept a fault it is told no more.
+-- After it has kept a fault nothing more is reported to it.
 kept_last : (f : CheckFault) (new : Option CheckFault) (xs : List Event)
     → TellsInTurn KeepsFirstFault (Some f) new xs → new ≡ Some f
 kept_last f new [] told = told

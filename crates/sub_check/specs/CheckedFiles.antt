@@ -344,7 +344,7 @@ BeginsWhatIsTold judged options bytes =
     × (all_events_by judged options bytes
     ≡ events_of_first_by judged options bytes n ++ rest)
 
--- The events that a device was told for the bytes of a PES file, checked against what can be
+-- The events reported to a device for the bytes of a PES file, checked against what can be
 -- judged. If it did not say stop: all events, and the answer has the counts. Otherwise: a prefix of
 -- the events, and no counts. If the source failed: the events of the PES packets before.
 abbrev pub TellsEvents : {D : Type 0} → JudgedValue → OptionsValue → List ℕ

@@ -24,6 +24,6 @@ kept_of (Ended rule frame) = None
 kept_of (PassedUntil f) = None
 kept_of (Trusted from to) = None
 
--- It keeps the first fault, and is told no event after it.
+-- It keeps the first fault, and no event after it is reported to it.
 abbrev pub KeepsFirstFault : Option CheckFault → Event → Option CheckFault → Type 0
 KeepsFirstFault old event new = (old ≡ None) × (new ≡ kept_of event)

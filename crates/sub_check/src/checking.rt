@@ -109,11 +109,11 @@ pub fn check_all_pieces<P: Pieces, A: LiveAudience<Event>>(
     requires failures { CanFail (P.failure_count source.old) }
     requires goes_on { A.has_stopped audience.old ≡ false }
     requires still { A.is_waiting audience.old ≡ false }
-    // If the bytes of the source are known, they decide what the audience is told.
+    // If the bytes of the source are known, they decide what is reported.
     ensures told { IfKnown (P.remaining source.old) (λ bytes.
         TellsEvents judging.now options.now bytes A.is_told audience.old audience.new result) }
-    // If all events were told and no subtitle was refused, `check` returns the first fault among
-    // them, or else these counts.
+    // If all events were reported and no subtitle was refused, `check` returns the first fault
+    // among them, or else these counts.
     ensures first { (programme : ProgrammeValue)
         → judging.now ≡ known programme
         → IsFalse options.now.keeps
@@ -144,8 +144,8 @@ pub fn check_all_pieces<P: Pieces, A: LiveAudience<Event>>(
         BeginsWhatIsTold judging.now options.now bytes) }
     // No counts are returned exactly if the audience said stop.
     ensures stopped { IfOk result (λ counts. A.has_stopped audience.new ≡ is_none counts) }
-    // Whatever the source contains, the audience was told some events, and had not said stop if the
-    // source failed.
+    // Whatever the source contains, some events were reported, and the audience had not said stop
+    // if the source failed.
     ensures some { TellsSome A.is_told audience.old audience.new }
     ensures goes_on { IfErr result (λ _. A.has_stopped audience.new ≡ false) }
     // A failure of the source is reported for the PES packet in which it happened; the packets

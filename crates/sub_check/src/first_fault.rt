@@ -26,7 +26,7 @@ impl Model for FirstFault {
 }
 
 impl FirstFault {
-    /// Returns an audience that was told nothing yet.
+    /// Returns an audience to which nothing was reported yet.
     pub fn new() -> Self
         ensures { result ≡ None }
     {
@@ -71,7 +71,7 @@ impl Live for FirstFault {
 
     ghost is_handed_on = { λ old ok new. (new ≡ old) × (is_some new ≡ not ok) };
 
-    // Never waits: it keeps what it was told.
+    // Never waits: it keeps the fault in memory.
     fn waits(&self) -> bool {
         false
     }

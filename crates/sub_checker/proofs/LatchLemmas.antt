@@ -12,7 +12,7 @@ use Rattle.sub_rules.specs.declared.event.Event.{Event}
 use Rattle.sub_checker.specs.declared.latch.Latch.{Latch}
 
 module _ {D : Type 0} {g : _} (IsTold : D → Event → D → Type 0) where
-  -- The device was told these events, a prefix of them, or none if it had said stop before.
+  -- These events were reported to the device, or a prefix, or none if it had said stop before.
   pub record Comes (old new : Latch D g) (es : List Event) : Type 0 where
     pub same : new.device.ghost_name ≡ old.device.ghost_name
     pub stays : old.stopped ≡ true → (new.device.now ≡ old.device.now) × (new.stopped ≡ true)
@@ -71,7 +71,7 @@ module _ {D : Type 0} {g : _} (IsTold : D → Event → D → Type 0) where
       → Comes old new es
   unlatched old new es told = in_turn old new es told.in_turn
 
-  -- The device was told some events.
+  -- Some events were reported to the device.
   pub unlatched_some : (old new : Latch D g) → TellsSome (IsLatched IsTold) old new
       → (new.device.ghost_name ≡ old.device.ghost_name)
       × TellsSome IsTold old.device.now new.device.now

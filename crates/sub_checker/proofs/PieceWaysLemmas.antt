@@ -176,8 +176,8 @@ module _ (g : Criteria) (all : List Piece) where
       ++ finished (relay_after nothing_relayed (each_steps g all)) closing
   whole = grind (arith, nat_tests, all_told, passed-append, after-append, append_assoc, some_told)
 
-  -- A device that was told the last events was told all, and the counts are right; or it said stop,
-  -- and was told a prefix.
+  -- If the last events were reported, all were, and the counts are right; otherwise the device said
+  -- stop, and a prefix was reported.
   told_end : {D : Type 0} {IsTold : D → Event → D → Type 0} (clock : Clock) (bytes : List ℕ)
       (a b c : D) (r : Option Accepted) (p : Relay)
       → p ≡ relay_after nothing_relayed (each_steps g all)
@@ -265,7 +265,7 @@ module _ (judging : JudgedValue) {options : OptionsValue} {bytes : List ℕ}
       ap (take pes) at.parts ∙ take_at done at.ahead pes at.count,
     )
 
-    -- A device that said stop before the next PES packet was told a prefix.
+    -- A device that said stop before the next PES packet got a prefix of the events.
     pub told_before : {D : Type 0} {IsTold : D → Event → D → Type 0} (a b : D)
         → Tells IsTold a b (events_of_pieces g done)
         → TellsPrefix IsTold a b (all_of_pieces g all)
@@ -348,7 +348,7 @@ module _ (judging : JudgedValue) {options : OptionsValue} {bytes : List ℕ}
       read_some None counts = tt
       read_some (Some a) counts = read_is a counts
 
-      -- The device was told all events, or a prefix. For `tell_pieces`.
+      -- All events or a prefix were reported to the device. For `tell_pieces`.
       pub told_whole : {D : Type 0} {IsTold : D → Event → D → Type 0} (a b d : D)
           (r : Option Accepted)
           → Tells IsTold a b (events_of_pieces g done)

@@ -146,7 +146,7 @@ module _ {D : Type 0} {g : _} (IsTold : D → Event → D → Type 0) where
   in_turn old new (e ∷ es) (mid, first, rest) =
       relays-trans IsTold old mid new (Says e ∷ []) (map Says es) first (in_turn mid new es rest)
 
-  -- Events that were told to a reporter.
+  -- Events that were passed to a reporter.
   pub relays_all : (old new : Reporter D g) (es : List Event)
       → Tells (IsRelayed IsTold) old new es
       → ReporterRelays IsTold old (map Says es) new

@@ -32,7 +32,7 @@ module _ {D : Type 0} {g : _} {IsTold : D → Event → D → Type 0} where
   relays_two {a} {b} {c} {xs} {ys} is first second =
       rw is (relays-trans IsTold a b c xs ys first second)
 
-  -- Events that were told to the reporter.
+  -- Events that were reported to the reporter.
   pub relays_told : {s t : Reporter D g} {es : List Event} {zs : List CheckStep}
       → zs ≡ map Says es
       → Tells (IsRelayed IsTold) s t es

@@ -48,8 +48,8 @@ pub record AreCounted (c : CheckerValue) (a : Accepted) : Type 0 where
   pub frames_are : 0 < c.counts.frames → a.frames + c.first ≡ c.latest + 1
   pub transmissions_are : a.transmissions ≡ c.counts.headers
 
--- The device was told all of these and the counts are returned, or it said stop and was told a
--- prefix of them.
+-- All of these were reported to the device and the counts are returned, or it said stop and a
+-- prefix was reported.
 abbrev pub FinishesTelling : {A D : Type 0}
     → (D → A → D → Type 0) → D → D → List A → Option Accepted → Type 0
 FinishesTelling IsTold old new items (Some a) = Tells IsTold old new items

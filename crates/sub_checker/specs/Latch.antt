@@ -4,7 +4,7 @@ use Rattle.sub_io.specs.Telling.{Tells}
 use Rattle.sub_rules.specs.declared.event.Event.{Event}
 use Rattle.sub_checker.specs.declared.latch.Latch.{Latch}
 
--- A latch was told an event: so was the device behind it, unless it had said stop.
+-- A latch passes an event on to its device, unless that had said stop.
 pub record IsLatched
     {D : Type 0} {g : _} (IsTold : D → Event → D → Type 0)
     (old : Latch D g) (e : Event) (new : Latch D g)

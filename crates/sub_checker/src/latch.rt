@@ -1,7 +1,7 @@
 //! Protects a device from events after it said stop.
 //!
-//! Without this guard, 35 functions returned whether to stop. The ghost field says that the device
-//! was told all events or, after a stop, a prefix of them.
+//! Without this guard, 35 functions returned whether to stop. The ghost field says that all events
+//! were reported to the device or, after a stop, a prefix of them.
 ghost use Rattle.std.specs.Prelude.{◌≡◌};
 
 use sub_io::Audience;

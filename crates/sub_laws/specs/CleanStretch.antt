@@ -90,7 +90,7 @@ criteria_unsure programme options unread any_refused undecided =
 -- If no repeat may keep the page, such a stretch has the sufficient parts of the rules, so it may
 -- be trusted (`LawOfStretch`). If complete pages are required, and the page is open at no end of
 -- the stretch, its pages are complete, so the due page is on screens, too. So the reports of a
--- refused transmission tell which rest may be trusted: frames in rising order, from the first
+-- refused transmission show which rest may be trusted: frames in rising order, from the first
 -- header of the page in a stretch.
 abbrev pub LawOfUntoldStretch : Type 0
 LawOfUntoldStretch =

@@ -27,7 +27,7 @@ pub record IsSufficientRepeats
 
 -- A stretch without reports that a receiver depends on is sufficient, whatever `within` is; and if
 -- the page is open at no end of it, its frames are finished in time. So the reports of a refused
--- transmission tell which rest may be trusted: from the first header in a stretch that begins the
+-- transmission show which rest may be trusted: from the first header in a stretch that begins the
 -- text of the page, whatever a receiver contained before.
 abbrev pub LawOfUntoldRepeats : Type 0
 LawOfUntoldRepeats =

@@ -1,4 +1,4 @@
--- A printer that was told several events; main lemma: prints_all.
+-- A printer to which several events were reported; main lemma: prints_all.
 use Rattle.std.proofs.Common.{◌≡◌, ◌∙◌, ap, refl, sym, subst, arith, ℕ, ◌+◌, ◌<◌, ◌≤◌, ◌||◌}
 use Rattle.std.proofs.Common.{not, List, [], ◌∷◌, ◌++◌, map, Bool, true, false, append_assoc, drop}
 use Rattle.std.proofs.Common.{take, inl, inr}
@@ -34,7 +34,7 @@ pub counted-few : (r m : ℕ) → counted r m ≤ most_counted
 unfolding counted
 counted-few r m = grind (arith, nat_tests)
 
--- A printer that was told nothing.
+-- A printer to which nothing was reported.
 prints-none : (p : PrinterValue) → p.failed ≡ false → p.refused ≤ most_counted
     → PrintsEvents p [] p
 prints-none p goes few = record {
@@ -195,7 +195,7 @@ same_all IsTold name one old new some =
 module _ {A D : Type 0} (IsTold : D → A → D → Type 0) (value : D → PrinterValue)
     (event : A → Event)
     (one : (s t : D) (x : A) → IsTold s x t → PrintsEvent (value s) (event x) (value t)) where
-  -- Nothing is told to a printer whose sink failed.
+  -- Nothing is reported to a printer whose sink failed.
   last_told : (mid new : D) (items : List A) → TellsInTurn IsTold mid new items
       → (value mid).failed ≡ true
       → (items ≡ []) × (new ≡ mid)
@@ -229,7 +229,7 @@ module _ {A D : Type 0} (IsTold : D → A → D → Type 0) (value : D → Print
       step old mid new x xs (value mid).failed refl (one old mid x first) rest
       (λ holds bound. in_turn mid new xs holds bound rest)
 
-  -- A printer that was told these has printed them.
+  -- A printer has printed the events that were reported to it.
   pub prints_all : (old new : D) (items : List A)
       → (value old).failed ≡ false
       → (value old).refused ≤ most_counted
@@ -241,7 +241,7 @@ map-same : (events : List Event) → map (λ (e : Event). e) events ≡ events
 map-same [] = refl
 map-same (e ∷ events) = ap (λ (es : List Event). e ∷ es) (map-same events)
 
--- A list of events is printed as it is told.
+-- A list of events is printed as it is reported.
 pub as_told : (a b : PrinterValue) (events : List Event)
     → PrintsEvents a (map (λ (e : Event). e) events) b
     → PrintsEvents a events b

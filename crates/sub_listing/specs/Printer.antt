@@ -33,7 +33,7 @@ can_fail count = nat_lt count 0xFFFF_FFFF_FFFF_FFFF
 unfoldable pub counted : ℕ → ℕ → ℕ
 counted refused more = min (refused + more) most_counted
 
--- It was told an event, and the sink had not failed before. The line was written and a fault
+-- An event was reported to a printer whose sink had not failed. The line was written and a fault
 -- counted; or the sink failed once, and has a prefix of the line.
 pub record PrintsEvent (old : PrinterValue) (event : Event) (new : PrinterValue) : Type 0 where
   pub goes_on : old.failed ≡ false
@@ -45,8 +45,8 @@ pub record PrintsEvent (old : PrinterValue) (event : Event) (new : PrinterValue)
       new.failed ≡ true → AppendsPrefix old.contents new.contents (event_line old.first event)
   pub cut_count : new.failed ≡ true → new.count ≡ old.count + 1
 
--- It was told events, one after another, and had not failed: all their lines were written, or a
--- prefix of them.
+-- Events were reported, one after another, to a printer that had not failed: all their lines were
+-- written, or a prefix of them.
 pub record PrintsEvents (old : PrinterValue) (events : List Event) (new : PrinterValue) : Type 0
   where
     pub counts_from : new.first ≡ old.first

@@ -1,4 +1,4 @@
--- The law of the printer: events stay told when its lines are flushed. No contract uses these
+-- The law of the printer: events stay reported when its lines are flushed. No contract uses these
 -- lemmas.
 use Rattle.std.proofs.Common.{◌≡◌, ◌∙◌, ap, refl, sym, ℕ, ◌+◌, Bool, true, false}
 use Rattle.std.proofs.lemmas.Bool.{true≢false}

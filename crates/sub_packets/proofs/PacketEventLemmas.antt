@@ -56,7 +56,7 @@ module _ (w : Watched) (frame from : ℕ) (before ps : List (List ℕ)) where
   module _ (k : ℕ) (p : List ℕ) {D : Type 0} {IsTold : D → Event → D → Type 0} (a b c : D)
       (at : get_or ps k [] ≡ p)
       (told : Tells IsTold a b (packets_told w frame from before ps k)) where
-    -- The events of one more packet were told. For `hear_all`.
+    -- The events of one more packet were reported. For `hear_all`.
     pub told_one : Tells IsTold b c (told_by w frame (from + k) (before ++ take k ps) p)
         → Tells IsTold a c (packets_told w frame from before ps (k + 1))
     told_one more =

@@ -49,7 +49,7 @@ kept run d = if is_none d then run else None
 unfoldable pub is_order : Event → Bool
 is_order e = tells_fall (Says e)
 
--- The steps after others, when these events are told.
+-- The steps after others, when these events are reported.
 pub record IsSaid (t u : List CheckStep) (es : List Event) : Type 0 where
   pub run_is : run_of u ≡ kept (run_of t) (doubt_of t es)
   pub whole_is : whole_of u ≡ whole_of t

@@ -1,4 +1,4 @@
--- Events stay told, and the latch stops if the device could not be flushed: keeps-told,
+-- Events stay reported, and the latch stops if the device could not be flushed: keeps-told,
 -- handed_stopped.
 use Rattle.std.proofs.Common.{◌∙◌, sym}
 use Rattle.sub_io.proofs.HandingOnLemmas.{keeps-told, not_ok}

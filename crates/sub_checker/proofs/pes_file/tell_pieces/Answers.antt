@@ -154,7 +154,7 @@ returns-then-reporter-clause-exact g c = λ bytes told pieces unread reads.
     so_far came.cut in
     search rules
 
--- The device was told some events for a PES packet, whatever the packets are.
+-- Some events were reported for a PES packet, whatever the packets are.
 pub returns-then-reporter-clause-some : goal.returns-then-reporter-clause-some
 returns-then-reporter-clause-some g c =
     let inv = c.pieces.invariant in
@@ -253,7 +253,7 @@ returns-then-is_err-clause-exact g c = λ bytes told pieces unread reads.
     (c.hand_on_told.ensures.told.kept c.args.audience.now _ c.requires.still i.5) in
     search rules
 
--- ---- some events were told
+-- ---- some events were reported
 
 pub returns-in-Err-clause-some : goal.returns-in-Err-clause-some
 returns-in-Err-clause-some g c =

@@ -1,4 +1,4 @@
--- The events of the remaining rules are those still to be told.
+-- The events of the remaining rules are those still to be reported.
 use Rattle.std.proofs.Common.{List, drop, flat_map}
 use Rattle.sub_io.specs.Telling.{Tells}
 use Rattle.sub_rules.specs.Events.{broken_at, end_rules, rule_events}

@@ -1,4 +1,4 @@
--- The events of the remaining rules are those still to be told.
+-- The events of the remaining rules are those still to be reported.
 use Rattle.std.proofs.Common.{◌≡◌, Bool, drop, map}
 use Rattle.std.specs.List.{filter}
 use Rattle.sub_io.specs.Telling.{Tells}

@@ -1,4 +1,4 @@
--- Events stay told: by keeps-told.
+-- Events stay reported: by keeps-told.
 use Rattle.std.proofs.Common.{◌∙◌, inl, inr, refl, rules, true}
 use Rattle.sub_io.proofs.HandingOnLemmas.{keeps-told}
 use Rattle.sub_answer.proofs.FailedReadLemmas.{not_is_err}

@@ -1,4 +1,4 @@
--- One event is told; by Tells-one.
+-- One event is reported; by Tells-one.
 use Rattle.std.proofs.Common.{◌∙◌, sym}
 use Rattle.std.proofs.lemmas.Bool.{true≢false}
 use Rattle.sub_io.proofs.TellingLemmas.{Tells-one}
