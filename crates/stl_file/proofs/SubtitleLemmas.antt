@@ -30,7 +30,7 @@ pub used_all : (xs : List ℕ) (i : ℕ)
     → take i xs ++ before_unused (drop i xs) ≡ take (length xs) xs
 used_all xs i le = grind (arith, nat_tests, drop_all, take_all, append-nil)
 
--- What `used_of` needs.
+-- Lemmas for `used_of`.
 pub ruleset used = (used_more, used_up, used_all)
 
 -- The two parts of a text.

@@ -156,9 +156,9 @@ pub record FailsReading
   pub none : (more : List ℕ) → FindsFrom to (findings_from scope from refused (bytes ++ more))
 
 -- What a call consumes, by its result: the blocks of a subtitle with the skipped blocks before and
--- inside them, or only skipped blocks if no subtitle is left. No file has rejected bytes, and a
--- failing source failed at the block `to`. Before the call, `from` blocks were read, and the next
--- one begins a subtitle.
+-- inside them, or only skipped blocks if no subtitle is left. After a fault of the format no file
+-- continues with these bytes; a source that failed did so at the block `to`. Before the call,
+-- `from` blocks were read, and the next one begins a subtitle.
 abbrev pub TakesByAnswer :
     ℕ → ℕ → Option (List ℕ) → Option (List ℕ) → Result (Option SubtitleValue) StlFault → Type 0
 TakesByAnswer from to old new (Ok (Some s)) = TakesSubtitle from to old new s

@@ -154,7 +154,7 @@ impl Place {
         })
     }
 
-    // Returns the kind of that fault.
+    // Returns the kind of the first fault of a line at this position.
     #[tactic(auto, unfolding(crate::specs::DrawnPage::placed_fault_kinds))]
     fn fault_kind(&self, items: &LayoutItems, off: u16, line: &[u8]) -> Option<RowFaultKind>
         requires { off ≤ 2271 }

@@ -16,28 +16,22 @@ use Rattle.sub_rules.specs.Transmission.{SentFrame, Transmission, EachPacket}
 
 -- ---- tests and the properties they decide
 
--- One property implies another.
 pub implied :
     {P Q : Type 0} (a b : Bool) → Decides a P → Decides b Q → Decides (not a || b) (P → Q)
 implied a b p q = grind arith
 
--- Two truth values are equal.
 pub same_bit : (a b : Bool) → Decides (is_same_bit a b) (a ≡ b)
 same_bit a b = grind arith
 
--- C12 to C14 are equal.
 pub same_option : (a b : NationalBits) → Decides (is_same_option a b) (a ≡ b)
 same_option a b = grind arith
 
--- A truth value is true.
 pub holds : (a : Bool) → Decides a (a ≡ true)
 holds a = (λ e. e, λ e. e)
 
--- A truth value is false.
 pub fails : (a : Bool) → Decides (not a) (a ≡ false)
 fails a = grind arith
 
--- A number is at most another.
 pub at_most : (a b : ℕ) → Decides (nat_le a b) (a ≤ b)
 at_most a b = (leb-true a b, le-leb a b)
 
